@@ -1,0 +1,6 @@
+//! What every crate stands on: the names of nodes, terminals and bearers, lists of bytes, and the outside of the program.
+#![tactic(auto)]
+
+pub mod names;
+pub mod octets;
+pub mod outside;

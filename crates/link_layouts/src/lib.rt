@@ -1,0 +1,2 @@
+//! Definitions alone: what stands on each link, as octets.
+#![tactic(auto)]
