@@ -1,0 +1,5 @@
+pub mod Keys
+pub mod State
+pub mod Run
+pub mod Transcript
+pub mod OneBearer
