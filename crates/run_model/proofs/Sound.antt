@@ -8,7 +8,7 @@ use Rattle.scenario_text.specs.declared.line.RefuseReason.TheVariants.{Empty, No
 use Rattle.run_model.specs.Keys.{same_place, same_bearer, same_radio}
 use Rattle.run_model.specs.State.{Numbered}
 use Rattle.run_model.specs.Run.{static_bearer, static_n3, static_uplink, static_downlink, static_radio, downlink_of, radio_of, place_at}
-use Rattle.run_model.specs.OneBearer.{OneBearer, Frame, Next, stays, new_bearer, offers_one, next_frame, numbers_one, gets_n3, gets_f1u, airs_one, one_happens, in_flight, numbered_from, IsSound, has_room, is_used_up}
+use Rattle.run_model.specs.OneBearer.{OneBearer, Frame, Next, stays, new_bearer, offers_one, next_frame, numbers_one, gets_n3, gets_f1u, delivers_one, airs_one, one_happens, in_flight, numbered_from, IsSound, has_room, is_used_up}
 
 abbrev pub SoundFor : Option OneBearer → Type 0
 SoundFor None = Unit {0}
@@ -26,7 +26,7 @@ map-append : {X Y : Type 0} (f : X → Y) (xs : List X) (x : X) → map f (xs ++
 map-append f [] x = refl
 map-append f (y ∷ xs) x = ap (λ ys. f y ∷ ys) (map-append f xs x)
 
-sound_new : (quota : ℕ) → IsSound (new_bearer quota)
+pub sound_new : (quota : ℕ) → IsSound (new_bearer quota)
 sound_new quota = record { packets = []; flight = refl; next = refl; kept = refl; frames = refl; window = omega arith; order = λ _. refl }
 
 choose : (a b : Next) (test : Bool) → SoundFor a.bearer → SoundFor b.bearer → SoundFor (cond test a b).bearer
@@ -52,7 +52,7 @@ flight_numbered one packet rest ps flight next =
     ∙ ap (λ (c : ℕ). let x : Numbered = record { count = c; packet = packet } in numbered_from one.deliv ps ++ x ∷ []) next
     ∙ sym (numbered_from-append one.deliv ps packet)
 
-sound_numbered : (one : OneBearer) (packet : List ℕ) (rest : List (List ℕ)) → IsSound one → has_room one ≡ true → IsSound (numbers_one one packet rest)
+pub sound_numbered : (one : OneBearer) (packet : List ℕ) (rest : List (List ℕ)) → IsSound one → has_room one ≡ true → IsSound (numbers_one one packet rest)
 sound_numbered one packet rest k room = record {
   packets = k.packets ++ packet ∷ [];
   flight = flight_numbered one packet rest k.packets k.flight k.next;
@@ -63,16 +63,17 @@ sound_numbered one packet rest k room = record {
   order = λ _. k.order room;
 }
 
+pub sound_waiting : (one : OneBearer) (packet : List ℕ) (rest : List (List ℕ)) → IsSound one → has_room one ≡ false → IsSound (record one { on_n3 = rest; waiting = one.waiting ++ packet ∷ [] })
+sound_waiting one packet rest k full = record { packets = k.packets; flight = k.flight; next = k.next; kept = k.kept; frames = k.frames; window = k.window; order = λ room. absurd (false≢true (sym full ∙ room)) }
+
 sound_n3 : (one : OneBearer) (packets : List (List ℕ)) → IsSound one → SoundFor (gets_n3 one packets).bearer
 sound_n3 one [] k = k
 sound_n3 one (packet ∷ rest) k =
-    choose _ _ (is_used_up one) k (choose_by _ _ (has_room one) (sound_numbered one packet rest k)
-    (λ full. record { packets = k.packets; flight = k.flight; next = k.next; kept = k.kept; frames = k.frames; window = k.window; order = λ room. absurd (false≢true (sym full ∙ room)) }))
+    choose _ _ (is_used_up one) k (choose_by _ _ (has_room one) (sound_numbered one packet rest k) (sound_waiting one packet rest k))
 
 -- the DU takes a frame
-sound_f1u : (one : OneBearer) (frames : List Frame) → one.on_f1u ≡ frames → IsSound one → SoundFor (gets_f1u one frames).bearer
-sound_f1u one [] e k = k
-sound_f1u one (frame ∷ rest) e k = record {
+pub sound_taken : (one : OneBearer) (frame : Frame) (rest : List Frame) → one.on_f1u ≡ frame ∷ rest → IsSound one → IsSound (record one { on_f1u = rest; on_air = one.on_air ++ frame.numbered ∷ [] })
+sound_taken one frame rest e k = record {
   packets = k.packets;
   flight = append_assoc one.on_air (frame.numbered ∷ []) _ ∙ ap (λ (frames : List Frame). one.on_air ++ map (λ (f : Frame). f.numbered) frames) (sym e) ∙ k.flight;
   next = k.next;
@@ -81,6 +82,10 @@ sound_f1u one (frame ∷ rest) e k = record {
   window = k.window;
   order = k.order;
 }
+
+sound_f1u : (one : OneBearer) (frames : List Frame) → one.on_f1u ≡ frames → IsSound one → SoundFor (gets_f1u one frames).bearer
+sound_f1u one [] e k = k
+sound_f1u one (frame ∷ rest) e k = sound_taken one frame rest e k
 
 -- the terminal takes a packet, which is the next one
 first_count : (n : ℕ) (numbered : Numbered) (items : List Numbered) (ps : List (List ℕ)) → numbered ∷ items ≡ numbered_from n ps
@@ -97,12 +102,10 @@ pub head_of_flight : (one : OneBearer) (numbered : Numbered) (rest : List Number
 head_of_flight one numbered rest e k =
     first_count one.deliv numbered _ k.packets (ap (λ (items : List Numbered). items ++ map (λ (frame : Frame). frame.numbered) one.on_f1u) (sym e) ∙ k.flight)
 
-sound_air : (one : OneBearer) (items : List Numbered) → one.on_air ≡ items → IsSound one → SoundFor (airs_one one items).bearer
-sound_air one [] e k = k
-sound_air one (numbered ∷ rest) e k =
+pub sound_delivered : (one : OneBearer) (numbered : Numbered) (rest : List Numbered) → one.on_air ≡ numbered ∷ rest → IsSound one → IsSound (delivers_one one numbered rest)
+sound_delivered one numbered rest e k =
     let first = head_of_flight one numbered rest e k in
-    choose_by _ _ (eqb numbered.count one.deliv)
-    (λ _. record {
+    record {
       packets = first.1.0;
       flight = first.1.2;
       kept = k.kept;
@@ -110,8 +113,13 @@ sound_air one (numbered ∷ rest) e k =
       window = k.window;
       order = k.order;
       next = omega (arith, k.next, ap length first.1.1);
-    })
-    (λ other. absurd (false≢true (sym other ∙ eq-eqb numbered.count one.deliv first.0)))
+    }
+
+sound_air : (one : OneBearer) (items : List Numbered) → one.on_air ≡ items → IsSound one → SoundFor (airs_one one items).bearer
+sound_air one [] e k = k
+sound_air one (numbered ∷ rest) e k =
+    choose_by _ _ (eqb numbered.count one.deliv) (λ _. sound_delivered one numbered rest e k)
+    (λ other. absurd (false≢true (sym other ∙ eq-eqb numbered.count one.deliv (head_of_flight one numbered rest e k).0)))
 
 sound_get : (one : OneBearer) (downlink uplink n3 : Bool) → IsSound one
     → SoundFor (cond downlink (gets_f1u one one.on_f1u) (cond uplink (stays (Some one) Empty) (cond n3 (gets_n3 one one.on_n3) (stays (Some one) NoSuch)))).bearer
