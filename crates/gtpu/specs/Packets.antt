@@ -1,5 +1,6 @@
 -- The octets of a GTP-U packet (TS 29.281, 5.1).
-use Rattle.std.specs.Prelude.{◌≡◌, ◌==◌, ℕ, ◌+◌, ◌/◌, ◌%◌, ◌<◌, ◌≤◌, ◌^◌, Bool, true, false, if◌then◌else◌, nat_lt, List, [], ◌∷◌, ◌++◌, length, Option, Some, None, is_some, unwrap_or, IfSome}
+use Rattle.std.specs.Prelude.{◌≡◌, ◌==◌, ℕ, ◌+◌, ◌/◌, ◌%◌, ◌<◌, ◌≤◌, ◌^◌, Bool, true, false, if◌then◌else◌, nat_lt, List, [], ◌∷◌, ◌++◌, length, Option, None, is_some, unwrap_or, IfSome}
+use Rattle.std.specs.Bool.{then_some}
 use Rattle.std.specs.Int.{w16, w32, from_be_bytes, to_be_bytes}
 use Rattle.gtpu.specs.declared.Kind.{Kind}
 use Rattle.gtpu.specs.declared.Kind.TheVariants.{EchoRequest, EchoResponse, ErrorIndication, EndMarker, GPdu}
@@ -59,8 +60,8 @@ pub record IsPlain (p : GtpuPacket) (body : List ℕ) : Type 0 where
 -- With a flag four octets come first: a sequence number, an N-PDU number and the type of the first extension header, of
 -- which each counts where its own flag is 1.
 pub record IsFlagged (p : GtpuPacket) (flags s0 s1 number next : ℕ) (rest : List ℕ) : Type 0 where
-  pub seq : p.seq ≡ (if s_flag flags then Some (from_be_bytes w16 (s0 ∷ s1 ∷ [])) else None)
-  pub npdu : p.npdu ≡ (if pn_flag flags then Some number else None)
+  pub seq : p.seq ≡ then_some (s_flag flags) (from_be_bytes w16 (s0 ∷ s1 ∷ []))
+  pub npdu : p.npdu ≡ then_some (pn_flag flags) number
   pub first : p.first ≡ (if e_flag flags then next else 0)
   pub chain : IsChain p.first p.chain
   pub parts : rest ≡ p.chain ++ p.payload

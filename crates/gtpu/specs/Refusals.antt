@@ -44,7 +44,7 @@ header_refusals first octets = (errors.ExtRequired, Meets IsRequired first octet
 
 -- the number of octets behind the first eight, as told
 abbrev pub told_of : List ℕ → ℕ
-told_of bytes = from_be_bytes w16 (drop 2 bytes)
+told_of bytes = from_be_bytes w16 (slice_index bytes 2 ∷ slice_index bytes 3 ∷ [])
 
 -- Where E is 0 there is no extension header.
 abbrev pub first_of : List ℕ → ℕ

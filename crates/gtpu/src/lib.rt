@@ -91,7 +91,9 @@ fn read(bytes: &[u8]) -> Result<Packet<'_>, GtpuError>
     if flags >> 4 != VERSION {
         return Err(GtpuError::Version);
     }
-    let kind = kind_of(*code).ok_or(GtpuError::Kind)?;
+    let Some(kind) = kind_of(*code) else {
+        return Err(GtpuError::Kind);
+    };
     let told = usize::from(u16::from_be_bytes([*l0, *l1]));
     if body.len() < told {
         return Err(GtpuError::Truncated);
