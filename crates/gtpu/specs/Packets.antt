@@ -90,12 +90,16 @@ Gtpu p _ = ⊥
 abbrev pub flags_of : GtpuPacket → ℕ
 flags_of p = 48 + (if p.first == 0 then 0 else 4) + (if is_some p.seq then 2 else 0) + (if is_some p.npdu then 1 else 0)
 
+-- the four octets that stand before the headers where there is a flag
+abbrev pub fields_of : GtpuPacket → List ℕ
+fields_of p = to_be_bytes w16 (unwrap_or p.seq 0) ++ unwrap_or p.npdu 0 ∷ p.first ∷ []
+
+abbrev pub optional_of : GtpuPacket → List ℕ
+optional_of p = if has_flag (flags_of p) then fields_of p else []
+
 -- behind the first eight octets
 abbrev pub body_of : GtpuPacket → List ℕ
-body_of p =
-    if has_flag (flags_of p)
-    then to_be_bytes w16 (unwrap_or p.seq 0) ++ unwrap_or p.npdu 0 ∷ p.first ∷ p.chain ++ p.payload
-    else p.payload
+body_of p = optional_of p ++ p.chain ++ p.payload
 
 unfoldable pub gtpu_octets : GtpuPacket → List ℕ
 gtpu_octets p = flags_of p ∷ kind_code p.kind ∷ to_be_bytes w16 (length (body_of p)) ++ to_be_bytes w32 p.teid ++ body_of p

@@ -6,7 +6,7 @@ mod headers;
 ghost use Rattle.std.specs.Prelude.{◌≡◌, ◌≢◌, ◌≤◌, List, length, IfOk, IfErr, IsOkAnd, IfSome, IfNone};
 ghost use Rattle.std.specs.Option.{option_copied};
 ghost use Rattle.gtpu.specs.Headers.{ExtensionHeader, IsChain, AreHeaders, content_of};
-ghost use Rattle.gtpu.specs.Packets.{GtpuPacket, Gtpu, view, kind_code, body_of, gtpu_octets};
+ghost use Rattle.gtpu.specs.Packets.{GtpuPacket, Gtpu, view, kind_code, flags_of, fields_of, body_of, gtpu_octets};
 ghost use Rattle.gtpu.specs.Refusals.{IsRefusal};
 
 use gnb_base::octets::{Memory, Octets};
@@ -80,6 +80,12 @@ fn kind_of(code: u8) -> Option<Kind>
     }
 }
 
+fn code_of(kind: Kind) -> u8
+    ensures { result ≡ kind_code kind }
+{
+    kind as u8
+}
+
 /// Reads the octets of one packet.
 fn read(bytes: &[u8]) -> Result<Packet<'_>, GtpuError>
     ensures found { IfOk result (λ p. Gtpu (view p) bytes.now) }
@@ -147,34 +153,43 @@ pub fn decode(bytes: &[u8]) -> Result<Packet<'_>, GtpuError>
     read(bytes)
 }
 
+/// The first octet, with a flag for each optional field that is used.
+fn first_octet(p: &Packet) -> u8
+    ensures { result ≡ flags_of (view p.now) }
+{
+    let e = if p.first == 0 { 0 } else { E };
+    let s = if p.seq.is_some() { S } else { 0 };
+    let pn = if p.npdu.is_some() { PN } else { 0 };
+    (VERSION << 4) + e + s + pn
+}
+
+/// The four octets before the extension headers, with 0 in unused fields.
+fn optional_fields(p: &Packet) -> [u8; 4]
+    ensures { result ≡ fields_of (view p.now) }
+{
+    let [s0, s1] = p.seq.unwrap_or(0).to_be_bytes();
+    [s0, s1, p.npdu.unwrap_or(0), p.first]
+}
+
 /// The octets of a packet, with 0 in spare bits and unused fields.
 pub fn encode(alloc: Global, p: &Packet) -> Result<Octets, Memory>
     requires chain { IsChain p.now.first p.now.chain.now }
     requires counted { length (body_of (view p.now)) ≤ 65535 }
     ensures { IfOk result (λ octets. octets ≡ gtpu_octets (view p.now)) }
 {
-    let mut flags = VERSION << 4;
-    if p.first != 0 {
-        flags |= E;
-    }
-    if p.seq.is_some() {
-        flags |= S;
-    }
-    if p.npdu.is_some() {
-        flags |= PN;
-    }
-    let optional = flags & (E | S | PN) != 0;
-    let length = if optional { 4 } else { 0 } + p.chain.len() + p.payload.len();
+    let flags = first_octet(p);
+    let fields = optional_fields(p);
+    let optional: &[u8] = if flags & (E | S | PN) == 0 {
+        &[]
+    } else {
+        &fields
+    };
+    let length = optional.len() + p.chain.len() + p.payload.len();
     let mut octets = Octets::new(alloc);
-    octets.push(flags)?;
-    octets.push(p.kind as u8)?;
+    octets.append(&[flags, code_of(p.kind)])?;
     octets.append(&(length as u16).to_be_bytes())?;
     octets.append(&p.teid.to_be_bytes())?;
-    if optional {
-        octets.append(&p.seq.unwrap_or(0).to_be_bytes())?;
-        octets.push(p.npdu.unwrap_or(0))?;
-        octets.push(p.first)?;
-    }
+    octets.append(optional)?;
     octets.append(p.chain)?;
     octets.append(p.payload)?;
     Ok(octets)
