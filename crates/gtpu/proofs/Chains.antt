@@ -108,8 +108,8 @@ same_end first octets (h ∷ hs) (k ∷ ks) c d r s p stop q halt =
     let e = sym (append_assoc (header_octets h (first_type hs c)) (chain_octets hs c) r) ∙ sym p.octets_are ∙ q.octets_are ∙ append_assoc (header_octets k (first_type ks d)) (chain_octets ks d) s in
     let one = same_header h k (first_type hs c) (first_type ks d) (chain_octets hs c ++ r) (chain_octets ks d ++ s) p.each.0 q.each.0 (sym p.first_is ∙ q.first_is) e in
     let more = same_end (first_type hs c) (chain_octets hs c ++ r) hs ks c d r s
-          (record { each = p.each.1; first_is = refl; octets_are = refl }) stop
-          (record { each = q.each.1; first_is = one.1; octets_are = one.2 }) halt in
+    (record { each = p.each.1; first_is = refl; octets_are = refl }) stop
+    (record { each = q.each.1; first_is = one.1; octets_are = one.2 }) halt in
     (λ i. one.0 i ∷ more.0 i, more.1, more.2)
 
 -- the headers of a chain are determined
@@ -123,8 +123,8 @@ pub fault_then : (first : ℕ) (octets : List ℕ) (code : ℕ) (rest : List ℕ
 fault_then first octets code rest e some p (inl x) = inl (record { before = p.hs; code = code; rest = rest; begins = p.begins; some = some; wrong = x.0 }, x.1)
 fault_then first octets code rest e some p (inr (not_required, inl x)) =
     let none : Meets IsRequired first octets → ⊥ = λ m.
-          let same = same_end first octets p.hs m.before code m.code rest m.rest p.begins (stuck_wrong code rest x.0) m.begins (stuck_required m.code m.rest m.wrong) in
-          not_required (ap is_required same.1 ∙ m.wrong) in
+    let same = same_end first octets p.hs m.before code m.code rest m.rest p.begins (stuck_wrong code rest x.0) m.begins (stuck_required m.code m.rest m.wrong) in
+    not_required (ap is_required same.1 ∙ m.wrong) in
     inr (none, inl (record { before = p.hs; code = code; rest = rest; begins = p.begins; some = some; wrong = x.0 }, x.1))
 fault_then first octets code rest e some p (inr (_, inr (_, x))) = absurd x
 
@@ -152,7 +152,7 @@ first_left [] next rest content after_type after p s = absurd (omega (arith, s.0
 first_left (k ∷ more) next rest content after_type after p s =
     let h : ExtensionHeader = record { code = next; content = content } in
     let whole : header_octets k (first_type more 0) ++ (chain_octets more 0 ++ []) ≡ header_octets h after_type ++ after =
-          sym (append_assoc (header_octets k (first_type more 0)) (chain_octets more 0) []) ∙ sym p.octets_are ∙ s.1 in
+    sym (append_assoc (header_octets k (first_type more 0)) (chain_octets more 0) []) ∙ sym p.octets_are ∙ s.1 in
     let same = same_header k h (first_type more 0) after_type (chain_octets more 0 ++ []) after p.each.0 s.0 (sym p.first_is) whole in
     (more, ap (λ (x : ExtensionHeader). x ∷ more) same.0, record { each = p.each.1; first_is = sym same.1; octets_are = sym same.2 })
 

@@ -1,11 +1,11 @@
 -- The octets are those of one packet at most, and where they are a packet's they have no refusal.
-use Rattle.std.proofs.Common.{◌≡◌, ◌≢◌, ℕ, zero, suc, ◌+◌, ◌*◌, ◌/◌, ◌%◌, ◌<◌, ◌≤◌, Bool, true, false, cond, if◌then◌else◌, List, [], ◌∷◌, ◌++◌, length, Option, Some, None, Result, Ok, Err, IfOk, IfErr, IsOkAnd, refl, sym, ap, subst, ◌∙◌, inl, inr, ◌⊎◌, true≢false, append-nil, arith, slice_index, drop, ltb-false, ne_eqb}
+use Rattle.std.proofs.Common.{◌≡◌, ◌≢◌, ℕ, zero, suc, ◌+◌, ◌*◌, ◌/◌, ◌%◌, ◌<◌, ◌≤◌, Bool, true, false, cond, if◌then◌else◌, List, [], ◌∷◌, ◌++◌, length, Option, Some, None, Result, Ok, Err, IfOk, IfErr, IsOkAnd, refl, sym, ap, subst, ◌∙◌, inl, inr, ◌⊎◌, true≢false, append-nil, arith, slice_index, drop, ltb-false, ne_eqb, ◌==◌, is_some, length-append}
 use Rattle.gtpu.specs.declared.Kind.{Kind}
 use Rattle.gtpu.specs.declared.Kind.TheVariants.{EchoRequest, EchoResponse, ErrorIndication, EndMarker, GPdu}
 use Rattle.gtpu.specs.declared.GtpuError.{GtpuError}
 use Rattle.gtpu.specs.declared.Packet.{Packet}
 use Rattle.gtpu.specs.Headers.{ExtensionHeader, IsChain, AreHeaders, Begins, chain_octets, is_required}
-use Rattle.gtpu.specs.Packets.{GtpuPacket, view, Gtpu, kind_code, e_flag, has_flag, IsPlain, IsFlagged, IsBody, IsPacket}
+use Rattle.gtpu.specs.Packets.{GtpuPacket, view, Gtpu, kind_code, e_flag, has_flag, IsPlain, IsFlagged, IsBody, IsPacket, flags_of, fields_of, optional_of, body_of}
 use Rattle.gtpu.specs.Refusals.{Condition, IsFirst, IsRefusal, Meets, IsRequired, HasWrongLength, told_of, first_of, refusals, header_refusals}
 use Rattle.gtpu.proofs.Chains.{same_end, stuck_none, stuck_required, stuck_wrong, IsStuck, no_headers}
 
@@ -106,7 +106,7 @@ none_holds : (bytes : List ℕ) (p : GtpuPacket) → Gtpu p bytes → NoneHolds 
 unfolding Gtpu
 none_holds (flags ∷ code ∷ l0 ∷ l1 ∷ t0 ∷ t1 ∷ t2 ∷ t3 ∷ body) p a =
     let wrong : ¬ ((8 + told_of (flags ∷ code ∷ l0 ∷ l1 ∷ t0 ∷ t1 ∷ t2 ∷ t3 ∷ body) < length (flags ∷ code ∷ l0 ∷ l1 ∷ t0 ∷ t1 ∷ t2 ∷ t3 ∷ body)) ⊎ ((has_flag flags ≡ true) × (told_of (flags ∷ code ∷ l0 ∷ l1 ∷ t0 ∷ t1 ∷ t2 ∷ t3 ∷ body) < 4))) =
-          λ x. elim x [ inl more ↦ omega (arith, a.length_is, more) | inr few ↦ omega (arith, a.length_is, few.1, body_long p flags (has_flag flags) body a.body_is few.0) ] in
+    λ x. elim x [ inl more ↦ omega (arith, a.length_is, more) | inr few ↦ omega (arith, a.length_is, few.1, body_long p flags (has_flag flags) body a.body_is few.0) ] in
     (λ short. omega (arith, short), (λ other. other a.version, (λ none. none p.kind a.kind, (λ few. omega (arith, a.length_is, few), (wrong, body_headers p flags (has_flag flags) body refl a.body_is)))))
 none_holds _ p a = absurd a
 
@@ -138,3 +138,33 @@ read_only bytes (Err e) found refused p a = absurd (not_both bytes p e a refused
 pub read_all : (bytes : List ℕ) (r : Result Packet GtpuError) → IfOk r (λ p. Gtpu (view p) bytes) → IfErr r (λ e. IsRefusal e bytes) → (e : GtpuError) → IsRefusal e bytes → r ≡ Err e
 read_all bytes (Ok q) found refused e h = absurd (not_both bytes (view q) e found h)
 read_all bytes (Err a) found refused e h = ap (λ (x : GtpuError). Err x) (one_refusal bytes a e refused h)
+
+-- ---- what is read can be written: its octets can be counted
+
+some_fields : (p : GtpuPacket) (b : Bool) → length (if b then fields_of p else []) ≤ 4
+some_fields p true = omega arith
+some_fields p false = omega arith
+
+plain_fields : (p : GtpuPacket) → p.seq ≡ None → p.npdu ≡ None → p.first ≡ 0 → optional_of p ≡ []
+plain_fields p seqs npdus firsts =
+    let flags : flags_of p ≡ 48 = λ i. 48 + (if firsts i == 0 then 0 else 4) + (if is_some (seqs i) then 2 else 0) + (if is_some (npdus i) then 1 else 0) in
+    ap (λ (n : ℕ). if has_flag n then fields_of p else []) flags
+
+body_counted : (p : GtpuPacket) (flags : ℕ) (flagged : Bool) (body : List ℕ) → IsBody p flags flagged body → length (body_of p) ≤ length body
+body_counted p flags false body a =
+    omega (arith, ap length (plain_fields p a.seq a.npdu a.first), ap length a.chain, ap length a.payload, length-append (optional_of p ++ p.chain) p.payload, length-append (optional_of p) p.chain)
+body_counted p flags true (s0 ∷ s1 ∷ number ∷ next ∷ rest) a =
+    omega (arith, some_fields p (has_flag (flags_of p)), ap length a.parts, length-append p.chain p.payload, length-append (optional_of p ++ p.chain) p.payload, length-append (optional_of p) p.chain)
+body_counted p flags true _ a = absurd a
+
+packet_counted : (bytes : List ℕ) (p : GtpuPacket) → ((i : ℕ) → slice_index bytes i < 256) → Gtpu p bytes → length (body_of p) ≤ 65535
+unfolding Gtpu
+packet_counted (flags ∷ code ∷ l0 ∷ l1 ∷ t0 ∷ t1 ∷ t2 ∷ t3 ∷ body) p fits a =
+    let high : l0 < 256 = fits 2 in
+    let low : l1 < 256 = fits 3 in
+    omega (arith, a.length_is, body_counted p flags (has_flag flags) body a.body_is)
+packet_counted _ p fits a = absurd a
+
+pub read_counted : (bytes : List ℕ) (r : Result Packet GtpuError) → ((i : ℕ) → slice_index bytes i < 256) → IfOk r (λ p. Gtpu (view p) bytes) → IfOk r (λ p. length (body_of (view p)) ≤ 65535)
+read_counted bytes (Ok p) fits found = packet_counted bytes (view p) fits found
+read_counted bytes (Err e) fits found = tt

@@ -50,7 +50,7 @@ pub refused_headers : (bytes : List ℕ) (kind : Kind) (e : GtpuError) → Opens
 unfolding IsRefusal
 refused_headers bytes kind e o whole room h =
     let fits : ¬ ((8 + told_of bytes < length bytes) ⊎ ((has_flag (slice_index bytes 0) ≡ true) × (told_of bytes < 4))) =
-          λ x. elim x [ inl more ↦ omega (arith, more) | inr few ↦ omega (arith, few.1) ] in
+    λ x. elim x [ inl more ↦ omega (arith, more) | inr few ↦ omega (arith, few.1) ] in
     inr (λ short. omega (arith, o.long), inr (λ other. other o.version, inr (λ none. none kind o.code, inr (λ less. omega arith, inr (fits, h)))))
 
 -- ---- parts of the octets, as code takes them
@@ -101,14 +101,14 @@ flagged_at p flags _ long is = absurd (omega arith)
 
 pub found_plain : (bytes body : List ℕ) (kind : Kind) → body ≡ drop 8 bytes → Opens bytes kind → length bytes ≡ 8 + told_of bytes → has_flag (slice_index bytes 0) ≡ false
     → Gtpu (record {
-        kind = kind;
-        teid = from_be_bytes w32 (slice_index bytes 4 ∷ slice_index bytes 5 ∷ slice_index bytes 6 ∷ slice_index bytes 7 ∷ []);
-        seq = None;
-        npdu = None;
-        first = 0;
-        chain = [];
-        payload = body;
-      }) bytes
+      kind = kind;
+      teid = from_be_bytes w32 (slice_index bytes 4 ∷ slice_index bytes 5 ∷ slice_index bytes 6 ∷ slice_index bytes 7 ∷ []);
+      seq = None;
+      npdu = None;
+      first = 0;
+      chain = [];
+      payload = body;
+    }) bytes
 found_plain bytes body kind is o whole none =
     let p : GtpuPacket = record { kind = kind; teid = from_be_bytes w32 (slice_index bytes 4 ∷ slice_index bytes 5 ∷ slice_index bytes 6 ∷ slice_index bytes 7 ∷ []); seq = None; npdu = None; first = 0; chain = []; payload = body } in
     packet_at p bytes o.long (record {

@@ -19,7 +19,7 @@ pub in_pieces : (p : GtpuPacket) (a b c d e f g : List ℕ) (flags code count : 
 unfolding gtpu_octets
 in_pieces p a b c d e f g flags code count optional flags-are code-is counted is none head told tunnel fields chain payload =
     let start : c ≡ flags_of p ∷ kind_code p.kind ∷ to_be_bytes w16 (length (body_of p)) =
-          told ∙ (λ i. (head ∙ (λ j. none j ++ (flags-are j ∷ code-is j ∷ []))) i ++ to_be_bytes w16 (counted i)) in
+    told ∙ (λ i. (head ∙ (λ j. none j ++ (flags-are j ∷ code-is j ∷ []))) i ++ to_be_bytes w16 (counted i)) in
     let body : g ≡ (((c ++ to_be_bytes w32 p.teid) ++ optional_of p) ++ p.chain) ++ p.payload =
-          payload ∙ (λ i. (chain ∙ (λ j. (fields ∙ (λ k. tunnel k ++ is k)) j ++ p.chain)) i ++ p.payload) in
+    payload ∙ (λ i. (chain ∙ (λ j. (fields ∙ (λ k. tunnel k ++ is k)) j ++ p.chain)) i ++ p.payload) in
     body ∙ (λ i. (((start i ++ to_be_bytes w32 p.teid) ++ optional_of p) ++ p.chain) ++ p.payload)

@@ -26,7 +26,11 @@ struct Split<'a> {
 fn must_be_known(code: u8) -> bool
     ensures { result ≡ is_required code }
 {
-    code >= 0x80 && !matches!(code, NR_RAN_CONTAINER | PDCP_PDU_NUMBER | LONG_PDCP_PDU_NUMBER)
+    code >= 0x80
+        && !matches!(
+            code,
+            NR_RAN_CONTAINER | PDCP_PDU_NUMBER | LONG_PDCP_PDU_NUMBER
+        )
 }
 
 /// Whether a header of this type may have this length, in units of 4 octets.

@@ -2,6 +2,8 @@
 #![tactic(auto)]
 
 mod headers;
+#[cfg(test)]
+mod tests;
 
 ghost use Rattle.std.specs.Prelude.{◌≡◌, ◌≢◌, ◌≤◌, List, length, IfOk, IfErr, IsOkAnd, IfSome, IfNone};
 ghost use Rattle.std.specs.Option.{option_copied};
@@ -10,10 +12,9 @@ ghost use Rattle.gtpu.specs.Packets.{GtpuPacket, Gtpu, view, kind_code, flags_of
 ghost use Rattle.gtpu.specs.Refusals.{IsRefusal};
 
 use gnb_base::octets::{Memory, Octets};
+pub use headers::{LONG_PDCP_PDU_NUMBER, NR_RAN_CONTAINER, PDCP_PDU_NUMBER};
 use std::alloc::Global;
 use thiserror::Error;
-
-pub use headers::{LONG_PDCP_PDU_NUMBER, NR_RAN_CONTAINER, PDCP_PDU_NUMBER};
 
 /// The message types that are read and written (6.1).
 #[derive(Clone, Copy, Debug, PartialEq, Eq)]
@@ -63,7 +64,9 @@ const VERSION: u8 = 0b0011;
 
 /// The flags of the first octet: an extension header, a sequence number, an N-PDU number.
 const E: u8 = 0b100;
+
 const S: u8 = 0b010;
+
 const PN: u8 = 0b001;
 
 fn kind_of(code: u8) -> Option<Kind>
@@ -141,9 +144,11 @@ fn read(bytes: &[u8]) -> Result<Packet<'_>, GtpuError>
 /// (`Version`) or message type (`Kind`), fewer octets than the length says (`Truncated`), more of them, or a length
 /// below 4 with a flag (`Length`), and then for each extension header in turn `ExtRequired` and `ExtLength`.
 pub fn decode(bytes: &[u8]) -> Result<Packet<'_>, GtpuError>
-    // What is read is a packet of these octets, and its chain is valid.
+    // What is read is a packet of these octets.
     ensures found { IfOk result (λ p. Gtpu (view p) bytes.now) }
-    ensures valid { IfOk result (λ p. IsChain p.first p.chain.now) }
+    // It may be given to `extension` and `encode`.
+    ensures chain { IfOk result (λ p. IsChain p.first p.chain.now) }
+    ensures counted { IfOk result (λ p. length (body_of (view p)) ≤ 65535) }
     // A packet of these octets is read.
     ensures only { (p : GtpuPacket) → Gtpu p bytes.now → IsOkAnd result (λ q. view q ≡ p) }
     ensures refused { IfErr result (λ e. IsRefusal e bytes.now) }

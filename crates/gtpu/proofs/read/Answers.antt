@@ -44,7 +44,7 @@ returns-in_err-chain-clause-refused c =
     let o : Opens bytes c.in-Some.kind = record { long = c.in-len8-up.len_at_least; version = c.if-flags-ne-VERSION.false; code = c.in-Some.ensures.found } in
     let whole : length bytes ≡ 8 + told_of bytes = omega (arith, c.from_be_bytes.ensures, c.from-told.ensures, c.if-body-told.false, c.if-body-told-2.false) in
     let first : c.if-flags-ne0.first ≡ first_of bytes =
-          elim c.if-flags-ne0.branch [ then-flags-ne0 w ↦ w.first-is ∙ first_told bytes w.if-flags-ne0.true | else-flags-ne0 w ↦ w.first-is ∙ first_none bytes w.if-flags-ne0.false ] in
+    elim c.if-flags-ne0.branch [ then-flags-ne0 w ↦ w.first-is ∙ first_told bytes w.if-flags-ne0.true | else-flags-ne0 w ↦ w.first-is ∙ first_none bytes w.if-flags-ne0.false ] in
     let p = err_from_is_err_and c.from_residual.result c.from_residual.ensures.1 in
     let at : IsFirst (header_refusals (first_of bytes) (drop 12 bytes)) c.in_err-chain.field-0.0 = rw (first, behind_twice bytes) at c.in_err-chain.ensures.refused in
     rw (p.1, p.2) (refused_headers bytes c.in-Some.kind c.in_err-chain.field-0.0 o whole (omega (arith, whole, c.in-len4-up.len_at_least)) at)
@@ -55,10 +55,10 @@ returns-clause-found c =
     let o : Opens bytes c.in-Some.kind = record { long = c.in-len8-up.len_at_least; version = c.if-flags-ne-VERSION.false; code = c.in-Some.ensures.found } in
     let whole : length bytes ≡ 8 + told_of bytes = omega (arith, c.from_be_bytes.ensures, c.from-told.ensures, c.if-body-told.false, c.if-body-told-2.false) in
     let first : c.if-flags-ne0.first ≡ first_of bytes =
-          elim c.if-flags-ne0.branch [ then-flags-ne0 w ↦ w.first-is ∙ first_told bytes w.if-flags-ne0.true | else-flags-ne0 w ↦ w.first-is ∙ first_none bytes w.if-flags-ne0.false ] in
+    elim c.if-flags-ne0.branch [ then-flags-ne0 w ↦ w.first-is ∙ first_told bytes w.if-flags-ne0.true | else-flags-ne0 w ↦ w.first-is ∙ first_none bytes w.if-flags-ne0.false ] in
     found_flagged bytes _ o c.from_be_bytes-teid.ensures whole (some_flag _ c.if-flags-eq0.false) (omega (arith, whole, c.in-len4-up.len_at_least))
-      (seq_told bytes c.from_be_bytes-2.result c.then_some.result c.from_be_bytes-2.ensures c.then_some.ensures)
-      (npdu_told bytes c.then_some-2.result c.then_some-2.ensures)
-      first
-      c.in_ok-chain.ensures.found.0
-      (sym (behind_twice bytes) ∙ c.in_ok-chain.ensures.found.1)
+    (seq_told bytes c.from_be_bytes-2.result c.then_some.result c.from_be_bytes-2.ensures c.then_some.ensures)
+    (npdu_told bytes c.then_some-2.result c.then_some-2.ensures)
+    first
+    c.in_ok-chain.ensures.found.0
+    (sym (behind_twice bytes) ∙ c.in_ok-chain.ensures.found.1)
