@@ -1,0 +1,128 @@
+//! Packets written out by hand: those that stand on the links of this program, some with further fields, and each refusal.
+
+use super::*;
+use std::test::Fail;
+
+/// A packet with these extension headers and no other optional field.
+fn packet<'a>(kind: Kind, teid: u32, first: u8, chain: &'a [u8], payload: &'a [u8]) -> Packet<'a> {
+    Packet {
+        kind,
+        teid,
+        seq: None,
+        npdu: None,
+        first,
+        chain,
+        payload,
+    }
+}
+
+#[test]
+fn packets(rt: HostRuntime) -> Result<(), Fail> {
+    use Kind::{EchoRequest, EndMarker, GPdu};
+
+    let n3 = b"\x30\xFF\x00\x01\x00\x00\x00\x01\x45".as_slice();
+    let pdu = b"\x30\xFF\x00\x03\x00\x00\x00\x02\x80\x00\x45".as_slice();
+    let data =
+        b"\x34\xFF\x00\x0F\x00\x00\x00\x01\x00\x00\x00\x84\x02\x00\x00\x00\x00\x01\x00\x00\x80\x00\x01".as_slice();
+    let data18 =
+        b"\x34\xFF\x00\x10\x00\x00\x00\x01\x00\x00\x00\x84\x02\x00\x00\x00\x00\x00\x00\x00\x80\x00\x00\x45".as_slice();
+    let poll =
+        b"\x34\xFF\x00\x0C\x00\x00\x00\x01\x00\x00\x00\x84\x02\x01\x00\x00\x00\x01\x00\x00".as_slice();
+    let status =
+        b"\x34\xFF\x00\x10\x00\x00\x00\x02\x00\x00\x00\x84\x03\x14\x00\x00\x01\x00\x00\x00\x00\x00\x00\x00".as_slice();
+    let lost =
+        b"\x34\xFF\x00\x14\x00\x00\x00\x02\x00\x00\x00\x84\x04\x11\x00\x00\x01\x00\x00\x01\x00\x00\x00\x00\x00\x00\x00\x00".as_slice();
+    let numbered =
+        b"\x34\xFF\x00\x09\x00\x00\x00\x03\x00\x00\x00\xC0\x01\x00\x02\x00\x03".as_slice();
+    let long_number =
+        b"\x34\xFF\x00\x0D\x00\x00\x00\x03\x00\x00\x00\x82\x02\x03\xFF\xFF\x00\x00\x00\x00\x03".as_slice();
+    let end = b"\x30\xFE\x00\x00\x00\x00\x00\x03".as_slice();
+    let sequence = b"\x32\x01\x00\x04\x00\x00\x00\x00\x12\x34\x00\x00".as_slice();
+    let all =
+        b"\x37\xFF\x00\x0D\xFF\xFF\xFF\xFE\x12\x34\x56\x01\x01\xAA\xBB\xC0\x01\x0F\xFF\x00\x45".as_slice();
+    let rows = [
+        (n3, packet(GPdu, 1, 0, b"", b"\x45")),
+        (pdu, packet(GPdu, 2, 0, b"", b"\x80\x00\x45")),
+        (
+            data,
+            packet(
+                GPdu,
+                1,
+                0x84,
+                b"\x02\x00\x00\x00\x00\x01\x00\x00",
+                b"\x80\x00\x01",
+            ),
+        ),
+        (
+            data18,
+            packet(
+                GPdu,
+                1,
+                0x84,
+                b"\x02\x00\x00\x00\x00\x00\x00\x00",
+                b"\x80\x00\x00\x45",
+            ),
+        ),
+        (
+            poll,
+            packet(GPdu, 1, 0x84, b"\x02\x01\x00\x00\x00\x01\x00\x00", b""),
+        ),
+        (
+            status,
+            packet(
+                GPdu,
+                2,
+                0x84,
+                b"\x03\x14\x00\x00\x01\x00\x00\x00\x00\x00\x00\x00",
+                b"",
+            ),
+        ),
+        (
+            lost,
+            packet(
+                GPdu,
+                2,
+                0x84,
+                b"\x04\x11\x00\x00\x01\x00\x00\x01\x00\x00\x00\x00\x00\x00\x00\x00",
+                b"",
+            ),
+        ),
+        (
+            numbered,
+            packet(GPdu, 3, 0xC0, b"\x01\x00\x02\x00", b"\x03"),
+        ),
+        (
+            long_number,
+            packet(GPdu, 3, 0x82, b"\x02\x03\xFF\xFF\x00\x00\x00\x00", b"\x03"),
+        ),
+        (end, packet(EndMarker, 3, 0, b"", b"")),
+        (
+            sequence,
+            Packet {
+                seq: Some(0x1234),
+                ..packet(EchoRequest, 0, 0, b"", b"")
+            },
+        ),
+        (
+            all,
+            Packet {
+                seq: Some(0x1234),
+                npdu: Some(0x56),
+                ..packet(
+                    GPdu,
+                    0xFFFF_FFFE,
+                    1,
+                    b"\x01\xAA\xBB\xC0\x01\x0F\xFF\x00",
+                    b"\x45",
+                )
+            },
+        ),
+    ];
+    for (octets, packet) in rows {
+        let read = decode(octets)?;
+        assert_eq!(rt; read, packet);
+        let written = encode(rt.alloc(), &read)?;
+        assert_eq!(rt; written.as_slice(), octets);
+    }
+    Ok(())
+}
