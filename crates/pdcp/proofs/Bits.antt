@@ -1,5 +1,5 @@
 -- Bit k of a bitmap is the truth value that was written there.
-use Rattle.std.proofs.Common.{◌≡◌, ℕ, ◌+◌, ◌-◌, ◌*◌, ◌/◌, ◌%◌, ◌^◌, ◌≤◌, ◌==◌, Bool, true, false, if◌then◌else◌, List, [], ◌∷◌, slice_index, slice_index_or, refl, sym, ◌∙◌, ap, arith, zero, suc, lit≤}
+use Rattle.std.proofs.Common.{◌≡◌, ℕ, ◌+◌, ◌-◌, ◌*◌, ◌/◌, ◌%◌, ◌^◌, ◌≤◌, ◌==◌, Bool, true, false, if◌then◌else◌, List, [], ◌∷◌, slice_index_or, refl, ◌∙◌, ap, arith, zero, suc, lit≤}
 use Rattle.std.proofs.Math.Nat.{zero-div}
 use Rattle.pdcp.specs.Pdus.{bitmap, bitmap_bit, octet_of}
 

@@ -1,9 +1,9 @@
 -- What has no reason to be refused is a PDU.
-use Rattle.std.proofs.Common.{◌≡◌, ℕ, ◌+◌, ◌*◌, ◌/◌, ◌%◌, ◌<◌, ◌≤◌, List, [], ◌∷◌, length, refl, arith, None, inl, inr}
+use Rattle.std.proofs.Common.{◌≡◌, ℕ, ◌+◌, ◌*◌, ◌%◌, ◌<◌, ◌≤◌, List, [], ◌∷◌, refl, arith, None, inl, inr}
 use Rattle.std.proofs.lemmas.Bool.{cases_lt}
 use Rattle.gnb_base.specs.declared.names.SnBits.{SnBits}
 use Rattle.gnb_base.specs.declared.names.SnBits.TheVariants.{Len12, Len18}
-use Rattle.pdcp.specs.Pdus.{Content, data_pdu, status_report, Pdcp, refusals, first_reason, radio_data}
+use Rattle.pdcp.specs.Pdus.{Content, data_pdu, status_report, Pdcp, refusals, first_reason}
 
 abbrev pub IsPdu : SnBits → List ℕ → Type 0
 IsPdu sn octets = (content : Content) × Pdcp sn content octets

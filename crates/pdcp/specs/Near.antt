@@ -1,5 +1,5 @@
 -- The COUNT of a received number (TS 38.323, 5.2.2). The standard computes it by comparing halves; here it is named.
-use Rattle.std.specs.Prelude.{◌≡◌, ℕ, ◌+◌, ◌-◌, ◌*◌, ◌^◌, ◌%◌, ◌<◌, ◌≤◌, ◌⊎◌}
+use Rattle.std.specs.Prelude.{◌≡◌, ℕ, ◌+◌, ◌-◌, ◌^◌, ◌%◌, ◌<◌, ◌≤◌, ◌⊎◌}
 use Rattle.gnb_base.specs.declared.names.SnBits.{SnBits}
 use Rattle.pdcp.specs.Numbers.{space, half}
 
@@ -14,8 +14,8 @@ pub record IsNear (sn : SnBits) (deliv number count : ℕ) : Type 0 where
   pub high : count < deliv + half sn
   pub given : count ≤ last_count
 
--- The same, told of the number that is one space above the COUNT, so that it is no natural number's fault if the
--- COUNT would be below 0.
+-- The same told of the COUNT raised by one space, which is never below 0, whether the COUNT itself is one that is given or
+-- not: there is one such number for each RX_DELIV and number.
 pub record IsRaised (sn : SnBits) (deliv number raised : ℕ) : Type 0 where
   pub same : raised % space sn ≡ number % space sn
   pub low : deliv + half sn ≤ raised

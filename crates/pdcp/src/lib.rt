@@ -7,3 +7,6 @@ pub mod pdu;
 
 pub use counts::near;
 pub use pdu::{Pdu, PduError, read_pdu, write_pdu, write_report};
+
+#[cfg(test)]
+mod tests;

@@ -78,8 +78,8 @@ fn read_report(sn: SnBits, bytes: &[u8]) -> Result<Pdu<'_>, PduError>
     }
 }
 
-#[tactic(auto, unfolding(crate::specs::Pdus::radio_data))]
 /// Writes a data PDU: the number is the low bits of the COUNT, and reserved bits are zeros.
+#[tactic(auto, unfolding(crate::specs::Pdus::radio_data))]
 pub fn write_pdu(alloc: Global, sn: SnBits, count: u32, packet: &[u8]) -> Result<Octets, Memory>
     requires least { 1 ≤ length packet.now }
     requires most { length packet.now ≤ 2048 }
