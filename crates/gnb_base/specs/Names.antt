@@ -1,5 +1,5 @@
 -- How nodes, terminals, bearers and directions are written.
-use Rattle.std.specs.Prelude.{ℕ, List, [], ◌∷◌, ◌++◌, codes}
+use Rattle.std.specs.Prelude.{ℕ, List, ◌++◌, codes}
 use Rattle.std.specs.Fmt.{decimal}
 use Rattle.gnb_base.specs.declared.names.Gnb.{Gnb}
 use Rattle.gnb_base.specs.declared.names.Gnb.TheVariants.{A, B}

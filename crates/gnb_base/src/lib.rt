@@ -2,6 +2,7 @@
 #![tactic(auto)]
 
 pub mod bits;
+pub mod hex;
 pub mod names;
 pub mod octets;
 pub mod outside;

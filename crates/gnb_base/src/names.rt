@@ -1,5 +1,10 @@
 //! The names of gNBs, units, terminals and bearers (TS 38.401, 6.1), in this project's numbers.
 
+ghost use Rattle.std.specs.Prelude.{Some};
+ghost use Rattle.gnb_base.specs.Names.{gnb_text, node_text, ue_text, bearer_text, dir_text};
+
+use std::fmt;
+
 /// A gNB.
 #[derive(Clone, Copy, Debug, PartialEq, Eq, PartialOrd, Ord)]
 pub enum Gnb {
@@ -7,13 +12,40 @@ pub enum Gnb {
     B,
 }
 
+impl fmt::Display for Gnb {
+    ghost output = { λ x. Some (gnb_text x) };
+
+    fn fmt<W: fmt::Write>(&self, f: &mut fmt::Formatter<W>) -> fmt::Result {
+        match self {
+            Gnb::A => write!(f, "A"),
+            Gnb::B => write!(f, "B"),
+        }
+    }
+}
+
 /// A terminal (UE), by its number from 1 to 16.
 #[derive(Clone, Copy, Debug, PartialEq, Eq, PartialOrd, Ord)]
 pub struct UeId(pub u8);
 
+impl fmt::Display for UeId {
+    ghost output = { λ x. Some (ue_text x) };
+
+    fn fmt<W: fmt::Write>(&self, f: &mut fmt::Formatter<W>) -> fmt::Result {
+        write!(f, "u{}", self.0)
+    }
+}
+
 /// A radio bearer of a terminal, by its number from 1 to 8.
 #[derive(Clone, Copy, Debug, PartialEq, Eq, PartialOrd, Ord)]
 pub struct BearerId(pub u8);
+
+impl fmt::Display for BearerId {
+    ghost output = { λ x. Some (bearer_text x) };
+
+    fn fmt<W: fmt::Write>(&self, f: &mut fmt::Formatter<W>) -> fmt::Result {
+        write!(f, "b{}", self.0)
+    }
+}
 
 /// A node: the CU-CP, a CU-UP or a DU of a gNB (both numbered 1 and 2), the core, or a terminal.
 #[derive(Clone, Copy, Debug, PartialEq, Eq, PartialOrd, Ord)]
@@ -25,11 +57,36 @@ pub enum NodeId {
     Ue(u8),
 }
 
+impl fmt::Display for NodeId {
+    ghost output = { λ x. Some (node_text x) };
+
+    fn fmt<W: fmt::Write>(&self, f: &mut fmt::Formatter<W>) -> fmt::Result {
+        match self {
+            NodeId::CuCp(gnb) => write!(f, "{gnb}.cp"),
+            NodeId::CuUp(gnb, number) => write!(f, "{gnb}.up{number}"),
+            NodeId::Du(gnb, number) => write!(f, "{gnb}.du{number}"),
+            NodeId::Core => write!(f, "core"),
+            NodeId::Ue(number) => write!(f, "u{number}"),
+        }
+    }
+}
+
 /// The direction of a packet: downlink or uplink.
 #[derive(Clone, Copy, Debug, PartialEq, Eq, PartialOrd, Ord)]
 pub enum Dir {
     Dl,
     Ul,
+}
+
+impl fmt::Display for Dir {
+    ghost output = { λ x. Some (dir_text x) };
+
+    fn fmt<W: fmt::Write>(&self, f: &mut fmt::Formatter<W>) -> fmt::Result {
+        match self {
+            Dir::Dl => write!(f, "dl"),
+            Dir::Ul => write!(f, "ul"),
+        }
+    }
 }
 
 /// How many bits a PDCP sequence number has (TS 38.323, 6.3.2).

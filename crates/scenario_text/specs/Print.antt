@@ -17,7 +17,7 @@ use Rattle.scenario_text.specs.declared.line.OutLine.{OutLine}
 use Rattle.scenario_text.specs.declared.line.OutLine.TheVariants as lines
 
 -- one blank between words
-infixl 5 ◌then◌
+infixr 5 ◌then◌
 abbrev pub ◌then◌ : List ℕ → List ℕ → List ℕ
 first then second = first ++ 32 ∷ second
 

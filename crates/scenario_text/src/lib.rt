@@ -3,3 +3,4 @@
 
 pub mod event;
 pub mod line;
+pub mod print;
