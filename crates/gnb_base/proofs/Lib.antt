@@ -1,1 +1,6 @@
 mod HexLemmas
+mod LineLemmas
+mod LineReaderLemmas
+pub mod LinesOf
+mod NextLemmas
+mod Turns

@@ -1,2 +1,5 @@
 pub mod Causes
 pub mod Hex
+pub mod Lines
+pub mod Reading
+pub mod LineReader

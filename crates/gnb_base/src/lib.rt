@@ -2,6 +2,7 @@
 #![tactic(auto)]
 
 pub mod hex;
+pub mod lines;
 pub mod names;
 pub mod octets;
 pub mod outside;
