@@ -2,5 +2,6 @@ mod HexLemmas
 mod LineLemmas
 mod LineReaderLemmas
 pub mod LinesOf
+mod MemoryLemmas
 mod NextLemmas
 mod Turns

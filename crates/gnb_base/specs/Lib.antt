@@ -3,3 +3,4 @@ pub mod Hex
 pub mod Lines
 pub mod Reading
 pub mod LineReader
+pub mod InMemory

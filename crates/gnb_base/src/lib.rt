@@ -3,6 +3,11 @@
 
 pub mod hex;
 pub mod lines;
+pub mod memory;
 pub mod names;
 pub mod octets;
 pub mod outside;
+pub mod standard;
+
+#[cfg(test)]
+mod tests;
