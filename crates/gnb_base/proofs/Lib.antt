@@ -1,1 +1,7 @@
 mod HexLemmas
+mod LineLemmas
+mod LineReaderLemmas
+pub mod LinesOf
+mod MemoryLemmas
+mod NextLemmas
+mod Turns

@@ -1,3 +1,7 @@
 pub mod Causes
 pub mod Hex
 pub mod Names
+pub mod Lines
+pub mod Reading
+pub mod LineReader
+pub mod InMemory

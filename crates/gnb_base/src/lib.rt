@@ -3,6 +3,12 @@
 
 pub mod bits;
 pub mod hex;
+pub mod lines;
+pub mod memory;
 pub mod names;
 pub mod octets;
 pub mod outside;
+pub mod standard;
+
+#[cfg(test)]
+mod tests;

@@ -1,0 +1,13 @@
+use Rattle.std.proofs.Common.{refl, arith}
+use Rattle.std.proofs.lemmas.Grind.{common_steps}
+use Rattle.gnb_base.proofs.LineReaderLemmas.{line_taken, kept_without_lf, same_first, phase_is, behind_nothing}
+use Rattle.gnb_base.proofs.lines.LineReader.take_line.Goals as goal
+
+pub returns-in_default : goal.returns-in_default
+returns-in_default c = (kept_without_lf c.self.inside _ _ c.self.view_is c.self.invariant c.deref.ensures.value c.in_default.ensures, refl)
+
+pub returns : goal.returns
+returns c =
+    line_taken c.self.inside _ _ _ c.in-Some.length c.self.view_is c.self.invariant c.requires
+    (same_first c.self.inside _ _ c.deref.ensures.value c.in-Some.ensures)
+    (grind (arith, common_steps)) refl refl (behind_nothing _ _ (grind (arith, common_steps))) refl (phase_is c.self.inside _ c.self.view_is c.requires)

@@ -1,0 +1,261 @@
+//! Lines of an input that comes in pieces.
+
+ghost use Rattle.std.specs.Prelude.{◌≡◌, ◌<◌, ◌≤◌, ◌+◌, ◌⊎◌, ℕ, List, [], length, take, MatchOption, OnErr, IfOk, vec_len};
+ghost use Rattle.std.specs.Io.KnownBytes.{Consumes, IsAtEnd, Keeps, ReadConsumes};
+ghost use Rattle.gnb_base.specs.Causes.{HasCause};
+ghost use Rattle.gnb_base.specs.Lines.{lines_of, AreLines, HasNoLf, IsFirstLf};
+ghost use Rattle.gnb_base.specs.Reading.{fresh, NextMeets, FillsFront, input_limit, piece_size};
+
+use crate::octets::{Memory, Octets};
+use crate::outside::{Failed, Source};
+use std::alloc::Global;
+use std::marker::Model;
+use std::mem;
+
+const LINE_FEED: u8 = b'\n';
+
+/// How many bytes of an input are read as lines at most.
+pub const INPUT_LIMIT: u64 = 16_777_216;
+
+/// How many bytes one read asks for at most.
+pub const PIECE_SIZE: usize = 4096;
+
+/// A line of an input, without its LF. Lines are counted from 1.
+#[derive(Clone, Debug, PartialEq, Eq, Drop)]
+pub struct Line {
+    pub number: u64,
+    pub text: Octets,
+}
+
+/// Why there is no next line.
+#[derive(Clone, Copy, Debug, PartialEq, Eq)]
+pub enum ReadError {
+    /// A read failed.
+    ReadFault,
+    /// The byte behind the limit was taken.
+    TooLong,
+    /// Want of memory.
+    Memory,
+}
+
+/// What a line reader does from here on: it goes on, or it answers the same always.
+#[derive(Clone, Copy, Debug, PartialEq, Eq)]
+pub enum ReadPhase {
+    Going,
+    Ended,
+    TooLong,
+    Failed,
+}
+
+/// Hands out the lines of an input one by one, and reads no further than it has to.
+#[derive(Drop)]
+pub struct LineReader {
+    alloc: Global,
+    begun: Vec<u8>,
+    piece: Vec<u8>,
+    start: usize,
+    stop: usize,
+    taken: u64,
+    lines: u64,
+    phase: ReadPhase,
+}
+
+impl Model for LineReader {
+    ghost use Rattle.gnb_base.specs.Reading.{Reading};
+
+    ghost Value = { Reading };
+
+    ghost use Rattle.gnb_base.specs.LineReader.{reading_of, IsSound};
+
+    ghost view = { reading_of };
+
+    ghost invariant = { IsSound };
+}
+
+impl LineReader {
+    ghost use Rattle.gnb_base.specs.LineReader.{TakesLine, TakesLast, ReadsMore, TurnMeets};
+
+    /// A reader that has taken nothing yet.
+    pub fn new(alloc: Global) -> Result<LineReader, Memory>
+        ensures { IfOk result (λ reader. reader ≡ fresh) }
+    {
+        let piece = vec![in alloc; 0u8; PIECE_SIZE]?;
+        Ok(LineReader {
+            alloc,
+            begun: Vec::new(alloc),
+            piece,
+            start: 0,
+            stop: 0,
+            taken: 0,
+            lines: 0,
+            phase: ReadPhase::Going,
+        })
+    }
+
+    /// How many bytes were taken so far.
+    pub fn read_so_far(&self) -> u64
+        ensures { result ≡ self.now.taken }
+    {
+        self.taken
+    }
+
+    /// The next line, or `None` at the end of the input where no byte is kept.
+    ///
+    /// It reads only where it keeps no whole line. After a failed read it keeps what it took before, and may be called
+    /// again. From the end, from a byte behind the limit and from want of memory on, it answers the same always.
+    pub fn next<S: Source>(&mut self, source: &mut S) -> Result<Option<Line>, ReadError>
+        ensures { NextMeets self.old self.new (S.left source.old) (S.left source.new) (S.faults source.old) (S.faults source.new) result }
+    {
+        match self.phase {
+            ReadPhase::Going => self.go_on(source),
+            ReadPhase::Ended => Ok(None),
+            ReadPhase::TooLong => Err(ReadError::TooLong),
+            ReadPhase::Failed => Err(ReadError::Memory),
+        }
+    }
+
+    fn go_on<S: Source>(&mut self, source: &mut S) -> Result<Option<Line>, ReadError>
+        requires { self.old.phase ≡ ReadPhase.Going }
+        ensures { NextMeets self.old self.new (S.left source.old) (S.left source.new) (S.faults source.old) (S.faults source.new) result }
+    {
+        loop {
+            if let Some(answer) = self.turn(source) {
+                return answer;
+            }
+        }
+    }
+
+    /// Hands out a line that is kept, or reads once.
+    fn turn<S: Source>(&mut self, source: &mut S) -> Option<Result<Option<Line>, ReadError>>
+        requires { self.old.phase ≡ ReadPhase.Going }
+        ensures { TurnMeets self.old self.new (S.left source.old) (S.left source.new) (S.faults source.old) (S.faults source.new) result }
+    {
+        match self.take_line() {
+            Ok(Some(line)) => return Some(Ok(Some(line))),
+            Ok(None) => {}
+            Err(_) => return Some(Err(ReadError::Memory)),
+        }
+        match self.read_more(source) {
+            Ok(true) => None,
+            Ok(false) => match self.take_last() {
+                Ok(line) => Some(Ok(line)),
+                Err(_) => Some(Err(ReadError::Memory)),
+            },
+            Err(error) => Some(Err(error)),
+        }
+    }
+
+    /// The first whole line that is kept.
+    fn take_line(&mut self) -> Result<Option<Line>, Memory>
+        requires { self.old.phase ≡ ReadPhase.Going }
+        ensures { TakesLine self.old self.new result }
+    {
+        let rest = &self.piece[self.start..self.stop];
+        let Some(length) = line_end(rest) else {
+            return Ok(None);
+        };
+        if self.begun.extend_from_slice(&rest[..length]).is_err() {
+            self.phase = ReadPhase::Failed;
+            return Err(Memory);
+        }
+        self.start += length + 1;
+        self.lines += 1;
+        let text = mem::replace(&mut self.begun, Vec::new(self.alloc));
+        Ok(Some(Line {
+            number: self.lines,
+            text: Octets::from_vec(text),
+        }))
+    }
+
+    /// All that is kept, as a line without its LF; at the end of the input.
+    fn take_last(&mut self) -> Result<Option<Line>, Memory>
+        requires going { self.old.phase ≡ ReadPhase.Going }
+        requires without_lf { HasNoLf self.old.kept }
+        ensures { TakesLast self.old self.new result }
+    {
+        let rest = &self.piece[self.start..self.stop];
+        if self.begun.extend_from_slice(rest).is_err() {
+            self.phase = ReadPhase::Failed;
+            return Err(Memory);
+        }
+        self.start = self.stop;
+        self.phase = ReadPhase::Ended;
+        if self.begun.is_empty() {
+            return Ok(None);
+        }
+        self.lines += 1;
+        let text = mem::replace(&mut self.begun, Vec::new(self.alloc));
+        Ok(Some(Line {
+            number: self.lines,
+            text: Octets::from_vec(text),
+        }))
+    }
+
+    /// One read, behind what is kept; answers whether bytes came.
+    fn read_more<S: Source>(&mut self, source: &mut S) -> Result<bool, ReadError>
+        requires going { self.old.phase ≡ ReadPhase.Going }
+        requires without_lf { HasNoLf self.old.kept }
+        ensures { ReadsMore self.old self.new (S.left source.old) (S.left source.new) (S.faults source.old) (S.faults source.new) result }
+    {
+        let rest = &self.piece[self.start..self.stop];
+        if self.begun.extend_from_slice(rest).is_err() {
+            self.phase = ReadPhase::Failed;
+            return Err(ReadError::Memory);
+        }
+        self.start = 0;
+        self.stop = 0;
+        let Ok(count) = read_front(source, self.piece.as_mut_slice(), wanted(self.taken)) else {
+            return Err(ReadError::ReadFault);
+        };
+        self.stop = count;
+        self.taken += count as u64;
+        if self.taken > INPUT_LIMIT {
+            self.phase = ReadPhase::TooLong;
+            return Err(ReadError::TooLong);
+        }
+        Ok(count > 0)
+    }
+}
+
+/// The lines of bytes, as a function of the bytes and as a relation, are the same.
+pub fn lines_are_exact()
+    ensures found { (bytes : List ℕ) → AreLines bytes (lines_of bytes) }
+    ensures only { (bytes : List ℕ) (lines : List (List ℕ)) → AreLines bytes lines → lines ≡ lines_of bytes }
+{}
+
+/// Where the first LF stands.
+fn line_end(bytes: &[u8]) -> Option<usize>
+    ensures { MatchOption result (HasNoLf bytes.now) (λ i. IsFirstLf bytes.now i) }
+{
+    for (i, byte) in bytes.iter().enumerate() {
+        if *byte == LINE_FEED {
+            return Some(i);
+        }
+    }
+    None
+}
+
+/// How many bytes the next read asks for. The byte behind the limit is asked for alone.
+fn wanted(taken: u64) -> usize
+    requires { taken ≤ input_limit }
+    ensures some { 0 < result }
+    ensures piece { result ≤ piece_size }
+    ensures within { taken < input_limit → taken + result ≤ input_limit }
+    ensures alone { taken ≡ input_limit → result ≡ 1 }
+{
+    if taken == INPUT_LIMIT {
+        1
+    } else {
+        (INPUT_LIMIT - taken).min(PIECE_SIZE as u64) as usize
+    }
+}
+
+/// Reads into the front of a piece.
+fn read_front<S: Source>(source: &mut S, piece: &mut [u8], wanted: usize) -> Result<usize, Failed>
+    requires { wanted ≤ length piece.old }
+    ensures bound { IfOk result (λ count. count ≤ wanted) }
+    ensures bytes { FillsFront (S.left source.old) (S.left source.new) wanted result piece.new }
+    ensures cause { HasCause (S.faults source.old) (S.faults source.new) result }
+{
+    source.read(&mut piece[..wanted])
+}

@@ -1,0 +1,124 @@
+//! Vectors from outside, and each public call once.
+
+use crate::hex::{HexError, hex_bytes, hex_text};
+use crate::lines::{INPUT_LIMIT, LineReader, ReadError};
+use crate::memory::{MemorySink, MemorySource};
+use crate::octets::Octets;
+use crate::outside::{Failed, Sink, Source};
+use crate::standard::{StdSink, StdSource};
+use std::alloc::Global;
+use std::process::Abort;
+use std::test::Fail;
+
+/// RFC 4648, section 10, and texts that stand for no bytes.
+#[test]
+fn hexadecimal_text(rt: HostRuntime) -> Result<(), Fail> {
+    let vectors: [(&[u8], &[u8]); 7] = [
+        (b"", b""),
+        (b"f", b"66"),
+        (b"fo", b"666F"),
+        (b"foo", b"666F6F"),
+        (b"foob", b"666F6F62"),
+        (b"fooba", b"666F6F6261"),
+        (b"foobar", b"666F6F626172"),
+    ];
+    for (bytes, text) in vectors {
+        assert_eq!(rt; hex_text(rt.alloc(), bytes)?.as_slice(), text);
+        assert_eq!(rt; hex_bytes(rt.alloc(), text)?.as_slice(), bytes);
+    }
+    assert_eq!(rt; hex_bytes(rt.alloc(), b"fFaA09")?.as_slice(), [0xff, 0xaa, 0x09].as_slice());
+    let refused: [&[u8]; 6] = [b"6", b"666", b"6G", b"g6", b"/0", b"0x"];
+    for text in refused {
+        assert!(rt; hex_bytes(rt.alloc(), text) == Err(HexError::NotHex));
+    }
+    Ok(())
+}
+
+/// The lines that a reader hands out, each behind its number and a colon and before a full stop, with `!` for each failed read.
+fn handed_out(rt: &impl Abort, alloc: Global, input: &[u8], piece: usize, failing: &[u64]) -> Result<Octets, Fail>
+    requires { 0 < piece }
+{
+    let mut source = MemorySource::new(Vec::from_slice(alloc, input)?, piece, Vec::from_slice(alloc, failing)?);
+    let mut reader = LineReader::new(alloc)?;
+    let mut told = Octets::new(alloc);
+    for _ in 0..20 {
+        match reader.next(&mut source) {
+            Ok(Some(line)) => {
+                told.push(b'0' + (line.number % 10) as u8)?;
+                told.push(b':')?;
+                told.append(line.text.as_slice())?;
+                told.push(b'.')?;
+            }
+            Ok(None) => break,
+            Err(error) => {
+                assert!(rt; error == ReadError::ReadFault);
+                told.push(b'!')?;
+            }
+        }
+    }
+    assert_eq!(rt; reader.read_so_far(), input.len() as u64);
+    assert!(rt; reader.next(&mut source)?.is_none());
+    Ok(told)
+}
+
+#[test]
+fn lines_in_pieces(rt: HostRuntime) -> Result<(), Fail> {
+    let rows: [(&[u8], usize, &[u64], &[u8]); 9] = [
+        (b"", 1, &[], b""),
+        (b"\n", 1, &[], b"1:."),
+        (b"one\n\ntwo", 1, &[], b"1:one.2:.3:two."),
+        (b"one\n\ntwo", 4096, &[], b"1:one.2:.3:two."),
+        (b"one\n\ntwo\n", 3, &[], b"1:one.2:.3:two."),
+        (b"one\ntwo", 1, &[1], b"!1:one.2:two."),
+        (b"one\ntwo", 1, &[3, 7], b"!1:one.!2:two."),
+        (b"one\ntwo\nthree", 5, &[2, 3], b"1:one.!!2:two.3:three."),
+        (b"one\ntwo\nthree", 4096, &[2], b"1:one.2:two.!3:three."),
+    ];
+    for (input, piece, failing, told) in rows {
+        assert!(rt; piece > 0);
+        assert_eq!(rt; handed_out(&rt, rt.alloc(), input, piece, failing)?.as_slice(), told);
+    }
+    Ok(())
+}
+
+/// The byte behind the limit is one too many, and the lines before it were handed out.
+#[test]
+fn a_byte_too_many(rt: HostRuntime) -> Result<(), Fail> {
+    let mut input = vec![in rt.alloc(); b'x'; INPUT_LIMIT as usize]?;
+    input[0] = b'\n';
+    let mut reader = LineReader::new(rt.alloc())?;
+    let mut source = MemorySource::new(input.clone()?, 4096, Vec::new(rt.alloc()));
+    assert!(rt; reader.next(&mut source)?.is_some_and(|line| line.text.is_empty()));
+    assert!(rt; reader.next(&mut source)?.is_some_and(|line| line.text.len() == 16_777_215));
+    assert!(rt; reader.next(&mut source)?.is_none());
+    input.push(b'\n')?;
+    let mut reader = LineReader::new(rt.alloc())?;
+    let mut source = MemorySource::new(input, 4096, Vec::new(rt.alloc()));
+    assert!(rt; reader.next(&mut source)?.is_some());
+    assert!(rt; reader.next(&mut source) == Err(ReadError::TooLong));
+    assert!(rt; reader.next(&mut source) == Err(ReadError::TooLong));
+    assert_eq!(rt; reader.read_so_far(), 16_777_217);
+    Ok(())
+}
+
+#[test]
+fn sinks_and_sources(rt: HostRuntime) -> Result<(), Fail> {
+    let mut sink = MemorySink::new(rt.alloc(), 2, vec![in rt.alloc(); 2]?);
+    assert!(rt; sink.write(b"abc") == Ok(2));
+    assert!(rt; sink.write(b"c") == Err(Failed));
+    assert!(rt; sink.write(b"c") == Ok(1));
+    assert_eq!(rt; sink.bytes_held(), b"abc".as_slice());
+    assert_eq!(rt; sink.calls(), 3);
+
+    let mut buffer = [0; 2];
+    let mut source = StdSource::new(b"abc".as_slice());
+    assert!(rt; source.read(&mut buffer) == Ok(2));
+    assert!(rt; source.read(&mut buffer) == Ok(1));
+    assert!(rt; source.read(&mut buffer) == Ok(0));
+    let mut room = [0; 2];
+    let mut sink = StdSink::new(room.as_mut_slice());
+    assert!(rt; sink.write(b"abc") == Ok(2));
+    assert!(rt; sink.write(b"c") == Err(Failed));
+    assert!(rt; sink.write(b"") == Ok(0));
+    Ok(())
+}
