@@ -1,1 +1,3 @@
 pub mod HexText
+pub mod NumberLemmas
+pub mod WordLemmas

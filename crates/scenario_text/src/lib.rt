@@ -4,3 +4,4 @@
 pub mod event;
 pub mod line;
 pub mod print;
+pub mod read;
