@@ -1,5 +1,5 @@
 -- Chains of extension headers: one header more at the end, and that octets are one chain and no other.
-use Rattle.std.proofs.Common.{◌≡◌, ℕ, zero, suc, ◌+◌, ◌-◌, ◌*◌, ◌/◌, ◌<◌, ◌≤◌, ◌==◌, Bool, true, false, cond, List, [], ◌∷◌, ◌++◌, length, take, drop, find, Option, Some, None, option_map, refl, sym, ap, subst, ◌∙◌, inl, inr, ◌⊎◌, true≢false, append_assoc, append-nil, length-append, arith, take_at, eq-eqb}
+use Rattle.std.proofs.Common.{◌≡◌, ℕ, ◌-◌, ◌<◌, ◌==◌, Bool, true, false, cond, List, [], ◌∷◌, ◌++◌, length, take, find, Some, None, option_map, refl, sym, ap, subst, ◌∙◌, inl, inr, true≢false, append_assoc, append-nil, length-append, arith, take_at, eq-eqb}
 use Rattle.std.specs.List.{AllByRecursion}
 use Rattle.gtpu.specs.declared.GtpuError.{GtpuError}
 use Rattle.gtpu.specs.Headers.{ExtensionHeader, IsHeader, units, may_have, is_required, header_octets, first_type, chain_octets, Begins, AreHeaders, IsChain, SplitsOff, content_of}
