@@ -1,5 +1,5 @@
 -- Chains of extension headers: one header more at the end, and that octets are one chain and no other.
-use Rattle.std.proofs.Common.{◌≡◌, ℕ, zero, suc, ◌+◌, ◌-◌, ◌*◌, ◌/◌, ◌<◌, ◌≤◌, ◌==◌, Bool, true, false, cond, List, [], ◌∷◌, ◌++◌, length, take, drop, find, Option, Some, None, option_map, refl, sym, ap, subst, ◌∙◌, inl, inr, ◌⊎◌, true≢false, append_assoc, append-nil, length-append, arith, take_at, eq-eqb}
+use Rattle.std.proofs.Common.{◌≡◌, ℕ, ◌-◌, ◌<◌, ◌==◌, Bool, true, false, cond, List, [], ◌∷◌, ◌++◌, length, take, find, Some, None, option_map, refl, sym, ap, subst, ◌∙◌, inl, inr, true≢false, append_assoc, append-nil, length-append, arith, take_at, eq-eqb}
 use Rattle.std.specs.List.{AllByRecursion}
 use Rattle.gtpu.specs.declared.GtpuError.{GtpuError}
 use Rattle.gtpu.specs.Headers.{ExtensionHeader, IsHeader, units, may_have, is_required, header_octets, first_type, chain_octets, Begins, AreHeaders, IsChain, SplitsOff, content_of}
@@ -188,6 +188,9 @@ pub leaves_no_fault : (code first : ℕ) (octets : List ℕ) (next : ℕ) (rest 
 leaves_no_fault code first octets next rest e some l fault = stuck_ends l.left next rest some l.are (stuck_fault next rest e fault)
 
 -- ---- chains that are written: none, and one header
+
+pub one_header : (h : ExtensionHeader) → IsHeader h → IsChain h.code (header_octets h 0)
+one_header h p = (h ∷ [], record { each = (p, tt); first_is = refl; octets_are = sym (append-nil (header_octets h 0 ++ []) ∙ append-nil (header_octets h 0)) })
 
 pub no_headers : IsChain 0 []
 no_headers = ([], record { each = tt; first_is = refl; octets_are = refl })

@@ -1,5 +1,6 @@
 pub mod Chains
+pub mod Decided
 pub mod Flags
-pub mod Laws
+pub mod Unique
 pub mod Reading
 pub mod Writing

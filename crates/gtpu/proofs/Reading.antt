@@ -1,15 +1,15 @@
 -- What a reader finds at each place of the octets, and each of its refusals.
-use Rattle.std.proofs.Common.{◌≡◌, ◌≢◌, ℕ, zero, suc, ◌+◌, ◌-◌, ◌*◌, ◌/◌, ◌%◌, ◌^◌, ◌<◌, ◌≤◌, ◌==◌, Bool, true, false, not, cond, if◌then◌else◌, List, [], ◌∷◌, ◌++◌, length, drop, slice_index, Option, Some, None, refl, sym, ap, subst, ◌∙◌, inl, inr, ◌⊎◌, true≢false, arith, get_or-drop, drop-drop, length-drop, slice_range, bit_and, ne_eqb, eq-eqb}
+use Rattle.std.proofs.Common.{◌≡◌, ◌≢◌, ℕ, ◌+◌, ◌/◌, ◌<◌, ◌≤◌, ◌==◌, Bool, true, false, not, if◌then◌else◌, List, [], ◌∷◌, ◌++◌, length, drop, slice_index, Option, None, refl, sym, ap, subst, ◌∙◌, inl, inr, ◌⊎◌, arith, get_or-drop, drop-drop, length-drop, slice_range, bit_and, ne_eqb, eq-eqb}
 use Rattle.std.proofs.lemmas.Slice.{between_to_end}
 use Rattle.std.specs.Bool.{then_some}
 use Rattle.std.specs.Int.{w16, w32, from_be_bytes}
 use Rattle.gtpu.specs.declared.Kind.{Kind}
 use Rattle.gtpu.specs.declared.GtpuError.{GtpuError}
 use Rattle.gtpu.specs.declared.GtpuError.TheVariants as errors
-use Rattle.gtpu.specs.Headers.{IsChain, is_required}
-use Rattle.gtpu.specs.Packets.{GtpuPacket, Gtpu, kind_code, e_flag, s_flag, pn_flag, has_flag, IsPlain, IsFlagged, IsBody, IsPacket}
+use Rattle.gtpu.specs.Headers.{IsChain}
+use Rattle.gtpu.specs.Packets.{GtpuPacket, Gtpu, kind_code, e_flag, s_flag, pn_flag, has_flag, IsFlagged, IsBody, IsPacket}
 use Rattle.gtpu.proofs.Flags.{e_test, s_test, pn_test}
-use Rattle.gtpu.specs.Refusals.{IsFirst, IsRefusal, Meets, IsRequired, HasWrongLength, told_of, first_of, refusals, header_refusals}
+use Rattle.gtpu.specs.Refusals.{IsFirst, IsRefusal, told_of, first_of, header_refusals}
 
 -- ---- the refusals, one after the other
 

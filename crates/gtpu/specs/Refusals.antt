@@ -1,6 +1,6 @@
 -- Why octets are refused (TS 29.281, 5.1 and 5.2.1): a list of reasons with their conditions, of which the first that
 -- holds is told.
-use Rattle.std.specs.Prelude.{◌≡◌, ◌≢◌, ℕ, ◌+◌, ◌*◌, ◌/◌, ◌<◌, Bool, true, false, if◌then◌else◌, List, [], ◌∷◌, length, drop, slice_index, ◌⊎◌}
+use Rattle.std.specs.Prelude.{◌≡◌, ◌≢◌, ℕ, ◌+◌, ◌*◌, ◌/◌, ◌<◌, true, false, if◌then◌else◌, List, [], ◌∷◌, length, drop, slice_index, ◌⊎◌}
 use Rattle.std.specs.Int.{w16, from_be_bytes}
 use Rattle.gtpu.specs.declared.Kind.{Kind}
 use Rattle.gtpu.specs.declared.GtpuError.{GtpuError}

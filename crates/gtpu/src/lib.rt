@@ -2,6 +2,7 @@
 #![tactic(auto)]
 
 mod headers;
+pub mod laws;
 #[cfg(test)]
 mod tests;
 

@@ -126,3 +126,110 @@ fn packets(rt: HostRuntime) -> Result<(), Fail> {
     }
     Ok(())
 }
+
+#[test]
+fn fields_that_are_not_evaluated(rt: HostRuntime) {
+    let plain = packet(Kind::GPdu, 1, 0, b"", b"\x45");
+    let rows = [
+        // the spare bit
+        b"\x38\xFF\x00\x01\x00\x00\x00\x01\x45".as_slice(),
+        // E without a header
+        b"\x34\xFF\x00\x05\x00\x00\x00\x01\x12\x34\x56\x00\x45".as_slice(),
+    ];
+    for octets in rows {
+        assert_eq!(rt; decode(octets), Ok(plain), "{octets:?}");
+    }
+    let sequence = b"\x32\xFF\x00\x05\x00\x00\x00\x01\x12\x34\x56\x84\x45".as_slice();
+    assert_eq!(rt;
+        decode(sequence),
+        Ok(Packet {
+            seq: Some(0x1234),
+            ..plain
+        })
+    );
+}
+
+#[test]
+fn refusals(rt: HostRuntime) {
+    use GtpuError::{ExtLength, ExtRequired, Length, Truncated, Version};
+
+    let rows = [
+        (b"".as_slice(), Truncated),
+        (b"\x40\xFF\x00\x00\x00\x00\x00".as_slice(), Truncated),
+        (b"\x40\xFF\x00\x00\x00\x00\x00\x01".as_slice(), Version),
+        (b"\x20\x03\x00\x09\x00\x00\x00\x01".as_slice(), Version),
+        (
+            b"\x30\x03\x00\x00\x00\x00\x00\x01".as_slice(),
+            GtpuError::Kind,
+        ),
+        (
+            b"\x30\xFD\x00\x09\x00\x00\x00\x01\x45".as_slice(),
+            GtpuError::Kind,
+        ),
+        (
+            b"\x30\xFF\x00\x02\x00\x00\x00\x01\x45".as_slice(),
+            Truncated,
+        ),
+        (
+            b"\x34\xFF\x01\x00\x00\x00\x00\x01\x45".as_slice(),
+            Truncated,
+        ),
+        (b"\x30\xFF\x00\x00\x00\x00\x00\x01\x45".as_slice(), Length),
+        (
+            b"\x31\xFF\x00\x03\x00\x00\x00\x01\x00\x00\x00".as_slice(),
+            Length,
+        ),
+        (
+            b"\x34\xFF\x00\x08\x00\x00\x00\x01\x00\x00\x00\x81\x01\x00\x00\x00".as_slice(),
+            ExtRequired,
+        ),
+        // both hold of this header, and then this of the second one
+        (
+            b"\x34\xFF\x00\x08\x00\x00\x00\x01\x00\x00\x00\xFF\x00\x00\x00\x00".as_slice(),
+            ExtRequired,
+        ),
+        (
+            b"\x34\xFF\x00\x08\x00\x00\x00\x01\x00\x00\x00\x01\x01\x00\x00\xC1".as_slice(),
+            ExtRequired,
+        ),
+        (
+            b"\x34\xFF\x00\x08\x00\x00\x00\x01\x00\x00\x00\x84\x00\x00\x00\x00".as_slice(),
+            ExtLength,
+        ),
+        (
+            b"\x34\xFF\x00\x0C\x00\x00\x00\x01\x00\x00\x00\xC0\x02\x00\x00\x00\x00\x00\x00\x00".as_slice(),
+            ExtLength,
+        ),
+        (
+            b"\x34\xFF\x00\x08\x00\x00\x00\x01\x00\x00\x00\x82\x01\x00\x00\x00".as_slice(),
+            ExtLength,
+        ),
+        (
+            b"\x34\xFF\x00\x04\x00\x00\x00\x01\x00\x00\x00\x84".as_slice(),
+            ExtLength,
+        ),
+        (
+            b"\x34\xFF\x00\x08\x00\x00\x00\x01\x00\x00\x00\x01\x02\x00\x00\x00".as_slice(),
+            ExtLength,
+        ),
+    ];
+    for (octets, error) in rows {
+        assert_eq!(rt; decode(octets), Err(error), "{octets:?}");
+    }
+}
+
+#[test]
+fn extensions(rt: HostRuntime) -> Result<(), Fail> {
+    let octets =
+        b"\x34\xFF\x00\x10\x00\x00\x00\x01\x00\x00\x00\x01\x01\xAA\xBB\xC0\x01\x0F\xFF\x01\x01\xCC\xDD\x00";
+    let packet = decode(octets)?;
+    for (code, content) in [
+        (0x01, Some(b"\xAA\xBB".as_slice())),
+        (PDCP_PDU_NUMBER, Some(b"\x0F\xFF".as_slice())),
+        (NR_RAN_CONTAINER, None),
+        (LONG_PDCP_PDU_NUMBER, None),
+    ] {
+        assert_eq!(rt; extension(&packet, code), content, "{code}");
+    }
+    Ok(())
+}

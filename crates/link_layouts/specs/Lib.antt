@@ -1,1 +1,2 @@
+pub mod GPdus
 pub mod Links

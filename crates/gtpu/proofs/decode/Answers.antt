@@ -1,5 +1,5 @@
 use Rattle.std.proofs.Common.{arith}
-use Rattle.gtpu.proofs.Laws.{read_chain, read_counted, read_only, read_all}
+use Rattle.gtpu.proofs.Unique.{read_chain, read_counted, read_only, read_all}
 use Rattle.gtpu.proofs.decode.Goals as goal
 
 pub returns-clause-chain : goal.returns-clause-chain

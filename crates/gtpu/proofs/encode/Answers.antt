@@ -1,5 +1,5 @@
 use Rattle.std.proofs.Common.{◌≡◌, ◌+◌, ◌++◌, ◌∙◌, ap, List, ℕ, length, Bor}
-use Rattle.gtpu.specs.Packets.{view, flags_of, optional_of}
+use Rattle.gtpu.specs.Packets.{view, optional_of}
 use Rattle.gtpu.proofs.Writing.{no_fields, all_fields, length-body, in_pieces}
 use Rattle.gtpu.proofs.encode.Goals as goal
 use Rattle.gtpu.proofs.encode.Goals.{then-flags-eq0, else-flags-eq0}

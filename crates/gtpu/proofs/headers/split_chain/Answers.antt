@@ -1,4 +1,4 @@
-use Rattle.std.proofs.Common.{arith, length-append}
+use Rattle.std.proofs.Common.{arith}
 use Rattle.std.proofs.lemmas.Result.{err_from_is_err_and}
 use Rattle.gtpu.proofs.Chains.{passes_more, fault_then, split_shorter}
 use Rattle.gtpu.proofs.headers.split_chain.Goals as goal

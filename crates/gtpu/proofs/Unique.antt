@@ -1,12 +1,12 @@
 -- The octets are those of one packet at most, and where they are a packet's they have no refusal.
-use Rattle.std.proofs.Common.{◌≡◌, ◌≢◌, ℕ, zero, suc, ◌+◌, ◌*◌, ◌/◌, ◌%◌, ◌<◌, ◌≤◌, Bool, true, false, cond, if◌then◌else◌, List, [], ◌∷◌, ◌++◌, length, Option, Some, None, Result, Ok, Err, IfOk, IfErr, IsOkAnd, refl, sym, ap, subst, ◌∙◌, inl, inr, ◌⊎◌, true≢false, append-nil, arith, slice_index, drop, ltb-false, ne_eqb, ◌==◌, is_some, length-append}
+use Rattle.std.proofs.Common.{◌≡◌, ℕ, ◌+◌, ◌/◌, ◌%◌, ◌<◌, ◌≤◌, Bool, true, false, if◌then◌else◌, List, [], ◌∷◌, ◌++◌, length, None, Result, Ok, Err, IfOk, IfErr, IsOkAnd, refl, sym, ap, subst, ◌∙◌, inl, inr, ◌⊎◌, true≢false, append-nil, arith, slice_index, drop, ltb-false, ne_eqb, ◌==◌, is_some, length-append}
 use Rattle.gtpu.specs.declared.Kind.{Kind}
 use Rattle.gtpu.specs.declared.Kind.TheVariants.{EchoRequest, EchoResponse, ErrorIndication, EndMarker, GPdu}
 use Rattle.gtpu.specs.declared.GtpuError.{GtpuError}
 use Rattle.gtpu.specs.declared.Packet.{Packet}
-use Rattle.gtpu.specs.Headers.{ExtensionHeader, IsChain, AreHeaders, Begins, chain_octets, is_required}
-use Rattle.gtpu.specs.Packets.{GtpuPacket, view, Gtpu, kind_code, e_flag, has_flag, IsPlain, IsFlagged, IsBody, IsPacket, flags_of, fields_of, optional_of, body_of}
-use Rattle.gtpu.specs.Refusals.{Condition, IsFirst, IsRefusal, Meets, IsRequired, HasWrongLength, told_of, first_of, refusals, header_refusals}
+use Rattle.gtpu.specs.Headers.{ExtensionHeader, IsChain, Begins, chain_octets}
+use Rattle.gtpu.specs.Packets.{GtpuPacket, view, Gtpu, kind_code, e_flag, has_flag, IsFlagged, IsBody, flags_of, fields_of, optional_of, body_of}
+use Rattle.gtpu.specs.Refusals.{Condition, IsFirst, IsRefusal, Meets, IsRequired, HasWrongLength, told_of, refusals, header_refusals}
 use Rattle.gtpu.proofs.Chains.{same_end, stuck_none, stuck_required, stuck_wrong, IsStuck, no_headers}
 
 -- ---- one refusal
