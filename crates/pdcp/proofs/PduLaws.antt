@@ -1,0 +1,41 @@
+-- What has no reason to be refused is a PDU.
+use Rattle.std.proofs.Common.{◌≡◌, ℕ, ◌+◌, ◌*◌, ◌%◌, ◌<◌, ◌≤◌, List, [], ◌∷◌, refl, arith, None, inl, inr}
+use Rattle.std.proofs.lemmas.Bool.{cases_lt}
+use Rattle.gnb_base.specs.declared.names.SnBits.{SnBits}
+use Rattle.gnb_base.specs.declared.names.SnBits.TheVariants.{Len12, Len18}
+use Rattle.pdcp.specs.Pdus.{Content, data_pdu, status_report, Pdcp, refusals, first_reason}
+
+abbrev pub IsPdu : SnBits → List ℕ → Type 0
+IsPdu sn octets = (content : Content) × Pdcp sn content octets
+
+report : (sn : SnBits) (first a b c d : ℕ) (octets : List ℕ) → first < 16 → IsPdu sn (first ∷ a ∷ b ∷ c ∷ d ∷ octets)
+report Len12 first a b c d octets low = (status_report (((a * 256 + b) * 256 + c) * 256 + d) octets, (low, refl, refl))
+report Len18 first a b c d octets low = (status_report (((a * 256 + b) * 256 + c) * 256 + d) octets, (low, refl, refl))
+
+-- a control PDU
+control : (sn : SnBits) (first : ℕ) (octets : List ℕ) → first < 128 → first_reason (refusals sn (first ∷ octets)) ≡ None → IsPdu sn (first ∷ octets)
+control Len12 first [] low h = absurd (grind (arith, h))
+control Len12 first (a ∷ []) low h = absurd (grind (arith, h))
+control Len12 first (a ∷ b ∷ []) low h = absurd (grind (arith, h))
+control Len12 first (a ∷ b ∷ c ∷ []) low h = absurd (grind (arith, h))
+control Len12 first (a ∷ b ∷ c ∷ d ∷ octets) low h = report Len12 first a b c d octets (grind (arith, h))
+control Len18 first [] low h = absurd (grind (arith, h))
+control Len18 first (a ∷ []) low h = absurd (grind (arith, h))
+control Len18 first (a ∷ b ∷ []) low h = absurd (grind (arith, h))
+control Len18 first (a ∷ b ∷ c ∷ []) low h = absurd (grind (arith, h))
+control Len18 first (a ∷ b ∷ c ∷ d ∷ octets) low h = report Len18 first a b c d octets (grind (arith, h))
+
+-- a data PDU
+data_of : (sn : SnBits) (first : ℕ) (octets : List ℕ) → 128 ≤ first → first_reason (refusals sn (first ∷ octets)) ≡ None → IsPdu sn (first ∷ octets)
+data_of Len12 first [] high h = absurd (grind (arith, h))
+data_of Len12 first (a ∷ []) high h = absurd (grind (arith, h))
+data_of Len12 first (a ∷ b ∷ octets) high h = (data_pdu (first % 16 * 256 + a) (b ∷ octets), (high, refl, refl))
+data_of Len18 first [] high h = absurd (grind (arith, h))
+data_of Len18 first (a ∷ []) high h = absurd (grind (arith, h))
+data_of Len18 first (a ∷ b ∷ []) high h = absurd (grind (arith, h))
+data_of Len18 first (a ∷ b ∷ c ∷ octets) high h = (data_pdu ((first % 4 * 256 + a) * 256 + b) (c ∷ octets), (high, refl, refl))
+
+pub pdu_without_reason : (sn : SnBits) (octets : List ℕ) → first_reason (refusals sn octets) ≡ None → IsPdu sn octets
+pdu_without_reason Len12 [] h = absurd (grind (arith, h))
+pdu_without_reason Len18 [] h = absurd (grind (arith, h))
+pdu_without_reason sn (first ∷ octets) h = elim (cases_lt first 128) [ inl low ↦ control sn first octets low h | inr high ↦ data_of sn first octets high h ]
