@@ -189,8 +189,11 @@ leaves_no_fault code first octets next rest e some l fault = stuck_ends l.left n
 
 -- ---- chains that are written: none, and one header
 
+pub are_one_header : (h : ExtensionHeader) → IsHeader h → AreHeaders (h ∷ []) h.code (header_octets h 0)
+are_one_header h p = record { each = (p, tt); first_is = refl; octets_are = sym (append-nil (header_octets h 0 ++ []) ∙ append-nil (header_octets h 0)) }
+
 pub one_header : (h : ExtensionHeader) → IsHeader h → IsChain h.code (header_octets h 0)
-one_header h p = (h ∷ [], record { each = (p, tt); first_is = refl; octets_are = sym (append-nil (header_octets h 0 ++ []) ∙ append-nil (header_octets h 0)) })
+one_header h p = (h ∷ [], are_one_header h p)
 
 pub no_headers : IsChain 0 []
 no_headers = ([], record { each = tt; first_is = refl; octets_are = refl })

@@ -6,7 +6,7 @@ pub mod laws;
 #[cfg(test)]
 mod tests;
 
-ghost use Rattle.std.specs.Prelude.{◌≡◌, ◌≢◌, ◌≤◌, List, length, IfOk, IfErr, IsOkAnd, IfSome, IfNone};
+ghost use Rattle.std.specs.Prelude.{◌≡◌, ◌≢◌, ◌<◌, ◌≤◌, ◌⊎◌, List, length, OnOk, IfOk, IfErr, IsOkAnd, IfSome, IfNone};
 ghost use Rattle.std.specs.Option.{option_copied};
 ghost use Rattle.gtpu.specs.Headers.{ExtensionHeader, IsChain, AreHeaders, content_of};
 ghost use Rattle.gtpu.specs.Packets.{GtpuPacket, Gtpu, view, kind_code, flags_of, fields_of, body_of, gtpu_octets};
@@ -90,6 +90,20 @@ fn code_of(kind: Kind) -> u8
     kind as u8
 }
 
+/// Whether there are as many octets as told.
+fn check_length(octets: usize, told: usize) -> Result<(), GtpuError>
+    ensures ok { OnOk result (octets ≡ told) }
+    ensures err { IfErr result (λ e. ((octets < told) × (e ≡ GtpuError.Truncated)) ⊎ ((told < octets) × (e ≡ GtpuError.Length))) }
+{
+    if octets < told {
+        return Err(GtpuError::Truncated);
+    }
+    if octets > told {
+        return Err(GtpuError::Length);
+    }
+    Ok(())
+}
+
 /// Reads the octets of one packet.
 fn read(bytes: &[u8]) -> Result<Packet<'_>, GtpuError>
     ensures found { IfOk result (λ p. Gtpu (view p) bytes.now) }
@@ -105,12 +119,7 @@ fn read(bytes: &[u8]) -> Result<Packet<'_>, GtpuError>
         return Err(GtpuError::Kind);
     };
     let told = usize::from(u16::from_be_bytes([*l0, *l1]));
-    if body.len() < told {
-        return Err(GtpuError::Truncated);
-    }
-    if body.len() > told {
-        return Err(GtpuError::Length);
-    }
+    check_length(body.len(), told)?;
     let teid = u32::from_be_bytes([*t0, *t1, *t2, *t3]);
     if flags & (E | S | PN) == 0 {
         return Ok(Packet {

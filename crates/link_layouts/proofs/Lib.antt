@@ -1,1 +1,4 @@
+pub mod OneItem
+pub mod Pdus
 pub mod Shells
+pub mod Written

@@ -48,8 +48,3 @@ f1u_downlink_data_reads sn teid number count packet fits counted =
     let p = pdu_with teid (data_header number) (radio_data sn count packet) in
     subst (λ (octets : List ℕ). Gtpu p octets) (sym (f1u_downlink_data_is sn teid number count packet))
     (pdu_with_reads teid (data_header number) (radio_data sn count packet) fits (data_header_is number) (omega (arith, counted)))
-
-pub length-radio_data : (sn : SnBits) (count : ℕ) (packet : List ℕ) → length (radio_data sn count packet) ≤ 3 + length packet
-unfolding radio_data
-length-radio_data Len12 count packet = omega arith
-length-radio_data Len18 count packet = omega arith

@@ -1,2 +1,4 @@
+pub mod Decoding
 pub mod GPdus
+pub mod Layouts
 pub mod Links

@@ -1,23 +1,11 @@
 -- What stands on each link, as octets: a GTP-U packet on a tunnel (TS 29.281), with an NR-U frame on F1-U (TS 38.425),
 -- and a PDCP PDU on F1-U and on the radio (TS 38.323).
-use Rattle.std.specs.Prelude.{ℕ, ◌+◌, ◌/◌, ◌%◌, List, [], ◌∷◌, ◌++◌, length}
+use Rattle.std.specs.Prelude.{ℕ, ◌+◌, List, [], ◌∷◌, ◌++◌, length}
 use Rattle.gnb_base.specs.declared.names.SnBits.{SnBits}
-use Rattle.gnb_base.specs.declared.names.SnBits.TheVariants.{Len12, Len18}
-
 -- numbers of two, three and four octets, the highest first
-abbrev pub be16 : ℕ → List ℕ
-be16 n = n / 256 % 256 ∷ n % 256 ∷ []
-
-abbrev pub be24 : ℕ → List ℕ
-be24 n = n / 65536 % 256 ∷ be16 n
-
-abbrev pub be32 : ℕ → List ℕ
-be32 n = n / 16777216 % 256 ∷ be24 n
-
+pub use Rattle.pdcp.specs.Numbers.{be16, be24, be32}
 -- a PDCP data PDU: the bit for data, the low bits of the COUNT, and the packet
-unfoldable pub radio_data : SnBits → ℕ → List ℕ → List ℕ
-radio_data Len12 count packet = (128 + count / 256 % 16) ∷ count % 256 ∷ packet
-radio_data Len18 count packet = (128 + count / 65536 % 4) ∷ be16 count ++ packet
+unfoldable pub use Rattle.pdcp.specs.Pdus.{radio_data}
 
 -- a G-PDU without flags around the packet
 unfoldable pub n3_downlink : ℕ → List ℕ → List ℕ

@@ -1,0 +1,4 @@
+pub mod Pairs
+pub mod Spares
+pub mod Statuses
+pub mod FrameLaws
