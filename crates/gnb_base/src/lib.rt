@@ -8,6 +8,5 @@ pub mod names;
 pub mod octets;
 pub mod outside;
 pub mod standard;
-
 #[cfg(test)]
 mod tests;
