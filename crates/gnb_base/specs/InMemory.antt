@@ -29,6 +29,7 @@ starts bytes piece failing = record { bytes = bytes; piece = piece; calls = 0; f
 -- a call that failed, and one that left these bytes
 abbrev pub failed_from : InMemory → InMemory
 failed_from s = record { bytes = s.bytes; piece = s.piece; calls = one_more s.calls; failing = s.failing; faults = one_more s.faults }
+
 abbrev pub moved_from : InMemory → List ℕ → InMemory
 moved_from s bytes = record { bytes = bytes; piece = s.piece; calls = one_more s.calls; failing = s.failing; faults = s.faults }
 

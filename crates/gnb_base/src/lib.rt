@@ -9,6 +9,5 @@ pub mod names;
 pub mod octets;
 pub mod outside;
 pub mod standard;
-
 #[cfg(test)]
 mod tests;

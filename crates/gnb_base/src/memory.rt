@@ -167,7 +167,9 @@ impl Sink for MemorySink {
     {
         self.calls = self.calls.saturating_add(1);
         let count = piece.len().min(self.piece);
-        if self.failing.contains(&self.calls) || self.bytes.extend_from_slice(&piece[..count]).is_err() {
+        if self.failing.contains(&self.calls)
+            || self.bytes.extend_from_slice(&piece[..count]).is_err()
+        {
             self.faults = self.faults.saturating_add(1);
             return Err(Failed);
         }

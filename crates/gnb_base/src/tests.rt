@@ -1,5 +1,7 @@
 //! Vectors from outside, and each public call once.
 
+ghost use Rattle.std.specs.Prelude.{◌<◌};
+
 use crate::hex::{HexError, hex_bytes, hex_text};
 use crate::lines::{INPUT_LIMIT, LineReader, ReadError};
 use crate::memory::{MemorySink, MemorySource};
@@ -26,7 +28,10 @@ fn hexadecimal_text(rt: HostRuntime) -> Result<(), Fail> {
         assert_eq!(rt; hex_text(rt.alloc(), bytes)?.as_slice(), text);
         assert_eq!(rt; hex_bytes(rt.alloc(), text)?.as_slice(), bytes);
     }
-    assert_eq!(rt; hex_bytes(rt.alloc(), b"fFaA09")?.as_slice(), [0xff, 0xaa, 0x09].as_slice());
+    assert_eq!(rt;
+        hex_bytes(rt.alloc(), b"fFaA09")?.as_slice(),
+        [0xff, 0xaa, 0x09].as_slice()
+    );
     let refused: [&[u8]; 6] = [b"6", b"666", b"6G", b"g6", b"/0", b"0x"];
     for text in refused {
         assert!(rt; hex_bytes(rt.alloc(), text) == Err(HexError::NotHex));
@@ -35,10 +40,20 @@ fn hexadecimal_text(rt: HostRuntime) -> Result<(), Fail> {
 }
 
 /// The lines that a reader hands out, each behind its number and a colon and before a full stop, with `!` for each failed read.
-fn handed_out(rt: &impl Abort, alloc: Global, input: &[u8], piece: usize, failing: &[u64]) -> Result<Octets, Fail>
+fn handed_out(
+    rt: &impl Abort,
+    alloc: Global,
+    input: &[u8],
+    piece: usize,
+    failing: &[u64],
+) -> Result<Octets, Fail>
     requires { 0 < piece }
 {
-    let mut source = MemorySource::new(Vec::from_slice(alloc, input)?, piece, Vec::from_slice(alloc, failing)?);
+    let mut source = MemorySource::new(
+        Vec::from_slice(alloc, input)?,
+        piece,
+        Vec::from_slice(alloc, failing)?,
+    );
     let mut reader = LineReader::new(alloc)?;
     let mut told = Octets::new(alloc);
     for _ in 0..20 {
@@ -76,7 +91,10 @@ fn lines_in_pieces(rt: HostRuntime) -> Result<(), Fail> {
     ];
     for (input, piece, failing, told) in rows {
         assert!(rt; piece > 0);
-        assert_eq!(rt; handed_out(&rt, rt.alloc(), input, piece, failing)?.as_slice(), told);
+        assert_eq!(rt;
+            handed_out(&rt, rt.alloc(), input, piece, failing)?.as_slice(),
+            told
+        );
     }
     Ok(())
 }
@@ -88,8 +106,16 @@ fn a_byte_too_many(rt: HostRuntime) -> Result<(), Fail> {
     input[0] = b'\n';
     let mut reader = LineReader::new(rt.alloc())?;
     let mut source = MemorySource::new(input.clone()?, 4096, Vec::new(rt.alloc()));
-    assert!(rt; reader.next(&mut source)?.is_some_and(|line| line.text.is_empty()));
-    assert!(rt; reader.next(&mut source)?.is_some_and(|line| line.text.len() == 16_777_215));
+    assert!(rt;
+        reader
+            .next(&mut source)?
+            .is_some_and(|line| line.text.is_empty())
+    );
+    assert!(rt;
+        reader
+            .next(&mut source)?
+            .is_some_and(|line| line.text.len() == 16_777_215)
+    );
     assert!(rt; reader.next(&mut source)?.is_none());
     input.push(b'\n')?;
     let mut reader = LineReader::new(rt.alloc())?;
