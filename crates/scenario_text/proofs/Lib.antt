@@ -1,3 +1,4 @@
+pub mod EventLaws
 pub mod FormLaws
 pub mod HexText
 pub mod NumberLemmas

@@ -1,0 +1,219 @@
+-- What is read is a text of the event, and a text of an event in its ranges is read.
+use Rattle.std.proofs.Common.{◌≡◌, ℕ, ◌+◌, ◌*◌, ◌-◌, ◌≤◌, ◌<◌, ◌^◌, ◌&&◌, ◌⊎◌, Bool, true, false, not, cond, List, Option, Some, None, Result, Ok, Err, [], ◌∷◌, ◌++◌, length, take, drop, refl, ap, ◌∙◌, sym, subst, inl, inr, arith, nat_eq, nat_lt, codes, All, get_or, append_assoc, length-drop}
+use Rattle.std.specs.Char.{is_ascii_digit}
+use Rattle.std.specs.Fmt.{decimal}
+use Rattle.std.specs.Option.{ok_or}
+use Rattle.std.specs.List.{list_all, onto_first, slice_split, join_with_byte, before_first, after_first, position_or_len}
+use Rattle.std.proofs.lemmas.Bool.{ltb-true, eqb-true}
+use Rattle.std.proofs.lemmas.Bool.Decides.{nat_tests}
+use Rattle.std.proofs.lemmas.List.Sums.{split_at_first, passes_at_first}
+use Rattle.std.proofs.lemmas.List.Elements.{All-nil, All-cons}
+use Rattle.std.proofs.lemmas.List.Splits.{slice_split-cons_no, join_with_byte-slice_split}
+use Rattle.std.proofs.lemmas.Fmt.{decimal_is_IsNumeral, decimal_nonempty}
+use Rattle.gnb_base.specs.Hex.{hex_of, read_hex, IsDigitOf, IsHexOf}
+use Rattle.gnb_base.proofs.HexLemmas.{read_is_hex, hex_is_read, hex_of_is_hex}
+use Rattle.gnb_base.specs.Names.{gnb_text, node_text, ue_text, bearer_text}
+use Rattle.gnb_base.specs.declared.names.Gnb.{Gnb}
+use Rattle.gnb_base.specs.declared.names.Gnb.TheVariants.{A, B}
+use Rattle.gnb_base.specs.declared.names.NodeId.{NodeId}
+use Rattle.gnb_base.specs.declared.names.NodeId.TheVariants.{CuCp, CuUp, Du, Core, Ue}
+use Rattle.gnb_base.specs.declared.names.UeId.{UeId}
+use Rattle.gnb_base.specs.declared.names.BearerId.{BearerId}
+use Rattle.scenario_text.specs.declared.event.Event.{Event}
+use Rattle.scenario_text.specs.declared.event.Event.TheVariants as events
+use Rattle.scenario_text.specs.declared.event.TextReason.{TextReason}
+use Rattle.scenario_text.specs.declared.event.TextReason.TheVariants.{Word, Number, Hex, Extra, Name}
+use Rattle.scenario_text.specs.Grammar.{words, ◌is◌, Form, fixed, number_of, number, ue, bearer, node, node_of, hex, both, tunnel, Places, next_word, result_then, place, ◌>>=◌, line_end, ended, static_event, offer_event, get_event, air_event, places_of, event_of}
+use Rattle.scenario_text.specs.Print.{event_text, ◌then◌}
+use Rattle.scenario_text.specs.Texts.{IsWithin, IsUe, IsBearer, IsNode, IsPacket, InRange, Spells, IsTextOf}
+use Rattle.scenario_text.proofs.NumberLemmas.{own}
+use Rattle.scenario_text.proofs.FormLaws.{chosen, and_true, ok_or_ok, is_text, number_sound, number_again, ue_sound, ue_again, bearer_sound, bearer_again, node_sound, node_again}
+
+-- ---- what is read
+
+-- a place that was read, and the places behind it
+record Step {X Y : Type 0} (form : Form X) (more : X → Places Y) (left : List (List ℕ)) (y : Y) : Type 0 where
+  word : List ℕ
+  value : X
+  rest : List (List ℕ)
+  stands : left ≡ word ∷ rest
+  means : form word ≡ Ok value
+  goes : more value rest ≡ Ok y
+
+step : {X Y : Type 0} (form : Form X) (more : X → Places Y) (left : List (List ℕ)) (y : Y) → (form >>= more) left ≡ Ok y → Step form more left y
+step form more [] y h = absurd (cc)
+step {X} {Y} form more (word ∷ rest) y h = by_form (form word) refl h
+  where
+    by_form : (r : Result X TextReason) → form word ≡ r
+        → result_then {X = X × List (List ℕ)} (result_then r (λ x. Ok (x, rest))) (λ read. more read.0 read.1) ≡ Ok y → Step form more (word ∷ rest) y
+    by_form (Ok x) e k = record { word = word; value = x; rest = rest; stands = refl; means = e; goes = k }
+    by_form (Err reason) e k = absurd (cc)
+
+-- the end of a line that was read
+at_end : {X : Type 0} (x y : X) (left : List (List ℕ)) → ended x left ≡ Ok y → (left ≡ []) × (x ≡ y)
+at_end x y [] h = (refl, cc)
+at_end x y (word ∷ rest) h = absurd (cc)
+
+fixed_sound : (text : List ℕ) (reason : TextReason) (word : List ℕ) (u : Unit {0}) → fixed text reason word ≡ Ok u → word ≡ text
+fixed_sound text reason word u h = elim (chosen (word is text) (Ok tt) (Err reason) (Ok u) h) [
+    inl w ↦ is_text word text w.0
+  | inr w ↦ absurd (let no : Err reason ≡ Ok u = w.1 in cc) ]
+
+-- the words of places that were read
+as_words : {left rest texts : List (List ℕ)} {word text : List ℕ} → left ≡ word ∷ rest → word ≡ text → rest ≡ texts → left ≡ text ∷ texts
+as_words {left} {rest} {texts} {word} {text} p q r = p ∙ ap (λ w. w ∷ rest) q ∙ ap (λ ws. text ∷ ws) r
+
+air_sound : (left : List (List ℕ)) (e : Event) → air_event left ≡ Ok e → IsTextOf (join_with_byte 32 (codes "air" ∷ left)) e
+unfolding air_event event_text
+air_sound left e h =
+    let u = step ue (λ u. bearer >>= (λ b. fixed (codes "dl") Word >>= (λ d. ended (events.Air u b)))) left e h in
+    let b = step bearer (λ b. fixed (codes "dl") Word >>= (λ d. ended (events.Air u.value b))) u.rest e u.goes in
+    let d = step (fixed (codes "dl") Word) (λ d. ended (events.Air u.value b.value)) b.rest e b.goes in
+    let end = at_end (events.Air u.value b.value) e d.rest d.goes in
+    let us = ue_sound u.word u.value (ok_or_ok _ Name u.value u.means) in
+    let bs = bearer_sound b.word b.value (ok_or_ok _ Name b.value b.means) in
+    let dl = fixed_sound (codes "dl") Word d.word d.value d.means in
+    let same : left ≡ ue_text u.value ∷ bearer_text b.value ∷ codes "dl" ∷ [] =
+        as_words u.stands us.0 (as_words b.stands bs.0 (as_words d.stands dl end.0)) in
+    let P : Event → Type 0 = λ x. IsTextOf (join_with_byte 32 (codes "air" ∷ left)) x in
+    subst P end.1 (record { text = ap (λ ws. join_with_byte 32 (codes "air" ∷ ws)) same; range = (us.1, bs.1) })
+
+static_sound : (left : List (List ℕ)) (e : Event) → static_event left ≡ Ok e → IsTextOf (join_with_byte 32 (codes "static" ∷ left)) e
+unfolding static_event event_text
+static_sound left e h =
+    let last : ℕ → Places Event = λ q. ended (events.Static q) in
+    let p1 = step (fixed (codes "u1") Name) (λ u. fixed (codes "A") Name >>= (λ g. fixed (codes "1") Number >>= (λ p. fixed (codes "1") Number >>= (λ d. fixed (codes "12") Number >>= (λ n. fixed (codes "1") Number >>= (λ c. number 4 4096 >>= last)))))) left e h in
+    let p2 = step (fixed (codes "A") Name) (λ g. fixed (codes "1") Number >>= (λ p. fixed (codes "1") Number >>= (λ d. fixed (codes "12") Number >>= (λ n. fixed (codes "1") Number >>= (λ c. number 4 4096 >>= last))))) p1.rest e p1.goes in
+    let p3 = step (fixed (codes "1") Number) (λ p. fixed (codes "1") Number >>= (λ d. fixed (codes "12") Number >>= (λ n. fixed (codes "1") Number >>= (λ c. number 4 4096 >>= last)))) p2.rest e p2.goes in
+    let p4 = step (fixed (codes "1") Number) (λ d. fixed (codes "12") Number >>= (λ n. fixed (codes "1") Number >>= (λ c. number 4 4096 >>= last))) p3.rest e p3.goes in
+    let p5 = step (fixed (codes "12") Number) (λ n. fixed (codes "1") Number >>= (λ c. number 4 4096 >>= last)) p4.rest e p4.goes in
+    let p6 = step (fixed (codes "1") Number) (λ c. number 4 4096 >>= last) p5.rest e p5.goes in
+    let q = step (number 4 4096) last p6.rest e p6.goes in
+    let end = at_end (events.Static q.value) e q.rest q.goes in
+    let qs = number_sound 4 4096 q.value q.word (omega arith) (ok_or_ok _ Number q.value q.means) in
+    let same : left ≡ codes "u1" ∷ codes "A" ∷ codes "1" ∷ codes "1" ∷ codes "12" ∷ codes "1" ∷ decimal q.value ∷ [] =
+        as_words p1.stands (fixed_sound (codes "u1") Name p1.word p1.value p1.means)
+        (as_words p2.stands (fixed_sound (codes "A") Name p2.word p2.value p2.means)
+        (as_words p3.stands (fixed_sound (codes "1") Number p3.word p3.value p3.means)
+        (as_words p4.stands (fixed_sound (codes "1") Number p4.word p4.value p4.means)
+        (as_words p5.stands (fixed_sound (codes "12") Number p5.word p5.value p5.means)
+        (as_words p6.stands (fixed_sound (codes "1") Number p6.word p6.value p6.means)
+        (as_words q.stands qs.0 end.0)))))) in
+    let P : Event → Type 0 = λ x. IsTextOf (join_with_byte 32 (codes "static" ∷ left)) x in
+    subst P end.1 (record { text = ap (λ ws. join_with_byte 32 (codes "static" ∷ ws)) same; range = qs.1 })
+
+-- what is read of hexadecimal digits
+IsByte-digits : (text packet : List ℕ) → IsHexOf text packet → All (λ b. b < 256) packet
+IsByte-digits [] [] h = All-nil (λ b. b < 256)
+IsByte-digits [] (byte ∷ packet) h = absurd h
+IsByte-digits (a ∷ []) packet h = absurd h
+IsByte-digits (a ∷ b ∷ text) [] h = absurd h
+IsByte-digits (a ∷ b ∷ text) (byte ∷ packet) (high, low, ha, hb, e, rest) =
+    All-cons (λ x. x < 256) byte packet (small a b high low ha hb e) (IsByte-digits text packet rest)
+  where
+    small : (a b high low : ℕ) → IsDigitOf a high → IsDigitOf b low → byte ≡ 16 * high + low → byte < 256
+    small a b high low ha hb e = grind arith
+
+digits_some : (text packet : List ℕ) → 0 < length text → IsHexOf text packet → 0 < length packet
+digits_some [] packet h is_hex = absurd (omega arith)
+digits_some (a ∷ []) packet h is_hex = absurd is_hex
+digits_some (a ∷ b ∷ text) [] h is_hex = absurd is_hex
+digits_some (a ∷ b ∷ text) (byte ∷ packet) h is_hex = omega arith
+
+hex_sound : (word packet : List ℕ) → hex word ≡ Ok packet → IsHexOf word packet × IsPacket packet
+hex_sound word packet h = elim (chosen (nat_lt 0 (length word)) (ok_or (read_hex word) Hex) (Err Hex) (Ok packet) h) [
+    inl w ↦
+      let is_hex = read_is_hex word packet (ok_or_ok _ Hex packet w.1) in
+      (is_hex, record { some = digits_some word packet (ltb-true 0 (length word) w.0) is_hex; bytes = IsByte-digits word packet is_hex })
+  | inr w ↦ absurd (let no : Err Hex ≡ Ok packet = w.1 in cc) ]
+
+offer_sound : (left : List (List ℕ)) (e : Event) → offer_event left ≡ Ok e → IsTextOf (join_with_byte 32 (codes "offer" ∷ left)) e
+unfolding offer_event event_text
+offer_sound left e h =
+    let u = step ue (λ u. bearer >>= (λ b. fixed (codes "dl") Word >>= (λ d. hex >>= (λ p. ended (events.Offer u b p))))) left e h in
+    let b = step bearer (λ b. fixed (codes "dl") Word >>= (λ d. hex >>= (λ p. ended (events.Offer u.value b p)))) u.rest e u.goes in
+    let d = step (fixed (codes "dl") Word) (λ d. hex >>= (λ p. ended (events.Offer u.value b.value p))) b.rest e b.goes in
+    let p = step hex (λ p. ended (events.Offer u.value b.value p)) d.rest e d.goes in
+    let end = at_end (events.Offer u.value b.value p.value) e p.rest p.goes in
+    let us = ue_sound u.word u.value (ok_or_ok _ Name u.value u.means) in
+    let bs = bearer_sound b.word b.value (ok_or_ok _ Name b.value b.means) in
+    let dl = fixed_sound (codes "dl") Word d.word d.value d.means in
+    let ps = hex_sound p.word p.value p.means in
+    let same : left ≡ ue_text u.value ∷ bearer_text b.value ∷ codes "dl" ∷ p.word ∷ [] =
+        as_words u.stands us.0 (as_words b.stands bs.0 (as_words d.stands dl (as_words p.stands refl end.0))) in
+    let P : Event → Type 0 = λ x. IsTextOf (join_with_byte 32 (codes "offer" ∷ left)) x in
+    subst P end.1 (record { text = (p.word, ps.0, ap (λ ws. join_with_byte 32 (codes "offer" ∷ ws)) same); range = (us.1, bs.1, ps.1) })
+
+same_value : {Z E : Type 0} (r : Result Z E) (u v : Z) → r ≡ Ok u → r ≡ Ok v → u ≡ v
+same_value r u v h k = cc
+
+-- both halves of a tunnel's name
+both_ok : {X Y : Type 0} (r : Result X TextReason) (s : Result Y TextReason) (x : X) (y : Y) → both r s ≡ Ok (x, y) → (r ≡ Ok x) × (s ≡ Ok y)
+both_ok {X} {Y} (Ok a) (Ok b) x y h =
+    let same = same_value {Z = X × Y} (both {X = X} {Y = Y} (Ok a) (Ok b)) (a, b) (x, y) refl h in (ap Ok (ap (λ (p : X × Y). p.0) same), ap Ok (ap (λ (p : X × Y). p.1) same))
+both_ok (Ok a) (Err reason) x y h = absurd (cc)
+both_ok (Err reason) s x y h = absurd (cc)
+
+abbrev is_slash : ℕ → Bool
+is_slash c = nat_eq c 47
+
+-- a text with a slash that something follows
+around_slash : (word : List ℕ) → 0 < length (after_first (λ c. nat_eq c 47) word) → word ≡ before_first (λ c. nat_eq c 47) word ++ 47 ∷ after_first (λ c. nat_eq c 47) word
+around_slash word h =
+    let place = position_or_len (λ c. nat_eq c 47) word in
+    let inside : place < length word = omega (arith, length-drop (place + 1) word, h) in
+    let slash : get_or word place 0 ≡ 47 = eqb-true (get_or word place 0) 47 (passes_at_first (λ c. nat_eq c 47) word 0 inside) in
+    split_at_first (λ c. nat_eq c 47) word 0 inside ∙ ap (λ c. before_first (λ x. nat_eq x 47) word ++ c ∷ after_first (λ x. nat_eq x 47) word) slash
+
+tunnel_sound : (word : List ℕ) (t : NodeId × ℕ) → tunnel word ≡ Ok t → (word ≡ node_text t.0 ++ codes "/" ++ decimal t.1) × IsNode t.0 × IsWithin 1 (2 ^ 32 - 1) t.1
+tunnel_sound word t h =
+    let halves = both_ok (node (before_first (λ c. nat_eq c 47) word)) (number 1 (2 ^ 32 - 1) (after_first (λ c. nat_eq c 47) word)) t.0 t.1 h in
+    let end = node_sound (before_first (λ c. nat_eq c 47) word) t.0 (ok_or_ok _ Name t.0 halves.0) in
+    let teid = number_sound 1 (2 ^ 32 - 1) t.1 (after_first (λ c. nat_eq c 47) word) (omega arith) (ok_or_ok _ Number t.1 halves.1) in
+    let some : 0 < length (decimal t.1) = decimal_nonempty t.1 (omega (arith, teid.1.to)) in
+    let behind : 0 < length (after_first (λ c. nat_eq c 47) word) = subst (λ (ds : List ℕ). 0 < length ds) (sym teid.0) some in
+    (around_slash word behind ∙ ap (λ f. f ++ 47 ∷ after_first (λ c. nat_eq c 47) word) end.0 ∙ ap (λ ds. node_text t.0 ++ 47 ∷ ds) teid.0 ∙ sym (append_assoc (node_text t.0) (47 ∷ []) (decimal t.1)), end.1, teid.1)
+
+get_sound : (left : List (List ℕ)) (e : Event) → get_event left ≡ Ok e → IsTextOf (join_with_byte 32 (codes "get" ∷ left)) e
+unfolding get_event event_text
+get_sound left e h =
+    let t = step tunnel (λ t. ended (events.Get t.0 t.1)) left e h in
+    let end = at_end (events.Get t.value.0 t.value.1) e t.rest t.goes in
+    let ts = tunnel_sound t.word t.value t.means in
+    let same : left ≡ (node_text t.value.0 ++ codes "/" ++ decimal t.value.1) ∷ [] = as_words t.stands ts.0 end.0 in
+    let P : Event → Type 0 = λ x. IsTextOf (join_with_byte 32 (codes "get" ∷ left)) x in
+    subst P end.1 (record { text = ap (λ ws. join_with_byte 32 (codes "get" ∷ ws)) same; range = (ts.1, ts.2) })
+
+next_ok : (left : List (List ℕ)) (next : List ℕ × List (List ℕ)) → next_word left ≡ Ok next → left ≡ next.0 ∷ next.1
+next_ok [] next h = absurd (cc)
+next_ok (word ∷ rest) next h =
+    let same = same_value {Z = List ℕ × List (List ℕ)} (next_word (word ∷ rest)) (word, rest) next refl h in
+    ap (λ (n : List ℕ × List (List ℕ)). n.0 ∷ n.1) same
+
+-- the places of a keyword that were read
+keyword_sound : (keyword : List ℕ) (left : List (List ℕ)) (e : Event) → places_of keyword left ≡ Ok e → IsTextOf (join_with_byte 32 (keyword ∷ left)) e
+keyword_sound keyword left e h =
+    let P : List ℕ → Type 0 = λ w. IsTextOf (join_with_byte 32 (w ∷ left)) e in
+    let none : Result Event TextReason = Err Word in
+    let air = cond (keyword is codes "air") (air_event left) none in
+    let get = cond (keyword is codes "get") (get_event left) air in
+    elim (chosen (keyword is codes "static") (static_event left) (cond (keyword is codes "offer") (offer_event left) get) (Ok e) h) [
+      inl w ↦ subst P (sym (is_text keyword (codes "static") w.0)) (static_sound left e w.1)
+    | inr w ↦ elim (chosen (keyword is codes "offer") (offer_event left) get (Ok e) w.1) [
+        inl u ↦ subst P (sym (is_text keyword (codes "offer") u.0)) (offer_sound left e u.1)
+      | inr u ↦ elim (chosen (keyword is codes "get") (get_event left) air (Ok e) u.1) [
+          inl v ↦ subst P (sym (is_text keyword (codes "get") v.0)) (get_sound left e v.1)
+        | inr v ↦ elim (chosen (keyword is codes "air") (air_event left) none (Ok e) v.1) [
+            inl x ↦ subst P (sym (is_text keyword (codes "air") x.0)) (air_sound left e x.1)
+          | inr x ↦ absurd (let no : Err Word ≡ Ok e = x.1 in cc) ] ] ] ]
+
+-- What is read as an event is a text of it.
+pub event_sound : (line : List ℕ) (e : Event) → event_of line ≡ Ok e → IsTextOf line e
+unfolding event_of
+event_sound line e h = by_words (next_word (words line)) refl h
+  where
+    by_words : (r : Result (List ℕ × List (List ℕ)) TextReason) → next_word (words line) ≡ r → result_then r (λ next. places_of next.0 next.1) ≡ Ok e → IsTextOf line e
+    by_words (Ok next) is_next k =
+        let P : List ℕ → Type 0 = λ l. IsTextOf l e in
+        subst P (ap (join_with_byte 32) (sym (next_ok (words line) next is_next)) ∙ join_with_byte-slice_split 32 line) (keyword_sound next.0 next.1 e k)
+    by_words (Err reason) is_next k = absurd (cc)
