@@ -6,6 +6,8 @@ use Rattle.std.specs.Option.{ok_or}
 use Rattle.std.specs.List.{list_all, onto_first, slice_split, join_with_byte, before_first, after_first, position_or_len}
 use Rattle.std.proofs.lemmas.Bool.{ltb-true, eqb-true}
 use Rattle.std.proofs.lemmas.Bool.Decides.{nat_tests}
+use Rattle.std.proofs.Math.Seq.{take-append_seam, drop-append-add}
+use Rattle.std.proofs.lemmas.List.Folds.{list_all-append}
 use Rattle.std.proofs.lemmas.List.Sums.{split_at_first, passes_at_first}
 use Rattle.std.proofs.lemmas.List.Elements.{All-nil, All-cons}
 use Rattle.std.proofs.lemmas.List.Splits.{slice_split-cons_no, join_with_byte-slice_split}
@@ -217,3 +219,95 @@ event_sound line e h = by_words (next_word (words line)) refl h
         let P : List ℕ → Type 0 = λ l. IsTextOf l e in
         subst P (ap (join_with_byte 32) (sym (next_ok (words line) next is_next)) ∙ join_with_byte-slice_split 32 line) (keyword_sound next.0 next.1 e k)
     by_words (Err reason) is_next k = absurd (cc)
+
+-- ---- what stands in a line is read
+
+-- a word without this byte
+abbrev pub Lacks : ℕ → List ℕ → Type 0
+Lacks c word = list_all (λ x. not (nat_eq x c)) word ≡ true
+
+not_true : (b : Bool) → not b ≡ true → b ≡ false
+not_true true h = absurd (cc)
+not_true false h = refl
+
+words_then : (word rest : List ℕ) → Lacks 32 word → words (word ++ 32 ∷ rest) ≡ word ∷ words rest
+words_then [] rest h = refl
+words_then (x ∷ xs) rest h =
+    let both = and_true (not (nat_eq x 32)) (list_all (λ y. not (nat_eq y 32)) xs) h in
+    slice_split-cons_no (λ y. nat_eq y 32) x (xs ++ 32 ∷ rest) (not_true (nat_eq x 32) both.0) ∙ ap (onto_first x) (words_then xs rest both.1)
+
+words_one : (word : List ℕ) → Lacks 32 word → words word ≡ word ∷ []
+words_one [] h = refl
+words_one (x ∷ xs) h =
+    let both = and_true (not (nat_eq x 32)) (list_all (λ y. not (nat_eq y 32)) xs) h in
+    slice_split-cons_no (λ y. nat_eq y 32) x xs (not_true (nat_eq x 32) both.0) ∙ ap (onto_first x) (words_one xs both.1)
+
+-- digits are no blanks and no slashes
+Lacks-digits : (c : ℕ) (word : List ℕ) → c < 48 → list_all is_ascii_digit word ≡ true → Lacks c word
+Lacks-digits c [] small h = refl
+Lacks-digits c (x ∷ xs) small h =
+    let both = and_true (is_ascii_digit x) (list_all is_ascii_digit xs) h in
+    rw (digit_is_not x both.0, Lacks-digits c xs small both.1) refl
+  where
+    digit_is_not : (y : ℕ) → is_ascii_digit y ≡ true → nat_eq y c ≡ false
+    digit_is_not y e = grind (arith, nat_tests)
+
+Lacks-decimal : (c n : ℕ) → c < 48 → n < 2 ^ 64 → Lacks c (decimal n)
+Lacks-decimal c n small fits = Lacks-digits c (decimal n) small (own.from (decimal n) (decimal_is_IsNumeral n fits).0.1)
+
+Lacks-hex : (text packet : List ℕ) → IsHexOf text packet → Lacks 32 text
+Lacks-hex [] packet h = refl
+Lacks-hex (a ∷ []) packet h = absurd h
+Lacks-hex (a ∷ b ∷ text) [] h = absurd h
+Lacks-hex (a ∷ b ∷ text) (byte ∷ packet) (high, low, ha, hb, e, rest) =
+    rw (no_blank a high ha, no_blank b low hb, Lacks-hex text packet rest) refl
+  where
+    no_blank : (c n : ℕ) → IsDigitOf c n → nat_eq c 32 ≡ false
+    no_blank c n d = grind (arith, nat_tests)
+
+Lacks-node : (c : ℕ) (n : NodeId) → (c ≡ 32) ⊎ (c ≡ 47) → IsNode n → Lacks c (node_text n)
+Lacks-node c n (inl e) h = subst (λ (b : ℕ). Lacks b (node_text n)) (sym e) (by_blank n h)
+  where
+    by_blank : (m : NodeId) → IsNode m → Lacks 32 (node_text m)
+    by_blank (CuCp A) h = refl
+    by_blank (CuCp B) h = refl
+    by_blank (CuUp A k) h = Lacks-decimal 32 k (omega arith) (omega (arith, h.to))
+    by_blank (CuUp B k) h = Lacks-decimal 32 k (omega arith) (omega (arith, h.to))
+    by_blank (Du A k) h = Lacks-decimal 32 k (omega arith) (omega (arith, h.to))
+    by_blank (Du B k) h = Lacks-decimal 32 k (omega arith) (omega (arith, h.to))
+    by_blank Core h = refl
+    by_blank (Ue k) h = Lacks-decimal 32 k (omega arith) (omega (arith, h.to))
+Lacks-node c n (inr e) h = subst (λ (b : ℕ). Lacks b (node_text n)) (sym e) (by_slash n h)
+  where
+    by_slash : (m : NodeId) → IsNode m → Lacks 47 (node_text m)
+    by_slash (CuCp A) h = refl
+    by_slash (CuCp B) h = refl
+    by_slash (CuUp A k) h = Lacks-decimal 47 k (omega arith) (omega (arith, h.to))
+    by_slash (CuUp B k) h = Lacks-decimal 47 k (omega arith) (omega (arith, h.to))
+    by_slash (Du A k) h = Lacks-decimal 47 k (omega arith) (omega (arith, h.to))
+    by_slash (Du B k) h = Lacks-decimal 47 k (omega arith) (omega (arith, h.to))
+    by_slash Core h = refl
+    by_slash (Ue k) h = Lacks-decimal 47 k (omega arith) (omega (arith, h.to))
+
+Lacks-append : (c : ℕ) (a b : List ℕ) → Lacks c a → Lacks c b → Lacks c (a ++ b)
+Lacks-append c a b h k = list_all-append (λ x. not (nat_eq x c)) a b ∙ (rw (h, k) refl)
+
+-- the place of the slash behind a word that has none
+slash_behind : (word rest : List ℕ) → Lacks 47 word → position_or_len (λ x. nat_eq x 47) (word ++ 47 ∷ rest) ≡ length word
+slash_behind [] rest h = refl
+slash_behind (x ∷ xs) rest h =
+    let both = and_true (not (nat_eq x 47)) (list_all (λ y. not (nat_eq y 47)) xs) h in
+    let more = slash_behind xs rest both.1 in
+    rw both.0 (omega (arith, more))
+
+tunnel_again : (end : NodeId) (teid : ℕ) → IsNode end → IsWithin 1 (2 ^ 32 - 1) teid → tunnel (node_text end ++ 47 ∷ decimal teid) ≡ Ok (end, teid)
+tunnel_again end teid range within =
+    let place = slash_behind (node_text end) (decimal teid) (Lacks-node 47 end (inr refl) range) in
+    let front : before_first (λ x. nat_eq x 47) (node_text end ++ 47 ∷ decimal teid) ≡ node_text end =
+        ap (λ n. take n (node_text end ++ 47 ∷ decimal teid)) place ∙ take-append_seam (node_text end) (47 ∷ decimal teid) in
+    let behind : after_first (λ x. nat_eq x 47) (node_text end ++ 47 ∷ decimal teid) ≡ decimal teid =
+        ap (λ n. drop (n + 1) (node_text end ++ 47 ∷ decimal teid)) place ∙ drop-append-add (node_text end) (47 ∷ decimal teid) 1 in
+    ap (λ w. both (node w) (number 1 (2 ^ 32 - 1) (after_first (λ x. nat_eq x 47) (node_text end ++ 47 ∷ decimal teid)))) front
+    ∙ ap (λ w. both (node (node_text end)) (number 1 (2 ^ 32 - 1) w)) behind
+    ∙ ap (λ o. both (ok_or o Name) (number 1 (2 ^ 32 - 1) (decimal teid))) (node_again end range)
+    ∙ ap (λ o. both (Ok end) (ok_or o Number)) (number_again 1 (2 ^ 32 - 1) teid (omega arith) (omega arith) within)
