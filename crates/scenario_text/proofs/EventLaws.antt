@@ -4,7 +4,7 @@ use Rattle.std.specs.Char.{is_ascii_digit}
 use Rattle.std.specs.Fmt.{decimal}
 use Rattle.std.specs.Option.{ok_or}
 use Rattle.std.specs.List.{list_all, onto_first, slice_split, join_with_byte, before_first, after_first, position_or_len}
-use Rattle.std.proofs.lemmas.Bool.{ltb-true, eqb-true}
+use Rattle.std.proofs.lemmas.Bool.{ltb-true, lt-ltb, eqb-true}
 use Rattle.std.proofs.lemmas.Bool.Decides.{nat_tests}
 use Rattle.std.proofs.Math.Seq.{take-append_seam, drop-append-add}
 use Rattle.std.proofs.lemmas.List.Folds.{list_all-append}
@@ -311,3 +311,107 @@ tunnel_again end teid range within =
     ∙ ap (λ w. both (node (node_text end)) (number 1 (2 ^ 32 - 1) w)) behind
     ∙ ap (λ o. both (ok_or o Name) (number 1 (2 ^ 32 - 1) (decimal teid))) (node_again end range)
     ∙ ap (λ o. both (Ok end) (ok_or o Number)) (number_again 1 (2 ^ 32 - 1) teid (omega arith) (omega arith) within)
+
+-- a line of these words is the event that its places mean
+by_words : (line keyword : List ℕ) (places : List (List ℕ)) (e : Event) → words line ≡ keyword ∷ places → places_of keyword places ≡ Ok e → event_of line ≡ Ok e
+unfolding event_of
+by_words line keyword places e are goes = ap (λ ws. result_then (next_word ws) (λ next. places_of next.0 next.1)) are ∙ goes
+
+Lacks-ue : (u : UeId) → IsUe u → Lacks 32 (ue_text u)
+Lacks-ue u h = Lacks-decimal 32 u.0 (omega arith) (omega (arith, h.to))
+
+Lacks-bearer : (b : BearerId) → IsBearer b → Lacks 32 (bearer_text b)
+Lacks-bearer b h = Lacks-decimal 32 b.0 (omega arith) (omega (arith, h.to))
+
+-- the words of a line that begins with one of them
+words_from : (word rest : List ℕ) (more : List (List ℕ)) → Lacks 32 word → words rest ≡ more → words (word then rest) ≡ word ∷ more
+words_from word rest more lacks e = words_then word rest lacks ∙ ap (λ ws. word ∷ ws) e
+
+air_places : (u : UeId) (b : BearerId) → IsUe u → IsBearer b → air_event (ue_text u ∷ bearer_text b ∷ codes "dl" ∷ []) ≡ Ok (events.Air u b)
+unfolding air_event
+air_places u b hu hb = rw (ue_again u hu, bearer_again b hb) refl
+
+air_again : (u : UeId) (b : BearerId) → IsUe u → IsBearer b → event_of (event_text (events.Air u b)) ≡ Ok (events.Air u b)
+unfolding event_text
+air_again u b hu hb =
+    by_words (event_text (events.Air u b)) (codes "air") (ue_text u ∷ bearer_text b ∷ codes "dl" ∷ []) (events.Air u b)
+      (words_from (codes "air") (ue_text u then bearer_text b then codes "dl") (ue_text u ∷ bearer_text b ∷ codes "dl" ∷ []) refl
+      (words_from (ue_text u) (bearer_text b then codes "dl") (bearer_text b ∷ codes "dl" ∷ []) (Lacks-ue u hu)
+      (words_from (bearer_text b) (codes "dl") (codes "dl" ∷ []) (Lacks-bearer b hb) (words_one (codes "dl") refl))))
+      (air_places u b hu hb)
+
+static_places : (q : ℕ) → IsWithin 4 4096 q → static_event (codes "u1" ∷ codes "A" ∷ codes "1" ∷ codes "1" ∷ codes "12" ∷ codes "1" ∷ decimal q ∷ []) ≡ Ok (events.Static q)
+unfolding static_event
+static_places q h = rw (number_again 4 4096 q (omega arith) (omega arith) h) refl
+
+static_again : (q : ℕ) → IsWithin 4 4096 q → event_of (event_text (events.Static q)) ≡ Ok (events.Static q)
+unfolding event_text
+static_again q h =
+    by_words (event_text (events.Static q)) (codes "static") (codes "u1" ∷ codes "A" ∷ codes "1" ∷ codes "1" ∷ codes "12" ∷ codes "1" ∷ decimal q ∷ []) (events.Static q)
+      (words_from (codes "static") (codes "u1 A 1 1 12 1 " ++ decimal q) (codes "u1" ∷ codes "A" ∷ codes "1" ∷ codes "1" ∷ codes "12" ∷ codes "1" ∷ decimal q ∷ []) refl
+      (words_from (codes "u1") (codes "A 1 1 12 1 " ++ decimal q) (codes "A" ∷ codes "1" ∷ codes "1" ∷ codes "12" ∷ codes "1" ∷ decimal q ∷ []) refl
+      (words_from (codes "A") (codes "1 1 12 1 " ++ decimal q) (codes "1" ∷ codes "1" ∷ codes "12" ∷ codes "1" ∷ decimal q ∷ []) refl
+      (words_from (codes "1") (codes "1 12 1 " ++ decimal q) (codes "1" ∷ codes "12" ∷ codes "1" ∷ decimal q ∷ []) refl
+      (words_from (codes "1") (codes "12 1 " ++ decimal q) (codes "12" ∷ codes "1" ∷ decimal q ∷ []) refl
+      (words_from (codes "12") (codes "1 " ++ decimal q) (codes "1" ∷ decimal q ∷ []) refl
+      (words_from (codes "1") (decimal q) (decimal q ∷ []) refl (words_one (decimal q) (Lacks-decimal 32 q (omega arith) (omega (arith, h.to)))))))))))
+      (static_places q h)
+
+get_places : (end : NodeId) (teid : ℕ) → IsNode end → IsWithin 1 (2 ^ 32 - 1) teid → get_event ((node_text end ++ 47 ∷ decimal teid) ∷ []) ≡ Ok (events.Get end teid)
+unfolding get_event
+get_places end teid h k = ap (λ t. result_then {X = (NodeId × ℕ) × List (List ℕ)} (result_then t (λ x. Ok (x, []))) (λ read. ended (events.Get read.0.0 read.0.1) read.1)) (tunnel_again end teid h k)
+
+get_again : (end : NodeId) (teid : ℕ) → IsNode end → IsWithin 1 (2 ^ 32 - 1) teid → event_of (event_text (events.Get end teid)) ≡ Ok (events.Get end teid)
+unfolding event_text
+get_again end teid h k =
+    let tunnel_text = node_text end ++ 47 ∷ decimal teid in
+    by_words (event_text (events.Get end teid)) (codes "get") (tunnel_text ∷ []) (events.Get end teid)
+      (ap (λ t. words (codes "get " ++ t)) (append_assoc (node_text end) (47 ∷ []) (decimal teid))
+      ∙ words_from (codes "get") tunnel_text (tunnel_text ∷ []) refl
+        (words_one tunnel_text (Lacks-append 32 (node_text end) (47 ∷ decimal teid) (Lacks-node 32 end (inl refl) h) (Lacks-decimal 32 teid (omega arith) (omega (arith, k.to))))))
+      (get_places end teid h k)
+
+hex_again : (digits packet : List ℕ) → 0 < length packet → IsHexOf digits packet → hex digits ≡ Ok packet
+hex_again [] [] some is_hex = absurd (omega arith)
+hex_again [] (byte ∷ packet) some is_hex = absurd is_hex
+hex_again (a ∷ digits) packet some is_hex =
+    let long : nat_lt 0 (length (a ∷ digits)) ≡ true = lt-ltb 0 (length (a ∷ digits)) (omega arith) in
+    ap (λ b. cond b (ok_or (read_hex (a ∷ digits)) Hex) (Err Hex)) long ∙ ap (λ o. ok_or o Hex) (hex_is_read (a ∷ digits) packet is_hex)
+
+offer_places : (u : UeId) (b : BearerId) (digits packet : List ℕ) → IsUe u → IsBearer b → 0 < length packet → IsHexOf digits packet
+    → offer_event (ue_text u ∷ bearer_text b ∷ codes "dl" ∷ digits ∷ []) ≡ Ok (events.Offer u b packet)
+unfolding offer_event
+offer_places u b digits packet hu hb some is_hex = rw (ue_again u hu, bearer_again b hb, hex_again digits packet some is_hex) refl
+
+offer_again : (u : UeId) (b : BearerId) (digits packet : List ℕ) → IsUe u → IsBearer b → 0 < length packet → IsHexOf digits packet
+    → event_of (codes "offer" then ue_text u then bearer_text b then codes "dl" then digits) ≡ Ok (events.Offer u b packet)
+offer_again u b digits packet hu hb some is_hex =
+    by_words (codes "offer" then ue_text u then bearer_text b then codes "dl" then digits) (codes "offer") (ue_text u ∷ bearer_text b ∷ codes "dl" ∷ digits ∷ []) (events.Offer u b packet)
+      (words_from (codes "offer") (ue_text u then bearer_text b then codes "dl" then digits) (ue_text u ∷ bearer_text b ∷ codes "dl" ∷ digits ∷ []) refl
+      (words_from (ue_text u) (bearer_text b then codes "dl" then digits) (bearer_text b ∷ codes "dl" ∷ digits ∷ []) (Lacks-ue u hu)
+      (words_from (bearer_text b) (codes "dl" then digits) (codes "dl" ∷ digits ∷ []) (Lacks-bearer b hb)
+      (words_from (codes "dl") digits (digits ∷ []) refl (words_one digits (Lacks-hex digits packet is_hex))))))
+      (offer_places u b digits packet hu hb some is_hex)
+
+-- A text of an event is read as it.
+pub text_is_read : (line : List ℕ) (e : Event) → IsTextOf line e → event_of line ≡ Ok e
+text_is_read line (events.Static quota) h = ap event_of h.text ∙ static_again quota h.range
+text_is_read line (events.Offer u b packet) h = ap event_of h.text.2 ∙ offer_again u b h.text.0 packet h.range.0 h.range.1 h.range.2.some h.text.1
+text_is_read line (events.Get end teid) h = ap event_of h.text ∙ get_again end teid h.range.0 h.range.1
+text_is_read line (events.Air u b) h = ap event_of h.text ∙ air_again u b h.range.0 h.range.1
+
+-- The text of an event in its ranges is one of its texts.
+pub event_text-IsTextOf : (e : Event) → InRange e → IsTextOf (event_text e) e
+unfolding event_text
+event_text-IsTextOf (events.Static quota) h = record { text = refl; range = h }
+event_text-IsTextOf (events.Offer u b packet) h = record { text = (hex_of packet, hex_of_is_hex packet h.2.bytes, refl); range = h }
+event_text-IsTextOf (events.Get end teid) h = record { text = refl; range = h }
+event_text-IsTextOf (events.Air u b) h = record { text = refl; range = h }
+
+-- An event in its ranges is read again from its text.
+pub event_of-event_text : (e : Event) → InRange e → event_of (event_text e) ≡ Ok e
+event_of-event_text e h = text_is_read (event_text e) e (event_text-IsTextOf e h)
+
+-- What is read lies in its ranges.
+pub event_in_range : (line : List ℕ) (e : Event) → event_of line ≡ Ok e → InRange e
+event_in_range line e h = (event_sound line e h).range
