@@ -1,9 +1,9 @@
 -- What is read is a text of the event, and a text of an event in its ranges is read.
-use Rattle.std.proofs.Common.{◌≡◌, ℕ, ◌+◌, ◌*◌, ◌-◌, ◌≤◌, ◌<◌, ◌^◌, ◌&&◌, ◌⊎◌, Bool, true, false, not, cond, List, Option, Some, None, Result, Ok, Err, [], ◌∷◌, ◌++◌, length, take, drop, refl, ap, ◌∙◌, sym, subst, inl, inr, arith, nat_eq, nat_lt, codes, All, get_or, append_assoc, length-drop}
+use Rattle.std.proofs.Common.{◌≡◌, ℕ, ◌+◌, ◌*◌, ◌-◌, ◌<◌, ◌^◌, ◌⊎◌, Bool, true, false, not, cond, List, Result, Ok, Err, [], ◌∷◌, ◌++◌, length, take, drop, refl, ap, ◌∙◌, sym, subst, inl, inr, arith, nat_eq, nat_lt, codes, All, get_or, append_assoc, length-drop}
 use Rattle.std.specs.Char.{is_ascii_digit}
 use Rattle.std.specs.Fmt.{decimal}
 use Rattle.std.specs.Option.{ok_or}
-use Rattle.std.specs.List.{list_all, onto_first, slice_split, join_with_byte, before_first, after_first, position_or_len}
+use Rattle.std.specs.List.{list_all, onto_first, join_with_byte, before_first, after_first, position_or_len}
 use Rattle.std.proofs.lemmas.Bool.{ltb-true, lt-ltb, eqb-true}
 use Rattle.std.proofs.lemmas.Bool.Decides.{nat_tests}
 use Rattle.std.proofs.Math.Seq.{take-append_seam, drop-append-add}
@@ -14,8 +14,7 @@ use Rattle.std.proofs.lemmas.List.Splits.{slice_split-cons_no, join_with_byte-sl
 use Rattle.std.proofs.lemmas.Fmt.{decimal_is_IsNumeral, decimal_nonempty}
 use Rattle.gnb_base.specs.Hex.{hex_of, read_hex, IsDigitOf, IsHexOf}
 use Rattle.gnb_base.proofs.HexLemmas.{read_is_hex, hex_is_read, hex_of_is_hex}
-use Rattle.gnb_base.specs.Names.{gnb_text, node_text, ue_text, bearer_text}
-use Rattle.gnb_base.specs.declared.names.Gnb.{Gnb}
+use Rattle.gnb_base.specs.Names.{node_text, ue_text, bearer_text}
 use Rattle.gnb_base.specs.declared.names.Gnb.TheVariants.{A, B}
 use Rattle.gnb_base.specs.declared.names.NodeId.{NodeId}
 use Rattle.gnb_base.specs.declared.names.NodeId.TheVariants.{CuCp, CuUp, Du, Core, Ue}
@@ -24,10 +23,12 @@ use Rattle.gnb_base.specs.declared.names.BearerId.{BearerId}
 use Rattle.scenario_text.specs.declared.event.Event.{Event}
 use Rattle.scenario_text.specs.declared.event.Event.TheVariants as events
 use Rattle.scenario_text.specs.declared.event.TextReason.{TextReason}
-use Rattle.scenario_text.specs.declared.event.TextReason.TheVariants.{Word, Number, Hex, Extra, Name}
-use Rattle.scenario_text.specs.Grammar.{words, ◌is◌, Form, fixed, number_of, number, ue, bearer, node, node_of, hex, both, tunnel, Places, next_word, result_then, place, ◌>>=◌, line_end, ended, static_event, offer_event, get_event, air_event, places_of, event_of}
+use Rattle.scenario_text.specs.declared.event.TextReason.TheVariants.{Word, Number, Hex, Name}
+use Rattle.std.specs.Prelude.{IfOk}
+use Rattle.scenario_text.specs.declared.read.TextError.{TextError}
+use Rattle.scenario_text.specs.Grammar.{GivesOrMemory, words, ◌is◌, Form, fixed, number, ue, bearer, node, hex, both, tunnel, Places, next_word, result_then, ◌>>=◌, ended, static_event, offer_event, get_event, air_event, places_of, event_of}
 use Rattle.scenario_text.specs.Print.{event_text, ◌then◌}
-use Rattle.scenario_text.specs.Texts.{IsWithin, IsUe, IsBearer, IsNode, IsPacket, InRange, Spells, IsTextOf}
+use Rattle.scenario_text.specs.Texts.{IsWithin, IsUe, IsBearer, IsNode, IsPacket, InRange, IsTextOf}
 use Rattle.scenario_text.proofs.NumberLemmas.{own}
 use Rattle.scenario_text.proofs.FormLaws.{chosen, and_true, ok_or_ok, is_text, number_sound, number_again, ue_sound, ue_again, bearer_sound, bearer_again, node_sound, node_again}
 
@@ -58,8 +59,9 @@ at_end x y (word ∷ rest) h = absurd (cc)
 
 fixed_sound : (text : List ℕ) (reason : TextReason) (word : List ℕ) (u : Unit {0}) → fixed text reason word ≡ Ok u → word ≡ text
 fixed_sound text reason word u h = elim (chosen (word is text) (Ok tt) (Err reason) (Ok u) h) [
-    inl w ↦ is_text word text w.0
-  | inr w ↦ absurd (let no : Err reason ≡ Ok u = w.1 in cc) ]
+  | inl w ↦ is_text word text w.0
+  | inr w ↦ absurd (let no : Err reason ≡ Ok u = w.1 in cc)
+]
 
 -- the words of places that were read
 as_words : {left rest texts : List (List ℕ)} {word text : List ℕ} → left ≡ word ∷ rest → word ≡ text → rest ≡ texts → left ≡ text ∷ texts
@@ -76,7 +78,7 @@ air_sound left e h =
     let bs = bearer_sound b.word b.value (ok_or_ok _ Name b.value b.means) in
     let dl = fixed_sound (codes "dl") Word d.word d.value d.means in
     let same : left ≡ ue_text u.value ∷ bearer_text b.value ∷ codes "dl" ∷ [] =
-        as_words u.stands us.0 (as_words b.stands bs.0 (as_words d.stands dl end.0)) in
+    as_words u.stands us.0 (as_words b.stands bs.0 (as_words d.stands dl end.0)) in
     let P : Event → Type 0 = λ x. IsTextOf (join_with_byte 32 (codes "air" ∷ left)) x in
     subst P end.1 (record { text = ap (λ ws. join_with_byte 32 (codes "air" ∷ ws)) same; range = (us.1, bs.1) })
 
@@ -94,13 +96,13 @@ static_sound left e h =
     let end = at_end (events.Static q.value) e q.rest q.goes in
     let qs = number_sound 4 4096 q.value q.word (omega arith) (ok_or_ok _ Number q.value q.means) in
     let same : left ≡ codes "u1" ∷ codes "A" ∷ codes "1" ∷ codes "1" ∷ codes "12" ∷ codes "1" ∷ decimal q.value ∷ [] =
-        as_words p1.stands (fixed_sound (codes "u1") Name p1.word p1.value p1.means)
-        (as_words p2.stands (fixed_sound (codes "A") Name p2.word p2.value p2.means)
-        (as_words p3.stands (fixed_sound (codes "1") Number p3.word p3.value p3.means)
-        (as_words p4.stands (fixed_sound (codes "1") Number p4.word p4.value p4.means)
-        (as_words p5.stands (fixed_sound (codes "12") Number p5.word p5.value p5.means)
-        (as_words p6.stands (fixed_sound (codes "1") Number p6.word p6.value p6.means)
-        (as_words q.stands qs.0 end.0)))))) in
+    as_words p1.stands (fixed_sound (codes "u1") Name p1.word p1.value p1.means)
+    (as_words p2.stands (fixed_sound (codes "A") Name p2.word p2.value p2.means)
+    (as_words p3.stands (fixed_sound (codes "1") Number p3.word p3.value p3.means)
+    (as_words p4.stands (fixed_sound (codes "1") Number p4.word p4.value p4.means)
+    (as_words p5.stands (fixed_sound (codes "12") Number p5.word p5.value p5.means)
+    (as_words p6.stands (fixed_sound (codes "1") Number p6.word p6.value p6.means)
+    (as_words q.stands qs.0 end.0)))))) in
     let P : Event → Type 0 = λ x. IsTextOf (join_with_byte 32 (codes "static" ∷ left)) x in
     subst P end.1 (record { text = ap (λ ws. join_with_byte 32 (codes "static" ∷ ws)) same; range = qs.1 })
 
@@ -124,10 +126,11 @@ digits_some (a ∷ b ∷ text) (byte ∷ packet) h is_hex = omega arith
 
 hex_sound : (word packet : List ℕ) → hex word ≡ Ok packet → IsHexOf word packet × IsPacket packet
 hex_sound word packet h = elim (chosen (nat_lt 0 (length word)) (ok_or (read_hex word) Hex) (Err Hex) (Ok packet) h) [
-    inl w ↦
+  | inl w ↦
       let is_hex = read_is_hex word packet (ok_or_ok _ Hex packet w.1) in
       (is_hex, record { some = digits_some word packet (ltb-true 0 (length word) w.0) is_hex; bytes = IsByte-digits word packet is_hex })
-  | inr w ↦ absurd (let no : Err Hex ≡ Ok packet = w.1 in cc) ]
+  | inr w ↦ absurd (let no : Err Hex ≡ Ok packet = w.1 in cc)
+]
 
 offer_sound : (left : List (List ℕ)) (e : Event) → offer_event left ≡ Ok e → IsTextOf (join_with_byte 32 (codes "offer" ∷ left)) e
 unfolding offer_event event_text
@@ -142,7 +145,7 @@ offer_sound left e h =
     let dl = fixed_sound (codes "dl") Word d.word d.value d.means in
     let ps = hex_sound p.word p.value p.means in
     let same : left ≡ ue_text u.value ∷ bearer_text b.value ∷ codes "dl" ∷ p.word ∷ [] =
-        as_words u.stands us.0 (as_words b.stands bs.0 (as_words d.stands dl (as_words p.stands refl end.0))) in
+    as_words u.stands us.0 (as_words b.stands bs.0 (as_words d.stands dl (as_words p.stands refl end.0))) in
     let P : Event → Type 0 = λ x. IsTextOf (join_with_byte 32 (codes "offer" ∷ left)) x in
     subst P end.1 (record { text = (p.word, ps.0, ap (λ ws. join_with_byte 32 (codes "offer" ∷ ws)) same); range = (us.1, bs.1, ps.1) })
 
@@ -200,14 +203,18 @@ keyword_sound keyword left e h =
     let air = cond (keyword is codes "air") (air_event left) none in
     let get = cond (keyword is codes "get") (get_event left) air in
     elim (chosen (keyword is codes "static") (static_event left) (cond (keyword is codes "offer") (offer_event left) get) (Ok e) h) [
-      inl w ↦ subst P (sym (is_text keyword (codes "static") w.0)) (static_sound left e w.1)
-    | inr w ↦ elim (chosen (keyword is codes "offer") (offer_event left) get (Ok e) w.1) [
-        inl u ↦ subst P (sym (is_text keyword (codes "offer") u.0)) (offer_sound left e u.1)
-      | inr u ↦ elim (chosen (keyword is codes "get") (get_event left) air (Ok e) u.1) [
-          inl v ↦ subst P (sym (is_text keyword (codes "get") v.0)) (get_sound left e v.1)
-        | inr v ↦ elim (chosen (keyword is codes "air") (air_event left) none (Ok e) v.1) [
-            inl x ↦ subst P (sym (is_text keyword (codes "air") x.0)) (air_sound left e x.1)
-          | inr x ↦ absurd (let no : Err Word ≡ Ok e = x.1 in cc) ] ] ] ]
+      | inl w ↦ subst P (sym (is_text keyword (codes "static") w.0)) (static_sound left e w.1)
+      | inr w ↦ elim (chosen (keyword is codes "offer") (offer_event left) get (Ok e) w.1) [
+        | inl u ↦ subst P (sym (is_text keyword (codes "offer") u.0)) (offer_sound left e u.1)
+        | inr u ↦ elim (chosen (keyword is codes "get") (get_event left) air (Ok e) u.1) [
+          | inl v ↦ subst P (sym (is_text keyword (codes "get") v.0)) (get_sound left e v.1)
+          | inr v ↦ elim (chosen (keyword is codes "air") (air_event left) none (Ok e) v.1) [
+            | inl x ↦ subst P (sym (is_text keyword (codes "air") x.0)) (air_sound left e x.1)
+            | inr x ↦ absurd (let no : Err Word ≡ Ok e = x.1 in cc)
+          ]
+        ]
+      ]
+    ]
 
 -- What is read as an event is a text of it.
 pub event_sound : (line : List ℕ) (e : Event) → event_of line ≡ Ok e → IsTextOf line e
@@ -304,9 +311,9 @@ tunnel_again : (end : NodeId) (teid : ℕ) → IsNode end → IsWithin 1 (2 ^ 32
 tunnel_again end teid range within =
     let place = slash_behind (node_text end) (decimal teid) (Lacks-node 47 end (inr refl) range) in
     let front : before_first (λ x. nat_eq x 47) (node_text end ++ 47 ∷ decimal teid) ≡ node_text end =
-        ap (λ n. take n (node_text end ++ 47 ∷ decimal teid)) place ∙ take-append_seam (node_text end) (47 ∷ decimal teid) in
+    ap (λ n. take n (node_text end ++ 47 ∷ decimal teid)) place ∙ take-append_seam (node_text end) (47 ∷ decimal teid) in
     let behind : after_first (λ x. nat_eq x 47) (node_text end ++ 47 ∷ decimal teid) ≡ decimal teid =
-        ap (λ n. drop (n + 1) (node_text end ++ 47 ∷ decimal teid)) place ∙ drop-append-add (node_text end) (47 ∷ decimal teid) 1 in
+    ap (λ n. drop (n + 1) (node_text end ++ 47 ∷ decimal teid)) place ∙ drop-append-add (node_text end) (47 ∷ decimal teid) 1 in
     ap (λ w. both (node w) (number 1 (2 ^ 32 - 1) (after_first (λ x. nat_eq x 47) (node_text end ++ 47 ∷ decimal teid)))) front
     ∙ ap (λ w. both (node (node_text end)) (number 1 (2 ^ 32 - 1) w)) behind
     ∙ ap (λ o. both (ok_or o Name) (number 1 (2 ^ 32 - 1) (decimal teid))) (node_again end range)
@@ -335,10 +342,10 @@ air_again : (u : UeId) (b : BearerId) → IsUe u → IsBearer b → event_of (ev
 unfolding event_text
 air_again u b hu hb =
     by_words (event_text (events.Air u b)) (codes "air") (ue_text u ∷ bearer_text b ∷ codes "dl" ∷ []) (events.Air u b)
-      (words_from (codes "air") (ue_text u then bearer_text b then codes "dl") (ue_text u ∷ bearer_text b ∷ codes "dl" ∷ []) refl
-      (words_from (ue_text u) (bearer_text b then codes "dl") (bearer_text b ∷ codes "dl" ∷ []) (Lacks-ue u hu)
-      (words_from (bearer_text b) (codes "dl") (codes "dl" ∷ []) (Lacks-bearer b hb) (words_one (codes "dl") refl))))
-      (air_places u b hu hb)
+    (words_from (codes "air") (ue_text u then bearer_text b then codes "dl") (ue_text u ∷ bearer_text b ∷ codes "dl" ∷ []) refl
+    (words_from (ue_text u) (bearer_text b then codes "dl") (bearer_text b ∷ codes "dl" ∷ []) (Lacks-ue u hu)
+    (words_from (bearer_text b) (codes "dl") (codes "dl" ∷ []) (Lacks-bearer b hb) (words_one (codes "dl") refl))))
+    (air_places u b hu hb)
 
 static_places : (q : ℕ) → IsWithin 4 4096 q → static_event (codes "u1" ∷ codes "A" ∷ codes "1" ∷ codes "1" ∷ codes "12" ∷ codes "1" ∷ decimal q ∷ []) ≡ Ok (events.Static q)
 unfolding static_event
@@ -348,14 +355,14 @@ static_again : (q : ℕ) → IsWithin 4 4096 q → event_of (event_text (events.
 unfolding event_text
 static_again q h =
     by_words (event_text (events.Static q)) (codes "static") (codes "u1" ∷ codes "A" ∷ codes "1" ∷ codes "1" ∷ codes "12" ∷ codes "1" ∷ decimal q ∷ []) (events.Static q)
-      (words_from (codes "static") (codes "u1 A 1 1 12 1 " ++ decimal q) (codes "u1" ∷ codes "A" ∷ codes "1" ∷ codes "1" ∷ codes "12" ∷ codes "1" ∷ decimal q ∷ []) refl
-      (words_from (codes "u1") (codes "A 1 1 12 1 " ++ decimal q) (codes "A" ∷ codes "1" ∷ codes "1" ∷ codes "12" ∷ codes "1" ∷ decimal q ∷ []) refl
-      (words_from (codes "A") (codes "1 1 12 1 " ++ decimal q) (codes "1" ∷ codes "1" ∷ codes "12" ∷ codes "1" ∷ decimal q ∷ []) refl
-      (words_from (codes "1") (codes "1 12 1 " ++ decimal q) (codes "1" ∷ codes "12" ∷ codes "1" ∷ decimal q ∷ []) refl
-      (words_from (codes "1") (codes "12 1 " ++ decimal q) (codes "12" ∷ codes "1" ∷ decimal q ∷ []) refl
-      (words_from (codes "12") (codes "1 " ++ decimal q) (codes "1" ∷ decimal q ∷ []) refl
-      (words_from (codes "1") (decimal q) (decimal q ∷ []) refl (words_one (decimal q) (Lacks-decimal 32 q (omega arith) (omega (arith, h.to)))))))))))
-      (static_places q h)
+    (words_from (codes "static") (codes "u1 A 1 1 12 1 " ++ decimal q) (codes "u1" ∷ codes "A" ∷ codes "1" ∷ codes "1" ∷ codes "12" ∷ codes "1" ∷ decimal q ∷ []) refl
+    (words_from (codes "u1") (codes "A 1 1 12 1 " ++ decimal q) (codes "A" ∷ codes "1" ∷ codes "1" ∷ codes "12" ∷ codes "1" ∷ decimal q ∷ []) refl
+    (words_from (codes "A") (codes "1 1 12 1 " ++ decimal q) (codes "1" ∷ codes "1" ∷ codes "12" ∷ codes "1" ∷ decimal q ∷ []) refl
+    (words_from (codes "1") (codes "1 12 1 " ++ decimal q) (codes "1" ∷ codes "12" ∷ codes "1" ∷ decimal q ∷ []) refl
+    (words_from (codes "1") (codes "12 1 " ++ decimal q) (codes "12" ∷ codes "1" ∷ decimal q ∷ []) refl
+    (words_from (codes "12") (codes "1 " ++ decimal q) (codes "1" ∷ decimal q ∷ []) refl
+    (words_from (codes "1") (decimal q) (decimal q ∷ []) refl (words_one (decimal q) (Lacks-decimal 32 q (omega arith) (omega (arith, h.to)))))))))))
+    (static_places q h)
 
 get_places : (end : NodeId) (teid : ℕ) → IsNode end → IsWithin 1 (2 ^ 32 - 1) teid → get_event ((node_text end ++ 47 ∷ decimal teid) ∷ []) ≡ Ok (events.Get end teid)
 unfolding get_event
@@ -366,10 +373,10 @@ unfolding event_text
 get_again end teid h k =
     let tunnel_text = node_text end ++ 47 ∷ decimal teid in
     by_words (event_text (events.Get end teid)) (codes "get") (tunnel_text ∷ []) (events.Get end teid)
-      (ap (λ t. words (codes "get " ++ t)) (append_assoc (node_text end) (47 ∷ []) (decimal teid))
-      ∙ words_from (codes "get") tunnel_text (tunnel_text ∷ []) refl
-        (words_one tunnel_text (Lacks-append 32 (node_text end) (47 ∷ decimal teid) (Lacks-node 32 end (inl refl) h) (Lacks-decimal 32 teid (omega arith) (omega (arith, k.to))))))
-      (get_places end teid h k)
+    (ap (λ t. words (codes "get " ++ t)) (append_assoc (node_text end) (47 ∷ []) (decimal teid))
+    ∙ words_from (codes "get") tunnel_text (tunnel_text ∷ []) refl
+    (words_one tunnel_text (Lacks-append 32 (node_text end) (47 ∷ decimal teid) (Lacks-node 32 end (inl refl) h) (Lacks-decimal 32 teid (omega arith) (omega (arith, k.to))))))
+    (get_places end teid h k)
 
 hex_again : (digits packet : List ℕ) → 0 < length packet → IsHexOf digits packet → hex digits ≡ Ok packet
 hex_again [] [] some is_hex = absurd (omega arith)
@@ -387,11 +394,11 @@ offer_again : (u : UeId) (b : BearerId) (digits packet : List ℕ) → IsUe u �
     → event_of (codes "offer" then ue_text u then bearer_text b then codes "dl" then digits) ≡ Ok (events.Offer u b packet)
 offer_again u b digits packet hu hb some is_hex =
     by_words (codes "offer" then ue_text u then bearer_text b then codes "dl" then digits) (codes "offer") (ue_text u ∷ bearer_text b ∷ codes "dl" ∷ digits ∷ []) (events.Offer u b packet)
-      (words_from (codes "offer") (ue_text u then bearer_text b then codes "dl" then digits) (ue_text u ∷ bearer_text b ∷ codes "dl" ∷ digits ∷ []) refl
-      (words_from (ue_text u) (bearer_text b then codes "dl" then digits) (bearer_text b ∷ codes "dl" ∷ digits ∷ []) (Lacks-ue u hu)
-      (words_from (bearer_text b) (codes "dl" then digits) (codes "dl" ∷ digits ∷ []) (Lacks-bearer b hb)
-      (words_from (codes "dl") digits (digits ∷ []) refl (words_one digits (Lacks-hex digits packet is_hex))))))
-      (offer_places u b digits packet hu hb some is_hex)
+    (words_from (codes "offer") (ue_text u then bearer_text b then codes "dl" then digits) (ue_text u ∷ bearer_text b ∷ codes "dl" ∷ digits ∷ []) refl
+    (words_from (ue_text u) (bearer_text b then codes "dl" then digits) (bearer_text b ∷ codes "dl" ∷ digits ∷ []) (Lacks-ue u hu)
+    (words_from (bearer_text b) (codes "dl" then digits) (codes "dl" ∷ digits ∷ []) (Lacks-bearer b hb)
+    (words_from (codes "dl") digits (digits ∷ []) refl (words_one digits (Lacks-hex digits packet is_hex))))))
+    (offer_places u b digits packet hu hb some is_hex)
 
 -- A text of an event is read as it.
 pub text_is_read : (line : List ℕ) (e : Event) → IsTextOf line e → event_of line ≡ Ok e
@@ -415,3 +422,8 @@ event_of-event_text e h = text_is_read (event_text e) e (event_text-IsTextOf e h
 -- What is read lies in its ranges.
 pub event_in_range : (line : List ℕ) (e : Event) → event_of line ≡ Ok e → InRange e
 event_in_range line e h = (event_sound line e h).range
+
+-- What a reader gives as the grammar says lies in its ranges.
+pub given_in_range : (line : List ℕ) (r : Result Event TextError) → GivesOrMemory (λ x. x) r (event_of line) → IfOk r InRange
+given_in_range line (Ok e) h = event_in_range line e h
+given_in_range line (Err error) h = tt

@@ -1,6 +1,6 @@
 -- The numbers that an event may have, and which lines are the text of an event: the grammar once more, from the event
 -- to the line.
-use Rattle.std.specs.Prelude.{◌≡◌, ℕ, ◌-◌, ◌^◌, ◌<◌, ◌≤◌, ◌⊎◌, List, [], ◌∷◌, length, codes, All}
+use Rattle.std.specs.Prelude.{◌≡◌, ℕ, ◌-◌, ◌^◌, ◌<◌, ◌≤◌, List, length, codes, All}
 use Rattle.gnb_base.specs.Hex.{IsHexOf}
 use Rattle.gnb_base.specs.Names.{ue_text, bearer_text}
 use Rattle.gnb_base.specs.declared.names.NodeId.{NodeId}
