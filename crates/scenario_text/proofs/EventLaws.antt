@@ -26,7 +26,7 @@ use Rattle.scenario_text.specs.declared.event.TextReason.{TextReason}
 use Rattle.scenario_text.specs.declared.event.TextReason.TheVariants.{Word, Number, Hex, Name}
 use Rattle.std.specs.Prelude.{IfOk}
 use Rattle.scenario_text.specs.declared.read.TextError.{TextError}
-use Rattle.scenario_text.specs.Grammar.{GivesOrMemory, words, ◌is◌, Form, fixed, number, ue, bearer, node, hex, both, tunnel, Places, next_word, result_then, ◌>>=◌, ended, static_event, offer_event, get_event, air_event, places_of, event_of}
+use Rattle.scenario_text.specs.Grammar.{GivesOrMemory, words, ◌is◌, Form, fixed, number, ue, bearer, node, hex, both, tunnel, Places, next_word, result_then, ◌>>=◌, ended, static_event, offer_event, get_event, air_event, places_of, event_of, header_of}
 use Rattle.scenario_text.specs.Print.{event_text, ◌then◌}
 use Rattle.scenario_text.specs.Texts.{IsWithin, IsUe, IsBearer, IsNode, IsPacket, InRange, IsTextOf}
 use Rattle.scenario_text.proofs.NumberLemmas.{own}
@@ -427,3 +427,18 @@ event_in_range line e h = (event_sound line e h).range
 pub given_in_range : (line : List ℕ) (r : Result Event TextError) → GivesOrMemory (λ x. x) r (event_of line) → IfOk r InRange
 given_in_range line (Ok e) h = event_in_range line e h
 given_in_range line (Err error) h = tt
+
+-- The header is one line.
+pub header_sound : (line : List ℕ) → header_of line ≡ Ok tt → line ≡ codes "module builtin"
+unfolding header_of
+header_sound line h =
+    let k = step (fixed (codes "module") Word) (λ k. fixed (codes "builtin") Word >>= (λ b. ended tt)) (words line) tt h in
+    let b = step (fixed (codes "builtin") Word) (λ b. ended tt) k.rest tt k.goes in
+    let end = at_end tt tt b.rest b.goes in
+    let same : words line ≡ codes "module" ∷ codes "builtin" ∷ [] =
+        as_words k.stands (fixed_sound (codes "module") Word k.word k.value k.means) (as_words b.stands (fixed_sound (codes "builtin") Word b.word b.value b.means) end.0) in
+    sym (join_with_byte-slice_split 32 line) ∙ ap (join_with_byte 32) same
+
+pub header_is_read : (line : List ℕ) → line ≡ codes "module builtin" → header_of line ≡ Ok tt
+unfolding header_of
+header_is_read line h = ap header_of h
