@@ -5,3 +5,4 @@ pub mod LinesOf
 mod MemoryLemmas
 mod NextLemmas
 mod Turns
+pub mod HexLemmas

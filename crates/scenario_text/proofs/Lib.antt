@@ -1,3 +1,5 @@
+pub mod EventLaws
+pub mod FormLaws
 pub mod HexText
 pub mod NumberLemmas
 pub mod WordLemmas

@@ -1,5 +1,5 @@
 -- A text that is cut at a byte.
-use Rattle.std.proofs.Common.{cond, Err, MatchOption, Option, Some, None, Ok, Bor, ◌≡◌, ℕ, ◌+◌, ◌≤◌, ◌<◌, Bool, true, false, List, [], ◌∷◌, length, refl, ap, ◌∙◌, arith, take, drop, nat_eq}
+use Rattle.std.proofs.Common.{cond, Err, MatchOption, Option, Some, None, Ok, Bor, ◌≡◌, ℕ, ◌≤◌, ◌<◌, Bool, true, false, List, [], ◌∷◌, length, refl, ap, ◌∙◌, arith, nat_eq}
 use Rattle.scenario_text.specs.Grammar.{words, next_word, words_left, line_end}
 use Rattle.scenario_text.specs.declared.event.TextReason.TheVariants.{Extra}
 use Rattle.std.proofs.lemmas.List.{take_all}

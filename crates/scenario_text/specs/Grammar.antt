@@ -1,6 +1,6 @@
 -- The grammar of a script: a line is words with one blank between two of them; an event is its keyword and then one
 -- word for each place, each place of a form. The first wrong word from the left decides.
-use Rattle.std.specs.Prelude.{◌≡◌, ℕ, ◌-◌, ◌^◌, ◌==◌, ◌&&◌, ◌||◌, not, Bool, true, false, List, [], ◌∷◌, length, take, drop, slice_index, Option, Some, None, Result, Ok, Err, codes, nat_lt, nat_le, if◌then◌else◌}
+use Rattle.std.specs.Prelude.{◌≡◌, ℕ, ◌-◌, ◌^◌, ◌==◌, ◌&&◌, ◌||◌, not, Bool, List, [], ◌∷◌, length, take, drop, slice_index, Option, Some, None, Result, Ok, Err, codes, nat_lt, nat_le, if◌then◌else◌}
 use Rattle.std.specs.List.{list_all, slice_split, before_first, after_first}
 use Rattle.std.specs.Option.{ok_or, option_map}
 use Rattle.std.specs.Char.{is_ascii_digit}

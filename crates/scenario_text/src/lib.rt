@@ -5,3 +5,5 @@ pub mod event;
 pub mod line;
 pub mod print;
 pub mod read;
+#[cfg(test)]
+mod tests;

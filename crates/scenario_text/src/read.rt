@@ -6,6 +6,7 @@ ghost use Rattle.std.specs.Char.{is_ascii_digit};
 ghost use Rattle.std.specs.List.{list_all, before_first, after_first, position_or_len};
 ghost use Rattle.scenario_text.specs.Grammar.{words, words_left, next_word, place, fixed, is_plain as plain, number_of, number as number_form, ue as ue_form, bearer as bearer_form, ue_of, bearer_of, unit_of, node_of, hex as hex_form, tunnel as tunnel_form, line_end, static_event, offer_event, get_event, air_event, event_of, header_of, Gives, GivesOrMemory};
 ghost use Rattle.scenario_text.specs.Grammar.{is_skipped as skips};
+ghost use Rattle.scenario_text.specs.Texts.{InRange};
 ghost use Rattle.scenario_text.specs.declared.read.TextError.TheVariants.{Refused as RefusedFor, Memory as OutOfMemory};
 
 use crate::event::{Event, TextReason};
@@ -276,9 +277,8 @@ fn air_places(words: Words) -> Result<Event, TextReason>
     Ok(Event::Air { ue, bearer })
 }
 
-/// The event of a line of a script, without its LF.
 #[tactic(auto, unfolding(crate::specs::Grammar::event_of))]
-pub fn read_event(alloc: Global, line: &[u8]) -> Result<Event, TextError>
+fn event(alloc: Global, line: &[u8]) -> Result<Event, TextError>
     ensures { GivesOrMemory (λ x. x) result (event_of line.now) }
 {
     let (keyword, words) = Words::of(line).next()?;
@@ -293,6 +293,14 @@ pub fn read_event(alloc: Global, line: &[u8]) -> Result<Event, TextError>
     } else {
         Err(TextError::Refused(TextReason::Word))
     }
+}
+
+/// The event of a line of a script, without its LF; the reason is that of the first wrong word from the left.
+pub fn read_event(alloc: Global, line: &[u8]) -> Result<Event, TextError>
+    ensures exact { GivesOrMemory (λ x. x) result (event_of line.now) }
+    ensures in_range { IfOk result InRange }
+{
+    event(alloc, line)
 }
 
 /// Whether a line is the header of a script, `module builtin`, without its LF.
