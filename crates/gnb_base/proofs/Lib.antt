@@ -5,4 +5,3 @@ pub mod LinesOf
 mod MemoryLemmas
 mod NextLemmas
 mod Turns
-pub mod HexLemmas
