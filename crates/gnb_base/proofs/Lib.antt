@@ -1,4 +1,4 @@
-mod HexLemmas
+pub mod HexLemmas
 mod LineLemmas
 mod LineReaderLemmas
 pub mod LinesOf
