@@ -1,11 +1,10 @@
 -- Of a status with all of its first six octets, which reason applies first.
-use Rattle.std.proofs.Common.{◌≡◌, ℕ, ◌+◌, ◌/◌, ◌<◌, ◌≤◌, ◌==◌, Bool, ◌&&◌, not, if◌then◌else◌, nat_lt, Option, Some, None, List, [], ◌∷◌, length, drop, slice_index, false, suc, inl, inr, refl, sym, ◌∙◌, ap, arith, Result, Ok, Err}
+use Rattle.std.proofs.Common.{◌≡◌, ℕ, ◌+◌, ◌≤◌, ◌==◌, nat_lt, None, List, [], ◌∷◌, length, drop, slice_index, false, suc, inl, inr, refl, sym, ◌∙◌, ap, arith, Result, Ok, Err}
 use Rattle.nr_user_plane.specs.declared.frames.Frame.{Frame}
-use Rattle.nr_user_plane.specs.declared.frames.Frame.TheVariants.{Data, Status}
+use Rattle.nr_user_plane.specs.declared.frames.Frame.TheVariants.{Status}
 use Rattle.std.proofs.lemmas.Bool.{cases_lt}
 use Rattle.nr_user_plane.specs.declared.frames.FrameError.{FrameError}
-use Rattle.nr_user_plane.specs.declared.frames.FrameError.TheVariants as reasons
-use Rattle.nr_user_plane.specs.Reasons.{kind, first_reason, refusals, lost_len, delivered_len, is_good_lost, is_clear_status, is_padding, status_reason, lost_at, delivered_at, number32_at, Answers, AnswersStatus}
+use Rattle.nr_user_plane.specs.Reasons.{kind, first_reason, refusals, lost_len, delivered_len, status_reason, lost_at, delivered_at, number32_at, Answers, AnswersStatus}
 
 -- the tests on all octets are those on the fields
 shorter : (m n : ℕ) → nat_lt (6 + m) (6 + n) ≡ nat_lt m n
@@ -37,5 +36,5 @@ answers_status octets fields room (Err reason) status long fields_is room_is h =
 answers_status octets fields room (Ok frame) status long fields_is room_is h =
     let none : status_reason (slice_index octets 0) (slice_index octets 1) (drop 6 octets) ≡ None = rw (← fields_is) h.0 in
     let frame_is : frame ≡ Status (number32_at octets 2) (lost_at (slice_index octets 0) (drop 6 octets)) (delivered_at (slice_index octets 0) (drop 6 octets)) =
-        rw (← fields_is, ← room_is) h.1 in
+    rw (← fields_is, ← room_is) h.1 in
     (first_reason-status octets status long ∙ none, frame_is ∙ sym (rw status refl))

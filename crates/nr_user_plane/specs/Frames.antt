@@ -55,6 +55,11 @@ Nru (Status room lost delivered) (first ∷ second ∷ a ∷ b ∷ c ∷ d ∷ o
     (first ≡ 16 + 4 * flag (is_some delivered) + flag (is_lost lost)) × (second ≡ 0) × (room ≡ number32 a b c d) × HasLost lost delivered octets
 Nru frame octets = ⊥
 
+-- numbers that an octet can hold
+abbrev pub AreOctets : List ℕ → Type 0
+AreOctets [] = Unit {0}
+AreOctets (octet ∷ octets) = (octet < 256) × AreOctets octets
+
 -- what a frame can hold: numbers of 24 bits, and at most seven ranges, each above the one before it
 abbrev pub AreApart : ℕ → List (ℕ × ℕ) → Type 0
 AreApart least [] = Unit {0}
@@ -64,6 +69,11 @@ abbrev pub FitsFrame : Frame → Type 0
 FitsFrame (Data poll restart sn) = sn < 2 ^ 24
 FitsFrame (Status room lost delivered) = (length lost ≤ 7) × AreApart 0 lost × IfSome delivered (λ number. number < 2 ^ 24)
 
+-- a desired buffer size of 32 bits
+abbrev pub HasRoom : Frame → Type 0
+HasRoom (Data poll restart sn) = Unit {0}
+HasRoom (Status room lost delivered) = room < 2 ^ 32
+
 -- a number as three or four octets
 abbrev pub be24 : ℕ → List ℕ
 be24 n = n / 65536 % 256 ∷ n / 256 % 256 ∷ n % 256 ∷ []
@@ -71,10 +81,13 @@ be24 n = n / 65536 % 256 ∷ n / 256 % 256 ∷ n % 256 ∷ []
 abbrev pub be32 : ℕ → List ℕ
 be32 n = n / 16777216 % 256 ∷ be24 n
 
+abbrev pub range_octets : ℕ × ℕ → List ℕ
+range_octets range = be24 range.0 ++ be24 range.1
+
 -- the lost ranges behind their count, or nothing
 abbrev pub lost_octets : List (ℕ × ℕ) → List ℕ
 lost_octets [] = []
-lost_octets (range ∷ ranges) = length (range ∷ ranges) ∷ flat_map (λ r. be24 r.0 ++ be24 r.1) (range ∷ ranges)
+lost_octets (range ∷ ranges) = length (range ∷ ranges) ∷ flat_map range_octets (range ∷ ranges)
 
 abbrev pub delivered_octets : Option ℕ → List ℕ
 delivered_octets None = []

@@ -1,12 +1,12 @@
 -- Why octets are no frame, and the frame that they are where no reason applies, by the places of the fields.
-use Rattle.std.specs.Prelude.{◌≡◌, ℕ, ◌+◌, ◌-◌, ◌*◌, ◌/◌, ◌%◌, ◌==◌, Result, Ok, Err, Bool, true, false, ◌&&◌, ◌||◌, not, if◌then◌else◌, nat_lt, nat_le, zero, suc, Option, Some, None, List, [], ◌∷◌, length, drop, slice_index}
+use Rattle.std.specs.Prelude.{◌≡◌, ℕ, ◌+◌, ◌*◌, ◌/◌, ◌%◌, ◌==◌, Result, Ok, Err, Bool, true, false, ◌&&◌, ◌||◌, not, if◌then◌else◌, nat_lt, nat_le, zero, suc, Option, Some, None, List, [], ◌∷◌, length, drop, slice_index}
 use Rattle.std.specs.List.{list_all}
 use Rattle.std.specs.Borrow.{Bor}
 use Rattle.nr_user_plane.specs.declared.frames.Frame.{Frame}
 use Rattle.nr_user_plane.specs.declared.frames.Frame.TheVariants.{Data, Status}
 use Rattle.nr_user_plane.specs.declared.frames.FrameError.{FrameError}
 use Rattle.nr_user_plane.specs.declared.frames.FrameError.TheVariants as reasons
-use Rattle.nr_user_plane.specs.Frames.{number24, number32}
+use Rattle.nr_user_plane.specs.Frames.{number24}
 
 -- The high half of the first octet is the kind of frame. In a status its lowest bit says that there are lost ranges, and
 -- its third lowest that there is a delivered number.

@@ -1,20 +1,25 @@
 //! NR-U frames: data, and the delivery status.
 
-ghost use Rattle.std.specs.Prelude.{◌≡◌, ◌+◌, ◌*◌, ◌^◌, ◌<◌, ◌≤◌, length, drop, if◌then◌else◌, IfOk, IfErr, IsOkAnd};
-ghost use Rattle.nr_user_plane.specs.Frames.{number24};
-ghost use Rattle.nr_user_plane.specs.Reasons.{kind, lost_len, delivered_len, has_lost, has_delivered, number24_at, is_clear_status, is_padding, Answers, AnswersStatus, AnswersLost, AnswersPairs};
+ghost use Rattle.std.specs.Prelude.{◌≡◌, ◌+◌, ◌*◌, ◌^◌, ◌<◌, ◌≤◌, length, drop, ◌++◌, if◌then◌else◌, Ok, IfOk, IfErr, OnOk};
+ghost use Rattle.std.specs.List.{flat_map};
+ghost use Rattle.nr_user_plane.specs.Frames.{Nru, FitsFrame, number24, be24, range_octets, lost_octets, field_octets, filled, nru_octets};
+ghost use Rattle.nr_user_plane.specs.declared.frames.Frame.{Frame};
+ghost use Rattle.nr_user_plane.specs.Reasons.{refusals, first_reason, kind, lost_len, delivered_len, has_lost, has_delivered, number24_at, is_clear_status, is_padding, Answers, AnswersStatus, AnswersLost, AnswersPairs};
 
+use crate::ranges::Ranges;
 use gnb_base::octets::{Memory, Octets};
 use std::alloc::Global;
 use thiserror::Error;
-
-use crate::ranges::Ranges;
 
 /// A frame: the content of one NR RAN Container.
 #[derive(Debug, Drop, PartialEq, Eq)]
 pub enum Frame {
     /// Downlink user data: whether a status is asked for, whether the numbers begin anew here, and the NR-U number.
-    Data { poll: bool, restart: bool, sn: u32 },
+    Data {
+        poll: bool,
+        restart: bool,
+        sn: u32,
+    },
     /// The delivery status: the desired buffer size in octets, the lost NR-U numbers, and the highest delivered PDCP
     /// number.
     Status {
@@ -39,6 +44,7 @@ pub enum FrameError {
 
 /// Set in the first octet of a status that has lost ranges, and of one that has a delivered number.
 const LOST: u8 = 0x01;
+
 const DELIVERED: u8 = 0x04;
 
 /// The spare bits of the first octet of a status.
@@ -76,8 +82,16 @@ fn is_padding(octets: &[u8]) -> bool
     octets.len() <= 3 && octets.iter().all(|octet| *octet == 0)
 }
 
-/// Reads a frame.
+/// Reads a frame. The octets may be filled up with one to three zeros.
 pub fn decode(content: &[u8]) -> Result<Frame, FrameError>
+    ensures found { IfOk result (λ frame. Nru frame content.now) }
+    ensures only { (frame : Frame) → Nru frame content.now → result ≡ Ok frame }
+    ensures refused { IfErr result (λ reason. first_reason (refusals content.now) ≡ Some reason) }
+{
+    read_frame(content)
+}
+
+fn read_frame(content: &[u8]) -> Result<Frame, FrameError>
     ensures { Answers content.now result }
 {
     match content {
@@ -215,4 +229,85 @@ fn delivered_number(first: u8, fields: &[u8]) -> (Option<u32>, &[u8])
         unreachable!()
     };
     (Some(number24(*a, *b, *c)), padding)
+}
+
+/// Writes a frame, filled up with zeros to 4n - 2 octets.
+pub fn encode(alloc: Global, frame: &Frame) -> Result<Octets, Memory>
+    requires { FitsFrame frame.now }
+    ensures { IfOk result (λ octets. octets ≡ nru_octets frame.now) }
+{
+    let mut octets = match frame {
+        Frame::Data { poll, restart, sn } => {
+            let [_, a, b, c] = sn.to_be_bytes();
+            Octets::from_slice(alloc, &[u8::from(*poll), u8::from(*restart), a, b, c])?
+        }
+        Frame::Status {
+            room,
+            lost,
+            delivered,
+        } => status_octets(alloc, *room, lost, *delivered)?,
+    };
+    fill(&mut octets)?;
+    Ok(octets)
+}
+
+fn status_octets(
+    alloc: Global,
+    room: u32,
+    lost: &Ranges,
+    delivered: Option<u32>,
+) -> Result<Octets, Memory>
+    requires { length lost.now ≤ 7 }
+    ensures { IfOk result (λ octets. octets ≡ field_octets (Frame.Status room lost.now delivered)) }
+{
+    let first = 0x10
+        | if lost.is_empty() { 0 } else { LOST }
+        | if delivered.is_some() { DELIVERED } else { 0 };
+    let [a, b, c, d] = room.to_be_bytes();
+    let mut octets = Octets::from_slice(alloc, &[first, 0, a, b, c, d])?;
+    push_ranges(&mut octets, lost)?;
+    if let Some(number) = delivered {
+        push_number(&mut octets, number)?;
+    }
+    Ok(octets)
+}
+
+/// Puts the lost ranges behind their count, or nothing where there are none.
+fn push_ranges(octets: &mut Octets, lost: &Ranges) -> Result<(), Memory>
+    requires { length lost.now ≤ 7 }
+    ensures { OnOk result (octets.new ≡ octets.old ++ lost_octets lost.now) }
+{
+    if lost.is_empty() {
+        return Ok(());
+    }
+    octets.push(lost.len() as u8)?;
+    push_pairs(octets, lost.as_slice())?;
+    Ok(())
+}
+
+fn push_pairs(octets: &mut Octets, pairs: &[(u32, u32)]) -> Result<(), Memory>
+    ensures { OnOk result (octets.new ≡ octets.old ++ flat_map range_octets pairs.now) }
+{
+    for (start, end) in pairs {
+        push_number(octets, *start)?;
+        push_number(octets, *end)?;
+    }
+    Ok(())
+}
+
+/// Puts the low three octets of a number.
+fn push_number(octets: &mut Octets, number: u32) -> Result<(), Memory>
+    ensures { OnOk result (octets.new ≡ octets.old ++ be24 number) }
+{
+    let [_, a, b, c] = number.to_be_bytes();
+    octets.append(&[a, b, c])
+}
+
+/// Fills up with zeros to the next 4n - 2 octets.
+fn fill(octets: &mut Octets) -> Result<(), Memory>
+    ensures { OnOk result (octets.new ≡ filled octets.old) }
+{
+    let missing = (6 - octets.len() % 4) % 4;
+    octets.append(&[0; 3][..missing])?;
+    Ok(())
 }

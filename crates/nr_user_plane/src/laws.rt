@@ -1,10 +1,26 @@
 //! Laws of frames. Each function does nothing: its contract is the law.
 
-ghost use Rattle.std.specs.Prelude.{◌≡◌, List, ℕ, true};
-ghost use Rattle.nr_user_plane.specs.Frames.{IsPadding};
-ghost use Rattle.nr_user_plane.specs.Reasons.{is_padding};
+ghost use Rattle.std.specs.Prelude.{◌≡◌, ◌%◌, List, ℕ, None, length};
+ghost use Rattle.nr_user_plane.specs.declared.frames.Frame.{Frame};
+ghost use Rattle.nr_user_plane.specs.Frames.{Nru, AreOctets, FitsFrame, HasRoom, nru_octets};
+ghost use Rattle.nr_user_plane.specs.Reasons.{refusals, first_reason, frame_at};
 
-pub fn law()
-    ensures { (octets : List ℕ) → IsPadding octets → is_padding octets ≡ true }
-{
-}
+/// Octets are one frame at most, and then no reason to refuse them applies; octets that are no frame have a reason, the
+/// first that applies. By the places of the fields and by cases on the octets one frame is read.
+pub fn frame_or_reason()
+    ensures one { (octets : List ℕ) (frame other : Frame) → Nru frame octets → Nru other octets → frame ≡ other }
+    ensures no_reason { (octets : List ℕ) (frame : Frame) → Nru frame octets → first_reason (refusals octets) ≡ None }
+    ensures reason { (octets : List ℕ) → first_reason (refusals octets) ≡ None → (frame : Frame) × Nru frame octets }
+{}
+
+/// Among contents of 4n - 2 octets a frame has one spelling.
+pub fn one_spelling()
+    ensures { (frame : Frame) (one other : List ℕ) → AreOctets one → AreOctets other → length one % 4 ≡ 2 → length other % 4 ≡ 2
+        → Nru frame one → Nru frame other → one ≡ other }
+{}
+
+/// What is written has 4n - 2 octets and is read again as the same frame.
+pub fn written_is_read()
+    ensures frame { (frame : Frame) → FitsFrame frame → HasRoom frame → Nru frame (nru_octets frame) }
+    ensures length { (frame : Frame) → length (nru_octets frame) % 4 ≡ 2 }
+{}

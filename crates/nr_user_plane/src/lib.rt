@@ -5,5 +5,8 @@ pub mod frames;
 pub mod laws;
 pub mod ranges;
 
-pub use frames::{Frame, FrameError};
+pub use frames::{Frame, FrameError, decode, encode};
 pub use ranges::Ranges;
+
+#[cfg(test)]
+mod tests;

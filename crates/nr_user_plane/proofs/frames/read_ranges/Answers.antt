@@ -1,4 +1,4 @@
-use Rattle.std.proofs.Common.{◌≡◌, ◌-◌, ◌+◌, ◌<◌, ◌⊎◌, inl, inr, length, refl, suc, arith, length-drop}
+use Rattle.std.proofs.Common.{◌≡◌, ◌-◌, ◌<◌, ◌⊎◌, inl, inr, length, refl, suc, arith, length-drop}
 use Rattle.nr_user_plane.proofs.Pairs.{Turn, told_more, apart_more, apart_stops, behind_more, left_is, grown}
 use Rattle.nr_user_plane.proofs.frames.read_ranges.Goals as goal
 use Rattle.nr_user_plane.proofs.frames.read_ranges.Goals.{then-start-least-via-then-start-least, then-start-least-via-else-start-least+then-end-start}
@@ -6,9 +6,10 @@ use Rattle.nr_user_plane.proofs.frames.read_ranges.Goals.{then-start-least-via-t
 pub returns-then-start-least : goal.returns-then-start-least
 returns-then-start-least c =
     let bad : (c.read_pair-start.result.0.0 < c.loop-rest.least) ⊎ (c.read_pair-start.result.0.1 < c.read_pair-start.result.0.0) =
-        elim c.then-start-least.branch [
-          then-start-least-via-then-start-least w ↦ inl w.if-start-least.true
-        | then-start-least-via-else-start-least+then-end-start w ↦ inr w.if-end-start.true ] in
+    elim c.then-start-least.branch [
+      | then-start-least-via-then-start-least w ↦ inl w.if-start-least.true
+      | then-start-least-via-else-start-least+then-end-start w ↦ inr w.if-end-start.true
+    ] in
     let left : c.args.count - length c.loop-rest.ranges ≡ suc (c.args.count - length c.loop-rest.ranges - 1) = omega arith in
     (apart_stops _ _ _ _ _ _ _ left c.read_pair-start.ensures.start c.read_pair-start.ensures.end c.loop-rest.invariant.apart bad, refl)
 

@@ -1,4 +1,4 @@
-use Rattle.std.proofs.Common.{◌≡◌, ℕ, ◌*◌, ◌/◌, ◌%◌, ◌<◌, ◌==◌, ◌∙◌, Bool, not, zero, suc, refl, ap, arith}
+use Rattle.std.proofs.Common.{◌≡◌, ℕ, ◌*◌, ◌/◌, ◌%◌, ◌<◌, ◌==◌, ◌∙◌, not, zero, suc, refl, ap, arith}
 use Rattle.std.proofs.lemmas.Nat.Bits.{and_pow}
 use Rattle.nr_user_plane.proofs.frames.tells_delivered.Goals as goal
 

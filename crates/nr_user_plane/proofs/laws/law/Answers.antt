@@ -1,4 +1,0 @@
-use Rattle.nr_user_plane.proofs.FrameLaws.{tested_padding, padding_tested}
-use Rattle.nr_user_plane.proofs.laws.law.Goals as goal
-pub returns : goal.returns
-returns c = tested_padding
