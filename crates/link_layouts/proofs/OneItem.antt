@@ -1,10 +1,10 @@
 -- Octets say one thing on a link.
-use Rattle.std.proofs.Common.{◌≡◌, ℕ, suc, ◌+◌, ◌*◌, ◌/◌, ◌%◌, ◌<◌, ◌≤◌, Bool, true, false, Option, Some, None, List, [], ◌∷◌, ◌++◌, length, refl, sym, ap, subst, ◌∙◌, arith, true≢false}
+use Rattle.std.proofs.Common.{◌≡◌, ℕ, true, false, List, [], ◌∷◌, refl, sym, ap, subst, ◌∙◌, arith, true≢false}
 use Rattle.gnb_base.specs.declared.names.SnBits.{SnBits}
 use Rattle.gnb_base.specs.declared.names.SnBits.TheVariants.{Len12, Len18}
 use Rattle.gtpu.specs.declared.GtpuError.{GtpuError}
 use Rattle.gtpu.specs.declared.Kind.TheVariants.{GPdu, EndMarker}
-use Rattle.gtpu.specs.Headers.{ExtensionHeader, AreHeaders}
+use Rattle.gtpu.specs.Headers.{ExtensionHeader}
 use Rattle.gtpu.specs.Packets.{GtpuPacket, Gtpu}
 use Rattle.gtpu.specs.Refusals.{IsRefusal}
 use Rattle.gtpu.proofs.Chains.{one_chain}
@@ -12,8 +12,9 @@ use Rattle.gtpu.proofs.Unique.{one_packet, not_both}
 use Rattle.nr_user_plane.specs.declared.frames.Frame.{Frame}
 use Rattle.nr_user_plane.specs.declared.frames.Frame.TheVariants.{Data, Status}
 use Rattle.nr_user_plane.specs.Frames.{Nru}
+use Rattle.nr_user_plane.proofs.FrameLaws.{frame_read}
 use Rattle.pdcp.specs.Pdus.{Content, data_pdu, status_report, Pdcp}
-use Rattle.link_layouts.specs.Decoding.{Link, Item, n3, f1u_downlink, f1u_uplink, forwarding_down, forwarding_up, fresh, numbered, pdu, framed, poll, status, end_of_tunnel, IsSized, CarriesPdu, IsBare, HasHeader, number_code, number_in, SaysFresh, SaysNumbered, SaysEnd, Says, DecodesOn}
+use Rattle.link_layouts.specs.Decoding.{Link, Item, n3, f1u_downlink, f1u_uplink, forwarding_down, forwarding_up, fresh, numbered, pdu, framed, poll, status, end_of_tunnel, CarriesPdu, IsBare, HasHeader, number_code, number_in, SaysFresh, SaysNumbered, Says, DecodesOn}
 
 -- ---- the packet is the one that a reader finds
 
@@ -25,9 +26,8 @@ refused_not link sn item octets e refused d = not_both octets d.0 e d.1 refused
 
 -- ---- parts
 
--- an NR-U frame has one reading
-abbrev pub FramesAreOne : Type 0
-FramesAreOne = (octets : List ℕ) (f g : Frame) → Nru f octets → Nru g octets → f ≡ g
+one_frame : (octets : List ℕ) (f g : Frame) → Nru f octets → Nru g octets → f ≡ g
+one_frame octets f g p q = sym (frame_read f octets p).is ∙ (frame_read g octets q).is
 
 one_data : (sn : SnBits) (octets : List ℕ) (n m : ℕ) (s t : List ℕ) → Pdcp sn (data_pdu n s) octets → Pdcp sn (data_pdu m t) octets → data_pdu n s ≡ data_pdu m t
 one_data Len12 (x ∷ y ∷ z ∷ octets) n m s t p q = λ i. data_pdu ((p.1 ∙ sym q.1) i) ((p.2 ∙ sym q.2) i)
@@ -79,65 +79,65 @@ one_numbered sn n m a b p x y =
 -- ---- one item
 
 -- what frames say
-frame_of : FramesAreOne → (f g : Frame) (a b : List ℕ) (p : GtpuPacket) → HasHeader 0x84 a p → HasHeader 0x84 b p → Nru f a → Nru g b → f ≡ g
-frame_of one f g a b p x y u v = one a f g u (subst (λ (o : List ℕ). Nru g o) (sym (one_header_content 0x84 a b p x y)) v)
+frame_of : (f g : Frame) (a b : List ℕ) (p : GtpuPacket) → HasHeader 0x84 a p → HasHeader 0x84 b p → Nru f a → Nru g b → f ≡ g
+frame_of f g a b p x y u v = one_frame a f g u (subst (λ (o : List ℕ). Nru g o) (sym (one_header_content 0x84 a b p x y)) v)
 
-one_said : FramesAreOne → (link : Link) (sn : SnBits) (a b : Item) (p : GtpuPacket) → Says link sn a p → Says link sn b p → a ≡ b
-one_said one n3 sn (fresh a) (fresh b) p x y = one_fresh a b p x y
-one_said one n3 sn (fresh a) end_of_tunnel p x y = absurd (not_both_kinds p x.0.kind_is y.0.kind_is)
-one_said one n3 sn end_of_tunnel (fresh b) p x y = absurd (not_both_kinds p y.0.kind_is x.0.kind_is)
-one_said one n3 sn end_of_tunnel end_of_tunnel p x y = refl
-one_said one f1u_downlink sn (framed r n c o) (framed s m d t) p x y =
-    let frames : Data false r n ≡ Data false s m = frame_of one (Data false r n) (Data false s m) x.0 y.0 p x.1 y.1 x.2 y.2 in
+pub one_said : (link : Link) (sn : SnBits) (a b : Item) (p : GtpuPacket) → Says link sn a p → Says link sn b p → a ≡ b
+one_said n3 sn (fresh a) (fresh b) p x y = one_fresh a b p x y
+one_said n3 sn (fresh a) end_of_tunnel p x y = absurd (not_both_kinds p x.0.kind_is y.0.kind_is)
+one_said n3 sn end_of_tunnel (fresh b) p x y = absurd (not_both_kinds p y.0.kind_is x.0.kind_is)
+one_said n3 sn end_of_tunnel end_of_tunnel p x y = refl
+one_said f1u_downlink sn (framed r n c o) (framed s m d t) p x y =
+    let frames : Data false r n ≡ Data false s m = frame_of (Data false r n) (Data false s m) x.0 y.0 p x.1 y.1 x.2 y.2 in
     let rs : r ≡ s = cc in
     let ns : n ≡ m = cc in
     let octets : o ≡ t = sym x.3 ∙ y.3 in
     let contents : c ≡ d = one_carried sn o c d x.4 (subst (λ (w : List ℕ). CarriesPdu sn d w) (sym octets) y.4) in
     λ i. framed (rs i) (ns i) (contents i) (octets i)
-one_said one f1u_downlink sn (framed r n c o) (poll s m) p x y =
-    let frames : Data false r n ≡ Data true s m = frame_of one (Data false r n) (Data true s m) x.0 y.0 p x.1 y.1 x.2 y.2 in
+one_said f1u_downlink sn (framed r n c o) (poll s m) p x y =
+    let frames : Data false r n ≡ Data true s m = frame_of (Data false r n) (Data true s m) x.0 y.0 p x.1 y.1 x.2 y.2 in
     let same : false ≡ true = cc in
     absurd (true≢false (sym same))
-one_said one f1u_downlink sn (poll r n) (framed s m d t) p x y =
-    let frames : Data true r n ≡ Data false s m = frame_of one (Data true r n) (Data false s m) x.0 y.0 p x.1 y.1 x.2 y.2 in
+one_said f1u_downlink sn (poll r n) (framed s m d t) p x y =
+    let frames : Data true r n ≡ Data false s m = frame_of (Data true r n) (Data false s m) x.0 y.0 p x.1 y.1 x.2 y.2 in
     let same : true ≡ false = cc in
     absurd (true≢false same)
-one_said one f1u_downlink sn (poll r n) (poll s m) p x y =
-    let frames : Data true r n ≡ Data true s m = frame_of one (Data true r n) (Data true s m) x.0 y.0 p x.1 y.1 x.2 y.2 in
+one_said f1u_downlink sn (poll r n) (poll s m) p x y =
+    let frames : Data true r n ≡ Data true s m = frame_of (Data true r n) (Data true s m) x.0 y.0 p x.1 y.1 x.2 y.2 in
     let rs : r ≡ s = cc in
     let ns : n ≡ m = cc in
     λ i. poll (rs i) (ns i)
-one_said one f1u_uplink sn (pdu c o) (pdu d t) p x y =
+one_said f1u_uplink sn (pdu c o) (pdu d t) p x y =
     let octets : o ≡ t = sym x.1 ∙ y.1 in
     let contents : c ≡ d = one_carried sn o c d x.2 (subst (λ (w : List ℕ). CarriesPdu sn d w) (sym octets) y.2) in
     λ i. pdu (contents i) (octets i)
-one_said one f1u_uplink sn (pdu c o) (status r l d) p x y = absurd (bare_or_header 0x84 y.0 p x.0 y.1)
-one_said one f1u_uplink sn (pdu c o) end_of_tunnel p x y = absurd (not_both_kinds p x.0.kind_is y.0.kind_is)
-one_said one f1u_uplink sn (status r l d) (pdu e t) p x y = absurd (bare_or_header 0x84 x.0 p y.0 x.1)
-one_said one f1u_uplink sn (status r l d) (status s m e) p x y =
-    let frames : Status r l d ≡ Status s m e = frame_of one (Status r l d) (Status s m e) x.0 y.0 p x.1 y.1 x.2 y.2 in
+one_said f1u_uplink sn (pdu c o) (status r l d) p x y = absurd (bare_or_header 0x84 y.0 p x.0 y.1)
+one_said f1u_uplink sn (pdu c o) end_of_tunnel p x y = absurd (not_both_kinds p x.0.kind_is y.0.kind_is)
+one_said f1u_uplink sn (status r l d) (pdu e t) p x y = absurd (bare_or_header 0x84 x.0 p y.0 x.1)
+one_said f1u_uplink sn (status r l d) (status s m e) p x y =
+    let frames : Status r l d ≡ Status s m e = frame_of (Status r l d) (Status s m e) x.0 y.0 p x.1 y.1 x.2 y.2 in
     let rooms : r ≡ s = cc in
     let losts : l ≡ m = cc in
     let delivereds : d ≡ e = cc in
     λ i. status (rooms i) (losts i) (delivereds i)
-one_said one f1u_uplink sn (status r l d) end_of_tunnel p x y = absurd (not_both_kinds p x.1.kind_is y.0.kind_is)
-one_said one f1u_uplink sn end_of_tunnel (pdu e t) p x y = absurd (not_both_kinds p y.0.kind_is x.0.kind_is)
-one_said one f1u_uplink sn end_of_tunnel (status s m e) p x y = absurd (not_both_kinds p y.1.kind_is x.0.kind_is)
-one_said one f1u_uplink sn end_of_tunnel end_of_tunnel p x y = refl
-one_said one forwarding_down sn (fresh a) (fresh b) p x y = one_fresh a b p x y
-one_said one forwarding_down sn (fresh a) (numbered m b) p x y = absurd (bare_or_header (number_code sn) y.0 p x.0 y.1)
-one_said one forwarding_down sn (fresh a) end_of_tunnel p x y = absurd (not_both_kinds p x.0.kind_is y.0.kind_is)
-one_said one forwarding_down sn (numbered n a) (fresh b) p x y = absurd (bare_or_header (number_code sn) x.0 p y.0 x.1)
-one_said one forwarding_down sn (numbered n a) (numbered m b) p x y = one_numbered sn n m a b p x y
-one_said one forwarding_down sn (numbered n a) end_of_tunnel p x y = absurd (not_both_kinds p x.1.kind_is y.0.kind_is)
-one_said one forwarding_down sn end_of_tunnel (fresh b) p x y = absurd (not_both_kinds p y.0.kind_is x.0.kind_is)
-one_said one forwarding_down sn end_of_tunnel (numbered m b) p x y = absurd (not_both_kinds p y.1.kind_is x.0.kind_is)
-one_said one forwarding_down sn end_of_tunnel end_of_tunnel p x y = refl
-one_said one forwarding_up sn (numbered n a) (numbered m b) p x y = one_numbered sn n m a b p x y
-one_said one forwarding_up sn (numbered n a) end_of_tunnel p x y = absurd (not_both_kinds p x.1.kind_is y.0.kind_is)
-one_said one forwarding_up sn end_of_tunnel (numbered m b) p x y = absurd (not_both_kinds p y.1.kind_is x.0.kind_is)
-one_said one forwarding_up sn end_of_tunnel end_of_tunnel p x y = refl
-one_said one link sn a b p x y = absurd assumption
+one_said f1u_uplink sn (status r l d) end_of_tunnel p x y = absurd (not_both_kinds p x.1.kind_is y.0.kind_is)
+one_said f1u_uplink sn end_of_tunnel (pdu e t) p x y = absurd (not_both_kinds p y.0.kind_is x.0.kind_is)
+one_said f1u_uplink sn end_of_tunnel (status s m e) p x y = absurd (not_both_kinds p y.1.kind_is x.0.kind_is)
+one_said f1u_uplink sn end_of_tunnel end_of_tunnel p x y = refl
+one_said forwarding_down sn (fresh a) (fresh b) p x y = one_fresh a b p x y
+one_said forwarding_down sn (fresh a) (numbered m b) p x y = absurd (bare_or_header (number_code sn) y.0 p x.0 y.1)
+one_said forwarding_down sn (fresh a) end_of_tunnel p x y = absurd (not_both_kinds p x.0.kind_is y.0.kind_is)
+one_said forwarding_down sn (numbered n a) (fresh b) p x y = absurd (bare_or_header (number_code sn) x.0 p y.0 x.1)
+one_said forwarding_down sn (numbered n a) (numbered m b) p x y = one_numbered sn n m a b p x y
+one_said forwarding_down sn (numbered n a) end_of_tunnel p x y = absurd (not_both_kinds p x.1.kind_is y.0.kind_is)
+one_said forwarding_down sn end_of_tunnel (fresh b) p x y = absurd (not_both_kinds p y.0.kind_is x.0.kind_is)
+one_said forwarding_down sn end_of_tunnel (numbered m b) p x y = absurd (not_both_kinds p y.1.kind_is x.0.kind_is)
+one_said forwarding_down sn end_of_tunnel end_of_tunnel p x y = refl
+one_said forwarding_up sn (numbered n a) (numbered m b) p x y = one_numbered sn n m a b p x y
+one_said forwarding_up sn (numbered n a) end_of_tunnel p x y = absurd (not_both_kinds p x.1.kind_is y.0.kind_is)
+one_said forwarding_up sn end_of_tunnel (numbered m b) p x y = absurd (not_both_kinds p y.1.kind_is x.0.kind_is)
+one_said forwarding_up sn end_of_tunnel end_of_tunnel p x y = refl
+one_said link sn a b p x y = absurd assumption
 
-pub one_item : FramesAreOne → (link : Link) (sn : SnBits) (a b : Item) (octets : List ℕ) → DecodesOn link sn a octets → DecodesOn link sn b octets → a ≡ b
-one_item one link sn a b octets x y = one_said one link sn a b x.0 x.2 (says_of link sn b octets x.0 x.1 y)
+pub one_item : (link : Link) (sn : SnBits) (a b : Item) (octets : List ℕ) → DecodesOn link sn a octets → DecodesOn link sn b octets → a ≡ b
+one_item link sn a b octets x y = one_said link sn a b x.0 x.2 (says_of link sn b octets x.0 x.1 y)

@@ -1,11 +1,11 @@
 -- PDCP PDUs and data frames as they are written: how many octets they have, and that they are read again.
-use Rattle.std.proofs.Common.{◌≡◌, ℕ, zero, suc, ◌+◌, ◌-◌, ◌*◌, ◌/◌, ◌%◌, ◌^◌, ◌<◌, ◌≤◌, Bool, true, false, List, [], ◌∷◌, ◌++◌, length, refl, sym, ap, subst, ◌∙◌, length-append, arith}
+use Rattle.std.proofs.Common.{◌≡◌, ℕ, ◌+◌, ◌%◌, ◌^◌, ◌<◌, ◌≤◌, Bool, List, [], ◌∷◌, length, refl, arith}
 use Rattle.gnb_base.specs.declared.names.SnBits.{SnBits}
 use Rattle.gnb_base.specs.declared.names.SnBits.TheVariants.{Len12, Len18}
 use Rattle.nr_user_plane.specs.declared.frames.Frame.TheVariants.{Data}
-use Rattle.nr_user_plane.specs.Frames.{Nru, nru_octets, filled, flag}
-use Rattle.pdcp.specs.Numbers.{be32, space}
-use Rattle.pdcp.specs.Pdus.{data_pdu, status_report, Pdcp, radio_data, report_octets, bitmap}
+use Rattle.nr_user_plane.specs.Frames.{Nru, nru_octets, filled}
+use Rattle.pdcp.specs.Numbers.{space}
+use Rattle.pdcp.specs.Pdus.{data_pdu, status_report, radio_data, report_octets, bitmap}
 use Rattle.link_layouts.specs.Decoding.{CarriesPdu, IsSized}
 
 pub length-radio_data : (sn : SnBits) (count : ℕ) (packet : List ℕ) → length (radio_data sn count packet) ≤ 3 + length packet

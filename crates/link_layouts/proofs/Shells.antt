@@ -1,9 +1,8 @@
 -- The GTP-U packet that each layout of a link is.
-use Rattle.std.proofs.Common.{◌≡◌, ℕ, suc, ◌+◌, ◌-◌, ◌*◌, ◌/◌, ◌%◌, ◌^◌, ◌<◌, ◌≤◌, Bool, true, false, List, [], ◌∷◌, ◌++◌, length, refl, sym, ap, subst, ◌∙◌, length-append, arith}
+use Rattle.std.proofs.Common.{◌≡◌, ℕ, ◌+◌, ◌^◌, ◌<◌, ◌≤◌, List, [], ◌∷◌, ◌++◌, length, refl, sym, subst, arith}
 use Rattle.gnb_base.specs.declared.names.SnBits.{SnBits}
-use Rattle.gnb_base.specs.declared.names.SnBits.TheVariants.{Len12, Len18}
-use Rattle.gtpu.specs.Headers.{ExtensionHeader, IsHeader, header_octets}
-use Rattle.gtpu.specs.Packets.{GtpuPacket, Gtpu, gtpu_octets, IsWritable, body_of}
+use Rattle.gtpu.specs.Headers.{ExtensionHeader, IsHeader}
+use Rattle.gtpu.specs.Packets.{Gtpu, gtpu_octets, body_of}
 use Rattle.gtpu.proofs.Chains.{no_headers, one_header}
 use Rattle.gtpu.proofs.Writing.{written_is_read}
 use Rattle.link_layouts.specs.GPdus.{plain_pdu, pdu_with}

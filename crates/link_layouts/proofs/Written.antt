@@ -1,22 +1,22 @@
 -- Each layout decodes on its link, to what was put.
-use Rattle.std.proofs.Common.{◌≡◌, ℕ, suc, ◌+◌, ◌-◌, ◌*◌, ◌/◌, ◌%◌, ◌^◌, ◌<◌, ◌≤◌, Bool, true, false, if◌then◌else◌, Option, Some, None, List, [], ◌∷◌, ◌++◌, length, replicate, flat_map, IfSome, refl, sym, ap, subst, ◌∙◌, length-append, arith, lt-ltb}
+use Rattle.std.proofs.Common.{◌≡◌, ℕ, ◌+◌, ◌-◌, ◌*◌, ◌/◌, ◌%◌, ◌^◌, ◌<◌, ◌≤◌, Bool, true, false, if◌then◌else◌, Option, Some, None, List, [], ◌∷◌, ◌++◌, length, replicate, flat_map, refl, sym, subst, length-append, arith, lt-ltb}
 use Rattle.std.proofs.lemmas.List.{length-replicate}
-use Rattle.std.specs.Int.{w16, w32, from_be_bytes}
 use Rattle.gnb_base.specs.declared.names.SnBits.{SnBits}
 use Rattle.gnb_base.specs.declared.names.SnBits.TheVariants.{Len12, Len18}
-use Rattle.gtpu.specs.Headers.{ExtensionHeader, IsHeader, header_octets, units}
-use Rattle.gtpu.specs.Packets.{GtpuPacket, Gtpu, gtpu_octets, IsWritable, body_of, optional_of, has_flag, flags_of}
+use Rattle.gtpu.specs.Headers.{ExtensionHeader, IsHeader, header_octets}
+use Rattle.gtpu.specs.Packets.{Gtpu, gtpu_octets, body_of, optional_of, has_flag, flags_of}
 use Rattle.gtpu.proofs.Chains.{no_headers, are_one_header}
 use Rattle.gtpu.proofs.Writing.{written_is_read}
 use Rattle.nr_user_plane.specs.declared.frames.Frame.{Frame}
 use Rattle.nr_user_plane.specs.declared.frames.Frame.TheVariants.{Data, Status}
-use Rattle.nr_user_plane.specs.Frames.{Nru, nru_octets, filled, field_octets, lost_octets, delivered_octets, FitsFrame, be24}
+use Rattle.nr_user_plane.specs.Frames.{nru_octets, filled, field_octets, lost_octets, delivered_octets, FitsFrame, be24}
+use Rattle.nr_user_plane.proofs.Spellings.{frame_written}
 use Rattle.pdcp.specs.Numbers.{space}
 use Rattle.pdcp.specs.Pdus.{Content, data_pdu, status_report, radio_data, report_octets, bitmap}
 use Rattle.link_layouts.specs.GPdus.{plain_pdu, pdu_with, end_packet}
 use Rattle.link_layouts.specs.Links.{n3_downlink, f1u_downlink_data}
 use Rattle.link_layouts.specs.Layouts.{frame_header, number_header, f1u_downlink_packet, f1u_downlink_report, f1u_downlink_poll, f1u_uplink_pdu, f1u_uplink_data, f1u_uplink_report, desired_buffer_size, delivery_status, forwarded_numbered, forwarded_late, forwarded_fresh, end_marker}
-use Rattle.link_layouts.specs.Decoding.{Link, Item, n3, f1u_downlink, f1u_uplink, forwarding_down, forwarding_up, fresh, numbered, pdu, framed, poll, status, end_of_tunnel, IsSized, CarriesPdu, HasHeader, number_code, number_in, SaysNumbered, Says, DecodesOn}
+use Rattle.link_layouts.specs.Decoding.{n3, f1u_downlink, f1u_uplink, forwarding_down, forwarding_up, fresh, numbered, pdu, framed, poll, status, end_of_tunnel, IsSized, CarriesPdu, HasHeader, SaysNumbered, DecodesOn}
 use Rattle.link_layouts.proofs.Pdus.{length-radio_data, data_carried, report_carried, data_frame_read, length-data_frame}
 use Rattle.link_layouts.proofs.Shells.{plain_reads, pdu_with_reads, n3_downlink_reads, f1u_downlink_data_is}
 
@@ -186,13 +186,12 @@ length-status room lost delivered few =
       few,
     )
 
-pub delivery_status_decodes : (sn : SnBits) (teid : ℕ) (lost : List (ℕ × ℕ)) (delivered : Option ℕ) → teid < 2 ^ 32 → length lost ≤ 7
-    → Nru (Status desired_buffer_size lost delivered) (nru_octets (Status desired_buffer_size lost delivered))
+pub delivery_status_decodes : (sn : SnBits) (teid : ℕ) (lost : List (ℕ × ℕ)) (delivered : Option ℕ) → teid < 2 ^ 32 → FitsFrame (Status desired_buffer_size lost delivered)
     → DecodesOn f1u_uplink sn (status desired_buffer_size lost delivered) (delivery_status teid lost delivered)
 unfolding delivery_status
-delivery_status_decodes sn teid lost delivered fits few read =
+delivery_status_decodes sn teid lost delivered fits frame_fits =
     let frame = Status desired_buffer_size lost delivered in (
       pdu_with teid (frame_header frame) [],
-      frame_reads teid frame [] fits (length-status desired_buffer_size lost delivered few) (omega arith),
-      (nru_octets frame, has_header teid (frame_header frame) [] (frame_header_is frame), read, refl),
+      frame_reads teid frame [] fits (length-status desired_buffer_size lost delivered frame_fits.0) (omega arith),
+      (nru_octets frame, has_header teid (frame_header frame) [] (frame_header_is frame), frame_written frame frame_fits (omega arith), refl),
     )

@@ -6,7 +6,7 @@ use Rattle.gnb_base.specs.declared.names.SnBits.{SnBits}
 use Rattle.gnb_base.specs.declared.names.SnBits.TheVariants.{Len12, Len18}
 use Rattle.gtpu.specs.declared.Kind.{Kind}
 use Rattle.gtpu.specs.declared.Kind.TheVariants.{GPdu, EndMarker}
-use Rattle.gtpu.specs.Headers.{ExtensionHeader, AreHeaders}
+use Rattle.gtpu.specs.Headers.{AreHeaders}
 use Rattle.gtpu.specs.Packets.{GtpuPacket, Gtpu}
 use Rattle.nr_user_plane.specs.declared.frames.Frame.TheVariants.{Data, Status}
 use Rattle.nr_user_plane.specs.Frames.{Nru}

@@ -1,0 +1,9 @@
+//! The packets of the links as values: which octets decode on a link and what they say there, and what is written.
+#![tactic(auto)]
+
+mod layers;
+mod reading;
+
+pub use layers::read_radio;
+pub use reading::{F1uDownlink, F1uUplink, Forwarded, N3};
+pub use reading::{read_f1u_downlink, read_f1u_uplink, read_forwarding_down, read_forwarding_up, read_n3};
