@@ -26,7 +26,7 @@ use Rattle.scenario_text.specs.declared.event.TextReason.{TextReason}
 use Rattle.scenario_text.specs.declared.event.TextReason.TheVariants.{Word, Number, Hex, Name}
 use Rattle.std.specs.Prelude.{IfOk}
 use Rattle.scenario_text.specs.declared.read.TextError.{TextError}
-use Rattle.scenario_text.specs.Grammar.{GivesOrMemory, words, ◌is◌, Form, fixed, number, ue, bearer, node, hex, both, tunnel, Places, next_word, result_then, ◌>>=◌, ended, static_event, offer_event, get_event, air_event, places_of, event_of, header_of}
+use Rattle.scenario_text.specs.Grammar.{GivesOrMemory, words, ◌is◌, Form, fixed, number, ue, bearer, node, hex, both, tunnel, Places, next_word, result_then, ◌>>=◌, ended, static_event, offer_event, get_event, air_event, places_of, event_of, header_of, ue_of, bearer_of, number_of}
 use Rattle.scenario_text.specs.Print.{event_text, ◌then◌}
 use Rattle.scenario_text.specs.Texts.{IsWithin, IsUe, IsBearer, IsNode, IsPacket, InRange, IsTextOf}
 use Rattle.scenario_text.proofs.NumberLemmas.{own}
@@ -74,11 +74,11 @@ air_sound left e h =
     let b = step bearer (λ b. fixed (codes "dl") Word >>= (λ d. ended (events.Air u.value b))) u.rest e u.goes in
     let d = step (fixed (codes "dl") Word) (λ d. ended (events.Air u.value b.value)) b.rest e b.goes in
     let end = at_end (events.Air u.value b.value) e d.rest d.goes in
-    let us = ue_sound u.word u.value (ok_or_ok _ Name u.value u.means) in
-    let bs = bearer_sound b.word b.value (ok_or_ok _ Name b.value b.means) in
+    let us = ue_sound u.word u.value (ok_or_ok (ue_of u.word) Name u.value u.means) in
+    let bs = bearer_sound b.word b.value (ok_or_ok (bearer_of b.word) Name b.value b.means) in
     let dl = fixed_sound (codes "dl") Word d.word d.value d.means in
     let same : left ≡ ue_text u.value ∷ bearer_text b.value ∷ codes "dl" ∷ [] =
-    as_words u.stands us.0 (as_words b.stands bs.0 (as_words d.stands dl end.0)) in
+    as_words {rest = u.rest} {word = u.word} u.stands us.0 (as_words {rest = b.rest} {word = b.word} b.stands bs.0 (as_words {rest = d.rest} {word = d.word} d.stands dl end.0)) in
     let P : Event → Type 0 = λ x. IsTextOf (join_with_byte 32 (codes "air" ∷ left)) x in
     subst P end.1 (record { text = ap (λ ws. join_with_byte 32 (codes "air" ∷ ws)) same; range = (us.1, bs.1) })
 
@@ -94,15 +94,15 @@ static_sound left e h =
     let p6 = step (fixed (codes "1") Number) (λ c. number 4 4096 >>= last) p5.rest e p5.goes in
     let q = step (number 4 4096) last p6.rest e p6.goes in
     let end = at_end (events.Static q.value) e q.rest q.goes in
-    let qs = number_sound 4 4096 q.value q.word (omega arith) (ok_or_ok _ Number q.value q.means) in
+    let qs = number_sound 4 4096 q.value q.word (omega arith) (ok_or_ok (number_of 4 4096 q.word) Number q.value q.means) in
     let same : left ≡ codes "u1" ∷ codes "A" ∷ codes "1" ∷ codes "1" ∷ codes "12" ∷ codes "1" ∷ decimal q.value ∷ [] =
-    as_words p1.stands (fixed_sound (codes "u1") Name p1.word p1.value p1.means)
-    (as_words p2.stands (fixed_sound (codes "A") Name p2.word p2.value p2.means)
-    (as_words p3.stands (fixed_sound (codes "1") Number p3.word p3.value p3.means)
-    (as_words p4.stands (fixed_sound (codes "1") Number p4.word p4.value p4.means)
-    (as_words p5.stands (fixed_sound (codes "12") Number p5.word p5.value p5.means)
-    (as_words p6.stands (fixed_sound (codes "1") Number p6.word p6.value p6.means)
-    (as_words q.stands qs.0 end.0)))))) in
+    as_words {rest = p1.rest} {word = p1.word} p1.stands (fixed_sound (codes "u1") Name p1.word p1.value p1.means)
+    (as_words {rest = p2.rest} {word = p2.word} p2.stands (fixed_sound (codes "A") Name p2.word p2.value p2.means)
+    (as_words {rest = p3.rest} {word = p3.word} p3.stands (fixed_sound (codes "1") Number p3.word p3.value p3.means)
+    (as_words {rest = p4.rest} {word = p4.word} p4.stands (fixed_sound (codes "1") Number p4.word p4.value p4.means)
+    (as_words {rest = p5.rest} {word = p5.word} p5.stands (fixed_sound (codes "12") Number p5.word p5.value p5.means)
+    (as_words {rest = p6.rest} {word = p6.word} p6.stands (fixed_sound (codes "1") Number p6.word p6.value p6.means)
+    (as_words {rest = q.rest} {word = q.word} q.stands qs.0 end.0)))))) in
     let P : Event → Type 0 = λ x. IsTextOf (join_with_byte 32 (codes "static" ∷ left)) x in
     subst P end.1 (record { text = ap (λ ws. join_with_byte 32 (codes "static" ∷ ws)) same; range = qs.1 })
 
@@ -140,12 +140,12 @@ offer_sound left e h =
     let d = step (fixed (codes "dl") Word) (λ d. hex >>= (λ p. ended (events.Offer u.value b.value p))) b.rest e b.goes in
     let p = step hex (λ p. ended (events.Offer u.value b.value p)) d.rest e d.goes in
     let end = at_end (events.Offer u.value b.value p.value) e p.rest p.goes in
-    let us = ue_sound u.word u.value (ok_or_ok _ Name u.value u.means) in
-    let bs = bearer_sound b.word b.value (ok_or_ok _ Name b.value b.means) in
+    let us = ue_sound u.word u.value (ok_or_ok (ue_of u.word) Name u.value u.means) in
+    let bs = bearer_sound b.word b.value (ok_or_ok (bearer_of b.word) Name b.value b.means) in
     let dl = fixed_sound (codes "dl") Word d.word d.value d.means in
     let ps = hex_sound p.word p.value p.means in
     let same : left ≡ ue_text u.value ∷ bearer_text b.value ∷ codes "dl" ∷ p.word ∷ [] =
-    as_words u.stands us.0 (as_words b.stands bs.0 (as_words d.stands dl (as_words p.stands refl end.0))) in
+    as_words {rest = u.rest} {word = u.word} u.stands us.0 (as_words {rest = b.rest} {word = b.word} b.stands bs.0 (as_words {rest = d.rest} {word = d.word} d.stands dl (as_words {rest = p.rest} {word = p.word} p.stands refl end.0))) in
     let P : Event → Type 0 = λ x. IsTextOf (join_with_byte 32 (codes "offer" ∷ left)) x in
     subst P end.1 (record { text = (p.word, ps.0, ap (λ ws. join_with_byte 32 (codes "offer" ∷ ws)) same); range = (us.1, bs.1, ps.1) })
 
@@ -185,7 +185,7 @@ get_sound left e h =
     let t = step tunnel (λ t. ended (events.Get t.0 t.1)) left e h in
     let end = at_end (events.Get t.value.0 t.value.1) e t.rest t.goes in
     let ts = tunnel_sound t.word t.value t.means in
-    let same : left ≡ (node_text t.value.0 ++ codes "/" ++ decimal t.value.1) ∷ [] = as_words t.stands ts.0 end.0 in
+    let same : left ≡ (node_text t.value.0 ++ codes "/" ++ decimal t.value.1) ∷ [] = as_words {rest = t.rest} {word = t.word} t.stands ts.0 end.0 in
     let P : Event → Type 0 = λ x. IsTextOf (join_with_byte 32 (codes "get" ∷ left)) x in
     subst P end.1 (record { text = ap (λ ws. join_with_byte 32 (codes "get" ∷ ws)) same; range = (ts.1, ts.2) })
 
@@ -436,7 +436,7 @@ header_sound line h =
     let b = step (fixed (codes "builtin") Word) (λ b. ended tt) k.rest tt k.goes in
     let end = at_end tt tt b.rest b.goes in
     let same : words line ≡ codes "module" ∷ codes "builtin" ∷ [] =
-        as_words k.stands (fixed_sound (codes "module") Word k.word k.value k.means) (as_words b.stands (fixed_sound (codes "builtin") Word b.word b.value b.means) end.0) in
+    as_words {rest = k.rest} {word = k.word} k.stands (fixed_sound (codes "module") Word k.word k.value k.means) (as_words {rest = b.rest} {word = b.word} b.stands (fixed_sound (codes "builtin") Word b.word b.value b.means) end.0) in
     sym (join_with_byte-slice_split 32 line) ∙ ap (join_with_byte 32) same
 
 pub header_is_read : (line : List ℕ) → line ≡ codes "module builtin" → header_of line ≡ Ok tt
