@@ -78,9 +78,9 @@ one_numbered sn n m a b p x y =
 
 -- ---- one item
 
--- what frames say
-frame_of : (f g : Frame) (a b : List ℕ) (p : GtpuPacket) → HasHeader 0x84 a p → HasHeader 0x84 b p → Nru f a → Nru g b → f ≡ g
-frame_of f g a b p x y u v = one_frame a f g u (subst (λ (o : List ℕ). Nru g o) (sym (one_header_content 0x84 a b p x y)) v)
+-- the frames in one header are one
+pub one_frame_in : (f g : Frame) (a b : List ℕ) (p : GtpuPacket) → HasHeader 0x84 a p → HasHeader 0x84 b p → Nru f a → Nru g b → f ≡ g
+one_frame_in f g a b p x y u v = one_frame a f g u (subst (λ (o : List ℕ). Nru g o) (sym (one_header_content 0x84 a b p x y)) v)
 
 pub one_said : (link : Link) (sn : SnBits) (a b : Item) (p : GtpuPacket) → Says link sn a p → Says link sn b p → a ≡ b
 one_said n3 sn (fresh a) (fresh b) p x y = one_fresh a b p x y
@@ -88,22 +88,22 @@ one_said n3 sn (fresh a) end_of_tunnel p x y = absurd (not_both_kinds p x.0.kind
 one_said n3 sn end_of_tunnel (fresh b) p x y = absurd (not_both_kinds p y.0.kind_is x.0.kind_is)
 one_said n3 sn end_of_tunnel end_of_tunnel p x y = refl
 one_said f1u_downlink sn (framed r n c o) (framed s m d t) p x y =
-    let frames : Data false r n ≡ Data false s m = frame_of (Data false r n) (Data false s m) x.0 y.0 p x.1 y.1 x.2 y.2 in
+    let frames : Data false r n ≡ Data false s m = one_frame_in (Data false r n) (Data false s m) x.0 y.0 p x.1 y.1 x.2 y.2 in
     let rs : r ≡ s = cc in
     let ns : n ≡ m = cc in
     let octets : o ≡ t = sym x.3 ∙ y.3 in
     let contents : c ≡ d = one_carried sn o c d x.4 (subst (λ (w : List ℕ). CarriesPdu sn d w) (sym octets) y.4) in
     λ i. framed (rs i) (ns i) (contents i) (octets i)
 one_said f1u_downlink sn (framed r n c o) (poll s m) p x y =
-    let frames : Data false r n ≡ Data true s m = frame_of (Data false r n) (Data true s m) x.0 y.0 p x.1 y.1 x.2 y.2 in
+    let frames : Data false r n ≡ Data true s m = one_frame_in (Data false r n) (Data true s m) x.0 y.0 p x.1 y.1 x.2 y.2 in
     let same : false ≡ true = cc in
     absurd (true≢false (sym same))
 one_said f1u_downlink sn (poll r n) (framed s m d t) p x y =
-    let frames : Data true r n ≡ Data false s m = frame_of (Data true r n) (Data false s m) x.0 y.0 p x.1 y.1 x.2 y.2 in
+    let frames : Data true r n ≡ Data false s m = one_frame_in (Data true r n) (Data false s m) x.0 y.0 p x.1 y.1 x.2 y.2 in
     let same : true ≡ false = cc in
     absurd (true≢false same)
 one_said f1u_downlink sn (poll r n) (poll s m) p x y =
-    let frames : Data true r n ≡ Data true s m = frame_of (Data true r n) (Data true s m) x.0 y.0 p x.1 y.1 x.2 y.2 in
+    let frames : Data true r n ≡ Data true s m = one_frame_in (Data true r n) (Data true s m) x.0 y.0 p x.1 y.1 x.2 y.2 in
     let rs : r ≡ s = cc in
     let ns : n ≡ m = cc in
     λ i. poll (rs i) (ns i)
@@ -115,7 +115,7 @@ one_said f1u_uplink sn (pdu c o) (status r l d) p x y = absurd (bare_or_header 0
 one_said f1u_uplink sn (pdu c o) end_of_tunnel p x y = absurd (not_both_kinds p x.0.kind_is y.0.kind_is)
 one_said f1u_uplink sn (status r l d) (pdu e t) p x y = absurd (bare_or_header 0x84 x.0 p y.0 x.1)
 one_said f1u_uplink sn (status r l d) (status s m e) p x y =
-    let frames : Status r l d ≡ Status s m e = frame_of (Status r l d) (Status s m e) x.0 y.0 p x.1 y.1 x.2 y.2 in
+    let frames : Status r l d ≡ Status s m e = one_frame_in (Status r l d) (Status s m e) x.0 y.0 p x.1 y.1 x.2 y.2 in
     let rooms : r ≡ s = cc in
     let losts : l ≡ m = cc in
     let delivereds : d ≡ e = cc in

@@ -1,16 +1,19 @@
 //! What a packet of GTP-U may be on a link, each exactly.
 
-ghost use Rattle.std.specs.Prelude.{◌≡◌, ◌↔◌, ℕ, List, IsTrue, IfSome, IfNone, IsSomeAnd};
+ghost use Rattle.std.specs.Prelude.{◌≡◌, ◌↔◌, ℕ, Bool, List, [], Option, IsTrue, IfSome, IfNone, IsSomeAnd};
 ghost use Rattle.gtpu.specs.Headers.{IsChain};
 ghost use Rattle.gtpu.specs.Packets.{view};
+ghost use Rattle.gtpu.specs.declared.Kind.TheVariants.{GPdu};
 ghost use Rattle.nr_user_plane.specs.declared.frames.Frame.{Frame as FrameValue};
-ghost use Rattle.nr_user_plane.specs.Frames.{Nru};
+ghost use Rattle.nr_user_plane.specs.declared.frames.Frame.TheVariants.{Data, Status};
 ghost use Rattle.pdcp.specs.Pdus.{Content, content_of};
 ghost use Rattle.link_layouts.specs.Decoding.{IsSized, CarriesPdu, IsBare, HasHeader, SaysFresh, SaysNumbered, SaysEnd};
+ghost use Rattle.link_packets.specs.Parts.{HasFrame, HasNumber};
 
 use gnb_base::names::SnBits;
 use gtpu::{Kind, LONG_PDCP_PDU_NUMBER, NR_RAN_CONTAINER, PDCP_PDU_NUMBER, Packet};
 use nr_user_plane::frames::Frame;
+use nr_user_plane::ranges::Ranges;
 use pdcp::pdu::Pdu;
 
 /// Whether the packet is of this kind and has no optional field.
@@ -92,7 +95,7 @@ pub(crate) fn pdu_of<'a>(sn: SnBits, packet: &Packet<'a>) -> Option<Pdu<'a>>
 }
 
 /// The NR-U frame in a G-PDU with one NR RAN Container.
-pub(crate) fn frame_of(packet: &Packet) -> Option<Frame>
+fn frame_of(packet: &Packet) -> Option<Frame>
     requires { IsChain packet.now.first packet.now.chain.now }
     ensures found { IfSome result (λ frame. HasFrame frame (view packet.now)) }
     ensures none { IfNone result ((frame : FrameValue) → HasFrame frame (view packet.now) → ⊥) }
@@ -107,8 +110,14 @@ pub(crate) fn numbered_of<'a>(sn: SnBits, packet: &Packet<'a>) -> Option<(u32, &
     ensures found { IfSome result (λ x. SaysNumbered sn x.0 x.1.now (view packet.now)) }
     ensures none { IfNone result ((number : ℕ) (x : List ℕ) → SaysNumbered sn number x (view packet.now) → ⊥) }
 {
-    let number = number_of(sn, packet)?;
-    if is_sized(packet.payload) { Some((number, packet.payload)) } else { None }
+    let Some(number) = number_of(sn, packet) else {
+        return None;
+    };
+    if is_sized(packet.payload) {
+        Some((number, packet.payload))
+    } else {
+        None
+    }
 }
 
 /// The number in the one header of that number.
@@ -126,5 +135,41 @@ fn number_of(sn: SnBits, packet: &Packet) -> Option<u32>
             [high, middle, low, ..] => Some(u32::from_be_bytes([0, high & 0x03, *middle, *low])),
             _ => unreachable!(),
         },
+    }
+}
+
+/// The NR-U data frame of a packet: whether it polls, whether it restarts, and its number.
+pub(crate) fn data_of(packet: &Packet) -> Option<(bool, bool, u32)>
+    requires { IsChain packet.now.first packet.now.chain.now }
+    ensures found { IfSome result (λ x. HasFrame (Data x.0 x.1 x.2) (view packet.now)) }
+    ensures none { IfNone result ((poll restart : Bool) (number : ℕ) → HasFrame (Data poll restart number) (view packet.now) → ⊥) }
+{
+    match frame_of(packet) {
+        Some(Frame::Data { poll, restart, sn }) => Some((poll, restart, sn)),
+        Some(Frame::Status { .. }) => None,
+        None => None,
+    }
+}
+
+/// The delivery status of a packet without payload: the desired buffer size, the lost ranges and the delivered number.
+pub(crate) fn status_of(packet: &Packet) -> Option<(u32, Ranges, Option<u32>)>
+    requires { IsChain packet.now.first packet.now.chain.now }
+    ensures found { IfSome result (λ x. HasFrame (Status x.0 x.1 x.2) (view packet.now) × (packet.now.payload.now ≡ [])) }
+    ensures none { IfNone result ((room : ℕ) (lost : List (ℕ × ℕ)) (delivered : Option ℕ)
+        → HasFrame (Status room lost delivered) (view packet.now) → packet.now.payload.now ≡ [] → ⊥) }
+{
+    if !packet.payload.is_empty() {
+        return None;
+    }
+    match frame_of(packet) {
+        Some(
+            Frame::Status {
+                room,
+                lost,
+                delivered,
+            },
+        ) => Some((room, lost, delivered)),
+        Some(Frame::Data { .. }) => None,
+        None => None,
     }
 }

@@ -5,5 +5,7 @@ mod layers;
 mod reading;
 
 pub use layers::read_radio;
-pub use reading::{F1uDownlink, F1uUplink, Forwarded, N3};
-pub use reading::{read_f1u_downlink, read_f1u_uplink, read_forwarding_down, read_forwarding_up, read_n3};
+pub use reading::{
+    F1uDownlink, F1uUplink, Forwarded, N3, read_f1u_downlink, read_f1u_uplink,
+    read_forwarding_down, read_forwarding_up, read_n3,
+};

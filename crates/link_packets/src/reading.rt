@@ -7,10 +7,9 @@ ghost use Rattle.gtpu.specs.Packets.{view};
 ghost use Rattle.link_layouts.specs.Decoding.{Item, n3, f1u_downlink, f1u_uplink, forwarding_down, forwarding_up, Says, DecodesOn};
 ghost use Rattle.link_packets.specs.Items.{n3_item, downlink_item, uplink_item, forwarded_item};
 
-use crate::layers::{fresh_of, frame_of, is_end, numbered_of, pdu_of, read_radio};
+use crate::layers::{data_of, fresh_of, is_end, numbered_of, pdu_of, read_radio, status_of};
 use gnb_base::names::SnBits;
 use gtpu::Packet;
-use nr_user_plane::frames::Frame;
 use nr_user_plane::ranges::Ranges;
 use pdcp::pdu::Pdu;
 
@@ -31,14 +30,20 @@ pub enum F1uDownlink<'a> {
         content: Pdu<'a>,
         octets: &'a [u8],
     },
-    Poll { restart: bool, number: u32 },
+    Poll {
+        restart: bool,
+        number: u32,
+    },
 }
 
 /// A packet of F1-U uplink.
 #[derive(Debug, Drop, PartialEq, Eq)]
 pub enum F1uUplink<'a> {
     /// A PDCP PDU and its octets.
-    Pdu { content: Pdu<'a>, octets: &'a [u8] },
+    Pdu {
+        content: Pdu<'a>,
+        octets: &'a [u8],
+    },
     /// A delivery status: the desired buffer size, the lost NR-U numbers, and the delivered PDCP number.
     Status {
         room: u32,
@@ -98,11 +103,15 @@ fn f1u_downlink_of<'a>(sn: SnBits, packet: &Packet<'a>) -> Option<F1uDownlink<'a
     ensures found { IfSome result (λ x. Says f1u_downlink sn (downlink_item x) (view packet.now)) }
     ensures none { (item : Item) → IfNone result (Says f1u_downlink sn item (view packet.now) → ⊥) }
 {
-    let Some(Frame::Data { poll, restart, sn: number }) = frame_of(packet) else {
+    let Some((poll, restart, number)) = data_of(packet) else {
         return None;
     };
     if poll {
-        return if packet.payload.is_empty() { Some(F1uDownlink::Poll { restart, number }) } else { None };
+        return if packet.payload.is_empty() {
+            Some(F1uDownlink::Poll { restart, number })
+        } else {
+            None
+        };
     }
     let content = read_radio(sn, packet.payload)?;
     Some(F1uDownlink::Pdu {
@@ -133,11 +142,18 @@ fn f1u_uplink_of<'a>(sn: SnBits, packet: &Packet<'a>) -> Option<F1uUplink<'a>>
         return Some(F1uUplink::End);
     }
     if let Some(content) = pdu_of(sn, packet) {
-        return Some(F1uUplink::Pdu { content, octets: packet.payload });
+        return Some(F1uUplink::Pdu {
+            content,
+            octets: packet.payload,
+        });
     }
-    match frame_of(packet) {
-        Some(Frame::Status { room, lost, delivered }) if packet.payload.is_empty() => Some(F1uUplink::Status { room, lost, delivered }),
-        _ => None,
+    match status_of(packet) {
+        Some((room, lost, delivered)) => Some(F1uUplink::Status {
+            room,
+            lost,
+            delivered,
+        }),
+        None => None,
     }
 }
 
@@ -183,7 +199,10 @@ fn forwarding_up_of<'a>(sn: SnBits, packet: &Packet<'a>) -> Option<Forwarded<'a>
         return Some(Forwarded::End);
     }
     match numbered_of(sn, packet) {
-        Some((number, payload)) => Some(Forwarded::Numbered { number, packet: payload }),
+        Some((number, payload)) => Some(Forwarded::Numbered {
+            number,
+            packet: payload,
+        }),
         None => None,
     }
 }
