@@ -1,0 +1,18 @@
+use Rattle.gnb_base.specs.declared.names.SnBits.TheVariants.{Len12}
+use Rattle.static_runner.proofs.Octets.{n3_read, fresh_sized}
+use Rattle.static_runner.proofs.cu_up.n3_packet.Goals as goal
+
+pub returns-in-Some-Packet-clause-sized : goal.returns-in-Some-Packet-clause-sized
+returns-in-Some-Packet-clause-sized c = fresh_sized c.in-Some-Packet.field-0 c.args.bytes.now c.in-Some-Packet.packet c.in-Some-Packet.field-0-is (c.in-Some-Packet.ensures.found Len12)
+
+pub returns-in-Some-Packet-clause-read : goal.returns-in-Some-Packet-clause-read
+returns-in-Some-Packet-clause-read c = λ teid packet small sized e.
+    let read = n3_read _ teid packet _ small sized e (c.read_n3.ensures.only Len12 _) in Prim.cc (read.is, read.packet_is)
+
+pub returns-in-Some-End-clause-read : goal.returns-in-Some-End-clause-read
+returns-in-Some-End-clause-read c = λ teid packet small sized e.
+    let read = n3_read _ teid packet _ small sized e (c.read_n3.ensures.only Len12 _) in Prim.cc (read.is)
+
+pub returns-in-None-clause-read : goal.returns-in-None-clause-read
+returns-in-None-clause-read c = λ teid packet small sized e.
+    let read = n3_read _ teid packet _ small sized e (c.read_n3.ensures.only Len12 _) in Prim.cc (read.is)

@@ -1,0 +1,5 @@
+pub mod Sender
+pub mod Header
+pub mod Units
+pub mod Delivers
+pub mod Shows

@@ -1,0 +1,15 @@
+-- What the units of the static bearer do.
+use Rattle.std.specs.Prelude.{◌≡◌, ◌+◌, ℕ, true, false, List, [], ◌∷◌, ◌++◌}
+use Rattle.link_layouts.specs.Links.{f1u_downlink_data}
+use Rattle.run_model.specs.Run.{static_bits}
+use Rattle.static_runner.specs.declared.cu_up.FromN3.{FromN3}
+use Rattle.static_runner.specs.declared.cu_up.FromN3.TheVariants.{Ignored, Waits, Numbered}
+use Rattle.static_runner.specs.Sender.{Sender, has_room}
+
+-- A packet of N3 waits, or gets the next COUNT and goes to the DU in the next frame.
+abbrev pub TakesPacket : Sender → Sender → ℕ → List ℕ → FromN3 → Type 0
+TakesPacket old new downlink packet Ignored = ⊥
+TakesPacket old new downlink packet Waits = (has_room old ≡ false) × (new ≡ record old { waiting = old.waiting ++ packet ∷ [] })
+TakesPacket old new downlink packet (Numbered count bytes) =
+    (has_room old ≡ true) × (count ≡ old.next) × (bytes ≡ f1u_downlink_data static_bits downlink old.frames old.next packet)
+    × (new ≡ record old { next = old.next + 1; frames = old.frames + 1; unconfirmed = old.unconfirmed ++ packet ∷ [] })
