@@ -92,6 +92,7 @@ pub fn decode(content: &[u8]) -> Result<Frame, FrameError>
     read_frame(content)
 }
 
+/// Reads a frame by the places of its fields.
 fn read_frame(content: &[u8]) -> Result<Frame, FrameError>
     ensures { Answers content.now result }
 {
