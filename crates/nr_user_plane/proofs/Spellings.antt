@@ -1,5 +1,5 @@
 -- The octets of a frame are those that are written for it, up to padding, and what is written is the frame.
-use Rattle.std.proofs.Common.{◌≡◌, ℕ, ◌+◌, ◌-◌, ◌*◌, ◌/◌, ◌%◌, ◌^◌, ◌<◌, ◌≤◌, Option, Some, None, is_some, IfSome, List, [], ◌∷◌, ◌++◌, length, replicate, refl, sym, ◌∙◌, ap, arith, append_assoc, length-append, subst, lit≤}
+use Rattle.std.proofs.Common.{◌≡◌, ℕ, ◌+◌, ◌-◌, ◌*◌, ◌/◌, ◌%◌, ◌^◌, ◌<◌, ◌≤◌, Option, Some, None, is_some, IfSome, Bool, List, [], ◌∷◌, ◌++◌, length, replicate, refl, sym, ◌∙◌, ap, arith, append_assoc, length-append, subst, lit≤}
 use Rattle.std.specs.List.{flat_map}
 use Rattle.std.proofs.lemmas.List.{length-replicate}
 use Rattle.nr_user_plane.specs.declared.frames.Frame.{Frame}
@@ -166,3 +166,20 @@ length-nru_octets frame =
     let len = length-append (field_octets frame) (replicate zeros 0) in
     let len' = length-replicate {A = ℕ} zeros 0 in
     omega (arith, len, len')
+
+-- the frames that the units write, octet by octet
+pub nru_octets-data : (poll restart : Bool) (sn : ℕ) → nru_octets (Data poll restart sn) ≡ flag poll ∷ flag restart ∷ be24 sn ++ 0 ∷ []
+unfolding filled
+nru_octets-data poll restart sn = refl
+
+pub nru_octets-delivered : (room number : ℕ) → nru_octets (Status room [] (Some number)) ≡ 20 ∷ 0 ∷ be32 room ++ be24 number ++ 0 ∷ []
+unfolding filled
+nru_octets-delivered room number = refl
+
+pub nru_octets-nothing : (room : ℕ) → nru_octets (Status room [] None) ≡ 16 ∷ 0 ∷ be32 room
+unfolding filled
+nru_octets-nothing room = refl
+
+pub nru_octets-lost : (room start end : ℕ) → nru_octets (Status room ((start, end) ∷ []) None) ≡ 17 ∷ 0 ∷ be32 room ++ 1 ∷ be24 start ++ be24 end ++ 0 ∷ []
+unfolding filled
+nru_octets-lost room start end = refl

@@ -12,7 +12,7 @@ use std::alloc::Global;
 use thiserror::Error;
 
 /// A frame: the content of one NR RAN Container.
-#[derive(Debug, Drop, PartialEq, Eq)]
+#[derive(Clone, Debug, Drop, PartialEq, Eq)]
 pub enum Frame {
     /// Downlink user data: whether a status is asked for, whether the numbers begin anew here, and the NR-U number.
     Data {
@@ -42,9 +42,10 @@ pub enum FrameError {
     Ranges,
 }
 
-/// Set in the first octet of a status that has lost ranges, and of one that has a delivered number.
+/// Set in the first octet of a status that tells lost ranges.
 const LOST: u8 = 0x01;
 
+/// Set in the first octet of a status that tells a delivered number.
 const DELIVERED: u8 = 0x04;
 
 /// The spare bits of the first octet of a status.
@@ -91,6 +92,7 @@ pub fn decode(content: &[u8]) -> Result<Frame, FrameError>
     read_frame(content)
 }
 
+/// Reads a frame by the places of its fields.
 fn read_frame(content: &[u8]) -> Result<Frame, FrameError>
     ensures { Answers content.now result }
 {

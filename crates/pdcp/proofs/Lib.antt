@@ -1,3 +1,4 @@
 pub mod Bitmaps
-pub mod PduLaws
 pub mod Bits
+pub mod NearLaws
+pub mod PduLaws

@@ -1,9 +1,10 @@
--- What has no reason to be refused is a PDU.
-use Rattle.std.proofs.Common.{◌≡◌, ℕ, ◌+◌, ◌*◌, ◌%◌, ◌<◌, ◌≤◌, List, [], ◌∷◌, refl, arith, None, inl, inr}
+-- What has no reason to be refused is a PDU, and what is written is one.
+use Rattle.std.proofs.Common.{◌≡◌, ℕ, ◌+◌, ◌-◌, ◌*◌, ◌%◌, ◌^◌, ◌<◌, ◌≤◌, Bool, true, List, [], ◌∷◌, length, refl, arith, None, inl, inr, lit<}
 use Rattle.std.proofs.lemmas.Bool.{cases_lt}
 use Rattle.gnb_base.specs.declared.names.SnBits.{SnBits}
 use Rattle.gnb_base.specs.declared.names.SnBits.TheVariants.{Len12, Len18}
-use Rattle.pdcp.specs.Pdus.{Content, data_pdu, status_report, Pdcp, refusals, first_reason}
+use Rattle.pdcp.specs.Pdus.{Content, data_pdu, status_report, Pdcp, refusals, first_reason, radio_data, report_octets, bitmap, fewest}
+use Rattle.pdcp.specs.Numbers.{space}
 
 abbrev pub IsPdu : SnBits → List ℕ → Type 0
 IsPdu sn octets = (content : Content) × Pdcp sn content octets
@@ -39,3 +40,25 @@ pub pdu_without_reason : (sn : SnBits) (octets : List ℕ) → first_reason (ref
 pdu_without_reason Len12 [] h = absurd (grind (arith, h))
 pdu_without_reason Len18 [] h = absurd (grind (arith, h))
 pdu_without_reason sn (first ∷ octets) h = elim (cases_lt first 128) [ inl low ↦ control sn first octets low h | inr high ↦ data_of sn first octets high h ]
+
+-- what is written is read again
+pub data_written : (sn : SnBits) (count : ℕ) (packet : List ℕ) → 0 < length packet → Pdcp sn (data_pdu (count % space sn) packet) (radio_data sn count packet)
+unfolding radio_data
+data_written Len12 count [] some = absurd (omega arith)
+data_written Len12 count (octet ∷ packet) some = (omega arith, omega arith, refl)
+data_written Len18 count [] some = absurd (omega arith)
+data_written Len18 count (octet ∷ packet) some = (omega arith, omega arith, refl)
+
+pub report_written : (sn : SnBits) (fmc : ℕ) (bits : List Bool) → fmc < 2 ^ 32 → Pdcp sn (status_report fmc (bitmap bits)) (report_octets fmc bits)
+report_written Len12 fmc bits small = (lit< tt, omega arith, refl)
+report_written Len18 fmc bits small = (lit< tt, omega arith, refl)
+
+-- how long a written data PDU is
+pub length-radio_data : (sn : SnBits) (count : ℕ) (packet : List ℕ) → length (radio_data sn count packet) ≡ fewest sn true - 1 + length packet
+unfolding radio_data
+length-radio_data Len12 count packet = omega arith
+length-radio_data Len18 count packet = omega arith
+
+-- octets say one thing
+pub content_is : (sn : SnBits) (octets : List ℕ) (content other : Content) → Pdcp sn content octets → Pdcp sn other octets → content ≡ other
+content_is sn octets content other h k = grind arith

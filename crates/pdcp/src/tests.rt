@@ -108,7 +108,12 @@ fn status_reports(rt: HostRuntime) -> Result<(), Fail> {
             bits: bitmap.as_slice(),
         };
         assert_eq!(rt; read_pdu(SnBits::Len12, &pdu), Ok(read));
+        let mut pushed = Bits::new(rt.alloc());
+        for bit in *bits {
+            pushed.push(*bit)?;
+        }
         let bits = Bits::from_slice(rt.alloc(), bits)?;
+        assert!(rt; pushed == bits);
         let written = write_report(rt.alloc(), *fmc, &bits)?;
         assert_eq!(rt; written.as_slice(), pdu.as_slice());
     }
