@@ -4,4 +4,6 @@
 pub mod laws;
 pub mod low;
 pub mod reader;
+#[cfg(test)]
+mod tests;
 pub mod writer;

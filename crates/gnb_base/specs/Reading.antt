@@ -94,7 +94,7 @@ Answers old new left taken before after (Ok (Some line)) = HandsOut old new left
 Answers old new left taken before after (Ok None) = IsDone old new left taken
 Answers old new left taken before after (Err errors.ReadFault) = IsFault old new taken before after
 Answers old new left taken before after (Err errors.TooLong) = IsTooLong old new taken
-Answers old new left taken before after (Err errors.Memory) = new.phase ≡ Failed
+Answers old new left taken before after (Err errors.Memory) = (new.phase ≡ Failed) × (new.taken ≤ input_limit + 1)
 
 -- a call of `next`: the bytes that it took from the source, and what it answered
 pub record NextMeets (old new : Reading) (left0 left1 : Option (List ℕ)) (before after : ℕ) (result : Result (Option Line) ReadError) : Type 0 where
