@@ -1,3 +1,4 @@
+pub mod Handing
 mod HexLemmas
 mod LineLemmas
 mod LineReaderLemmas
