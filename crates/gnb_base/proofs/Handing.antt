@@ -8,7 +8,7 @@ use Rattle.gnb_base.specs.declared.lines.ReadPhase.TheVariants.{Going, Ended, To
 use Rattle.gnb_base.specs.declared.lines.ReadError.{ReadError}
 use Rattle.gnb_base.specs.declared.lines.ReadError.TheVariants as errors
 use Rattle.gnb_base.specs.Lines.{line_feed, lines_of, HasNoLf}
-use Rattle.gnb_base.specs.Reading.{Reading, fresh, EndsInLf, EndsInput, NextMeets}
+use Rattle.gnb_base.specs.Reading.{Reading, IsUntouched, fresh, EndsInLf, EndsInput, NextMeets}
 use Rattle.gnb_base.specs.Handing.{Call, line_in, texts, lines_handed_out, Run, HandedOut}
 use Rattle.gnb_base.proofs.LinesOf.{lines_of-line, lines_of-last}
 
@@ -104,6 +104,16 @@ module _ (old new : Reading) (left0 left1 : Option (List ℕ)) (before after : �
       subst (HandedOut new (taken ++ m.taken)) (sym (append-nil lines)) (stopped m.taken TooLong m.answers.phase (λ (e : TooLong ≡ Going). (cc)) (λ (e : TooLong ≡ Ended). (cc)) m.counts)
   handed_call (Err errors.Memory) m =
       subst (HandedOut new (taken ++ m.taken)) (sym (append-nil lines)) (stopped m.taken Failed m.answers.0 (λ (e : Failed ≡ Going). (cc)) (λ (e : Failed ≡ Ended). (cc)) m.counts)
+
+-- nothing is left of the source at the end, where an earlier end was of the same source
+pub done_at_end : (old new : Reading) (left0 left1 : Option (List ℕ)) (before after : ℕ) (m : NextMeets old new left0 left1 before after (Ok None))
+    → (old.phase ≡ Ended → IsAtEnd left0) → IsAtEnd left1
+done_at_end old new left0 left1 before after m earlier = by m.answers.seen m.stays
+  where
+    by : ((old.phase ≡ Going) × IsAtEnd left1) ⊎ (old.phase ≡ Ended) → (old.phase ≡ Going) ⊎ IsUntouched old new left0 left1 before after → IsAtEnd left1
+    by (inl (going, end)) s = end
+    by (inr ended) (inl going) = not_both old _ ended going
+    by (inr ended) (inr same) = subst IsAtEnd (sym same.source) (earlier ended)
 
 -- all calls
 pub handed_run : (old new : Reading) (calls : List Call) (taken first : List ℕ) (lines : List (List ℕ)) → HandedOut old first lines → Run old calls taken new
