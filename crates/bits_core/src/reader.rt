@@ -1,6 +1,6 @@
 //! Bits out of octets.
 
-ghost use Rattle.std.specs.Prelude.{◌≡◌, ℕ, ◌<◌, ◌≤◌, ◌^◌, length, take};
+ghost use Rattle.std.specs.Prelude.{◌≡◌, ◌<◌, ◌≤◌, ◌^◌, length, take};
 ghost use Rattle.bits_core.specs.Bits.{number_of};
 
 use crate::low::low_bits;

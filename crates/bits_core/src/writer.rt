@@ -10,6 +10,9 @@ use std::alloc::Global;
 use std::marker::Model;
 
 /// Puts bits one after another into octets, the highest bit of each first.
+///
+/// Behind the whole `octets` stands a begun one, whose first `used` bits are the number `last`. The room for it is made
+/// before it begins, so that `finish` takes no memory.
 #[derive(Drop)]
 pub struct BitWriter {
     octets: Vec<u8>,

@@ -112,7 +112,8 @@ pub record NextMeets (old new : Reading) (left0 left1 : Option (List ℕ)) (befo
   -- from the end, from a byte too many and from want of memory on, no call reads
   pub stays : (old.phase ≡ Going) ⊎ IsUntouched old new left0 left1 before after
 
--- a read of so many bytes into the front of a piece: what it took, at whose end it came to, or nothing
+-- A read of so many bytes into the front of a piece: it took the front that it filled, and filled none only at the end.
+-- Where it failed, it took nothing.
 abbrev pub FillsFront : {E : Type 0} → Option (List ℕ) → Option (List ℕ) → ℕ → Result ℕ E → List ℕ → Type 0
 FillsFront left0 left1 wanted (Ok count) piece = Consumes left0 left1 (take count piece) × (count ≡ 0 → 0 < wanted → IsAtEnd left1)
 FillsFront left0 left1 wanted (Err e) piece = Keeps left0 left1

@@ -1,7 +1,6 @@
 //! Lines of an input that comes in pieces.
 
-ghost use Rattle.std.specs.Prelude.{◌≡◌, ◌<◌, ◌≤◌, ◌+◌, ◌⊎◌, ℕ, List, [], length, take, MatchOption, OnErr, IfOk, vec_len};
-ghost use Rattle.std.specs.Io.KnownBytes.{Consumes, IsAtEnd, Keeps, ReadConsumes};
+ghost use Rattle.std.specs.Prelude.{◌≡◌, ◌<◌, ◌≤◌, ◌+◌, ℕ, List, length, MatchOption, IfOk};
 ghost use Rattle.gnb_base.specs.Causes.{HasCause};
 ghost use Rattle.gnb_base.specs.Handing.{Call, Run, HandedOut, texts, lines_handed_out};
 ghost use Rattle.gnb_base.specs.Lines.{lines_of, AreLines, HasNoLf, IsFirstLf};
@@ -49,6 +48,9 @@ pub enum ReadPhase {
 }
 
 /// Hands out the lines of an input one by one, and reads no further than it has to.
+///
+/// It keeps the bytes of `begun`, a line whose LF hasn't come yet, and behind them those of `piece`, the last read,
+/// from `start` to `stop`. So each byte is looked at once, however the input comes.
 #[derive(Drop)]
 pub struct LineReader {
     alloc: Global,
