@@ -1,4 +1,6 @@
 pub mod HexLemmas
+pub mod Handing
+mod HexLemmas
 mod LineLemmas
 mod LineReaderLemmas
 pub mod LinesOf

@@ -1,5 +1,5 @@
 -- What a source in memory gives.
-use Rattle.std.proofs.Common.{◌≡◌, ℕ, ◌+◌, ◌-◌, ◌<◌, ◌≤◌, min, List, [], ◌∷◌, ◌++◌, length, take, drop, refl, sym, ap, ◌∙◌, subst, arith, take-append-drop}
+use Rattle.std.proofs.Common.{◌≡◌, ℕ, ◌+◌, ◌-◌, ◌<◌, min, List, [], ◌++◌, length, take, drop, sym, ap, ◌∙◌, arith, take-append-drop}
 use Rattle.std.proofs.lemmas.List.{length-append, length-take, length-drop, drop-drop, drop_all, take_at, take_rest}
 
 pub gave : (bytes all copied rest : List ℕ) (given count piece room : ℕ) → bytes ≡ drop given all → copied ≡ take count (drop given all)

@@ -1,5 +1,5 @@
 -- A call of `next`, at each of its exits, and over several reads.
-use Rattle.std.proofs.Common.{◌≡◌, ◌≢◌, inl, inr, ℕ, ◌+◌, ◌<◌, Bool, true, false, List, [], ◌∷◌, ◌++◌, length, Option, Some, None, Result, Ok, Err, refl, sym, ap, ◌∙◌, subst, arith, append-nil}
+use Rattle.std.proofs.Common.{◌≡◌, ◌≢◌, inl, inr, ℕ, ◌+◌, ◌≤◌, ◌<◌, Bool, true, false, List, [], ◌∷◌, ◌++◌, length, Option, Some, None, Result, Ok, Err, refl, sym, ap, ◌∙◌, subst, arith, append-nil}
 use Rattle.std.proofs.lemmas.List.{length-append}
 use Rattle.std.proofs.KnownBytes.{Consumes-nil}
 use Rattle.gnb_base.specs.declared.lines.Line.{Line}
@@ -8,7 +8,7 @@ use Rattle.gnb_base.specs.declared.lines.ReadPhase.TheVariants.{Going, Failed}
 use Rattle.gnb_base.specs.declared.lines.ReadError.{ReadError}
 use Rattle.gnb_base.specs.declared.lines.ReadError.TheVariants as errors
 use Rattle.gnb_base.specs.Lines.{line_feed, HasNoLf}
-use Rattle.gnb_base.specs.Reading.{Reading, NextMeets}
+use Rattle.gnb_base.specs.Reading.{Reading, input_limit, NextMeets}
 use Rattle.gnb_base.specs.LineReader.{TakesOff, TakesLine, TakesLast, ReadsMore, GoesOn, PhaseFits}
 
 no_bytes : (xs piece : List ℕ) → piece ≡ [] → xs ++ piece ≡ xs
@@ -40,10 +40,10 @@ kept_line_meets old new left count line going t =
       stays = inl going;
     }
 
-pub no_memory_meets : (old new : Reading) (left : Option (List ℕ)) (count : ℕ) → old.phase ≡ Going → new.phase ≡ Failed → new.taken ≡ old.taken
+pub no_memory_meets : (old new : Reading) (left : Option (List ℕ)) (count : ℕ) → old.phase ≡ Going → new.phase ≡ Failed → new.taken ≡ old.taken → new.taken ≤ input_limit
     → NextMeets old new left left count count (Err errors.Memory)
-no_memory_meets old new left count going failed same =
-    record { taken = []; consumes = Consumes-nil left; counts = omega (arith, same); later = omega arith; answers = failed; stays = inl going }
+no_memory_meets old new left count going failed same within =
+    record { taken = []; consumes = Consumes-nil left; counts = omega (arith, same); later = omega arith; answers = (failed, omega (arith, within)); stays = inl going }
 
 -- bytes came
 pub goes_on : (old new : Reading) (left0 left1 : Option (List ℕ)) (before after : ℕ) → HasNoLf old.kept
@@ -110,9 +110,9 @@ last_meets old mid new left0 left1 before after None going without_lf r t =
     }
 
 pub no_memory_last : (old mid new : Reading) (left0 left1 : Option (List ℕ)) (before after : ℕ) → old.phase ≡ Going
-    → ReadsMore old mid left0 left1 before after (Ok false) → new.phase ≡ Failed → new.taken ≡ mid.taken → NextMeets old new left0 left1 before after (Err errors.Memory)
-no_memory_last old mid new left0 left1 before after going r failed same =
-    record { taken = r.piece; consumes = r.consumes; counts = same ∙ r.taken; later = r.later; answers = failed; stays = inl going }
+    → ReadsMore old mid left0 left1 before after (Ok false) → new.phase ≡ Failed → new.taken ≡ mid.taken → new.taken ≤ input_limit → NextMeets old new left0 left1 before after (Err errors.Memory)
+no_memory_last old mid new left0 left1 before after going r failed same within =
+    record { taken = r.piece; consumes = r.consumes; counts = same ∙ r.taken; later = r.later; answers = (failed, omega (arith, within)); stays = inl going }
 
 -- a list of one byte
 one_byte : (xs : List ℕ) → length xs ≡ 1 → (b : ℕ) × (xs ≡ b ∷ [])
@@ -156,7 +156,7 @@ refused_meets old new left0 left1 before after errors.TooLong going without_lf r
       stays = inl going;
     }
 refused_meets old new left0 left1 before after errors.Memory going without_lf r =
-    record { taken = r.piece; consumes = r.consumes; counts = r.taken; later = r.later; answers = r.reads.1; stays = inl going }
+    record { taken = r.piece; consumes = r.consumes; counts = r.taken; later = r.later; answers = (r.reads.1, subst (λ (p : ReadPhase). PhaseFits p new) r.reads.1 r.fits); stays = inl going }
 
 -- what looking for a kept line answered
 pub found_line : (old new : Reading) (found : Option Line) (line : Line) → found ≡ Some line → TakesLine old new (Ok found) → TakesOff old new line

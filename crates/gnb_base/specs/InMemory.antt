@@ -1,5 +1,5 @@
 -- A source or a sink in memory.
-use Rattle.std.specs.Prelude.{◌≡◌, ◌+◌, ◌-◌, ◌^◌, ◌<◌, ◌≤◌, min, ℕ, List, ◌++◌, drop, length, Result, Ok, Err, Contains}
+use Rattle.std.specs.Prelude.{◌+◌, ◌-◌, ◌^◌, min, ℕ, List, drop}
 use Rattle.gnb_base.specs.declared.memory.MemorySource.TheInside.{Inside as SourceInside}
 use Rattle.gnb_base.specs.declared.memory.MemorySink.TheInside.{Inside as SinkInside}
 

@@ -46,7 +46,7 @@ pub record TakesOff (old new : Reading) (line : Line) : Type 0 where
 abbrev pub TakesLine : Reading → Reading → Result (Option Line) Memory → Type 0
 TakesLine old new (Ok (Some line)) = TakesOff old new line
 TakesLine old new (Ok None) = HasNoLf old.kept × (new ≡ old)
-TakesLine old new (Err e) = (new.phase ≡ Failed) × (new.taken ≡ old.taken)
+TakesLine old new (Err e) = (new.phase ≡ Failed) × (new.taken ≡ old.taken) × (new.taken ≤ input_limit)
 
 -- The last line is taken, or none is left.
 pub record TakesRest (old new : Reading) (line : Line) : Type 0 where
@@ -71,7 +71,7 @@ pub record TakesNone (old new : Reading) : Type 0 where
 abbrev pub TakesLast : Reading → Reading → Result (Option Line) Memory → Type 0
 TakesLast old new (Ok (Some line)) = TakesRest old new line
 TakesLast old new (Ok None) = TakesNone old new
-TakesLast old new (Err e) = (new.phase ≡ Failed) × (new.taken ≡ old.taken)
+TakesLast old new (Err e) = (new.phase ≡ Failed) × (new.taken ≡ old.taken) × (new.taken ≤ input_limit)
 
 -- how one read went: whether bytes came, or why none did
 abbrev pub Reads : Reading → Option (List ℕ) → ℕ → ℕ → List ℕ → Result Bool ReadError → Type 0

@@ -94,7 +94,13 @@ Answers old new left taken before after (Ok (Some line)) = HandsOut old new left
 Answers old new left taken before after (Ok None) = IsDone old new left taken
 Answers old new left taken before after (Err errors.ReadFault) = IsFault old new taken before after
 Answers old new left taken before after (Err errors.TooLong) = IsTooLong old new taken
-Answers old new left taken before after (Err errors.Memory) = new.phase ≡ Failed
+Answers old new left taken before after (Err errors.Memory) = (new.phase ≡ Failed) × (new.taken ≤ input_limit + 1)
+
+-- Neither the reader nor the source was touched.
+pub record IsUntouched (old new : Reading) (left0 left1 : Option (List ℕ)) (before after : ℕ) : Type 0 where
+  pub reader : new ≡ old
+  pub source : left1 ≡ left0
+  pub faults : after ≡ before
 
 -- a call of `next`: the bytes that it took from the source, and what it answered
 pub record NextMeets (old new : Reading) (left0 left1 : Option (List ℕ)) (before after : ℕ) (result : Result (Option Line) ReadError) : Type 0 where
@@ -103,10 +109,11 @@ pub record NextMeets (old new : Reading) (left0 left1 : Option (List ℕ)) (befo
   pub counts : new.taken ≡ old.taken + length taken
   pub later : before ≤ after
   pub answers : Answers old new left1 taken before after result
-  -- from the end, from a byte too many and from want of memory on it stays as it is
-  pub stays : (old.phase ≡ Going) ⊎ (new ≡ old)
+  -- from the end, from a byte too many and from want of memory on, no call reads
+  pub stays : (old.phase ≡ Going) ⊎ IsUntouched old new left0 left1 before after
 
--- a read of so many bytes into the front of a piece: what it took, at whose end it came to, or nothing
+-- A read of so many bytes into the front of a piece: it took the front that it filled, and filled none only at the end.
+-- Where it failed, it took nothing.
 abbrev pub FillsFront : {E : Type 0} → Option (List ℕ) → Option (List ℕ) → ℕ → Result ℕ E → List ℕ → Type 0
 FillsFront left0 left1 wanted (Ok count) piece = Consumes left0 left1 (take count piece) × (count ≡ 0 → 0 < wanted → IsAtEnd left1)
 FillsFront left0 left1 wanted (Err e) piece = Keeps left0 left1

@@ -1,10 +1,10 @@
 //! Lines of an input that comes in pieces.
 
-ghost use Rattle.std.specs.Prelude.{◌≡◌, ◌<◌, ◌≤◌, ◌+◌, ◌⊎◌, ℕ, List, [], length, take, MatchOption, OnErr, IfOk, vec_len};
-ghost use Rattle.std.specs.Io.KnownBytes.{Consumes, IsAtEnd, Keeps, ReadConsumes};
+ghost use Rattle.std.specs.Prelude.{◌≡◌, ◌<◌, ◌≤◌, ◌+◌, ℕ, List, length, MatchOption, IfOk};
 ghost use Rattle.gnb_base.specs.Causes.{HasCause};
+ghost use Rattle.gnb_base.specs.Handing.{Call, Run, HandedOut, texts, lines_handed_out};
 ghost use Rattle.gnb_base.specs.Lines.{lines_of, AreLines, HasNoLf, IsFirstLf};
-ghost use Rattle.gnb_base.specs.Reading.{fresh, NextMeets, FillsFront, input_limit, piece_size};
+ghost use Rattle.gnb_base.specs.Reading.{Reading, fresh, NextMeets, FillsFront, input_limit, piece_size};
 
 use crate::octets::{Memory, Octets};
 use crate::outside::{Failed, Source};
@@ -48,6 +48,9 @@ pub enum ReadPhase {
 }
 
 /// Hands out the lines of an input one by one, and reads no further than it has to.
+///
+/// It keeps the bytes of `begun`, a line whose LF hasn't come yet, and behind them those of `piece`, the last read,
+/// from `start` to `stop`. So each byte is looked at once, however the input comes.
 #[derive(Drop)]
 pub struct LineReader {
     alloc: Global,
@@ -221,6 +224,11 @@ impl LineReader {
 pub fn lines_are_exact()
     ensures found { (bytes : List ℕ) → AreLines bytes (lines_of bytes) }
     ensures only { (bytes : List ℕ) (lines : List (List ℕ)) → AreLines bytes lines → lines ≡ lines_of bytes }
+{}
+
+/// Over any calls of `next`, the lines that a new reader hands out are the lines of the bytes that it took.
+pub fn lines_handed_out_are_the_lines()
+    ensures { (calls : List Call) (taken : List ℕ) (reader : Reading) → Run fresh calls taken reader → HandedOut reader taken (texts (lines_handed_out calls)) }
 {}
 
 /// Where the first LF stands.

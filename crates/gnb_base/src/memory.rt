@@ -1,10 +1,10 @@
 //! Sources and sinks in memory, some of whose calls fail as they are told to.
 
-ghost use Rattle.std.specs.Prelude.{◌≡◌, ◌<◌, ◌≤◌, ◌↔◌, ℕ, ◌++◌, [], length, take, drop, Some, Contains, IsErr, IfOk, OnErr};
+ghost use Rattle.std.specs.Prelude.{◌≡◌, ◌<◌, ◌≤◌, ◌↔◌, ◌++◌, [], length, take, drop, Some, Contains, IsErr, IfOk, OnErr};
 ghost use Rattle.std.specs.Io.{ReadsAtMost, WritesAtMost};
 ghost use Rattle.std.specs.Io.KnownBytes.{ReadConsumes, WriteAppends};
 ghost use Rattle.gnb_base.specs.Causes.{HasCause};
-ghost use Rattle.gnb_base.specs.InMemory.{starts, one_more, failed_from, moved_from, moved};
+ghost use Rattle.gnb_base.specs.InMemory.{starts, failed_from, moved_from, moved};
 
 use crate::octets::Octets;
 use crate::outside::{Failed, Sink, Source};

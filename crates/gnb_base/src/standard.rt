@@ -1,36 +1,32 @@
-//! Standard input and output as a source and a sink. They tell nothing of the bytes: what the system gives and takes is trusted.
+//! Readers and writers of the standard library as sources and sinks, for standard input and output.
+//!
+//! They tell the bytes that their reader or writer tells: standard input and output tell nothing, and what the system
+//! gives and takes there is trusted.
 
-ghost use Rattle.std.specs.Prelude.{◌≡◌, ℕ, None};
+ghost use Rattle.std.specs.Prelude.{◌≡◌};
 
 use crate::outside::{Failed, Sink, Source};
 use std::io::{Read, Write};
-use std::marker::Model;
 
-/// Reads from a reader of the standard library. Contracts see how many reads failed, up to the last value.
+/// Reads from a reader, and counts how many reads failed, up to the last value.
 #[derive(Drop)]
 pub struct StdSource<R: Read> {
     reader: R,
-    faults: u64,
-}
-
-impl<R: Read> Model for StdSource<R> {
-    ghost Value = { ℕ };
-
-    ghost view = { λ s. s.faults };
+    pub faults: u64,
 }
 
 impl<R: Read> StdSource<R> {
     pub fn new(reader: R) -> StdSource<R>
-        ensures { result ≡ 0 }
+        ensures { result.faults ≡ 0 }
     {
         StdSource { reader, faults: 0 }
     }
 }
 
 impl<R: Read> Source for StdSource<R> {
-    ghost left = { λ _. None };
+    ghost left = { λ s. R.remaining s.reader };
 
-    ghost faults = { λ s. s };
+    ghost faults = { λ s. s.faults };
 
     fn read(&mut self, buf: &mut [u8]) -> Result<usize, Failed> {
         match self.reader.read(buf) {
@@ -43,32 +39,26 @@ impl<R: Read> Source for StdSource<R> {
     }
 }
 
-/// Writes to a writer of the standard library that keeps nothing back, as that of standard output. A write that takes
-/// none of some bytes is a fault. Contracts see how many writes failed, up to the last value.
+/// Writes to a writer that keeps nothing back, as that of standard output, and counts how many writes failed, up to the
+/// last value. A write that takes none of some bytes is a fault too.
 #[derive(Drop)]
 pub struct StdSink<W: Write> {
     writer: W,
-    faults: u64,
-}
-
-impl<W: Write> Model for StdSink<W> {
-    ghost Value = { ℕ };
-
-    ghost view = { λ s. s.faults };
+    pub faults: u64,
 }
 
 impl<W: Write> StdSink<W> {
     pub fn new(writer: W) -> StdSink<W>
-        ensures { result ≡ 0 }
+        ensures { result.faults ≡ 0 }
     {
         StdSink { writer, faults: 0 }
     }
 }
 
 impl<W: Write> Sink for StdSink<W> {
-    ghost held = { λ _. None };
+    ghost held = { λ s. W.contents s.writer };
 
-    ghost faults = { λ s. s };
+    ghost faults = { λ s. s.faults };
 
     fn write(&mut self, piece: &[u8]) -> Result<usize, Failed> {
         match self.writer.write(piece) {

@@ -1,0 +1,9 @@
+//! Bits of octets, the highest first, written and read (ITU-T X.691).
+#![tactic(auto)]
+
+pub mod laws;
+pub mod low;
+pub mod reader;
+#[cfg(test)]
+mod tests;
+pub mod writer;
