@@ -3,6 +3,8 @@
 
 mod layers;
 mod reading;
+#[cfg(test)]
+mod tests;
 
 pub use layers::read_radio;
 pub use reading::{
