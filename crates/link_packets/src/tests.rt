@@ -1,9 +1,11 @@
 //! Octets written out by hand: what they say on their link, and some that no link has.
 
 use super::*;
+use gnb_base::bits::Bits;
 use gnb_base::names::SnBits::{Len12, Len18};
 use nr_user_plane::ranges::Ranges;
 use pdcp::pdu::Pdu;
+use std::test::Fail;
 
 const N3_PACKET: &[u8] = b"\x30\xFF\x00\x01\x00\x00\x00\x01\x45";
 
@@ -152,4 +154,49 @@ fn octets_of_no_link(rt: HostRuntime) {
         None
     );
     assert_eq!(rt; read_forwarding_up(Len12, N3_PACKET), None);
+}
+
+#[test]
+fn written_octets(rt: HostRuntime) -> Result<(), Fail> {
+    let alloc = rt.alloc();
+    assert_eq!(rt; write_n3(alloc, 1, b"\x45")?.as_slice(), N3_PACKET);
+    assert_eq!(rt;
+        write_f1u_downlink_packet(alloc, Len12, 1, true, 2, 0, b"\x01")?.as_slice(),
+        DATA
+    );
+    assert_eq!(rt; write_f1u_downlink_poll(alloc, 1, 1)?.as_slice(), POLL);
+    let report = write_f1u_downlink_report(
+        alloc,
+        1,
+        0,
+        5,
+        &Bits::from_slice(alloc, &[false, true, true])?,
+    )?;
+    let octets =
+        b"\x34\xFF\x00\x12\x00\x00\x00\x01\x00\x00\x00\x84\x02\x00\x00\x00\x00\x00\x00\x00\x00\x00\x00\x00\x05\x60".as_slice();
+    assert_eq!(rt; report.as_slice(), octets);
+    assert_eq!(rt;
+        write_f1u_uplink_pdu(alloc, 2, b"\x80\x00\x45")?.as_slice(),
+        UPLINK
+    );
+    assert_eq!(rt;
+        write_delivery_status(alloc, 2, Ranges::new(), Some(0))?.as_slice(),
+        STATUS
+    );
+    let numbered =
+        b"\x34\xFF\x00\x09\x00\x00\x00\x03\x00\x00\x00\xC0\x01\x00\x02\x00\x03".as_slice();
+    assert_eq!(rt;
+        write_forwarded_numbered(alloc, Len12, 3, 0x1002, b"\x03")?.as_slice(),
+        numbered
+    );
+    assert_eq!(rt;
+        write_forwarded_numbered(alloc, Len18, 3, 0x7_FFFF, b"\x03")?.as_slice(),
+        LONG_NUMBER
+    );
+    assert_eq!(rt;
+        write_forwarded_fresh(alloc, 1, b"\x45")?.as_slice(),
+        N3_PACKET
+    );
+    assert_eq!(rt; write_end_marker(alloc, 3)?.as_slice(), END);
+    Ok(())
 }
