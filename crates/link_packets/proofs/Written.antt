@@ -1,12 +1,10 @@
 -- What is written is the layout of the link.
-use Rattle.std.proofs.Common.{◌≡◌, ℕ, ◌+◌, ◌*◌, ◌/◌, ◌%◌, ◌^◌, ◌<◌, ◌≤◌, Bool, true, false, Option, List, [], ◌∷◌, ◌++◌, length, get_or, bit_and, refl, sym, ap, subst, ◌∙◌, arith, length-append}
-use Rattle.gnb_base.specs.declared.names.SnBits.{SnBits}
-use Rattle.gnb_base.specs.declared.names.SnBits.TheVariants.{Len12, Len18}
+use Rattle.std.proofs.Common.{◌≡◌, ℕ, ◌+◌, ◌/◌, ◌%◌, ◌≤◌, Bool, List, [], ◌∷◌, ◌++◌, length, get_or, bit_and, sym, ap, subst, ◌∙◌, arith}
+use Rattle.gnb_base.specs.declared.names.SnBits.TheVariants.{Len18}
 use Rattle.std.specs.Int.{w32, to_be_bytes}
 use Rattle.std.proofs.lemmas.Nat.{and_mask}
-use Rattle.gtpu.specs.Headers.{IsHeader, IsChain, header_octets}
-use Rattle.gtpu.specs.Packets.{gtpu_octets, body_of}
-use Rattle.gtpu.proofs.Chains.{one_header}
+use Rattle.gtpu.specs.Headers.{IsHeader, header_octets}
+use Rattle.gtpu.specs.Packets.{gtpu_octets}
 use Rattle.nr_user_plane.specs.declared.frames.Frame.{Frame}
 use Rattle.nr_user_plane.specs.declared.frames.Frame.TheVariants.{Data, Status}
 use Rattle.nr_user_plane.specs.Frames.{nru_octets, FitsFrame}
@@ -14,6 +12,7 @@ use Rattle.link_layouts.specs.GPdus.{pdu_with}
 use Rattle.link_layouts.specs.Layouts.{frame_header, number_header}
 use Rattle.link_layouts.proofs.Written.{frame_header_is, length-status}
 use Rattle.link_layouts.proofs.Pdus.{length-data_frame}
+use Rattle.pdcp.specs.Pdus.{report_octets, bitmap}
 use Rattle.link_packets.specs.Parts.{header}
 
 -- the chain of one header, as it is put together
@@ -39,3 +38,12 @@ long_number count bytes is =
     let middle : count / 256 % 256 ≡ count % 262144 / 256 % 256 = omega arith in
     let low : count % 256 ≡ count % 262144 % 256 = omega arith in
     ap (λ (xs : List ℕ). bit_and (get_or xs 1 0) 3 ∷ get_or xs 2 0 ∷ get_or xs 3 0 ∷ 0 ∷ 0 ∷ 0 ∷ []) is ∙ (λ i. high i ∷ middle i ∷ low i ∷ 0 ∷ 0 ∷ 0 ∷ [])
+
+length-bitmap : (bits : List Bool) → length (bitmap bits) ≤ length bits
+unfolding bitmap
+length-bitmap [] = omega arith
+length-bitmap (a ∷ b ∷ c ∷ d ∷ e ∷ f ∷ g ∷ h ∷ bits) = omega (arith, length-bitmap bits)
+length-bitmap bits = omega arith
+
+pub length-report_octets : (fmc : ℕ) (bits : List Bool) → length (report_octets fmc bits) ≤ 5 + length bits
+length-report_octets fmc bits = omega (arith, length-bitmap bits)

@@ -5,7 +5,6 @@ ghost use Rattle.gtpu.specs.Headers.{IsHeader};
 ghost use Rattle.gtpu.specs.Packets.{gtpu_octets};
 ghost use Rattle.nr_user_plane.specs.declared.frames.Frame.TheVariants.{Status};
 ghost use Rattle.nr_user_plane.specs.Frames.{FitsFrame};
-ghost use Rattle.pdcp.specs.Pdus.{report_octets};
 ghost use Rattle.link_layouts.specs.Decoding.{IsSized};
 ghost use Rattle.link_layouts.specs.GPdus.{plain_pdu, pdu_with};
 ghost use Rattle.link_layouts.specs.Links.{n3_downlink};
@@ -124,7 +123,7 @@ pub fn write_f1u_downlink_report(
     fmc: u32,
     bits: &Bits,
 ) -> Result<Octets, Memory>
-    requires sized { length (report_octets fmc bits.now) ≤ 2048 }
+    requires few { length bits.now ≤ 4096 }
     requires number { number < 2 ^ 24 }
     ensures { IfOk result (λ octets. octets ≡ layouts.f1u_downlink_report teid number fmc bits.now) }
 {

@@ -1,6 +1,6 @@
-use Rattle.std.proofs.Common.{◌≡◌, sym, ◌∙◌, ap, arith, length}
+use Rattle.std.proofs.Common.{◌≡◌, ◌∙◌, ap, arith, length}
 use Rattle.nr_user_plane.specs.Frames.{nru_octets}
-use Rattle.link_packets.proofs.Written.{frame_is_header, length-frame, framed_is}
+use Rattle.link_packets.proofs.Written.{frame_is_header, length-frame}
 use Rattle.link_packets.proofs.writing.with_frame.Goals as goal
 
 pub with_header-requires-clause-header : goal.with_header-requires-clause-header
