@@ -68,7 +68,7 @@ some_fields : (b : Bool) (w x y z : ℕ) → length (if b then w ∷ x ∷ y ∷
 some_fields true w x y z = omega arith
 some_fields false w x y z = omega arith
 
-length-pdu_with : (teid : ℕ) (h : ExtensionHeader) (payload : List ℕ) → length (body_of (pdu_with teid h payload)) ≤ length h.content + 6 + length payload
+pub length-pdu_with : (teid : ℕ) (h : ExtensionHeader) (payload : List ℕ) → length (body_of (pdu_with teid h payload)) ≤ length h.content + 6 + length payload
 length-pdu_with teid h payload =
     let p = pdu_with teid h payload in
     omega (arith, some_fields (has_flag (flags_of p)) 0 0 0 h.code, length-append (optional_of p ++ header_octets h 0) payload, length-append (optional_of p) (header_octets h 0), length-append h.content (0 ∷ []))
@@ -78,7 +78,7 @@ has_header teid h payload is = record { kind_is = refl; seq = refl; npdu = refl;
 
 -- a PDCP number
 
-number_header_is : (sn : SnBits) (count : ℕ) → IsHeader (number_header sn count)
+pub number_header_is : (sn : SnBits) (count : ℕ) → IsHeader (number_header sn count)
 number_header_is Len12 count = record { some = omega arith; passed = refl; whole = refl; size = refl }
 number_header_is Len18 count = record { some = omega arith; passed = refl; whole = refl; size = refl }
 
@@ -107,7 +107,7 @@ length-filled : (octets : List ℕ) → length (filled octets) % 4 ≡ 2
 unfolding filled
 length-filled octets = omega (arith, length-append octets (replicate ((6 - length octets % 4) % 4) 0), length-replicate {A = ℕ} ((6 - length octets % 4) % 4) 0)
 
-frame_header_is : (frame : Frame) → IsHeader (frame_header frame)
+pub frame_header_is : (frame : Frame) → IsHeader (frame_header frame)
 frame_header_is frame =
     let n = length (nru_octets frame) in
     let whole : n % 4 ≡ 2 = length-filled (field_octets frame) in
@@ -172,7 +172,7 @@ length-delivered_octets : (delivered : Option ℕ) → length (delivered_octets 
 length-delivered_octets None = omega arith
 length-delivered_octets (Some n) = omega arith
 
-length-status : (room : ℕ) (lost : List (ℕ × ℕ)) (delivered : Option ℕ) → length lost ≤ 7 → length (nru_octets (Status room lost delivered)) ≤ 1000
+pub length-status : (room : ℕ) (lost : List (ℕ × ℕ)) (delivered : Option ℕ) → length lost ≤ 7 → length (nru_octets (Status room lost delivered)) ≤ 1000
 unfolding filled
 length-status room lost delivered few =
     let fields = field_octets (Status room lost delivered) in

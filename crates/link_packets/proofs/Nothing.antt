@@ -1,12 +1,11 @@
 -- When a packet says nothing on a link: none of the forms that stand there is its.
-use Rattle.std.proofs.Common.{◌≡◌, ℕ, Bool, true, false, List, [], Option, Some, None, IfNone, true≢false, subst, sym}
+use Rattle.std.proofs.Common.{◌≡◌, ℕ, Bool, true, false, List, [], Option, Some, None, IfNone, subst, sym}
 use Rattle.gnb_base.specs.declared.names.SnBits.{SnBits}
 use Rattle.gtpu.specs.declared.Kind.TheVariants.{GPdu}
 use Rattle.gtpu.specs.Packets.{GtpuPacket}
-use Rattle.nr_user_plane.specs.declared.frames.Frame.{Frame}
 use Rattle.nr_user_plane.specs.declared.frames.Frame.TheVariants.{Data, Status}
 use Rattle.pdcp.specs.Pdus.{Content}
-use Rattle.link_layouts.specs.Decoding.{Item, n3, f1u_downlink, f1u_uplink, forwarding_down, forwarding_up, fresh, numbered, pdu, framed, poll, status, end_of_tunnel, CarriesPdu, IsBare, SaysFresh, SaysNumbered, SaysEnd, Says}
+use Rattle.link_layouts.specs.Decoding.{Item, f1u_downlink, f1u_uplink, forwarding_down, forwarding_up, fresh, numbered, pdu, framed, poll, status, end_of_tunnel, CarriesPdu, IsBare, SaysFresh, SaysNumbered, SaysEnd, Says}
 use Rattle.link_layouts.proofs.OneItem.{one_frame_in}
 use Rattle.link_packets.specs.Parts.{HasFrame}
 

@@ -1,6 +1,7 @@
 -- What the one extension header of a packet tells, whatever its payload is.
 use Rattle.std.specs.Prelude.{◌≡◌, ℕ, List}
 use Rattle.gnb_base.specs.declared.names.SnBits.{SnBits}
+use Rattle.gtpu.specs.Headers.{ExtensionHeader}
 use Rattle.gtpu.specs.Packets.{GtpuPacket}
 use Rattle.nr_user_plane.specs.declared.frames.Frame.{Frame}
 use Rattle.nr_user_plane.specs.Frames.{Nru}
@@ -13,3 +14,7 @@ HasFrame frame p = (content : List ℕ) × HasHeader 0x84 content p × Nru frame
 -- a PDCP sequence number
 abbrev pub HasNumber : SnBits → ℕ → GtpuPacket → Type 0
 HasNumber sn number p = (content : List ℕ) × HasHeader (number_code sn) content p × (number ≡ number_in sn content)
+
+-- a header of this type and content
+abbrev pub header : ℕ → List ℕ → ExtensionHeader
+header code content = record { code = code; content = content }
