@@ -1,0 +1,6 @@
+pub mod Written
+pub mod Inputs
+pub mod Runs
+pub mod Applied
+pub mod Turned
+pub mod Finished

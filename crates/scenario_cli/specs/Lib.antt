@@ -1,0 +1,6 @@
+pub mod Ends
+pub mod Headline
+pub mod Writes
+pub mod Causes
+pub mod Turns
+pub mod Stops

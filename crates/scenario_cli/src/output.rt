@@ -1,0 +1,50 @@
+//! Lines are written to a sink.
+
+ghost use Rattle.std.specs.Prelude.{◌≡◌, IfOk};
+ghost use Rattle.scenario_text.specs.Print.{print};
+ghost use Rattle.scenario_cli.specs.Writes.{Writes, WritesLines};
+
+use crate::status::Ended;
+use gnb_base::octets::{Memory, Octets};
+use gnb_base::outside::{Failed, Sink};
+use scenario_text::line::OutLine;
+use scenario_text::print::print_line;
+use std::alloc::Global;
+
+/// The text of lines, each with its LF.
+fn text_of(alloc: Global, lines: &[OutLine]) -> Result<Octets, Memory>
+    ensures { IfOk result (λ text. text ≡ print lines.now) }
+{
+    let mut text = Octets::new(alloc);
+    for line in lines {
+        text.append(print_line(alloc, line)?.as_slice())?;
+        text.push(b'\n')?;
+    }
+    Ok(text)
+}
+
+/// Writes all these bytes, in as many pieces as the sink takes. Nothing is written after a write that failed.
+fn write_all<K: Sink>(output: &mut K, bytes: &[u8]) -> Result<(), Failed>
+    ensures { Writes (K.held output.old) (K.held output.new) (K.faults output.old) (K.faults output.new) bytes.now result }
+{
+    let mut rest = bytes;
+    while !rest.is_empty() {
+        let count = output.write(rest)?;
+        let (_, unwritten) = rest.split_at(count);
+        rest = unwritten;
+    }
+    Ok(())
+}
+
+/// Writes lines.
+pub fn write_lines<K: Sink>(alloc: Global, output: &mut K, lines: &[OutLine]) -> Result<(), Ended>
+    ensures { WritesLines (K.held output.old) (K.held output.new) (K.faults output.old) (K.faults output.new) lines.now result }
+{
+    match text_of(alloc, lines) {
+        Ok(text) => match write_all(output, text.as_slice()) {
+            Ok(()) => Ok(()),
+            Err(_) => Err(Ended::WriteFault),
+        },
+        Err(_) => Err(Ended::Memory),
+    }
+}
