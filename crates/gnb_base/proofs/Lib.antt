@@ -1,6 +1,5 @@
 pub mod HexLemmas
 pub mod Handing
-mod HexLemmas
 mod LineLemmas
 mod LineReaderLemmas
 pub mod LinesOf
