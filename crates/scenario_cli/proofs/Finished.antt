@@ -1,5 +1,5 @@
 -- The last line behind a run, and what the status tells.
-use Rattle.std.proofs.Common.{◌≡◌, ℕ, List, Bool, true, Option, Some, None, sym, subst}
+use Rattle.std.proofs.Common.{◌≡◌, ◌≤◌, ℕ, List, Bool, true, Option, Some, None, sym, subst, arith}
 use Rattle.std.specs.Bool.{MatchBool}
 use Rattle.std.specs.Io.KnownBytes.{Appends}
 use Rattle.scenario_text.specs.declared.event.Event.{Event}
@@ -10,6 +10,8 @@ use Rattle.scenario_cli.specs.declared.status.Status.{Status}
 use Rattle.scenario_cli.specs.Ends.{status_of, last_lines}
 use Rattle.scenario_cli.specs.Headline.{left_of, EndsSo, run_text, GrowsByPart, PrintsSo, RunMeets, UsageMeets, GnbMeets, is_run}
 use Rattle.scenario_cli.specs.Stops.{RanTo, Printed}
+use Rattle.gnb_base.specs.Causes.{Rose}
+use Rattle.scenario_cli.specs.Causes.{Causes, IsCaused}
 use Rattle.scenario_cli.specs.Writes.{Finishes, Written, Faulty, Unwritten}
 use Rattle.scenario_cli.proofs.Written.{appends_more, part_more, part_kept, part_still, part_all}
 
@@ -44,7 +46,7 @@ front_of a b events TooLong h = part_all a b _ h
 
 -- ---- with the word `run`
 
-run_meets : (left0 left1 held0 held1 held2 : Option (List ℕ)) (before after : ℕ) (ended result : Ended) → RanTo left0 left1 held0 held1 ended
+pub run_meets : (left0 left1 held0 held1 held2 : Option (List ℕ)) (before after : ℕ) (ended result : Ended) → RanTo left0 left1 held0 held1 ended
     → Finishes held1 held2 before after ended result → RunMeets left0 left1 held0 held2 result
 run_meets left0 left1 held0 held1 held2 before after ended result r (Written same last) =
     subst (λ (e : Ended). RunMeets left0 left1 held0 held2 e) (sym same)
@@ -98,3 +100,29 @@ run_headline words left0 left1 held0 held1 held2 before after ended result statu
   meets = subst (λ (b : Bool). MatchBool b (RunMeets left0 left1 held0 held2 result) (UsageMeets left0 left1 held0 held2 result)) (sym test)
       (run_meets left0 left1 held0 held1 held2 before after ended result r f);
 }
+
+-- ---- causes
+
+rose_later : (a b c : ℕ) → Rose a b → b ≤ c → Rose a c
+rose_later a b c h k = omega arith
+
+rose_before : (a b c : ℕ) → a ≤ b → Rose b c → Rose a c
+rose_before a b c h k = omega arith
+
+caused_later : (reads0 reads1 writes0 writes1 writes2 : ℕ) (ended : Ended) → IsCaused reads0 reads1 writes0 writes1 ended → writes1 ≤ writes2 → IsCaused reads0 reads1 writes0 writes2 ended
+caused_later reads0 reads1 writes0 writes1 writes2 (Done n) h k = tt
+caused_later reads0 reads1 writes0 writes1 writes2 Usage h k = tt
+caused_later reads0 reads1 writes0 writes1 writes2 (Script place reason) h k = tt
+caused_later reads0 reads1 writes0 writes1 writes2 (ReadFault taken) h k = h
+caused_later reads0 reads1 writes0 writes1 writes2 WriteFault h k = rose_later writes0 writes1 writes2 h k
+caused_later reads0 reads1 writes0 writes1 writes2 Memory h k = tt
+caused_later reads0 reads1 writes0 writes1 writes2 TooLong h k = tt
+
+pub caused_at_last : (reads0 reads1 writes0 writes1 writes2 : ℕ) (held0 held1 : Option (List ℕ)) (ended result : Ended) → Causes reads0 reads1 writes0 writes1 ended → writes1 ≤ writes2
+    → Finishes held0 held1 writes1 writes2 ended result → IsCaused reads0 reads1 writes0 writes2 result
+caused_at_last reads0 reads1 writes0 writes1 writes2 held0 held1 ended result h k (Written same last) =
+    subst (λ (e : Ended). IsCaused reads0 reads1 writes0 writes2 e) (sym same) (caused_later reads0 reads1 writes0 writes1 writes2 ended h.caused k)
+caused_at_last reads0 reads1 writes0 writes1 writes2 held0 held1 ended result h k (Faulty same part rose) =
+    subst (λ (e : Ended). IsCaused reads0 reads1 writes0 writes2 e) (sym same) (rose_before writes0 writes1 writes2 h.writes rose)
+caused_at_last reads0 reads1 writes0 writes1 writes2 held0 held1 ended result h k (Unwritten same still) =
+    subst (λ (e : Ended). IsCaused reads0 reads1 writes0 writes2 e) (sym same) tt

@@ -4,3 +4,4 @@ pub mod Runs
 pub mod Applied
 pub mod Turned
 pub mod Finished
+pub mod Complete

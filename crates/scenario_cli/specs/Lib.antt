@@ -4,3 +4,4 @@ pub mod Writes
 pub mod Causes
 pub mod Turns
 pub mod Stops
+pub mod Whole

@@ -1,10 +1,12 @@
 //! The top call.
 
-ghost use Rattle.std.specs.Prelude.{◌≡◌, ◌≤◌, map};
+ghost use Rattle.std.specs.Prelude.{◌≡◌, ◌≤◌, ℕ, List, Some, true, map};
 ghost use Rattle.std.specs.String.{string_bytes};
 ghost use Rattle.gnb_base.specs.Causes.{Rose};
 ghost use Rattle.scenario_cli.specs.Headline.{is_run as is_run_form, GnbMeets};
+ghost use Rattle.scenario_cli.specs.Whole.{IsWhole, NoneRose, RunsWhole};
 ghost use Rattle.scenario_cli.specs.Writes.{Finishes};
+ghost use Rattle.scenario_text.specs.declared.event.Event.{Event};
 
 use crate::output::write_lines;
 use crate::script;
@@ -46,6 +48,10 @@ pub fn gnb<S: Source, K: Sink>(
     ensures headline { GnbMeets (map string_bytes words.now) (S.left input.old) (S.left input.new) (K.held output.old) (K.held output.new) result }
     ensures read { result.code ≡ 6 → Rose (S.faults input.old) (S.faults input.new) }
     ensures write { result.code ≡ 7 → Rose (K.faults output.old) (K.faults output.new) }
+
+    // A whole script is run, where its bytes are told and no call fails, unless memory runs out.
+    ensures complete { (bytes : List ℕ) (events : List Event) → is_run_form (map string_bytes words.now) ≡ true → S.left input.old ≡ Some bytes → IsWhole bytes events
+        → NoneRose (S.faults input.old) (S.faults input.new) (K.faults output.old) (K.faults output.new) → RunsWhole (K.held output.old) (K.held output.new) events result }
 {
     if !is_run(words) {
         return finish(alloc, output, Ended::Usage).status();
