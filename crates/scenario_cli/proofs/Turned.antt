@@ -217,7 +217,7 @@ by_error left0 left1 left2 held0 held1 old new before after errors.TooLong b m =
       no_line = seen.1.3;
     }) b.appends
 by_error left0 left1 left2 held0 held1 old new before after errors.Memory b m =
-    stop_at left0 left1 left2 held0 held1 old m.taken Memory b (failed_going old new m.answers m.stays (open_phase (left_of left0 left1) old b.taken b.lines b.handed.stands)) m.consumes tt
+    stop_at left0 left1 left2 held0 held1 old m.taken Memory b (failed_going old new m.answers.0 m.stays (open_phase (left_of left0 left1) old b.taken b.lines b.handed.stands)) m.consumes tt
     (part_all held0 held1 _ b.appends)
 
 unread : (left0 left1 left2 held0 held1 : Option (List ℕ)) (old new : Reading) (before after : ℕ) (ended : Ended) → Before left0 left1 held0 held1 old
