@@ -7,7 +7,7 @@ use Rattle.gnb_base.specs.declared.lines.ReadError.{ReadError}
 use Rattle.gnb_base.specs.declared.lines.ReadError.TheVariants as errors
 use Rattle.gnb_base.specs.declared.lines.ReadPhase.TheVariants as phases
 use Rattle.gnb_base.specs.Lines.{HasNoLf}
-use Rattle.gnb_base.specs.Reading.{Reading, fresh, input_limit, NextMeets}
+use Rattle.gnb_base.specs.Reading.{Reading, IsUntouched, fresh, input_limit, NextMeets}
 use Rattle.scenario_text.specs.declared.event.Event.{Event}
 use Rattle.scenario_text.specs.declared.line.OutLine.TheVariants as lines
 use Rattle.scenario_text.specs.Grammar.{header_of, is_skipped}
@@ -176,6 +176,10 @@ failed_going old new failed (inr same) (inl going) = going
 failed_going old new failed (inr same) (inr ended) =
     let e : old.phase ≡ phases.Failed = sym (ap (λ (r : Reading). r.phase) same) ∙ failed in absurd (cc)
 
+stays_same : (old new : Reading) (left1 left2 : Option (List ℕ)) (before after : ℕ) → (old.phase ≡ phases.Going) ⊎ IsUntouched old new left1 left2 before after → (old.phase ≡ phases.Going) ⊎ (new ≡ old)
+stays_same old new left1 left2 before after (inl going) = inl going
+stays_same old new left1 left2 before after (inr kept) = inr kept.reader
+
 long_going : (old : Reading) (X : Type 0) → ((old.phase ≡ phases.Going) × X) ⊎ (old.phase ≡ phases.TooLong) → (old.phase ≡ phases.Going) ⊎ (old.phase ≡ phases.Ended) → (old.phase ≡ phases.Going) × X
 long_going old X (inl seen) opened = seen
 long_going old X (inr long) (inl going) = absurd (cc)
@@ -217,7 +221,7 @@ by_error left0 left1 left2 held0 held1 old new before after errors.TooLong b m =
       no_line = seen.1.3;
     }) b.appends
 by_error left0 left1 left2 held0 held1 old new before after errors.Memory b m =
-    stop_at left0 left1 left2 held0 held1 old m.taken Memory b (failed_going old new m.answers.0 m.stays (open_phase (left_of left0 left1) old b.taken b.lines b.handed.stands)) m.consumes tt
+    stop_at left0 left1 left2 held0 held1 old m.taken Memory b (failed_going old new m.answers.0 (stays_same old new left1 left2 before after m.stays) (open_phase (left_of left0 left1) old b.taken b.lines b.handed.stands)) m.consumes tt
     (part_all held0 held1 _ b.appends)
 
 unread : (left0 left1 left2 held0 held1 : Option (List ℕ)) (old new : Reading) (before after : ℕ) (ended : Ended) → Before left0 left1 held0 held1 old
