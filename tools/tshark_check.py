@@ -4,7 +4,7 @@
 Each packet of the table is put into a UDP datagram to port 2152, and tshark is asked for its header. Where tshark isn't
 installed this is said, and the check passes.
 
-Usage: tools/tshark-check/tshark_check.py
+Usage: tools/tshark_check.py
 """
 
 import pathlib
@@ -15,7 +15,7 @@ import subprocess
 import sys
 import tempfile
 
-TABLE = pathlib.Path(__file__).resolve().parents[2] / "crates/gtpu/src/tests.rt"
+TABLE = pathlib.Path(__file__).resolve().parents[1] / "crates/gtpu/src/tests.rt"
 KINDS = {"EchoRequest": 1, "EchoResponse": 2, "ErrorIndication": 26, "EndMarker": 254, "GPdu": 255}
 FIELDS = [
     "gtp.flags.version", "gtp.flags.payload", "gtp.flags.e", "gtp.flags.s", "gtp.flags.pn", "gtp.message", "gtp.length",
