@@ -5,6 +5,8 @@
 pub mod output;
 pub mod script;
 pub mod status;
+#[cfg(test)]
+mod tests;
 pub mod top;
 
 use gnb_base::standard::{StdSink, StdSource};
