@@ -7,6 +7,8 @@ use crate::top::gnb;
 use gnb_base::memory::{MemorySink, MemorySource};
 use gnb_base::octets::Octets;
 use std::alloc::Global;
+use std::cmp::min;
+use std::process::Abort;
 use std::test::Fail;
 
 /// One packet goes from the core to the terminal.
@@ -15,6 +17,41 @@ const SCRIPT: &str =
 
 const TRANSCRIPT: &str =
     "> static u1 A 1 1 12 1 64\n> offer u1 b1 dl 45\nput A.up1/1 u1 b1 dl - 30FF00010000000145\n> get A.up1/1\ngot A.up1/1 u1 b1 dl - 30FF00010000000145\nput A.du1/1 u1 b1 dl 0 34FF000F00000001000000840200000000000000800045\n> get A.du1/1\ngot A.du1/1 u1 b1 dl 0 34FF000F00000001000000840200000000000000800045\nput r/u1/b1/dl/1 u1 b1 dl 0 800045\n> air u1 b1 dl\ngot r/u1/b1/dl/1 u1 b1 dl 0 800045\ndeliver u1 b1 dl 0 45\nend 5\n";
+
+/// Where each line of the script behind its header ends, and the lines that its event gives.
+const STEPS: [(usize, &str); 5] = [
+    (39, "> static u1 A 1 1 12 1 64\n"),
+    (
+        57,
+        "> offer u1 b1 dl 45\nput A.up1/1 u1 b1 dl - 30FF00010000000145\n",
+    ),
+    (
+        69,
+        "> get A.up1/1\ngot A.up1/1 u1 b1 dl - 30FF00010000000145\nput A.du1/1 u1 b1 dl 0 34FF000F00000001000000840200000000000000800045\n",
+    ),
+    (
+        81,
+        "> get A.du1/1\ngot A.du1/1 u1 b1 dl 0 34FF000F00000001000000840200000000000000800045\nput r/u1/b1/dl/1 u1 b1 dl 0 800045\n",
+    ),
+    (
+        94,
+        "> air u1 b1 dl\ngot r/u1/b1/dl/1 u1 b1 dl 0 800045\ndeliver u1 b1 dl 0 45\n",
+    ),
+];
+
+/// Each refusal that a short script may meet.
+const REFUSALS: &str =
+    "module builtin\noffer u1 b1 dl 45\nget A.up1/1\nstatic u1 A 1 1 12 1 4\nget A.up1/9\nget A.up1/2\noffer u2 b1 dl 45\nair u1 b1 dl\nstatic u1 A 1 1 12 1 8\nget A.up1/1\n";
+
+const REFUSED: &str =
+    "> offer u1 b1 dl 45\nrefused NoBearer\n> get A.up1/1\nrefused NoSuch\n> static u1 A 1 1 12 1 4\n> get A.up1/9\nrefused NoSuch\n> get A.up1/2\nrefused Empty\n> offer u2 b1 dl 45\nrefused NoBearer\n> air u1 b1 dl\nrefused Empty\n> static u1 A 1 1 12 1 8\nrefused Attached\n> get A.up1/1\nrefused Empty\nend 9\n";
+
+/// Five packets where the quota is four: the fifth stays at the head of its tunnel, however often it is asked for.
+const FIVE_PACKETS: &str =
+    "module builtin\nstatic u1 A 1 1 12 1 4\noffer u1 b1 dl 01\noffer u1 b1 dl 02\noffer u1 b1 dl 03\noffer u1 b1 dl 04\noffer u1 b1 dl 05\nget A.up1/1\nget A.up1/1\nget A.up1/1\nget A.up1/1\nget A.up1/1\nget A.up1/1\n";
+
+const HELD: &str =
+    "> static u1 A 1 1 12 1 4\n> offer u1 b1 dl 01\nput A.up1/1 u1 b1 dl - 30FF00010000000101\n> offer u1 b1 dl 02\nput A.up1/1 u1 b1 dl - 30FF00010000000102\n> offer u1 b1 dl 03\nput A.up1/1 u1 b1 dl - 30FF00010000000103\n> offer u1 b1 dl 04\nput A.up1/1 u1 b1 dl - 30FF00010000000104\n> offer u1 b1 dl 05\nput A.up1/1 u1 b1 dl - 30FF00010000000105\n> get A.up1/1\ngot A.up1/1 u1 b1 dl - 30FF00010000000101\nput A.du1/1 u1 b1 dl 0 34FF000F00000001000000840200000000000000800001\n> get A.up1/1\ngot A.up1/1 u1 b1 dl - 30FF00010000000102\nput A.du1/1 u1 b1 dl 1 34FF000F00000001000000840200000000010000800102\n> get A.up1/1\ngot A.up1/1 u1 b1 dl - 30FF00010000000103\nput A.du1/1 u1 b1 dl 2 34FF000F00000001000000840200000000020000800203\n> get A.up1/1\ngot A.up1/1 u1 b1 dl - 30FF00010000000104\nput A.du1/1 u1 b1 dl 3 34FF000F00000001000000840200000000030000800304\n> get A.up1/1\nheld A.up1/1 Quota\n> get A.up1/1\nheld A.up1/1 Quota\nend 12\n";
 
 /// What a call is given, and the numbers of the reads and writes that fail.
 #[derive(Clone, Copy)]
@@ -82,6 +119,8 @@ fn whole_calls(rt: HostRuntime) -> Result<(), Fail> {
             status(0, 0, 0),
             "> air u1 b1 dl\nrefused NoBearer\nend 1\n",
         ),
+        ("run", REFUSALS, status(0, 0, 0), REFUSED),
+        ("run", FIVE_PACKETS, status(0, 0, 0), HELD),
     ];
     for (word, input, answer, text) in rows {
         for piece in [1, 4096] {
@@ -101,32 +140,45 @@ fn whole_calls(rt: HostRuntime) -> Result<(), Fail> {
     Ok(())
 }
 
+/// Writes what the script's lines among its first bytes give, and then the stop line of a failed read.
+fn text_at(alloc: Global, taken: usize) -> Result<String, Fail> {
+    let mut text = String::new(alloc);
+    for (end, lines) in STEPS {
+        if end <= taken {
+            text.push_str(lines)?;
+        }
+    }
+    let stop = format!(in alloc; "stop 6 {taken} 0\n")?;
+    text.push_str(stop.as_str())?;
+    Ok(text)
+}
+
 /// The read with each number fails in turn: what the lines before it gave stands, and then the stop line.
 #[test]
 fn failing_reads(rt: HostRuntime) -> Result<(), Fail> {
-    // Behind 16 bytes for each read before it: how many bytes of the transcript the whole lines among them give.
-    let rows = [
-        (1, 0, 0),
-        (2, 16, 0),
-        (3, 32, 0),
-        (4, 48, 26),
-        (5, 64, 88),
-        (6, 80, 214),
-        (7, 94, 405),
-    ];
-    for (number, place, given) in rows {
+    for (piece, reads) in [(1, 96), (16, 8), (4096, 3)] {
+        assert!(rt; piece > 0);
+        each_read_fails(&rt, rt.alloc(), piece, reads)?;
+    }
+    Ok(())
+}
+
+fn each_read_fails(rt: &impl Abort, alloc: Global, piece: usize, reads: u64) -> Result<(), Fail>
+    requires { 0 < piece }
+{
+    for number in 1..reads {
         let call = Call {
             word: "run",
             input: SCRIPT,
-            piece: 16,
+            piece,
             failing_reads: &[number],
             failing_writes: &[],
         };
-        let (answer, held, _) = call.answer(rt.alloc())?;
-        assert_eq!(rt; answer, status(6, place, 0));
-        let stop = format!(in rt.alloc(); "stop 6 {place} 0\n")?;
-        let (front, last) = (&TRANSCRIPT.as_bytes()[..given], stop.as_bytes());
-        assert!(rt; held.as_slice().strip_prefix(front) == Some(last));
+        let (answer, held, _) = call.answer(alloc)?;
+        let taken = min(SCRIPT.len(), ((number - 1) as usize).saturating_mul(piece));
+        let text = text_at(alloc, taken)?;
+        assert_eq!(rt; answer, status(6, taken as u64, 0));
+        assert_eq!(rt; held.as_slice(), text.as_bytes());
     }
     Ok(())
 }
@@ -134,15 +186,25 @@ fn failing_reads(rt: HostRuntime) -> Result<(), Fail> {
 /// The write with each number fails in turn: a front of the text stands, and no write comes behind it.
 #[test]
 fn failing_writes(rt: HostRuntime) -> Result<(), Fail> {
-    for number in 1..100 {
+    for piece in [1, 16, 4096] {
+        assert!(rt; piece > 0);
+        each_write_fails(&rt, rt.alloc(), piece)?;
+    }
+    Ok(())
+}
+
+fn each_write_fails(rt: &impl Abort, alloc: Global, piece: usize) -> Result<(), Fail>
+    requires { 0 < piece }
+{
+    for number in 1..1000 {
         let call = Call {
             word: "run",
             input: SCRIPT,
-            piece: 16,
+            piece,
             failing_reads: &[],
             failing_writes: &[number],
         };
-        let (answer, held, calls) = call.answer(rt.alloc())?;
+        let (answer, held, calls) = call.answer(alloc)?;
         if answer.code == 0 {
             assert_eq!(rt; held.as_slice(), TRANSCRIPT.as_bytes());
             assert_eq!(rt; calls, number - 1);
@@ -151,7 +213,33 @@ fn failing_writes(rt: HostRuntime) -> Result<(), Fail> {
         assert_eq!(rt; answer, status(7, 0, 0));
         assert!(rt; TRANSCRIPT.as_bytes().starts_with(held.as_slice()));
         assert_eq!(rt; calls, number);
+        assert!(rt; piece > 1 || held.as_slice().len() as u64 == number - 1);
     }
     assert!(rt; false);
+    Ok(())
+}
+
+/// A packet of 2,048 octets is taken, and one of 2,049 is refused.
+#[test]
+fn sizes(rt: HostRuntime) -> Result<(), Fail> {
+    let alloc = rt.alloc();
+    let longest = "A5".repeat(alloc, 2048)?;
+    let (longest, set_up) = (longest.as_str(), "static u1 A 1 1 12 1 4");
+    let input = format!(in alloc;
+        "module builtin\n{set_up}\noffer u1 b1 dl {longest}\noffer u1 b1 dl {longest}00\n"
+    )?;
+    let text = format!(in alloc;
+        "> {set_up}\n> offer u1 b1 dl {longest}\nput A.up1/1 u1 b1 dl - 30FF080000000001{longest}\n> offer u1 b1 dl {longest}00\nrefused Size\nend 3\n"
+    )?;
+    let call = Call {
+        word: "run",
+        input: input.as_str(),
+        piece: 4096,
+        failing_reads: &[],
+        failing_writes: &[],
+    };
+    let (answer, held, _) = call.answer(alloc)?;
+    assert_eq!(rt; answer, status(0, 0, 0));
+    assert_eq!(rt; held.as_slice(), text.as_bytes());
     Ok(())
 }
