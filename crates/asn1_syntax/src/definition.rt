@@ -1,0 +1,122 @@
+//! The types of a module.
+
+use crate::items::Items;
+use gnb_base::octets::Octets;
+
+/// A type, by its number in the module's list of types: those that stand inside another one have numbers too.
+#[derive(Clone, Copy, Debug, PartialEq, Eq)]
+pub struct TypeId {
+    pub number: usize,
+}
+
+/// How many bits, octets, characters or members a value has; with `extensible` it may have another number too
+/// (X.680, 51.5).
+#[derive(Clone, Copy, Debug, PartialEq, Eq)]
+pub struct Size {
+    pub low: u32,
+    pub high: u32,
+    pub extensible: bool,
+}
+
+/// A component of a SEQUENCE, or an alternative of a CHOICE, which is never optional.
+#[derive(Debug, Drop)]
+pub struct Component {
+    pub name: Octets,
+    pub definition: TypeId,
+    pub optional: bool,
+}
+
+/// A type. Additions are `None` where the type has no `...`.
+#[derive(Debug, Drop)]
+pub enum Definition {
+    Boolean,
+    Integer {
+        low: i128,
+        high: i128,
+        extensible: bool,
+    },
+    Enumerated {
+        names: Items<Octets>,
+        additions: Option<Items<Octets>>,
+    },
+    BitString(Option<Size>),
+    OctetString(Option<Size>),
+    PrintableString(Option<Size>),
+    Sequence {
+        components: Items<Component>,
+        additions: Option<Items<Component>>,
+    },
+    Choice {
+        alternatives: Items<Component>,
+        additions: Option<Items<Component>>,
+    },
+    SequenceOf {
+        size: Option<Size>,
+        element: TypeId,
+    },
+    /// A type name.
+    Reference(Octets),
+    /// A list of information elements of this set.
+    IeContainer(Octets),
+    /// A message of a procedure of this set.
+    Pdu(Octets),
+}
+
+/// A type, and the offset in the text of the name that it refers by; for a type that refers to none, of its first word.
+#[derive(Debug, Drop)]
+pub struct Node {
+    pub definition: Definition,
+    pub place: usize,
+}
+
+/// What a receiver does that doesn't know an information element or a procedure.
+#[derive(Clone, Copy, Debug, PartialEq, Eq)]
+pub enum Criticality {
+    Reject,
+    Ignore,
+    Notify,
+}
+
+/// Whether an information element is always there.
+#[derive(Clone, Copy, Debug, PartialEq, Eq)]
+pub enum Presence {
+    Mandatory,
+    Optional,
+}
+
+/// An information element of a set.
+#[derive(Clone, Copy, Debug, PartialEq, Eq)]
+pub struct IeRow {
+    pub id: u16,
+    pub criticality: Criticality,
+    pub definition: TypeId,
+    pub presence: Presence,
+}
+
+/// A procedure of a set.
+#[derive(Clone, Copy, Debug, PartialEq, Eq)]
+pub struct ProcedureRow {
+    pub initiating: TypeId,
+    pub successful: Option<TypeId>,
+    pub unsuccessful: Option<TypeId>,
+    pub code: u8,
+    pub criticality: Criticality,
+}
+
+/// What a name stands for.
+#[derive(Debug, Drop)]
+pub enum Body {
+    Type(TypeId),
+    IeSet(Items<IeRow>),
+    ProcedureSet(Items<ProcedureRow>),
+}
+
+/// A name, its offset in the text, and what it stands for. Its types are those of the module's list from the end of the
+/// assignment before to `end`.
+#[derive(Debug, Drop)]
+pub struct Assignment {
+    pub name: Octets,
+    pub place: usize,
+    pub body: Body,
+    pub end: usize,
+}

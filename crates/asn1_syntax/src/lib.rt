@@ -1,0 +1,14 @@
+//! The syntax of ASN.1 modules (X.680), in the part of ASN.1 that this project reads.
+#![tactic(auto)]
+
+mod definition;
+mod fault;
+mod items;
+mod reader;
+
+pub use definition::{
+    Assignment, Body, Component, Criticality, Definition, IeRow, Node, Presence, ProcedureRow,
+    Size, TypeId,
+};
+pub use fault::{Fault, ModuleReason, ReadError};
+pub use items::Items;
