@@ -5,6 +5,7 @@ mod definition;
 mod fault;
 mod items;
 mod reader;
+mod sizes;
 
 pub use definition::{
     Assignment, Body, Component, Criticality, Definition, IeRow, Node, Presence, ProcedureRow,
