@@ -1,5 +1,5 @@
 -- Reading from left to right, with the first fault that is met.
-use Rattle.std.specs.Prelude.{◌≡◌, ℕ, List, [], ◌∷◌, Bool, true, false, Option, Some, None, Result, Ok, Err, if◌then◌else◌, ℤ}
+use Rattle.std.specs.Prelude.{◌≡◌, ℕ, zero, suc, List, [], ◌∷◌, Bool, true, false, Option, Some, None, Result, Ok, Err, if◌then◌else◌, ℤ}
 use Rattle.asn1_tokens.specs.declared.token.Word.{Word}
 use Rattle.asn1_tokens.specs.declared.token.Sign.{Sign}
 use Rattle.asn1_tokens.specs.declared.token.Token.{Token}
@@ -122,3 +122,10 @@ number_of tokens.EndOfText ts = Err (unexpected ts)
 
 unfoldable pub number_at : Left → Result (ℤ × Left) Fault
 number_at ts = number_of (first_token ts) ts
+
+-- Turns that each change a state, until one ends the list, in at most that many.
+unfoldable pub repeat_at : {S : Type 0} → (S → Left → Result (Bool × S × Left) Fault) → ℕ → S → Left → Result (S × Left) Fault
+repeat_at turn zero state ts = Err (unexpected ts)
+repeat_at turn (suc turns) state ts = do
+  t ← turn state ts
+  if t.0 then repeat_at turn turns t.1 t.2 else Ok (t.1, t.2)

@@ -18,6 +18,13 @@ pub struct Size {
     pub extensible: bool,
 }
 
+/// The parts of a type that `...` may extend: those of its root, and with `...` the additions that follow it.
+#[derive(Debug, Drop)]
+pub struct Extensible<T> {
+    pub root: Items<T>,
+    pub additions: Option<Items<T>>,
+}
+
 /// A component of a SEQUENCE, or an alternative of a CHOICE, which is never optional.
 #[derive(Debug, Drop)]
 pub struct Component {
@@ -26,7 +33,7 @@ pub struct Component {
     pub optional: bool,
 }
 
-/// A type. Additions are `None` where the type has no `...`.
+/// A type.
 #[derive(Debug, Drop)]
 pub enum Definition {
     Boolean,
@@ -35,21 +42,12 @@ pub enum Definition {
         high: i128,
         extensible: bool,
     },
-    Enumerated {
-        names: Items<Octets>,
-        additions: Option<Items<Octets>>,
-    },
+    Enumerated(Extensible<Octets>),
     BitString(Option<Size>),
     OctetString(Option<Size>),
     PrintableString(Option<Size>),
-    Sequence {
-        components: Items<Component>,
-        additions: Option<Items<Component>>,
-    },
-    Choice {
-        alternatives: Items<Component>,
-        additions: Option<Items<Component>>,
-    },
+    Sequence(Extensible<Component>),
+    Choice(Extensible<Component>),
     SequenceOf {
         size: Option<Size>,
         element: TypeId,

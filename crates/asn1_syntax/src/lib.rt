@@ -4,12 +4,14 @@
 mod definition;
 mod fault;
 mod items;
+mod members;
+mod names;
 mod reader;
 mod sizes;
 
 pub use definition::{
-    Assignment, Body, Component, Criticality, Definition, IeRow, Node, Presence, ProcedureRow,
-    Size, TypeId,
+    Assignment, Body, Component, Criticality, Definition, Extensible, IeRow, Node, Presence,
+    ProcedureRow, Size, TypeId,
 };
 pub use fault::{Fault, ModuleReason, ReadError};
 pub use items::Items;
