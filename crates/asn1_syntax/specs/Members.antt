@@ -1,6 +1,6 @@
 -- The lists in braces: names of an ENUMERATED (X.680, clause 20), components of a SEQUENCE (clause 25) and alternatives of a
 -- CHOICE (clause 29), with the additions that follow `...`.
-use Rattle.std.specs.Prelude.{ℕ, ◌+◌, List, [], ◌∷◌, ◌++◌, length, map, Bool, true, false, Option, Some, None, Result, Ok, Err, if◌then◌else◌, ◌&&◌, nat_le, is_none}
+use Rattle.std.specs.Prelude.{ℕ, ◌+◌, List, [], ◌∷◌, ◌++◌, length, Bool, true, false, Option, Some, None, Result, Ok, Err, if◌then◌else◌, ◌&&◌, nat_le, is_none}
 use Rattle.std.specs.List.{list_any}
 use Rattle.asn1_tokens.specs.declared.token.Word.TheVariants as words
 use Rattle.asn1_tokens.specs.declared.token.Sign.TheVariants as signs
@@ -63,10 +63,10 @@ abbrev pub has_name : List ℕ → List (List ℕ) → Bool
 has_name name taken = list_any (λ other. is_text other name) taken
 
 -- a name that is given for the first time in its list, where that isn't full
-unfoldable pub new_name_at : List (List ℕ) → Bool → Left → Result (List ℕ × Left) Fault
+unfoldable pub new_name_at : (List ℕ → Bool) → Bool → Left → Result (List ℕ × Left) Fault
 new_name_at taken full ts = do
   name ← lower_at ts
-  if full then Err (fault_at reasons.Bounds ts) else (if has_name name.0 taken then Err (fault_at reasons.Twice ts) else Ok (name.0, name.1))
+  if full then Err (fault_at reasons.Bounds ts) else (if taken name.0 then Err (fault_at reasons.Twice ts) else Ok (name.0, name.1))
 
 -- whether a list goes on, with a comma, or ends, with a brace
 unfoldable pub list_goes_on_at : Left → Result (Bool × Left) Fault
@@ -81,7 +81,7 @@ unfoldable pub name_entry_at : Extensible (List ℕ) → Left → Result (Extens
 name_entry_at names ts = if can_extend 1 names && begins_with_sign signs.Ellipsis ts then (do
   a ← sign_at signs.Ellipsis ts
   Ok (extended names, a)) else (do
-    name ← new_name_at (all_parts names) (is_full names) ts
+    name ← new_name_at (λ name. has_name name (all_parts names)) (is_full names) ts
     Ok (with_part names name.0, name.1))
 
 -- an entry, and whether another one follows
@@ -94,3 +94,57 @@ names_turn_at names ts = do
 -- the names of an ENUMERATED up to its brace
 unfoldable pub names_at : ℕ → Left → Result (Extensible (List ℕ) × Left) Fault
 names_at turns ts = repeat_at names_turn_at turns no_parts ts
+
+abbrev pub has_component : List ℕ → List Component → Bool
+has_component name components = list_any (λ other. is_text other.name name) components
+
+-- how many members stand before `...` at least
+abbrev pub least_members : Group → ℕ
+least_members groups.Sequence = 0
+least_members groups.Choice = 1
+
+-- the type that members make
+abbrev pub composed : Group → Extensible Component → Definition
+composed groups.Sequence members = types.Sequence members
+composed groups.Choice members = types.Choice members
+
+abbrev pub node : Definition → ℕ → Node
+node definition place = record { definition = definition; place = place }
+
+-- the name of a member; its type follows
+unfoldable pub named_at : Group → Extensible Component → ℕ → Left → Result (Head × Left) Fault
+named_at group members place ts = do
+  name ← new_name_at (λ name. has_component name (all_parts members)) (is_full members) ts
+  Ok (heads.Opens (frames.Member group members name.0 place), name.1)
+
+-- What follows the brace or comma before a member: the member's name, or `...` and then another member or the brace.
+unfoldable pub entry_at : Group → Extensible Component → ℕ → Left → Result (Head × Left) Fault
+entry_at group members place ts =
+    if can_extend (least_members group) members && begins_with_sign signs.Ellipsis ts then (do
+      a ← sign_at signs.Ellipsis ts
+      more ← list_goes_on_at a
+      if more.0 then named_at group (extended members) place more.1 else Ok (heads.Leaf (node (composed group (extended members)) place), more.1))
+    else named_at group members place ts
+
+-- whether a component is optional
+unfoldable pub optional_at : Group → Left → Result (Bool × Left) Fault
+optional_at groups.Sequence ts = if begins_with words.Optional ts then (do
+  a ← word_at words.Optional ts
+  Ok (true, a)) else Ok (false, ts)
+optional_at groups.Choice ts = Ok (false, ts)
+
+abbrev pub component : List ℕ → TypeId → Bool → Component
+component name definition optional = record { name = name; definition = definition; optional = optional }
+
+-- What follows the type of a member.
+unfoldable pub member_end_at : Group → Extensible Component → List ℕ → ℕ → TypeId → Left → Result (Head × Left) Fault
+member_end_at group members name place definition ts = do
+  optional ← optional_at group ts
+  more ← list_goes_on_at optional.1
+  if more.0 then entry_at group (with_part members (component name definition optional.0)) place more.1
+      else Ok (heads.Leaf (node (composed group (with_part members (component name definition optional.0))) place), more.1)
+
+-- What follows a type inside another one, with what it makes of that other one.
+abbrev pub close_at : Frame → TypeId → Left → Result (Head × Left) Fault
+close_at (frames.List size place) definition ts = Ok (heads.Leaf (node (types.SequenceOf size definition) place), ts)
+close_at (frames.Member group members name place) definition ts = member_end_at group members name place definition ts
