@@ -1,8 +1,8 @@
 //! Lists of members.
 
 ghost use Rattle.std.specs.Prelude.{◌≡◌, ◌++◌};
-ghost use Rattle.asn1_syntax.specs.Reading.{Gives};
-ghost use Rattle.asn1_syntax.specs.Members.{all_parts, has_component, least_members, composed, node, named_at, entry_at, optional_at, member_end_at, close_at};
+ghost use Rattle.asn1_types.specs.Reading.{Gives};
+ghost use Rattle.asn1_types.specs.Members.{all_parts, has_component, least_members, composed, node, named_at, entry_at, optional_at, member_end_at, close_at};
 
 use crate::definition::{Component, Definition, Extensible, Node, Size, TypeId};
 use crate::fault::{ModuleReason, ReadError};

@@ -4,12 +4,12 @@ use Rattle.std.specs.Int.Signed.{le_z}
 use Rattle.std.specs.Int.{int_min}
 use Rattle.asn1_tokens.specs.declared.token.Word.TheVariants as words
 use Rattle.asn1_tokens.specs.declared.token.Sign.TheVariants as signs
-use Rattle.asn1_syntax.specs.declared.fault.ModuleReason.TheVariants as reasons
-use Rattle.asn1_syntax.specs.declared.fault.Fault.{Fault}
-use Rattle.asn1_syntax.specs.declared.definition.Size.{Size}
-use Rattle.asn1_syntax.specs.declared.definition.Definition.{Definition}
-use Rattle.asn1_syntax.specs.declared.definition.Definition.TheVariants as types
-use Rattle.asn1_syntax.specs.Reading.{◌>>=◌, Left, fault_at, begins_with_sign, word_at, sign_at, number_at}
+use Rattle.asn1_types.specs.declared.fault.ModuleReason.TheVariants as reasons
+use Rattle.asn1_types.specs.declared.fault.Fault.{Fault}
+use Rattle.asn1_types.specs.declared.definition.Size.{Size}
+use Rattle.asn1_types.specs.declared.definition.Definition.{Definition}
+use Rattle.asn1_types.specs.declared.definition.Definition.TheVariants as types
+use Rattle.asn1_types.specs.Reading.{◌>>=◌, Left, fault_at, begins_with_sign, word_at, sign_at, number_at}
 
 -- a number from low to high
 unfoldable pub bounded_at : ℤ → ℤ → Left → Result (ℤ × Left) Fault

@@ -7,11 +7,11 @@ use Rattle.asn1_tokens.specs.declared.token.Token.TheVariants as tokens
 use Rattle.asn1_tokens.specs.declared.token.Place.{Place}
 use Rattle.asn1_tokens.specs.Words.{is_word, is_sign}
 use Rattle.asn1_tokens.specs.Stream.{Placed, first_token, first_place, others}
-use Rattle.asn1_syntax.specs.declared.fault.ModuleReason.{ModuleReason}
-use Rattle.asn1_syntax.specs.declared.fault.ModuleReason.TheVariants as reasons
-use Rattle.asn1_syntax.specs.declared.fault.Fault.{Fault}
-use Rattle.asn1_syntax.specs.declared.fault.ReadError.{ReadError}
-use Rattle.asn1_syntax.specs.declared.fault.ReadError.TheVariants as errors
+use Rattle.asn1_types.specs.declared.fault.ModuleReason.{ModuleReason}
+use Rattle.asn1_types.specs.declared.fault.ModuleReason.TheVariants as reasons
+use Rattle.asn1_types.specs.declared.fault.Fault.{Fault}
+use Rattle.asn1_types.specs.declared.fault.ReadError.{ReadError}
+use Rattle.asn1_types.specs.declared.fault.ReadError.TheVariants as errors
 
 infixl 10 ◌>>=◌
 abbrev pub ◌>>=◌ : {A B : Type 0} → Result A Fault → (A → Result B Fault) → Result B Fault
@@ -75,6 +75,20 @@ begins_with word ts = is_word_token word (first_token ts)
 
 abbrev pub begins_with_sign : Sign → Left → Bool
 begins_with_sign sign ts = is_sign_token sign (first_token ts)
+
+-- the word that stands first, if a word does
+abbrev pub word_in : Token → Option Word
+word_in (tokens.Word word) = Some word
+word_in (tokens.Upper name) = None
+word_in (tokens.Lower name) = None
+word_in (tokens.Number value) = None
+word_in (tokens.Sign sign) = None
+word_in tokens.OutOfProfile = None
+word_in tokens.Nothing = None
+word_in tokens.EndOfText = None
+
+abbrev pub first_word : Left → Option Word
+first_word ts = word_in (first_token ts)
 
 -- a word, a sign
 unfoldable pub word_at : Word → Left → Result Left Fault

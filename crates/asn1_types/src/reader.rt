@@ -2,7 +2,7 @@
 
 ghost use Rattle.std.specs.Prelude.{◌≡◌, List};
 ghost use Rattle.asn1_tokens.specs.Stream.{items_of, first_token, first_place, others, is_last};
-ghost use Rattle.asn1_syntax.specs.Reading.{Gives, unexpected, begins_with, begins_with_sign, word_at, sign_at, upper_at, lower_at, number_at, fault_at};
+ghost use Rattle.asn1_types.specs.Reading.{Gives, first_word, unexpected, begins_with, begins_with_sign, word_at, sign_at, upper_at, lower_at, number_at, fault_at};
 
 use crate::fault::{Fault, ModuleReason, ReadError};
 use asn1_tokens::{Sign, Token, Tokens, Word};
@@ -84,6 +84,16 @@ impl<'a> Reader<'a> {
         match self.tokens.token() {
             Token::Word(found) => found.is(word),
             _ => false,
+        }
+    }
+
+    /// The word that stands first, if a word does.
+    pub fn first_word(&self) -> Option<Word>
+        ensures { result ≡ first_word self.now }
+    {
+        match self.tokens.token() {
+            Token::Word(word) => Some(*word),
+            _ => None,
         }
     }
 

@@ -1,8 +1,8 @@
 //! Numbers within bounds, sizes and the type INTEGER.
 
 ghost use Rattle.std.specs.Prelude.{◌≡◌, ◌≤◌, ◌<◌, ◌≤ℤ◌, pos, ◌^◌, IfOk};
-ghost use Rattle.asn1_syntax.specs.Reading.{Gives};
-ghost use Rattle.asn1_syntax.specs.Sizes.{bounded_at, natural_at, ellipsis_at, size_end_at, size_rest_at, size_at, optional_size_at, integer_ellipsis_at, integer_least, integer_greatest, integer_at};
+ghost use Rattle.asn1_types.specs.Reading.{Gives};
+ghost use Rattle.asn1_types.specs.Sizes.{bounded_at, natural_at, ellipsis_at, size_end_at, size_rest_at, size_at, optional_size_at, integer_ellipsis_at, integer_least, integer_greatest, integer_at};
 
 use crate::definition::{Definition, Size};
 use crate::fault::{ModuleReason, ReadError};

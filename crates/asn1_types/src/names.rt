@@ -1,8 +1,8 @@
 //! The names of a list: each stands once.
 
 ghost use Rattle.std.specs.Prelude.{◌≡◌, ◌++◌, length, map, OnOk};
-ghost use Rattle.asn1_syntax.specs.Reading.{Gives};
-ghost use Rattle.asn1_syntax.specs.Members.{no_parts, all_parts, with_part, extended, can_extend, is_full, has_name, new_name_at, list_goes_on_at, name_entry_at, names_turn_at, names_at};
+ghost use Rattle.asn1_types.specs.Reading.{Gives};
+ghost use Rattle.asn1_types.specs.Members.{no_parts, all_parts, with_part, extended, can_extend, is_full, has_name, new_name_at, list_goes_on_at, name_entry_at, names_turn_at, names_at};
 
 use crate::definition::Extensible;
 use crate::fault::{ModuleReason, ReadError};

@@ -1,7 +1,7 @@
 //! Why a text is no module.
 
 ghost use Rattle.std.specs.Prelude.{◌≡◌};
-ghost use Rattle.asn1_syntax.specs.declared.fault.ReadError.TheVariants.{Memory};
+ghost use Rattle.asn1_types.specs.declared.fault.ReadError.TheVariants.{Memory};
 
 use gnb_base::octets::Memory;
 

@@ -3,36 +3,20 @@ use Rattle.std.specs.Prelude.{ℕ, zero, suc, List, [], ◌∷◌, ◌++◌, len
 use Rattle.asn1_tokens.specs.declared.token.Word.{Word}
 use Rattle.asn1_tokens.specs.declared.token.Word.TheVariants as words
 use Rattle.asn1_tokens.specs.declared.token.Sign.TheVariants as signs
-use Rattle.asn1_tokens.specs.declared.token.Token.{Token}
-use Rattle.asn1_tokens.specs.declared.token.Token.TheVariants as tokens
-use Rattle.asn1_tokens.specs.Stream.{first_place, first_token}
-use Rattle.asn1_syntax.specs.declared.fault.Fault.{Fault}
-use Rattle.asn1_syntax.specs.declared.definition.TypeId.{TypeId}
-use Rattle.asn1_syntax.specs.declared.definition.Node.{Node}
-use Rattle.asn1_syntax.specs.declared.definition.Definition.{Definition}
-use Rattle.asn1_syntax.specs.declared.definition.Definition.TheVariants as types
-use Rattle.asn1_syntax.specs.declared.members.Group.TheVariants as groups
-use Rattle.asn1_syntax.specs.declared.members.Frame.{Frame}
-use Rattle.asn1_syntax.specs.declared.members.Frame.TheVariants as frames
-use Rattle.asn1_syntax.specs.declared.members.Head.{Head}
-use Rattle.asn1_syntax.specs.declared.members.Head.TheVariants as heads
-use Rattle.asn1_syntax.specs.Reading.{◌>>=◌, Left, unexpected, begins_with, begins_with_sign, word_at, sign_at, upper_at, repeat_at}
-use Rattle.asn1_syntax.specs.Sizes.{size_at, optional_size_at, integer_at}
-use Rattle.asn1_syntax.specs.Members.{no_parts, names_at, entry_at, node, close_at}
-
--- the word that stands first, if a word does
-abbrev pub word_in : Token → Option Word
-word_in (tokens.Word word) = Some word
-word_in (tokens.Upper name) = None
-word_in (tokens.Lower name) = None
-word_in (tokens.Number value) = None
-word_in (tokens.Sign sign) = None
-word_in tokens.OutOfProfile = None
-word_in tokens.Nothing = None
-word_in tokens.EndOfText = None
-
-abbrev pub first_word : Left → Option Word
-first_word ts = word_in (first_token ts)
+use Rattle.asn1_tokens.specs.Stream.{first_place}
+use Rattle.asn1_types.specs.declared.fault.Fault.{Fault}
+use Rattle.asn1_types.specs.declared.definition.TypeId.{TypeId}
+use Rattle.asn1_types.specs.declared.definition.Node.{Node}
+use Rattle.asn1_types.specs.declared.definition.Definition.{Definition}
+use Rattle.asn1_types.specs.declared.definition.Definition.TheVariants as types
+use Rattle.asn1_types.specs.declared.members.Group.TheVariants as groups
+use Rattle.asn1_types.specs.declared.members.Frame.{Frame}
+use Rattle.asn1_types.specs.declared.members.Frame.TheVariants as frames
+use Rattle.asn1_types.specs.declared.members.Head.{Head}
+use Rattle.asn1_types.specs.declared.members.Head.TheVariants as heads
+use Rattle.asn1_types.specs.Reading.{◌>>=◌, Left, first_word, unexpected, begins_with, begins_with_sign, word_at, sign_at, upper_at, repeat_at}
+use Rattle.asn1_types.specs.Sizes.{size_at, optional_size_at, integer_at}
+use Rattle.asn1_types.specs.Members.{no_parts, names_at, entry_at, node, close_at}
 
 -- behind the word ENUMERATED
 unfoldable pub enumerated_at : ℕ → Left → Result (Definition × Left) Fault
