@@ -97,13 +97,17 @@ header_at ts = do
   e ← word_at words.Begin d
   Ok (name.0, e)
 
-abbrev pub no_assignments : Parts
-no_assignments = record { assignments = []; nodes = [] }
+abbrev pub no_assignments : List Node → Parts
+no_assignments nodes = record { assignments = []; nodes = nodes }
+
+-- the assignments up to the word END
+unfoldable pub assignments_at : ℕ → List Node → Left → Result (Parts × Left) Fault
+assignments_at turns nodes ts = repeat_at (module_turn_at turns) turns (no_assignments nodes) ts
 
 unfoldable pub syntax_at : ℕ → Left → Result Syntax Fault
 syntax_at turns ts = do
   header ← header_at ts
-  parts ← repeat_at (module_turn_at turns) turns no_assignments header.1
+  parts ← assignments_at turns [] header.1
   Ok (record { name = header.0; assignments = parts.0.assignments; nodes = parts.0.nodes; end = (first_place parts.1).end })
 
 -- the module at the front of a text, without a look at what its names refer to; no text has as many items as turns

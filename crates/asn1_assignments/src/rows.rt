@@ -155,14 +155,19 @@ fn outcome(
 }
 
 /// The types of a procedure's messages.
-struct Messages {
+#[derive(Clone, Copy)]
+struct MessageTypes {
     initiating: TypeId,
     successful: Option<TypeId>,
     unsuccessful: Option<TypeId>,
 }
 
 #[tactic(auto, unfolding(crate::specs::Rows::messages_at))]
-fn messages(reader: &mut Reader, turns: u64, nodes: &mut Items<Node>) -> Result<Messages, ReadError>
+fn messages(
+    reader: &mut Reader,
+    turns: u64,
+    nodes: &mut Items<Node>,
+) -> Result<MessageTypes, ReadError>
     ensures { Gives (λ x. (x.initiating, x.successful, x.unsuccessful, nodes.new, reader.new)) result (messages_at turns nodes.old reader.old) }
 {
     reader.word(Word::Initiating)?;
@@ -170,7 +175,7 @@ fn messages(reader: &mut Reader, turns: u64, nodes: &mut Items<Node>) -> Result<
     let initiating = reader.definition(turns, nodes)?;
     let successful = outcome(reader, turns, Word::Successful, nodes)?;
     let unsuccessful = outcome(reader, turns, Word::Unsuccessful, nodes)?;
-    Ok(Messages {
+    Ok(MessageTypes {
         initiating,
         successful,
         unsuccessful,

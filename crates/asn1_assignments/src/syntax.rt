@@ -2,7 +2,7 @@
 
 ghost use Rattle.std.specs.Prelude.{◌≡◌, ◌&&◌, nat_le, count_by, length};
 ghost use Rattle.asn1_types.specs.Reading.{Gives};
-ghost use Rattle.asn1_assignments.specs.Module.{Parts, is_type, has_all_types, is_assigned, new_assignment_at, ie_body_at, procedure_body_at, type_body_at, body_at, assignment_at, module_turn_at, header_at, syntax_at, syntax_of};
+ghost use Rattle.asn1_assignments.specs.Module.{Parts, is_type, has_all_types, is_assigned, new_assignment_at, ie_body_at, procedure_body_at, type_body_at, body_at, assignment_at, module_turn_at, assignments_at, header_at, syntax_at, syntax_of};
 
 use crate::assignment::{Assignment, Body, Syntax};
 use crate::sets::{ie_set, procedure_set};
@@ -172,25 +172,40 @@ fn header(reader: &mut Reader) -> Result<Octets, ReadError>
     Ok(name)
 }
 
+/// Takes the assignments of a module, up to its last word, in at most so many turns.
+#[tactic(auto, using(asn1_types::proofs::Loops::repeat_turn, asn1_types::proofs::Loops::repeat_end), unfolding(crate::specs::Module::assignments_at))]
+fn assignments(
+    reader: &mut Reader,
+    alloc: Global,
+    turns: u64,
+    nodes: &mut Items<Node>,
+) -> Result<Items<Assignment>, ReadError>
+    ensures { Gives (λ found. (record { assignments = found; nodes = nodes.new }, reader.new)) result (assignments_at turns nodes.old reader.old) }
+{
+    let mut found = Items::new(alloc);
+    for _ in 0..turns {
+        if !module_turn(reader, alloc, turns, &mut found, nodes)? {
+            return Ok(found);
+        }
+    }
+    Err(reader.unexpected())
+}
+
 /// Takes a module, up to its last word, in at most so many turns.
-#[tactic(auto, using(asn1_types::proofs::Loops::repeat_turn, asn1_types::proofs::Loops::repeat_end), unfolding(crate::specs::Module::syntax_at))]
+#[tactic(auto, unfolding(crate::specs::Module::syntax_at))]
 fn syntax(reader: &mut Reader, alloc: Global, turns: u64) -> Result<Syntax, ReadError>
     ensures { Gives (λ syntax. syntax) result (syntax_at turns reader.old) }
 {
     let name = header(reader)?;
-    let mut assignments = Items::new(alloc);
     let mut nodes = Items::new(alloc);
-    for _ in 0..turns {
-        if !module_turn(reader, alloc, turns, &mut assignments, &mut nodes)? {
-            return Ok(Syntax {
-                name,
-                assignments,
-                nodes,
-                end: reader.end(),
-            });
-        }
-    }
-    Err(reader.unexpected())
+    let assignments = assignments(reader, alloc, turns, &mut nodes)?;
+    let end = reader.end();
+    Ok(Syntax {
+        name,
+        assignments,
+        nodes,
+        end,
+    })
 }
 
 /// The module at the front of a text, or the text's first fault, without a look at what its names refer to.
