@@ -1,0 +1,5 @@
+//! ASN.1 modules: the types of a text and their names, or the text's first fault.
+#![tactic(auto)]
+
+mod names;
+mod position;
