@@ -1,3 +1,4 @@
 pub mod Position
 pub mod Names
 pub mod Graph
+pub mod Paths

@@ -3,4 +3,5 @@
 
 mod graph;
 mod names;
+mod paths;
 mod position;
