@@ -10,7 +10,7 @@ use std::alloc::Global;
 const DEPTH_CAP: u8 = 61;
 
 /// The value at a place of a table, 0 outside it.
-fn value_at(table: &[u8], at: usize) -> u8
+pub fn value_at(table: &[u8], at: usize) -> u8
     ensures { result ≡ slice_index table.now at }
 {
     if at < table.len() { table[at] } else { 0 }
@@ -45,7 +45,7 @@ fn depth_step(table: &mut [u8], weights: &[u8], edge: Edge) -> bool
         return false;
     }
     let depth = u16::from(value_at(weights, edge.from)) + u16::from(table[edge.to]);
-    raise(table, edge.from, depth.min(61) as u8)
+    raise(table, edge.from, depth.min(u16::from(DEPTH_CAP)) as u8)
 }
 
 #[tactic(auto, unfolding(crate::specs::Paths::round_of))]

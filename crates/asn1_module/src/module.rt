@@ -1,0 +1,136 @@
+//! Modules.
+
+ghost use Rattle.std.specs.Prelude.{◌≡◌, ◌<◌, length, take, MatchResult, slice_get, option_map, Some};
+ghost use Rattle.asn1_module.specs.Module.{Reads, RefusedSo, WrongText, HasFault, type_of, type_ids, find_type, ie_rows, procedure_rows};
+
+use crate::error::ModuleError;
+use crate::judgement::judge;
+use crate::position::position_after;
+use asn1_assignments::{Body, IeRow, ProcedureRow, Syntax, read_syntax};
+use asn1_tokens::is_text;
+use asn1_types::{Definition, Fault, ReadError, TypeId};
+use std::alloc::Global;
+use std::marker::Model;
+
+/// A module of types. Contracts see its name, its assignments and the types that stand in them.
+#[derive(Debug, Drop)]
+pub struct Module {
+    syntax: Syntax,
+}
+
+impl Model for Module {
+    ghost use Rattle.asn1_assignments.specs.declared.assignment.Syntax.{Syntax};
+
+    ghost Value = { Syntax };
+
+    ghost view = { λ m. m.syntax };
+}
+
+/// The refusal of a text for this fault.
+fn refused(text: &[u8], fault: Fault) -> ModuleError
+    requires { HasFault text.now fault }
+    ensures { RefusedSo text.now result }
+{
+    let front = &text[..fault.place.min(text.len())];
+    let (line, column) = position_after(front);
+    ModuleError::Refused {
+        line,
+        column,
+        reason: fault.reason,
+    }
+}
+
+/// The module at the front of a text, with the number of its octets, or the first fault of the text.
+pub fn read_module(alloc: Global, text: &[u8]) -> Result<(Module, usize), ModuleError>
+    ensures { MatchResult result (λ read. Reads text.now read.1 read.0) (RefusedSo text.now) }
+{
+    let syntax = match read_syntax(alloc, text) {
+        Ok(syntax) => syntax,
+        Err(ReadError::Fault(fault)) => return Err(refused(text, fault)),
+        Err(ReadError::Memory) => return Err(ModuleError::Memory),
+    };
+    if let Some(fault) = judge(alloc, &syntax)? {
+        return Err(refused(text, fault));
+    }
+    let end = syntax.end;
+    Ok((Module { syntax }, end))
+}
+
+impl Module {
+    /// The type of this name.
+    #[tactic(auto, unfolding(crate::specs::Module::find_type))]
+    pub fn find(&self, name: &[u8]) -> Option<TypeId>
+        ensures { result ≡ find_type name.now self.now.assignments }
+    {
+        for assignment in self.syntax.assignments.as_slice() {
+            if is_text(assignment.name.as_slice(), name) {
+                return match assignment.body {
+                    Body::Type(definition) => Some(definition),
+                    _ => None,
+                };
+            }
+        }
+        None
+    }
+
+    /// The module's name.
+    pub fn name(&self) -> &[u8]
+        ensures { result.now ≡ self.now.name }
+    {
+        self.syntax.name.as_slice()
+    }
+
+    /// The form of a type.
+    pub fn definition(&self, id: TypeId) -> &Definition
+        requires { id.number < length self.now.nodes }
+        ensures { option_map (λ node. node.definition) (slice_get self.now.nodes id.number) ≡ Some result.now }
+    {
+        &self.syntax.nodes.as_slice()[id.number].definition
+    }
+
+    /// How many types have names.
+    #[tactic(auto, unfolding(crate::specs::Module::type_ids))]
+    fn type_count(&self) -> usize
+        ensures { result ≡ length (type_ids self.now.assignments) }
+    {
+        let mut count = 0;
+        for assignment in self.syntax.assignments.as_slice() {
+            if let Body::Type(_) = assignment.body {
+                count += 1;
+            }
+        }
+        count
+    }
+
+    /// The information elements of the set of this name.
+    #[tactic(auto, unfolding(crate::specs::Module::ie_rows))]
+    pub fn ie_rows(&self, set: &[u8]) -> Option<&[IeRow]>
+        ensures { option_map (λ rows. rows.now) result ≡ ie_rows set.now self.now.assignments }
+    {
+        for assignment in self.syntax.assignments.as_slice() {
+            if is_text(assignment.name.as_slice(), set) {
+                return match &assignment.body {
+                    Body::IeSet(rows) => Some(rows.as_slice()),
+                    _ => None,
+                };
+            }
+        }
+        None
+    }
+
+    /// The procedures of the set of this name.
+    #[tactic(auto, unfolding(crate::specs::Module::procedure_rows))]
+    pub fn procedure_rows(&self, set: &[u8]) -> Option<&[ProcedureRow]>
+        ensures { option_map (λ rows. rows.now) result ≡ procedure_rows set.now self.now.assignments }
+    {
+        for assignment in self.syntax.assignments.as_slice() {
+            if is_text(assignment.name.as_slice(), set) {
+                return match &assignment.body {
+                    Body::ProcedureSet(rows) => Some(rows.as_slice()),
+                    _ => None,
+                };
+            }
+        }
+        None
+    }
+}
