@@ -1,3 +1,4 @@
 pub mod GraphLemmas
 pub mod PathLemmas
 pub mod JudgementLemmas
+pub mod TypeCount
