@@ -1,5 +1,5 @@
 -- Which texts are modules, and what is wrong with the others.
-use Rattle.std.specs.Prelude.{◌≡◌, ℕ, List, [], ◌∷◌, length, take, Option, Some, None, Ok, Err, if◌then◌else◌}
+use Rattle.std.specs.Prelude.{◌≡◌, ℕ, List, [], ◌∷◌, length, take, Bool, false, ◌==◌, Option, Some, None, Ok, Err, if◌then◌else◌}
 use Rattle.asn1_tokens.specs.Words.{is_text}
 use Rattle.asn1_types.specs.declared.fault.Fault.{Fault}
 use Rattle.asn1_types.specs.declared.fault.ModuleReason.{ModuleReason}
@@ -78,3 +78,16 @@ procedure_rows_of (bodies.ProcedureSet rows) = Some rows
 unfoldable pub procedure_rows : List ℕ → List Assignment → Option (List ProcedureRow)
 procedure_rows name [] = None
 procedure_rows name (a ∷ assignments) = if is_text a.name name then procedure_rows_of a.body else procedure_rows name assignments
+
+-- the assignment is that of this type
+abbrev pub is_id : TypeId → Option TypeId → Bool
+is_id id None = false
+is_id id (Some other) = other.number == id.number
+
+abbrev pub is_body_of : TypeId → Body → Bool
+is_body_of id body = is_id id (type_of body)
+
+-- the name of a type, if it has one of its own
+unfoldable pub type_name : TypeId → List Assignment → List ℕ
+type_name id [] = []
+type_name id (a ∷ assignments) = if is_body_of id a.body then a.name else type_name id assignments

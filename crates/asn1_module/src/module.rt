@@ -1,12 +1,12 @@
 //! Modules.
 
-ghost use Rattle.std.specs.Prelude.{◌≡◌, ◌<◌, length, take, MatchResult, slice_get, option_map, Some};
-ghost use Rattle.asn1_module.specs.Module.{Reads, RefusedSo, WrongText, HasFault, type_of, type_ids, find_type, ie_rows, procedure_rows};
+ghost use Rattle.std.specs.Prelude.{◌≡◌, ◌==◌, ◌<◌, ◌≤◌, length, MatchResult, slice_get, option_map, Some};
+ghost use Rattle.asn1_module.specs.Module.{Reads, RefusedSo, HasFault, type_ids, find_type, type_name, is_body_of, ie_rows, procedure_rows};
 
 use crate::error::ModuleError;
 use crate::judgement::judge;
 use crate::position::position_after;
-use asn1_assignments::{Body, IeRow, ProcedureRow, Syntax, read_syntax};
+use asn1_assignments::{Assignment, Body, IeRow, ProcedureRow, Syntax, read_syntax};
 use asn1_tokens::is_text;
 use asn1_types::{Definition, Fault, ReadError, TypeId};
 use std::alloc::Global;
@@ -19,11 +19,15 @@ pub struct Module {
 }
 
 impl Model for Module {
+    ghost use Rattle.std.specs.Prelude.{◌≤◌, length};
     ghost use Rattle.asn1_assignments.specs.declared.assignment.Syntax.{Syntax};
+    ghost use Rattle.asn1_module.specs.Module.{type_ids};
 
     ghost Value = { Syntax };
 
     ghost view = { λ m. m.syntax };
+
+    ghost invariant = { λ m. length (type_ids m.syntax.assignments) ≤ 1000 };
 }
 
 /// The refusal of a text for this fault.
@@ -37,6 +41,47 @@ fn refused(text: &[u8], fault: Fault) -> ModuleError
         line,
         column,
         reason: fault.reason,
+    }
+}
+
+/// How many of these are types.
+#[tactic(auto, unfolding(crate::specs::Module::type_ids))]
+fn type_count(assignments: &[Assignment]) -> usize
+    ensures { result ≡ length (type_ids assignments.now) }
+{
+    let mut count = 0;
+    for assignment in assignments {
+        if let Body::Type(_) = assignment.body {
+            count += 1;
+        }
+    }
+    count
+}
+
+/// The type among these with this number.
+#[tactic(auto, unfolding(crate::specs::Module::type_ids))]
+fn nth_type(assignments: &[Assignment], i: usize) -> Option<TypeId>
+    ensures { result ≡ slice_get (type_ids assignments.now) i }
+{
+    let mut left = i;
+    for assignment in assignments {
+        if let Body::Type(definition) = assignment.body {
+            if left == 0 {
+                return Some(definition);
+            }
+            left -= 1;
+        }
+    }
+    None
+}
+
+/// The assignment is that of this type.
+fn is_body_of(id: TypeId, body: &Body) -> bool
+    ensures { result ≡ is_body_of id body.now }
+{
+    match body {
+        Body::Type(definition) => definition.number == id.number,
+        _ => false,
     }
 }
 
@@ -89,17 +134,39 @@ impl Module {
     }
 
     /// How many types have names.
-    #[tactic(auto, unfolding(crate::specs::Module::type_ids))]
-    fn type_count(&self) -> usize
-        ensures { result ≡ length (type_ids self.now.assignments) }
+    pub fn len(&self) -> u32
+        ensures value { result ≡ length (type_ids self.now.assignments) }
+        ensures small { result ≤ 1000 }
     {
-        let mut count = 0;
+        type_count(self.syntax.assignments.as_slice()) as u32
+    }
+
+    /// No type has a name.
+    pub fn is_empty(&self) -> bool
+        ensures { result ≡ (length (type_ids self.now.assignments) == 0) }
+    {
+        self.len() == 0
+    }
+
+    /// The type with a name that has this number in the text's order, from 0.
+    pub fn at(&self, i: u32) -> TypeId
+        requires { i < length (type_ids self.now.assignments) }
+        ensures { slice_get (type_ids self.now.assignments) i ≡ Some result }
+    {
+        nth_type(self.syntax.assignments.as_slice(), i as usize).unwrap()
+    }
+
+    /// The name of a type, which is empty for one that has none of its own.
+    #[tactic(auto, unfolding(crate::specs::Module::type_name))]
+    pub fn type_name(&self, id: TypeId) -> &[u8]
+        ensures { result.now ≡ type_name id self.now.assignments }
+    {
         for assignment in self.syntax.assignments.as_slice() {
-            if let Body::Type(_) = assignment.body {
-                count += 1;
+            if is_body_of(id, &assignment.body) {
+                return assignment.name.as_slice();
             }
         }
-        count
+        &[]
     }
 
     /// The information elements of the set of this name.
