@@ -213,8 +213,16 @@ fn refusals_are_placed(rt: HostRuntime) -> Result<(), Fail> {
 #[test]
 fn profile_is_read_whole(rt: HostRuntime) -> Result<(), Fail> {
     let (module, octets) = read_module(rt.alloc(), PROFILE).ok().ok_or("a module")?;
+    assert_eq!(rt; octets, PROFILE.len());
     assert_eq!(rt; module.name(), b"SplitGNB".as_slice());
-    assert_eq!(rt; octets + 1, PROFILE.len());
     assert_eq!(rt; module.len(), 53);
+    assert_eq!(rt; module.type_name(module.at(0)), b"UE".as_slice());
+    assert_eq!(rt; module.find(b"UE"), Some(module.at(0)));
+    assert_eq!(rt; module.find(b"UEs"), None);
+    assert!(rt; module.find(b"U").is_none());
+    let rows = module.ie_rows(b"HandoverRequestIEs").ok_or("a set")?;
+    assert_eq!(rt; rows.len(), 8);
+    let procedures = module.procedure_rows(b"XnProcedures").ok_or("a set")?;
+    assert_eq!(rt; procedures.len(), 5);
     Ok(())
 }

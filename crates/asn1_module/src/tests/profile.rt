@@ -201,4 +201,4 @@ PathSwitchAcknowledge ::= SEQUENCE {protocolIEs ProtocolIE-Container {{PathSwitc
 PathSwitchAcknowledgeIEs PROTOCOL-IES ::= {\n\
   {ID 1 CRITICALITY reject TYPE UE PRESENCE mandatory} |\n\
   {ID 2 CRITICALITY reject TYPE Word PRESENCE mandatory}, ...}\n\
-END\n";
+END";
