@@ -1,5 +1,5 @@
 -- Modules (X.680, clause 13) and their assignments.
-use Rattle.std.specs.Prelude.{ℕ, List, [], ◌∷◌, ◌++◌, length, Bool, true, false, Result, Ok, Err, if◌then◌else◌, ◌&&◌, nat_le, not, count_by, ◌^◌, ◌-◌}
+use Rattle.std.specs.Prelude.{ℕ, List, [], ◌∷◌, ◌++◌, length, Bool, true, false, Result, Ok, Err, if◌then◌else◌, ◌&&◌, nat_le, not, count_by, ◌+◌}
 use Rattle.std.specs.List.{list_any}
 use Rattle.asn1_tokens.specs.declared.token.Word.TheVariants as words
 use Rattle.asn1_tokens.specs.declared.token.Sign.TheVariants as signs
@@ -110,6 +110,7 @@ syntax_at turns ts = do
   parts ← assignments_at turns [] header.1
   Ok (record { name = header.0; assignments = parts.0.assignments; nodes = parts.0.nodes; end = (first_place parts.1).end })
 
--- the module at the front of a text, without a look at what its names refer to; no text has as many items as turns
+-- The module at the front of a text, without a look at what its names refer to. No list has more turns than there are octets,
+-- since a turn takes an item at least.
 abbrev pub syntax_of : List ℕ → Result Syntax Fault
-syntax_of text = syntax_at (2 ^ 64 - 1) (items_of text)
+syntax_of text = syntax_at (length text + 1) (items_of text)

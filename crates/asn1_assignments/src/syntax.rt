@@ -13,9 +13,6 @@ use std::alloc::Global;
 
 const TYPES: usize = 1000;
 
-/// More turns than a text has items.
-const TURNS: u64 = u64::MAX;
-
 impl Assignment {
     /// It is that of a type.
     pub fn is_type(&self) -> bool
@@ -213,5 +210,6 @@ pub fn read_syntax(alloc: Global, text: &[u8]) -> Result<Syntax, ReadError>
     ensures { Gives (λ syntax. syntax) result (syntax_of text.now) }
 {
     let mut reader = Reader::new(alloc, text)?;
-    syntax(&mut reader, alloc, TURNS)
+    // A turn takes an item at least, and an item an octet.
+    syntax(&mut reader, alloc, text.len() as u64 + 1)
 }

@@ -2,3 +2,5 @@ pub mod GraphLemmas
 pub mod PathLemmas
 pub mod JudgementLemmas
 pub mod TypeCount
+pub mod LinkLemmas
+pub mod RowLinks

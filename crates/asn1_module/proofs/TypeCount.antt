@@ -39,7 +39,7 @@ ok_same : {A : Type 0} (x y : A) → (let r : Read A = Ok x in r) ≡ Ok y → x
 ok_same x y e = cc
 
 -- what a turn keeps, all turns keep
-repeat_keeps : {S : Type 0} (turn : S → Left → Result (Bool × S × Left) Fault) (Q : S → Type 0) → ((s : S) (ts : Left) (t : Bool × S × Left) → turn s ts ≡ Ok t → Q s → Q t.1) → (turns : ℕ) (s : S) (ts : Left) (r : S × Left) → repeat_at turn turns s ts ≡ Ok r → Q s → Q r.0
+pub repeat_keeps : {S : Type 0} (turn : S → Left → Result (Bool × S × Left) Fault) (Q : S → Type 0) → ((s : S) (ts : Left) (t : Bool × S × Left) → turn s ts ≡ Ok t → Q s → Q t.1) → (turns : ℕ) (s : S) (ts : Left) (r : S × Left) → repeat_at turn turns s ts ≡ Ok r → Q s → Q r.0
 unfolding repeat_at
 repeat_keeps {S} turn Q keeps zero s ts r h q = cc
 repeat_keeps {S} turn Q keeps (suc n) s ts r h q =
@@ -140,4 +140,4 @@ length-type_ids (a ∷ assignments) =
 
 -- the types of a module that was read
 pub types_bounded : (text : List ℕ) (s : Syntax) → syntax_of text ≡ Ok s → length (type_ids s.assignments) ≤ 1000
-types_bounded text s h = omega (arith, length-type_ids s.assignments, syntax_bounded (2 ^ 64 - 1) (items_of text) s h)
+types_bounded text s h = omega (arith, length-type_ids s.assignments, syntax_bounded (length text + 1) (items_of text) s h)

@@ -4,3 +4,4 @@ pub mod Graph
 pub mod Paths
 pub mod Judgement
 pub mod Module
+pub mod Links
