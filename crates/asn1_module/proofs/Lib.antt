@@ -4,3 +4,4 @@ pub mod JudgementLemmas
 pub mod TypeCount
 pub mod LinkLemmas
 pub mod RowLinks
+pub mod Facts

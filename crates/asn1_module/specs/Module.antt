@@ -1,9 +1,11 @@
 -- Which texts are modules, and what is wrong with the others.
-use Rattle.std.specs.Prelude.{◌≡◌, ℕ, List, [], ◌∷◌, length, take, Bool, false, ◌==◌, Option, Some, None, Ok, Err, if◌then◌else◌}
+use Rattle.std.specs.Prelude.{◌≡◌, ℕ, ◌≤◌, IsSome, List, [], ◌∷◌, length, take, Bool, false, ◌==◌, Option, Some, None, Ok, Err, if◌then◌else◌}
 use Rattle.asn1_tokens.specs.Words.{is_text}
 use Rattle.asn1_types.specs.declared.fault.Fault.{Fault}
 use Rattle.asn1_types.specs.declared.fault.ModuleReason.{ModuleReason}
 use Rattle.asn1_types.specs.declared.definition.TypeId.{TypeId}
+use Rattle.asn1_types.specs.declared.definition.Definition.{Definition}
+use Rattle.asn1_types.specs.declared.definition.Definition.TheVariants as types
 use Rattle.asn1_assignments.specs.declared.assignment.Body.{Body}
 use Rattle.asn1_assignments.specs.declared.assignment.Body.TheVariants as bodies
 use Rattle.asn1_assignments.specs.declared.assignment.Assignment.{Assignment}
@@ -12,7 +14,8 @@ use Rattle.asn1_assignments.specs.declared.assignment.IeRow.{IeRow}
 use Rattle.asn1_assignments.specs.declared.assignment.ProcedureRow.{ProcedureRow}
 use Rattle.asn1_assignments.specs.Module.{syntax_of}
 use Rattle.asn1_module.specs.Position.{line_after, column_after}
-use Rattle.asn1_module.specs.Judgement.{Judged}
+use Rattle.asn1_module.specs.Judgement.{Judged, IsSound}
+use Rattle.asn1_module.specs.Links.{IsLinked}
 use Rattle.asn1_module.specs.declared.error.ModuleError.{ModuleError}
 use Rattle.asn1_module.specs.declared.error.ModuleError.TheVariants as errors
 
@@ -91,3 +94,24 @@ is_body_of id body = is_id id (type_of body)
 unfoldable pub type_name : TypeId → List Assignment → List ℕ
 type_name id [] = []
 type_name id (a ∷ assignments) = if is_body_of id a.body then a.name else type_name id assignments
+
+-- What is so of each module: it has at most a thousand types, its numbers are those of its types, and nothing is wrong with it.
+pub record IsModule (m : Syntax) : Type 0 where
+  pub types : length (type_ids m.assignments) ≤ 1000
+  pub linked : IsLinked m
+  pub sound : IsSound m
+
+-- what the name in a type refers to is there
+abbrev pub HasTarget : List Assignment → Definition → Type 0
+HasTarget assignments (types.Reference name) = IsSome (find_type name assignments)
+HasTarget assignments (types.IeContainer set) = IsSome (ie_rows set assignments)
+HasTarget assignments (types.Pdu set) = IsSome (procedure_rows set assignments)
+HasTarget assignments types.Boolean = Unit {0}
+HasTarget assignments (types.Integer low high extensible) = Unit {0}
+HasTarget assignments (types.Enumerated names) = Unit {0}
+HasTarget assignments (types.BitString size) = Unit {0}
+HasTarget assignments (types.OctetString size) = Unit {0}
+HasTarget assignments (types.PrintableString size) = Unit {0}
+HasTarget assignments (types.Sequence members) = Unit {0}
+HasTarget assignments (types.Choice members) = Unit {0}
+HasTarget assignments (types.SequenceOf size element) = Unit {0}

@@ -1,7 +1,8 @@
 //! Modules.
 
-ghost use Rattle.std.specs.Prelude.{◌≡◌, ◌==◌, ◌<◌, ◌≤◌, length, MatchResult, slice_get, option_map, Some};
-ghost use Rattle.asn1_module.specs.Module.{Reads, RefusedSo, HasFault, type_ids, find_type, type_name, is_body_of, ie_rows, procedure_rows};
+ghost use Rattle.std.specs.Prelude.{◌≡◌, ◌==◌, ◌<◌, ◌≤◌, length, MatchResult, IfSome, slice_get, option_map, Some};
+ghost use Rattle.asn1_module.specs.Links.{IsInside, IesBelow, ProceduresBelow};
+ghost use Rattle.asn1_module.specs.Module.{Reads, RefusedSo, IsModule, HasTarget, HasFault, type_ids, find_type, type_name, is_body_of, ie_rows, procedure_rows};
 
 use crate::error::ModuleError;
 use crate::judgement::judge;
@@ -19,15 +20,14 @@ pub struct Module {
 }
 
 impl Model for Module {
-    ghost use Rattle.std.specs.Prelude.{◌≤◌, length};
     ghost use Rattle.asn1_assignments.specs.declared.assignment.Syntax.{Syntax};
-    ghost use Rattle.asn1_module.specs.Module.{type_ids};
+    ghost use Rattle.asn1_module.specs.Module.{IsModule};
 
     ghost Value = { Syntax };
 
     ghost view = { λ m. m.syntax };
 
-    ghost invariant = { λ m. length (type_ids m.syntax.assignments) ≤ 1000 };
+    ghost invariant = { λ m. IsModule m.syntax };
 }
 
 /// The refusal of a text for this fault.
@@ -85,6 +85,54 @@ fn is_body_of(id: TypeId, body: &Body) -> bool
     }
 }
 
+/// The type of this name among these.
+#[tactic(auto, unfolding(crate::specs::Module::find_type))]
+fn find_type(assignments: &[Assignment], name: &[u8]) -> Option<TypeId>
+    ensures { result ≡ find_type name.now assignments.now }
+{
+    for assignment in assignments {
+        if is_text(assignment.name.as_slice(), name) {
+            return match assignment.body {
+                Body::Type(definition) => Some(definition),
+                _ => None,
+            };
+        }
+    }
+    None
+}
+
+/// The rows of the set of this name among these.
+#[tactic(auto, unfolding(crate::specs::Module::ie_rows))]
+fn find_ie_rows<'a>(assignments: &'a [Assignment], set: &[u8]) -> Option<&'a [IeRow]>
+    ensures { option_map (λ rows. rows.now) result ≡ ie_rows set.now assignments.now }
+{
+    for assignment in assignments {
+        if is_text(assignment.name.as_slice(), set) {
+            return match &assignment.body {
+                Body::IeSet(rows) => Some(rows.as_slice()),
+                _ => None,
+            };
+        }
+    }
+    None
+}
+
+/// The rows of the set of this name among these.
+#[tactic(auto, unfolding(crate::specs::Module::procedure_rows))]
+fn find_procedure_rows<'a>(assignments: &'a [Assignment], set: &[u8]) -> Option<&'a [ProcedureRow]>
+    ensures { option_map (λ rows. rows.now) result ≡ procedure_rows set.now assignments.now }
+{
+    for assignment in assignments {
+        if is_text(assignment.name.as_slice(), set) {
+            return match &assignment.body {
+                Body::ProcedureSet(rows) => Some(rows.as_slice()),
+                _ => None,
+            };
+        }
+    }
+    None
+}
+
 /// The module at the front of a text, with the number of its octets, or the first fault of the text.
 pub fn read_module(alloc: Global, text: &[u8]) -> Result<(Module, usize), ModuleError>
     ensures { MatchResult result (λ read. Reads text.now read.1 read.0) (RefusedSo text.now) }
@@ -94,41 +142,38 @@ pub fn read_module(alloc: Global, text: &[u8]) -> Result<(Module, usize), Module
         Err(ReadError::Fault(fault)) => return Err(refused(text, fault)),
         Err(ReadError::Memory) => return Err(ModuleError::Memory),
     };
-    if let Some(fault) = judge(alloc, &syntax)? {
-        return Err(refused(text, fault));
+    match judge(alloc, &syntax)? {
+        Some(fault) => Err(refused(text, fault)),
+        None => {
+            let end = syntax.end;
+            Ok((Module { syntax }, end))
+        }
     }
-    let end = syntax.end;
-    Ok((Module { syntax }, end))
 }
 
 impl Module {
     /// The type of this name.
-    #[tactic(auto, unfolding(crate::specs::Module::find_type))]
     pub fn find(&self, name: &[u8]) -> Option<TypeId>
-        ensures { result ≡ find_type name.now self.now.assignments }
+        ensures id { result ≡ find_type name.now self.now.assignments }
+        ensures inside { IfSome result (λ id. id.number < length self.now.nodes) }
     {
-        for assignment in self.syntax.assignments.as_slice() {
-            if is_text(assignment.name.as_slice(), name) {
-                return match assignment.body {
-                    Body::Type(definition) => Some(definition),
-                    _ => None,
-                };
-            }
-        }
-        None
+        find_type(self.syntax.assignments.as_slice(), name)
     }
 
     /// The module's name.
     pub fn name(&self) -> &[u8]
-        ensures { result.now ≡ self.now.name }
+        ensures name { result.now ≡ self.now.name }
+        ensures sound { IsModule self.now }
     {
         self.syntax.name.as_slice()
     }
 
-    /// The form of a type.
+    /// The form of a type. The types inside it have lesser numbers, and what its name refers to is there.
     pub fn definition(&self, id: TypeId) -> &Definition
         requires { id.number < length self.now.nodes }
-        ensures { option_map (λ node. node.definition) (slice_get self.now.nodes id.number) ≡ Some result.now }
+        ensures form { option_map (λ node. node.definition) (slice_get self.now.nodes id.number) ≡ Some result.now }
+        ensures inside { IsInside id.number result.now }
+        ensures target { HasTarget self.now.assignments result.now }
     {
         &self.syntax.nodes.as_slice()[id.number].definition
     }
@@ -151,7 +196,8 @@ impl Module {
     /// The type with a name that has this number in the text's order, from 0.
     pub fn at(&self, i: u32) -> TypeId
         requires { i < length (type_ids self.now.assignments) }
-        ensures { slice_get (type_ids self.now.assignments) i ≡ Some result }
+        ensures id { slice_get (type_ids self.now.assignments) i ≡ Some result }
+        ensures inside { result.number < length self.now.nodes }
     {
         nth_type(self.syntax.assignments.as_slice(), i as usize).unwrap()
     }
@@ -170,34 +216,18 @@ impl Module {
     }
 
     /// The information elements of the set of this name.
-    #[tactic(auto, unfolding(crate::specs::Module::ie_rows))]
     pub fn ie_rows(&self, set: &[u8]) -> Option<&[IeRow]>
-        ensures { option_map (λ rows. rows.now) result ≡ ie_rows set.now self.now.assignments }
+        ensures rows { option_map (λ rows. rows.now) result ≡ ie_rows set.now self.now.assignments }
+        ensures inside { IfSome result (λ rows. IesBelow (length self.now.nodes) rows.now) }
     {
-        for assignment in self.syntax.assignments.as_slice() {
-            if is_text(assignment.name.as_slice(), set) {
-                return match &assignment.body {
-                    Body::IeSet(rows) => Some(rows.as_slice()),
-                    _ => None,
-                };
-            }
-        }
-        None
+        find_ie_rows(self.syntax.assignments.as_slice(), set)
     }
 
     /// The procedures of the set of this name.
-    #[tactic(auto, unfolding(crate::specs::Module::procedure_rows))]
     pub fn procedure_rows(&self, set: &[u8]) -> Option<&[ProcedureRow]>
-        ensures { option_map (λ rows. rows.now) result ≡ procedure_rows set.now self.now.assignments }
+        ensures rows { option_map (λ rows. rows.now) result ≡ procedure_rows set.now self.now.assignments }
+        ensures inside { IfSome result (λ rows. ProceduresBelow (length self.now.nodes) rows.now) }
     {
-        for assignment in self.syntax.assignments.as_slice() {
-            if is_text(assignment.name.as_slice(), set) {
-                return match &assignment.body {
-                    Body::ProcedureSet(rows) => Some(rows.as_slice()),
-                    _ => None,
-                };
-            }
-        }
-        None
+        find_procedure_rows(self.syntax.assignments.as_slice(), set)
     }
 }

@@ -1,6 +1,0 @@
-use Rattle.std.proofs.Common.{◌≡◌, drop}
-use Rattle.asn1_module.specs.Module.{ie_rows}
-use Rattle.asn1_module.proofs.module.Module.ie_rows.Given as goal
-
-abbrev pub invariant-loop-assignment : goal.invariant-loop-assignment
-invariant-loop-assignment l = ie_rows l.set (drop l.assignment-index l.assignment-items) ≡ ie_rows l.set l.assignment-items
