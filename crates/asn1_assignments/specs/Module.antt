@@ -1,5 +1,5 @@
 -- Modules (X.680, clause 13) and their assignments.
-use Rattle.std.specs.Prelude.{ℕ, List, [], ◌∷◌, ◌++◌, length, Bool, true, false, Result, Ok, Err, if◌then◌else◌, ◌&&◌, nat_le, not, count_by, ◌+◌}
+use Rattle.std.specs.Prelude.{ℕ, List, [], ◌∷◌, ◌++◌, length, Bool, true, false, Result, Ok, Err, if◌then◌else◌, ◌&&◌, nat_le, count_by, ◌+◌}
 use Rattle.std.specs.List.{list_any}
 use Rattle.asn1_tokens.specs.declared.token.Word.TheVariants as words
 use Rattle.asn1_tokens.specs.declared.token.Sign.TheVariants as signs

@@ -1,5 +1,5 @@
 -- Information object sets: rows with bars between them, and an extension mark.
-use Rattle.std.specs.Prelude.{ℕ, List, [], ◌∷◌, ◌++◌, Bool, true, false, Result, Ok, Err, if◌then◌else◌}
+use Rattle.std.specs.Prelude.{ℕ, List, [], ◌∷◌, ◌++◌, Bool, true, false, Result, Ok, if◌then◌else◌}
 use Rattle.asn1_tokens.specs.declared.token.Sign.TheVariants as signs
 use Rattle.asn1_types.specs.declared.fault.Fault.{Fault}
 use Rattle.asn1_types.specs.declared.definition.Node.{Node}

@@ -1,17 +1,15 @@
 -- The numbers in a module that is read are those of its types.
-use Rattle.std.proofs.Common.{◌≡◌, ℕ, zero, suc, ◌+◌, ◌<◌, ◌≤◌, List, [], ◌∷◌, ◌++◌, length, Bool, true, false, cond, ◌&&◌, refl, sym, ap, ◌∙◌, subst, arith, length-append}
+use Rattle.std.proofs.Common.{◌≡◌, ℕ, zero, suc, ◌+◌, ◌<◌, ◌≤◌, List, [], ◌∷◌, ◌++◌, length, Bool, true, false, cond, ◌&&◌, refl, subst, arith, length-append}
 use Rattle.std.specs.Prelude.{Result, Ok, Err, Option, Some, None}
 use Rattle.asn1_tokens.specs.declared.token.Word.{Word}
 use Rattle.asn1_tokens.specs.declared.token.Word.TheVariants as words
 use Rattle.asn1_tokens.specs.declared.token.Sign.TheVariants as signs
-use Rattle.asn1_tokens.specs.Stream.{items_of, first_place}
+use Rattle.asn1_tokens.specs.Stream.{first_place}
 use Rattle.asn1_types.specs.declared.fault.Fault.{Fault}
-use Rattle.asn1_types.specs.declared.fault.ModuleReason.TheVariants as reasons
 use Rattle.asn1_types.specs.declared.definition.TypeId.{TypeId}
 use Rattle.asn1_types.specs.declared.definition.Component.{Component}
 use Rattle.asn1_types.specs.declared.definition.Extensible.{Extensible}
 use Rattle.asn1_types.specs.declared.definition.Definition.{Definition}
-use Rattle.asn1_types.specs.declared.definition.Definition.TheVariants as types
 use Rattle.asn1_types.specs.declared.definition.Node.{Node}
 use Rattle.asn1_types.specs.declared.members.Group.{Group}
 use Rattle.asn1_types.specs.declared.members.Group.TheVariants as groups
@@ -19,7 +17,7 @@ use Rattle.asn1_types.specs.declared.members.Frame.{Frame}
 use Rattle.asn1_types.specs.declared.members.Frame.TheVariants as frames
 use Rattle.asn1_types.specs.declared.members.Head.{Head}
 use Rattle.asn1_types.specs.declared.members.Head.TheVariants as heads
-use Rattle.asn1_types.specs.Reading.{◌>>=◌, Left, first_word, fault_at, begins_with, begins_with_sign, word_at, sign_at, upper_at, repeat_at}
+use Rattle.asn1_types.specs.Reading.{◌>>=◌, Left, first_word, begins_with_sign, word_at, sign_at, upper_at}
 use Rattle.asn1_types.specs.Sizes.{size_at, optional_size_at, bounded_at, integer_least, integer_greatest, greatest_beside, integer_ellipsis_at, integer_at}
 use Rattle.asn1_types.specs.Members.{no_parts, additions_of, put_part, with_part, extended, can_extend, is_full, all_parts, has_component, new_name_at, list_goes_on_at, names_at, least_members, composed, node, named_at, entry_at, optional_at, component, member_end_at, close_at}
 use Rattle.asn1_types.specs.Types.{enumerated_at, bit_string_at, octet_string_at, printable_string_at, simple_rest_at, is_simple, simple_at, list_head_at, components_head_at, sequence_head_at, choice_head_at, set_name_at, container_at, pdu_at, reference_at, head_by, head_at, next_id, Risen, risen, rise_at, type_turn_at, type_goes_on, type_within_at, type_at}

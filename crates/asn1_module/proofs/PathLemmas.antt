@@ -1,12 +1,12 @@
 -- Rounds over all steps until nothing changes: what the table then says.
-use Rattle.std.proofs.Common.{◌≡◌, ◌≢◌, ℕ, zero, suc, ◌+◌, ◌-◌, ◌<◌, ◌≤◌, List, [], ◌∷◌, length, get_or, set, Bool, true, false, cond, ◌||◌, ◌&&◌, ltb, eqb, refl, sym, ap, ◌∙◌, subst, inl, inr, arith, min, replicate, get_or-set_same, get_or-set_other}
+use Rattle.std.proofs.Common.{◌≡◌, ◌≢◌, ℕ, ◌+◌, ◌-◌, ◌<◌, ◌≤◌, List, [], ◌∷◌, length, get_or, set, Bool, true, false, cond, ◌||◌, ◌&&◌, ltb, eqb, refl, sym, ap, ◌∙◌, subst, inl, inr, arith, min, replicate, get_or-set_same, get_or-set_other}
 use Rattle.std.specs.Prelude.{◌⊎◌, sum_by}
 use Rattle.std.proofs.lemmas.List.{length-set, length-replicate, get_or-replicate, get_or_past}
 use Rattle.std.proofs.lemmas.List.Sums.{sum_by-set}
 use Rattle.std.proofs.lemmas.Bool.{ltb-true, ltb-false, lt-ltb, eqb-true, cases_lt}
 use Rattle.asn1_module.specs.declared.graph.Edge.{Edge}
 use Rattle.asn1_module.specs.Graph.{edge}
-use Rattle.asn1_module.specs.Paths.{IsAmong, IsStep, Leads, first, further, raised, mark_step, depth_step, depth_cap, round_of, IsReach, IsDepth, Nests, alone, around}
+use Rattle.asn1_module.specs.Paths.{IsAmong, Leads, first, further, raised, mark_step, depth_step, depth_cap, round_of, IsReach, IsDepth, Nests, alone, around}
 
 by_choice : {X : Type 0} (P : X → Type 0) (b : Bool) (x y : X) → (b ≡ true → P x) → (b ≡ false → P y) → P (cond b x y)
 by_choice P true x y p q = p refl

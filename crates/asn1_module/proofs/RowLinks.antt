@@ -1,6 +1,6 @@
 -- The numbers in the rows and assignments of a module that is read are those of its types.
-use Rattle.std.proofs.Common.{◌≡◌, ℕ, zero, suc, ◌+◌, ◌<◌, ◌≤◌, List, [], ◌∷◌, ◌++◌, length, Bool, true, false, cond, ◌&&◌, refl, sym, ap, ◌∙◌, subst, arith}
-use Rattle.std.specs.Prelude.{Result, Ok, Err, Option, Some, None}
+use Rattle.std.proofs.Common.{◌≡◌, ℕ, ◌+◌, ◌<◌, ◌≤◌, List, [], ◌∷◌, ◌++◌, length, Bool, ◌&&◌, subst, arith}
+use Rattle.std.specs.Prelude.{Ok, Option, Some, None}
 use Rattle.asn1_tokens.specs.declared.token.Word.{Word}
 use Rattle.asn1_tokens.specs.declared.token.Word.TheVariants as words
 use Rattle.asn1_tokens.specs.declared.token.Sign.TheVariants as signs
@@ -9,9 +9,8 @@ use Rattle.asn1_types.specs.declared.fault.Fault.{Fault}
 use Rattle.asn1_types.specs.declared.fault.ModuleReason.TheVariants as reasons
 use Rattle.asn1_types.specs.declared.definition.TypeId.{TypeId}
 use Rattle.asn1_types.specs.declared.definition.Node.{Node}
-use Rattle.asn1_types.specs.Reading.{◌>>=◌, Left, fault_at, begins_with, begins_with_sign, word_at, sign_at, repeat_at}
+use Rattle.asn1_types.specs.Reading.{Left, fault_at, begins_with, begins_with_sign, word_at, sign_at, repeat_at}
 use Rattle.asn1_types.specs.Types.{type_at}
-use Rattle.asn1_assignments.specs.declared.assignment.Criticality.{Criticality}
 use Rattle.asn1_assignments.specs.declared.assignment.IeRow.{IeRow}
 use Rattle.asn1_assignments.specs.declared.assignment.ProcedureRow.{ProcedureRow}
 use Rattle.asn1_assignments.specs.declared.assignment.Body.{Body}
@@ -22,7 +21,7 @@ use Rattle.asn1_assignments.specs.Rows.{new_number_at, criticality_at, presence_
 use Rattle.asn1_assignments.specs.Sets.{Rows, rows_with, set_goes_on_at, ie_turn_at, procedure_turn_at, set_start_at, ie_set_at, procedure_set_at}
 use Rattle.asn1_assignments.specs.Module.{Parts, has_all_types, new_assignment_at, ie_body_at, procedure_body_at, type_body_at, body_at, assignment_at, module_turn_at, header_at, no_assignments, assignments_at, syntax_at, syntax_of}
 use Rattle.asn1_module.specs.Links.{AreOrdered, OptionBelow, IesBelow, ProceduresBelow, BodyBelow, BodiesBelow, IsLinked}
-use Rattle.asn1_module.proofs.LinkLemmas.{TypeOk, type_ok, bind_ok, chosen, Read, ok_same}
+use Rattle.asn1_module.proofs.LinkLemmas.{type_ok, bind_ok, chosen, ok_same}
 use Rattle.asn1_module.proofs.TypeCount.{repeat_keeps}
 
 option_up : (n m : ℕ) (o : Option TypeId) → n ≤ m → OptionBelow n o → OptionBelow m o

@@ -1,6 +1,6 @@
 -- What is wrong with a module whose text is in the grammar: a name that isn't known, an assignment that reaches itself, or one
 -- that nests too deep. The first of these that there is, at its first place.
-use Rattle.std.specs.Prelude.{◌≡◌, ℕ, ◌+◌, ◌<◌, List, [], ◌∷◌, ◌++◌, ◌⊎◌, length, map, replicate, slice_get, Option, Some, None}
+use Rattle.std.specs.Prelude.{◌≡◌, ℕ, ◌+◌, ◌<◌, List, [], ◌∷◌, ◌++◌, length, replicate, slice_get, Option, Some, None}
 use Rattle.asn1_types.specs.declared.definition.Definition.{Definition}
 use Rattle.asn1_types.specs.declared.definition.Definition.TheVariants as types
 use Rattle.asn1_types.specs.declared.definition.Node.{Node}

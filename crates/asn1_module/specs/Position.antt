@@ -1,5 +1,5 @@
 -- Lines and columns of a text.
-use Rattle.std.specs.Prelude.{ℕ, ◌+◌, ◌==◌, List, length, take, take_while, reverse, count_by, not}
+use Rattle.std.specs.Prelude.{ℕ, ◌+◌, ◌==◌, List, length, take_while, reverse, count_by, not}
 
 -- the line and column of what follows these octets, both from 1: a column is an octet
 abbrev pub line_after : List ℕ → ℕ

@@ -1,5 +1,5 @@
 -- Each module has one judgement.
-use Rattle.std.proofs.Common.{◌≡◌, ℕ, zero, suc, ◌+◌, ◌-◌, ◌<◌, ◌≤◌, List, [], ◌∷◌, length, get_or, replicate, Bool, true, false, refl, sym, ap, ◌∙◌, subst, inl, inr, arith}
+use Rattle.std.proofs.Common.{◌≡◌, ℕ, zero, suc, ◌+◌, ◌<◌, ◌≤◌, List, [], ◌∷◌, length, get_or, replicate, Bool, true, false, refl, sym, ap, ◌∙◌, subst, inl, inr, arith}
 use Rattle.std.specs.Prelude.{◌⊎◌, Option, Some, None, slice_get}
 use Rattle.std.proofs.lemmas.Bool.{cases_lt}
 use Rattle.std.proofs.lemmas.Option.{slice_get-get_or}
@@ -11,8 +11,8 @@ use Rattle.asn1_assignments.specs.declared.assignment.Syntax.{Syntax}
 use Rattle.asn1_module.specs.declared.graph.Edge.{Edge}
 use Rattle.asn1_module.specs.Names.{first_unknown}
 use Rattle.asn1_module.specs.Graph.{vertex_count, edges_of}
-use Rattle.asn1_module.specs.Paths.{Leads, Nests, IsReach, IsDepth, IsFirst, mark_step, depth_step, depth_cap, round_of}
-use Rattle.asn1_module.specs.Judgement.{weights_of, IsRecursive, IsTooDeep, first_recursive_is, first_deep_is, IsAt, HasUnknown, HasRecursive, HasDeep, IsSound, Judged, sound, unknown, recursive, deep}
+use Rattle.asn1_module.specs.Paths.{IsReach, IsDepth, IsFirst, mark_step, depth_step, depth_cap, round_of}
+use Rattle.asn1_module.specs.Judgement.{weights_of, IsRecursive, IsTooDeep, first_recursive_is, first_deep_is, IsAt, IsSound, Judged, sound, unknown, recursive, deep}
 use Rattle.asn1_module.proofs.PathLemmas.{slack, MarksWell, TellsWell, mark_round_keeps, mark_round_less, mark_round_done, no_marks, depth_round_keeps, depth_round_less, depth_round_done, own_weights}
 use Rattle.asn1_module.proofs.JudgementLemmas.{deep_told, deep_not, length-weights_of}
 

@@ -1,5 +1,5 @@
 -- One turn of a loop, and its end.
-use Rattle.std.proofs.Common.{◌≡◌, ℕ, zero, suc, List, ◌+◌, ◌-◌, ◌<◌, ◌≤◌, Bool, cond, refl, sym, ap, ◌∙◌, arith}
+use Rattle.std.proofs.Common.{◌≡◌, ℕ, suc, List, ◌+◌, ◌-◌, ◌<◌, ◌≤◌, Bool, cond, ap, arith}
 use Rattle.std.specs.Prelude.{Result, Ok, Err}
 use Rattle.asn1_types.specs.declared.fault.Fault.{Fault}
 use Rattle.asn1_types.specs.Reading.{◌>>=◌, Left, unexpected, repeat_at}

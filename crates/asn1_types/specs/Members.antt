@@ -1,15 +1,13 @@
 -- The lists in braces: names of an ENUMERATED (X.680, clause 20), components of a SEQUENCE (clause 25) and alternatives of a
 -- CHOICE (clause 29), with the additions that follow `...`.
-use Rattle.std.specs.Prelude.{ℕ, ◌+◌, List, [], ◌∷◌, ◌++◌, length, Bool, true, false, Option, Some, None, Result, Ok, Err, if◌then◌else◌, ◌&&◌, nat_le, is_none}
+use Rattle.std.specs.Prelude.{ℕ, List, [], ◌∷◌, ◌++◌, length, Bool, true, false, Option, Some, None, Result, Ok, Err, if◌then◌else◌, ◌&&◌, nat_le, is_none}
 use Rattle.std.specs.List.{list_any}
 use Rattle.asn1_tokens.specs.declared.token.Word.TheVariants as words
 use Rattle.asn1_tokens.specs.declared.token.Sign.TheVariants as signs
 use Rattle.asn1_tokens.specs.Words.{is_text}
-use Rattle.asn1_tokens.specs.Stream.{first_place}
 use Rattle.asn1_types.specs.declared.fault.ModuleReason.TheVariants as reasons
 use Rattle.asn1_types.specs.declared.fault.Fault.{Fault}
 use Rattle.asn1_types.specs.declared.definition.TypeId.{TypeId}
-use Rattle.asn1_types.specs.declared.definition.Size.{Size}
 use Rattle.asn1_types.specs.declared.definition.Extensible.{Extensible}
 use Rattle.asn1_types.specs.declared.definition.Component.{Component}
 use Rattle.asn1_types.specs.declared.definition.Node.{Node}
@@ -21,7 +19,7 @@ use Rattle.asn1_types.specs.declared.members.Frame.{Frame}
 use Rattle.asn1_types.specs.declared.members.Frame.TheVariants as frames
 use Rattle.asn1_types.specs.declared.members.Head.{Head}
 use Rattle.asn1_types.specs.declared.members.Head.TheVariants as heads
-use Rattle.asn1_types.specs.Reading.{◌>>=◌, Left, fault_at, unexpected, begins_with, begins_with_sign, word_at, sign_at, lower_at, repeat_at}
+use Rattle.asn1_types.specs.Reading.{◌>>=◌, Left, fault_at, begins_with, begins_with_sign, word_at, sign_at, lower_at, repeat_at}
 
 -- no parts yet
 abbrev pub no_parts : {T : Type 0} → Extensible T

@@ -1,10 +1,9 @@
 -- Reading from left to right, with the first fault that is met.
-use Rattle.std.specs.Prelude.{◌≡◌, ℕ, zero, suc, List, [], ◌∷◌, Bool, true, false, Option, Some, None, Result, Ok, Err, if◌then◌else◌, ℤ}
+use Rattle.std.specs.Prelude.{◌≡◌, ℕ, zero, suc, List, Bool, false, Option, Some, None, Result, Ok, Err, if◌then◌else◌, ℤ}
 use Rattle.asn1_tokens.specs.declared.token.Word.{Word}
 use Rattle.asn1_tokens.specs.declared.token.Sign.{Sign}
 use Rattle.asn1_tokens.specs.declared.token.Token.{Token}
 use Rattle.asn1_tokens.specs.declared.token.Token.TheVariants as tokens
-use Rattle.asn1_tokens.specs.declared.token.Place.{Place}
 use Rattle.asn1_tokens.specs.Words.{is_word, is_sign}
 use Rattle.asn1_tokens.specs.Stream.{Placed, first_token, first_place, others}
 use Rattle.asn1_types.specs.declared.fault.ModuleReason.{ModuleReason}

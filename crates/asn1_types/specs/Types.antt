@@ -14,7 +14,7 @@ use Rattle.asn1_types.specs.declared.members.Frame.{Frame}
 use Rattle.asn1_types.specs.declared.members.Frame.TheVariants as frames
 use Rattle.asn1_types.specs.declared.members.Head.{Head}
 use Rattle.asn1_types.specs.declared.members.Head.TheVariants as heads
-use Rattle.asn1_types.specs.Reading.{◌>>=◌, Left, first_word, unexpected, begins_with, begins_with_sign, word_at, sign_at, upper_at, repeat_at}
+use Rattle.asn1_types.specs.Reading.{◌>>=◌, Left, first_word, unexpected, begins_with_sign, word_at, sign_at, upper_at}
 use Rattle.asn1_types.specs.Sizes.{size_at, optional_size_at, integer_at}
 use Rattle.asn1_types.specs.Members.{no_parts, names_at, entry_at, node, close_at}
 

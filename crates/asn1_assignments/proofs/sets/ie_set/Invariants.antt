@@ -1,4 +1,4 @@
-use Rattle.std.proofs.Common.{◌≡◌, ◌-◌, []}
+use Rattle.std.proofs.Common.{◌≡◌, ◌-◌}
 use Rattle.asn1_types.specs.Reading.{repeat_at}
 use Rattle.asn1_assignments.specs.Sets.{rows_with, ie_turn_at}
 use Rattle.asn1_assignments.proofs.sets.ie_set.Given as goal

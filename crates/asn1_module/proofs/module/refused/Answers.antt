@@ -1,4 +1,4 @@
-use Rattle.std.proofs.Common.{◌≡◌, ◌∙◌, ap, take, List, ℕ, refl}
+use Rattle.std.proofs.Common.{◌∙◌, ap, take, ℕ, refl}
 use Rattle.asn1_module.specs.Position.{line_after, column_after}
 use Rattle.asn1_module.proofs.JudgementLemmas.{take-min}
 use Rattle.asn1_module.proofs.module.refused.Goals as goal

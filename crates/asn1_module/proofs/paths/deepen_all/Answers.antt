@@ -1,4 +1,4 @@
-use Rattle.std.proofs.Common.{length, List, ℕ, subst, sym, refl}
+use Rattle.std.proofs.Common.{length, subst, sym, refl}
 use Rattle.asn1_module.proofs.PathLemmas.{TellsWell, depth_keeps_on, depth_lessens, depth_done, own_weights}
 use Rattle.asn1_module.proofs.paths.deepen_all.Goals as goal
 

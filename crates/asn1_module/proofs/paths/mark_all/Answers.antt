@@ -1,4 +1,4 @@
-use Rattle.std.proofs.Common.{length, List, ℕ, subst, sym}
+use Rattle.std.proofs.Common.{length, subst, sym}
 use Rattle.asn1_module.proofs.PathLemmas.{MarksWell, mark_keeps_on, mark_lessens, mark_done, no_marks}
 use Rattle.asn1_module.proofs.paths.mark_all.Goals as goal
 
