@@ -44,11 +44,11 @@ IsRecursive s number = Leads (vertex_count s) (edges_of s) (length s.nodes + num
 abbrev pub IsTooDeep : Syntax → ℕ → Type 0
 IsTooDeep s number = (d : ℕ) × Nests (vertex_count s) (edges_of s) (weights_of s) (length s.nodes + number) d × (60 < d)
 
-abbrev pub first_recursive_is : Syntax → Option ℕ → Type 0
-first_recursive_is s found = IsFirst (IsRecursive s) (length s.assignments) found
+abbrev pub IsFirstRecursive : Syntax → Option ℕ → Type 0
+IsFirstRecursive s found = IsFirst (IsRecursive s) (length s.assignments) found
 
-abbrev pub first_deep_is : Syntax → Option ℕ → Type 0
-first_deep_is s found = IsFirst (IsTooDeep s) (length s.assignments) found
+abbrev pub IsFirstDeep : Syntax → Option ℕ → Type 0
+IsFirstDeep s found = IsFirst (IsTooDeep s) (length s.assignments) found
 
 -- a fault at the name of an assignment
 pub record IsAt (s : Syntax) (number : ℕ) (reason : ModuleReason) (fault : Fault) : Type 0 where
@@ -65,21 +65,21 @@ pub record HasUnknown (s : Syntax) (fault : Fault) : Type 0 where
 pub record HasRecursive (s : Syntax) (fault : Fault) : Type 0 where
   pub known : first_unknown s.assignments s.nodes ≡ None
   pub number : ℕ
-  pub recursive : first_recursive_is s (Some number)
+  pub recursive : IsFirstRecursive s (Some number)
   pub is : IsAt s number reasons.Recursive fault
 
 pub record HasDeep (s : Syntax) (fault : Fault) : Type 0 where
   pub known : first_unknown s.assignments s.nodes ≡ None
-  pub finite : first_recursive_is s None
+  pub finite : IsFirstRecursive s None
   pub number : ℕ
-  pub deep : first_deep_is s (Some number)
+  pub deep : IsFirstDeep s (Some number)
   pub is : IsAt s number reasons.Deep fault
 
 -- nothing is wrong
 pub record IsSound (s : Syntax) : Type 0 where
   pub known : first_unknown s.assignments s.nodes ≡ None
-  pub finite : first_recursive_is s None
-  pub shallow : first_deep_is s None
+  pub finite : IsFirstRecursive s None
+  pub shallow : IsFirstDeep s None
 
 -- what is wrong, if something is
 pub data Judged (s : Syntax) : Option Fault → Type 0 where

@@ -4,7 +4,7 @@ ghost use Rattle.std.specs.Prelude.{◌≡◌, ◌+◌, ◌<◌, ◌^◌, ◌++�
 ghost use Rattle.asn1_module.specs.Names.{first_unknown};
 ghost use Rattle.asn1_module.specs.Graph.{vertex_count, edges_of};
 ghost use Rattle.asn1_module.specs.Paths.{IsFirst, IsDepth, Leads};
-ghost use Rattle.asn1_module.specs.Judgement.{weight_of, node_weights, weights_of, first_recursive_is, first_deep_is, Judged, IsAt};
+ghost use Rattle.asn1_module.specs.Judgement.{weight_of, node_weights, weights_of, IsFirstRecursive, IsFirstDeep, Judged, IsAt};
 
 use crate::graph::{Edge, edges_of, vertex_count};
 use crate::names::first_unknown;
@@ -56,7 +56,7 @@ fn weights_of(alloc: Global, syntax: &Syntax) -> Result<Vec<u8>, Memory>
 /// The first assignment that reaches itself.
 fn first_recursive(alloc: Global, syntax: &Syntax, edges: &[Edge]) -> Result<Option<usize>, Memory>
     requires { edges.now ≡ edges_of syntax.now }
-    ensures { IfOk result (λ found. first_recursive_is syntax.now found) }
+    ensures { IfOk result (λ found. IsFirstRecursive syntax.now found) }
 {
     let base = syntax.nodes.as_slice().len();
     let count = vertex_count(syntax);
@@ -81,7 +81,7 @@ fn depths_of(alloc: Global, syntax: &Syntax, edges: &[Edge]) -> Result<Vec<u8>, 
 /// The first assignment that nests too deep.
 fn first_deep(syntax: &Syntax, table: &[u8]) -> Option<usize>
     requires { IsDepth (vertex_count syntax.now) (edges_of syntax.now) (weights_of syntax.now) table.now }
-    ensures { first_deep_is syntax.now result }
+    ensures { IsFirstDeep syntax.now result }
 {
     let base = syntax.nodes.as_slice().len();
     for number in 0..syntax.assignments.as_slice().len() {
@@ -105,7 +105,7 @@ fn fault_at(syntax: &Syntax, number: usize, reason: ModuleReason) -> Fault
 fn judge_finite(alloc: Global, syntax: &Syntax, edges: &[Edge]) -> Result<Option<Fault>, Memory>
     requires edges { edges.now ≡ edges_of syntax.now }
     requires known { first_unknown syntax.now.assignments syntax.now.nodes ≡ None }
-    requires finite { first_recursive_is syntax.now None }
+    requires finite { IsFirstRecursive syntax.now None }
     ensures { IfOk result (λ found. Judged syntax.now found) }
 {
     let table = depths_of(alloc, syntax, edges)?;

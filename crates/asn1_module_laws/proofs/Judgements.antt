@@ -12,7 +12,7 @@ use Rattle.asn1_module.specs.declared.graph.Edge.{Edge}
 use Rattle.asn1_module.specs.Names.{first_unknown}
 use Rattle.asn1_module.specs.Graph.{vertex_count, edges_of}
 use Rattle.asn1_module.specs.Paths.{IsReach, IsDepth, IsFirst, mark_step, depth_step, depth_cap, round_of}
-use Rattle.asn1_module.specs.Judgement.{weights_of, IsRecursive, IsTooDeep, first_recursive_is, first_deep_is, IsAt, IsSound, Judged, sound, unknown, recursive, deep}
+use Rattle.asn1_module.specs.Judgement.{weights_of, IsRecursive, IsTooDeep, IsFirstRecursive, IsFirstDeep, IsAt, IsSound, Judged, sound, unknown, recursive, deep}
 use Rattle.asn1_module.proofs.PathLemmas.{slack, MarksWell, TellsWell, mark_round_keeps, mark_round_less, mark_round_done, no_marks, depth_round_keeps, depth_round_less, depth_round_done, own_weights}
 use Rattle.asn1_module.proofs.JudgementLemmas.{deep_told, deep_not, length-weights_of}
 
@@ -136,13 +136,13 @@ is_at s k reason lt =
 pub judged : (s : Syntax) → (o : Option Fault) × Judged s o
 judged s = names (first_unknown s.assignments s.nodes) refl
   where
-    depths : first_unknown s.assignments s.nodes ≡ None → first_recursive_is s None → ((o : Option ℕ) × first_deep_is s o) → (o : Option Fault) × Judged s o
+    depths : first_unknown s.assignments s.nodes ≡ None → IsFirstRecursive s None → ((o : Option ℕ) × IsFirstDeep s o) → (o : Option Fault) × Judged s o
     depths known finite (None, none) = (None, sound (record { known = known; finite = finite; shallow = none }))
     depths known finite (Some k, there) =
         let fault = is_at s k reasons.Deep there.0 in
         (Some fault.0, deep (record { known = known; finite = finite; number = k; deep = there; is = fault.1 }))
 
-    paths : first_unknown s.assignments s.nodes ≡ None → ((o : Option ℕ) × first_recursive_is s o) → (o : Option Fault) × Judged s o
+    paths : first_unknown s.assignments s.nodes ≡ None → ((o : Option ℕ) × IsFirstRecursive s o) → (o : Option Fault) × Judged s o
     paths known (None, none) = depths known none (search_first (IsTooDeep s) (length s.assignments) (tell_deep s))
     paths known (Some k, there) =
         let fault = is_at s k reasons.Recursive there.0 in
