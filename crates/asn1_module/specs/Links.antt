@@ -1,0 +1,69 @@
+-- The numbers by which types refer to those inside them.
+use Rattle.std.specs.Prelude.{ℕ, suc, ◌<◌, List, [], ◌∷◌, length, Option, Some, None}
+use Rattle.asn1_types.specs.declared.definition.TypeId.{TypeId}
+use Rattle.asn1_types.specs.declared.definition.Component.{Component}
+use Rattle.asn1_types.specs.declared.definition.Extensible.{Extensible}
+use Rattle.asn1_types.specs.declared.definition.Definition.{Definition}
+use Rattle.asn1_types.specs.declared.definition.Definition.TheVariants as types
+use Rattle.asn1_types.specs.declared.definition.Node.{Node}
+use Rattle.asn1_types.specs.Members.{additions_of}
+use Rattle.asn1_assignments.specs.declared.assignment.Body.{Body}
+use Rattle.asn1_assignments.specs.declared.assignment.Body.TheVariants as bodies
+use Rattle.asn1_assignments.specs.declared.assignment.IeRow.{IeRow}
+use Rattle.asn1_assignments.specs.declared.assignment.ProcedureRow.{ProcedureRow}
+use Rattle.asn1_assignments.specs.declared.assignment.Assignment.{Assignment}
+use Rattle.asn1_assignments.specs.declared.assignment.Syntax.{Syntax}
+
+-- the types of these members have numbers below n
+abbrev pub AreBelow : ℕ → List Component → Type 0
+AreBelow n [] = Unit {0}
+AreBelow n (c ∷ cs) = (c.definition.number < n) × AreBelow n cs
+
+abbrev pub PartsBelow : ℕ → Extensible Component → Type 0
+PartsBelow n parts = AreBelow n parts.root × AreBelow n (additions_of parts.additions)
+
+-- the types inside a type have numbers below n
+abbrev pub IsInside : ℕ → Definition → Type 0
+IsInside n (types.Sequence members) = PartsBelow n members
+IsInside n (types.Choice members) = PartsBelow n members
+IsInside n (types.SequenceOf size element) = element.number < n
+IsInside n (types.Reference name) = Unit {0}
+IsInside n (types.IeContainer set) = Unit {0}
+IsInside n (types.Pdu set) = Unit {0}
+IsInside n types.Boolean = Unit {0}
+IsInside n (types.Integer low high extensible) = Unit {0}
+IsInside n (types.Enumerated names) = Unit {0}
+IsInside n (types.BitString size) = Unit {0}
+IsInside n (types.OctetString size) = Unit {0}
+IsInside n (types.PrintableString size) = Unit {0}
+
+-- each type stands behind those inside it; the first of these has number n
+abbrev pub AreOrdered : ℕ → List Node → Type 0
+AreOrdered n [] = Unit {0}
+AreOrdered n (node ∷ nodes) = IsInside n node.definition × AreOrdered (suc n) nodes
+
+abbrev pub OptionBelow : ℕ → Option TypeId → Type 0
+OptionBelow n None = Unit {0}
+OptionBelow n (Some id) = id.number < n
+
+abbrev pub IesBelow : ℕ → List IeRow → Type 0
+IesBelow n [] = Unit {0}
+IesBelow n (row ∷ rows) = (row.definition.number < n) × IesBelow n rows
+
+abbrev pub ProceduresBelow : ℕ → List ProcedureRow → Type 0
+ProceduresBelow n [] = Unit {0}
+ProceduresBelow n (row ∷ rows) = ((row.initiating.number < n) × (OptionBelow n row.successful × OptionBelow n row.unsuccessful)) × ProceduresBelow n rows
+
+abbrev pub BodyBelow : ℕ → Body → Type 0
+BodyBelow n (bodies.Type definition) = definition.number < n
+BodyBelow n (bodies.IeSet rows) = IesBelow n rows
+BodyBelow n (bodies.ProcedureSet rows) = ProceduresBelow n rows
+
+abbrev pub BodiesBelow : ℕ → List Assignment → Type 0
+BodiesBelow n [] = Unit {0}
+BodiesBelow n (a ∷ assignments) = BodyBelow n a.body × BodiesBelow n assignments
+
+-- each number in a module is that of one of its types, and types inside another one have lesser numbers than it
+pub record IsLinked (s : Syntax) : Type 0 where
+  pub types : AreOrdered 0 s.nodes
+  pub assignments : BodiesBelow (length s.nodes) s.assignments

@@ -1,0 +1,18 @@
+//! ASN.1 modules: the types of a text and their names, or the text's first fault.
+#![tactic(auto)]
+
+mod error;
+mod graph;
+mod judgement;
+mod module;
+mod names;
+mod paths;
+mod position;
+
+pub use asn1_assignments::{Criticality, IeRow, Presence, ProcedureRow};
+pub use asn1_types::{Component, Definition, Extensible, Items, ModuleReason, Size, TypeId};
+pub use error::ModuleError;
+pub use module::{Module, read_module};
+
+#[cfg(test)]
+mod tests;

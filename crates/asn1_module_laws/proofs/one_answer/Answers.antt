@@ -1,0 +1,8 @@
+use Rattle.asn1_module_laws.proofs.Faults.{fault_once, never_both}
+use Rattle.asn1_module_laws.proofs.one_answer.Goals as goal
+
+pub returns-clause-fault : goal.returns-clause-fault
+returns-clause-fault c = fault_once
+
+pub returns-clause-never_both : goal.returns-clause-never_both
+returns-clause-never_both c = never_both

@@ -1,0 +1,7 @@
+use Rattle.std.proofs.Common.{◌≡◌, ◌-◌}
+use Rattle.asn1_types.specs.Reading.{repeat_at}
+use Rattle.asn1_types.specs.Members.{no_parts, names_turn_at}
+use Rattle.asn1_types.proofs.reader.Reader.names.Given as goal
+
+abbrev pub invariant-loop : goal.invariant-loop
+invariant-loop l = repeat_at names_turn_at (l.turns - l.counter) l.names l.self ≡ repeat_at names_turn_at l.turns no_parts l.fn.self

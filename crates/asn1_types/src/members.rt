@@ -1,0 +1,202 @@
+//! Lists of members.
+
+ghost use Rattle.std.specs.Prelude.{◌≡◌, ◌++◌};
+ghost use Rattle.asn1_types.specs.Reading.{Gives};
+ghost use Rattle.asn1_types.specs.Members.{all_parts, has_component, least_members, composed, node, named_at, entry_at, optional_at, member_end_at, close_at};
+
+use crate::definition::{Component, Definition, Extensible, Node, Size, TypeId};
+use crate::fault::{ModuleReason, ReadError};
+use crate::reader::Reader;
+use asn1_tokens::{Sign, Word, is_text};
+use gnb_base::octets::Octets;
+
+/// What a list of members belongs to.
+#[derive(Clone, Copy, Debug, PartialEq, Eq)]
+pub enum Group {
+    Sequence,
+    Choice,
+}
+
+/// A type whose next part is to be read.
+#[derive(Drop)]
+pub enum Frame {
+    /// A SEQUENCE OF, before the type of its elements.
+    List {
+        size: Option<Size>,
+        place: usize,
+    },
+    /// A SEQUENCE or CHOICE, before the type of the member with this name.
+    Member {
+        group: Group,
+        members: Extensible<Component>,
+        name: Octets,
+        place: usize,
+    },
+}
+
+/// What a type begins with.
+#[derive(Drop)]
+pub enum Head {
+    /// A whole type.
+    Leaf(Node),
+    /// A type that has others inside.
+    Opens(Frame),
+}
+
+impl Extensible<Component> {
+    fn has_name(&self, name: &[u8]) -> bool
+        ensures { result ≡ has_component name.now (all_parts self.now) }
+    {
+        if has_component(name, self.root.as_slice()) {
+            return true;
+        }
+        match &self.additions {
+            None => false,
+            Some(added) => has_component(name, added.as_slice()),
+        }
+    }
+}
+
+/// The name is that of one of these.
+fn has_component(name: &[u8], components: &[Component]) -> bool
+    ensures { result ≡ has_component name.now components.now }
+{
+    components
+        .iter()
+        .any(|other| is_text(other.name.as_slice(), name))
+}
+
+impl Group {
+    /// How many members stand before `...` at least.
+    fn least_members(self) -> usize
+        ensures { result ≡ least_members self }
+    {
+        match self {
+            Group::Sequence => 0,
+            Group::Choice => 1,
+        }
+    }
+
+    /// The type that members make.
+    fn composed(self, members: Extensible<Component>, place: usize) -> Head
+        ensures { result ≡ Head.Leaf (node (composed self members) place) }
+    {
+        let definition = match self {
+            Group::Sequence => Definition::Sequence(members),
+            Group::Choice => Definition::Choice(members),
+        };
+        Head::Leaf(Node { definition, place })
+    }
+}
+
+impl<'a> Reader<'a> {
+    /// Takes the name of a member; its type follows.
+    #[tactic(auto, unfolding(crate::specs::Members::named_at, crate::specs::Members::new_name_at))]
+    fn named(
+        &mut self,
+        group: Group,
+        members: Extensible<Component>,
+        place: usize,
+    ) -> Result<Head, ReadError>
+        ensures { Gives (λ head. (head, self.new)) result (named_at group members place self.old) }
+    {
+        let bounds = self.fault(ModuleReason::Bounds);
+        let twice = self.fault(ModuleReason::Twice);
+        let name = self.lower()?;
+        if members.is_full() {
+            return Err(ReadError::Fault(bounds));
+        }
+        if members.has_name(name.as_slice()) {
+            return Err(ReadError::Fault(twice));
+        }
+        Ok(Head::Opens(Frame::Member {
+            group,
+            members,
+            name,
+            place,
+        }))
+    }
+
+    /// Takes what follows the brace or comma before a member, up to the member's type.
+    #[tactic(auto, unfolding(crate::specs::Members::entry_at))]
+    pub fn entry(
+        &mut self,
+        group: Group,
+        mut members: Extensible<Component>,
+        place: usize,
+    ) -> Result<Head, ReadError>
+        ensures { Gives (λ head. (head, self.new)) result (entry_at group members place self.old) }
+    {
+        if !(members.can_extend(group.least_members()) && self.begins_with_sign(Sign::Ellipsis)) {
+            return self.named(group, members, place);
+        }
+        self.sign(Sign::Ellipsis)?;
+        members.extend(self.alloc());
+        if !self.list_goes_on()? {
+            return Ok(group.composed(members, place));
+        }
+        self.named(group, members, place)
+    }
+
+    /// Takes the word OPTIONAL where it stands behind a component, and answers whether it does.
+    #[tactic(auto, unfolding(crate::specs::Members::optional_at))]
+    fn optional(&mut self, group: Group) -> Result<bool, ReadError>
+        ensures { Gives (λ found. (found, self.new)) result (optional_at group self.old) }
+    {
+        if group == Group::Choice {
+            return Ok(false);
+        }
+        if !self.begins_with(Word::Optional) {
+            return Ok(false);
+        }
+        self.word(Word::Optional)?;
+        Ok(true)
+    }
+
+    /// Takes what follows the type of a member, up to the next member's type.
+    #[tactic(auto, unfolding(crate::specs::Members::member_end_at))]
+    fn member_end(
+        &mut self,
+        group: Group,
+        mut members: Extensible<Component>,
+        name: Octets,
+        place: usize,
+        definition: TypeId,
+    ) -> Result<Head, ReadError>
+        ensures { Gives (λ head. (head, self.new)) result (member_end_at group members name place definition self.old) }
+    {
+        let optional = self.optional(group)?;
+        let more = self.list_goes_on()?;
+        members.put(Component {
+            name,
+            definition,
+            optional,
+        })?;
+        if more {
+            self.entry(group, members, place)
+        } else {
+            Ok(group.composed(members, place))
+        }
+    }
+
+    /// Takes what follows a type inside another one, and answers what it makes of that other one.
+    pub fn close(&mut self, frame: Frame, definition: TypeId) -> Result<Head, ReadError>
+        ensures { Gives (λ head. (head, self.new)) result (close_at frame definition self.old) }
+    {
+        match frame {
+            Frame::List { size, place } => {
+                let definition = Definition::SequenceOf {
+                    size,
+                    element: definition,
+                };
+                Ok(Head::Leaf(Node { definition, place }))
+            }
+            Frame::Member {
+                group,
+                members,
+                name,
+                place,
+            } => self.member_end(group, members, name, place, definition),
+        }
+    }
+}
