@@ -1,5 +1,8 @@
 -- What the terminal of the static bearer delivers.
 use Rattle.std.specs.Prelude.{◌≡◌, ◌+◌, ℕ, List}
+use Rattle.pdcp.specs.Near.{IsNear}
+use Rattle.pdcp.specs.Pdus.{Pdcp, data_pdu}
+use Rattle.run_model.specs.Run.{static_bits}
 use Rattle.static_runner.specs.declared.ue.Ue.{Ue}
 use Rattle.static_runner.specs.declared.ue.Delivery.{Delivery}
 
@@ -8,3 +11,9 @@ pub record Delivers (old new : Ue) (packet : List ℕ) (delivery : Delivery) : T
   pub count : delivery.count ≡ old.deliv
   pub same : delivery.packet.now ≡ packet
   pub next : new.deliv ≡ old.deliv + 1
+
+-- the octets are a data PDU of this packet, and its number stands for this COUNT, where this is the one awaited
+pub record IsAwaited (count : ℕ) (packet octets : List ℕ) : Type 0 where
+  pub number : ℕ
+  pub reads : Pdcp static_bits (data_pdu number packet) octets
+  pub near : IsNear static_bits count number count

@@ -1,5 +1,8 @@
 -- What the units of the static bearer do.
 use Rattle.std.specs.Prelude.{◌≡◌, ◌+◌, ℕ, true, false, List, [], ◌∷◌, ◌++◌}
+use Rattle.std.specs.Prelude.{Bool}
+use Rattle.pdcp.specs.Pdus.{Content}
+use Rattle.link_layouts.specs.Decoding.{DecodesOn, n3, f1u_downlink, fresh, framed}
 use Rattle.link_layouts.specs.Links.{f1u_downlink_data}
 use Rattle.run_model.specs.Run.{static_bits}
 use Rattle.static_runner.specs.declared.cu_up.FromN3.{FromN3}
@@ -13,3 +16,17 @@ TakesPacket old new downlink packet Waits = (has_room old ≡ false) × (new ≡
 TakesPacket old new downlink packet (Numbered count bytes) =
     (has_room old ≡ true) × (count ≡ old.next) × (bytes ≡ f1u_downlink_data static_bits downlink old.frames old.next packet)
     × (new ≡ record old { next = old.next + 1; frames = old.frames + 1; unconfirmed = old.unconfirmed ++ packet ∷ [] })
+
+-- Octets of N3 that are no packet change nothing; else their packet waits or is numbered.
+abbrev pub TakesOctets : Sender → Sender → ℕ → List ℕ → FromN3 → Type 0
+TakesOctets old new downlink octets Ignored = new ≡ old
+TakesOctets old new downlink octets Waits = (packet : List ℕ) × DecodesOn n3 static_bits (fresh packet) octets × TakesPacket old new downlink packet Waits
+TakesOctets old new downlink octets (Numbered count bytes) =
+    (packet : List ℕ) × DecodesOn n3 static_bits (fresh packet) octets × TakesPacket old new downlink packet (Numbered count bytes)
+
+-- the octets of F1-U are a frame with this PDU
+pub record IsFramed (pdu octets : List ℕ) : Type 0 where
+  pub restart : Bool
+  pub number : ℕ
+  pub content : Content
+  pub reads : DecodesOn f1u_downlink static_bits (framed restart number content pdu) octets

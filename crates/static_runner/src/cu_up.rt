@@ -2,7 +2,7 @@
 //! (TS 38.401, 8.9; TS 38.323, 5.2.1; TS 38.425, 5.2).
 
 ghost use Rattle.std.specs.Prelude.{◌≡◌, ◌<◌, ◌≤◌, ◌^◌, [], List, ℕ, length, IfOk, IfSome, IsSomeAnd, true, false};
-ghost use Rattle.link_layouts.specs.Decoding.{IsSized};
+ghost use Rattle.link_layouts.specs.Decoding.{IsSized, DecodesOn, n3, fresh};
 ghost use Rattle.link_layouts.specs.Links.{n3_downlink, f1u_downlink_data};
 ghost use Rattle.run_model.specs.Run.{static_bits};
 ghost use Rattle.static_runner.specs.Header.{frame_header};
@@ -77,6 +77,7 @@ pub fn n3_octets(alloc: Global, teid: u32, packet: &[u8]) -> Result<Octets, Memo
 /// The packet that octets on an N3 downlink tunnel carry, None where they are no such packet.
 fn n3_packet(bytes: &[u8]) -> Option<&[u8]>
     ensures sized { IfSome result (λ p. IsSized p.now) }
+    ensures only { IfSome result (λ p. DecodesOn n3 static_bits (fresh p.now) bytes.now) }
     ensures read { (teid : ℕ) (packet : List ℕ) → teid < 2 ^ 32 → IsSized packet → bytes.now ≡ n3_downlink teid packet → IsSomeAnd result (λ p. p.now ≡ packet) }
 {
     match read_n3(bytes) {
@@ -131,7 +132,7 @@ fn downlink_octets(
 
 impl CuUp {
     ghost use Rattle.static_runner.specs.Sender.{used_up, has_room};
-    ghost use Rattle.static_runner.specs.Units.{TakesPacket};
+    ghost use Rattle.static_runner.specs.Units.{TakesPacket, TakesOctets};
 
     /// A new one, which keeps nothing.
     pub fn new(alloc: Global, quota: u16) -> CuUp
@@ -164,7 +165,8 @@ impl CuUp {
     /// DU's tunnel `downlink`.
     pub fn take(&mut self, alloc: Global, downlink: u32, bytes: &[u8]) -> Result<FromN3, Memory>
         requires { used_up self.old ≡ false }
-        ensures { (teid : ℕ) (packet : List ℕ) → teid < 2 ^ 32 → IsSized packet → bytes.now ≡ n3_downlink teid packet → IfOk result (TakesPacket self.old self.new downlink packet) }
+        ensures packet { (teid : ℕ) (packet : List ℕ) → teid < 2 ^ 32 → IsSized packet → bytes.now ≡ n3_downlink teid packet → IfOk result (TakesPacket self.old self.new downlink packet) }
+        ensures only { IfOk result (TakesOctets self.old self.new downlink bytes.now) }
     {
         let Some(packet) = n3_packet(bytes) else {
             return Ok(FromN3::Ignored);

@@ -1,10 +1,13 @@
 //! The terminal of the static downlink bearer: it takes PDUs from the radio, and delivers their packets in order
 //! (TS 38.323, 5.2.2).
 
-ghost use Rattle.std.specs.Prelude.{◌≡◌, ◌+◌, ◌-◌, ◌^◌, ◌<◌, List, ℕ, ◌%◌, IsSome, IfSome, IsSomeAnd, OnSome};
+ghost use Rattle.std.specs.Prelude.{◌≡◌, ◌+◌, ◌-◌, ◌^◌, ◌<◌, List, ℕ, ◌%◌, IsSome, IfSome, IfNone, IsSomeAnd, OnSome};
 ghost use Rattle.link_layouts.specs.Decoding.{IsSized};
 ghost use Rattle.link_layouts.specs.Links.{radio_data};
 ghost use Rattle.run_model.specs.Run.{static_bits};
+ghost use Rattle.gnb_base.specs.declared.names.SnBits.TheVariants.{Len12};
+ghost use Rattle.pdcp.specs.Near.{IsNear};
+ghost use Rattle.static_runner.specs.Delivers.{IsAwaited};
 
 use gnb_base::names::SnBits;
 use pdcp::Pdu;
@@ -36,8 +39,11 @@ impl Ue {
     /// Takes the octets of a PDU. None where they aren't the data PDU that comes next.
     pub fn take<'a>(&mut self, bytes: &'a [u8]) -> Option<Delivery<'a>>
         // The PDU of the COUNT to deliver is delivered.
-        ensures { (packet : List ℕ) → self.old.deliv < 2 ^ 32 - 1 → IsSized packet → bytes.now ≡ radio_data static_bits self.old.deliv packet
+        ensures next { (packet : List ℕ) → self.old.deliv < 2 ^ 32 - 1 → IsSized packet → bytes.now ≡ radio_data static_bits self.old.deliv packet
             → IsSomeAnd result (Delivers self.old self.new packet) }
+        // Nothing else is.
+        ensures only { IfSome result (λ delivery. IsAwaited self.old.deliv delivery.packet.now bytes.now) }
+        ensures stays { IfNone result (self.new ≡ self.old) }
     {
         let count = self.deliv;
         match awaited(count, bytes) {
@@ -53,6 +59,7 @@ impl Ue {
 /// The packet of a data PDU whose number stands for this COUNT, None where the octets are no such PDU.
 fn awaited(count: u32, bytes: &[u8]) -> Option<&[u8]>
     ensures given { OnSome result (count < 2 ^ 32 - 1) }
+    ensures only { IfSome result (λ p. IsAwaited count p.now bytes.now) }
     ensures read { (packet : List ℕ) → count < 2 ^ 32 - 1 → IsSized packet → bytes.now ≡ radio_data static_bits count packet → IsSomeAnd result (λ p. p.now ≡ packet) }
 {
     match pdcp::read_pdu(SnBits::Len12, bytes) {
@@ -66,6 +73,7 @@ fn awaited(count: u32, bytes: &[u8]) -> Option<&[u8]>
 fn if_numbered(count: u32, number: u32, packet: &[u8]) -> Option<&[u8]>
     ensures given { OnSome result (count < 2 ^ 32 - 1) }
     ensures same { IfSome result (λ p. p.now ≡ packet.now) }
+    ensures near { OnSome result (IsNear Len12 count number count) }
     ensures stands { number ≡ count % 4096 → count < 2 ^ 32 - 1 → IsSome result }
 {
     match pdcp::near(SnBits::Len12, count, number) {

@@ -1,0 +1,59 @@
+#!/usr/bin/env python3
+"""Runs each script of examples/ once for each of its requests for memory, and lets that request fail.
+
+Every run must end with status 9 and a front of the script's transcript. A C compiler makes the library that lets a request
+fail; where there is none this is said, and the check passes.
+
+Usage: tools/failing_allocations.py
+"""
+
+import os
+import pathlib
+import shutil
+import subprocess
+import sys
+import tempfile
+
+TOP = pathlib.Path(__file__).resolve().parents[1]
+PROGRAM = TOP / "crates/scenario_cli/out/scenario_cli"
+
+
+def answer(library, script, number):
+    around = dict(os.environ, LD_PRELOAD=library, FAILING_ALLOCATION=str(number))
+    ran = subprocess.run([PROGRAM, "run"], input=script, capture_output=True, env=around, check=False)
+    return ran.returncode, ran.stdout, ran.stderr
+
+
+def each_fails(library, path):
+    script = path.read_bytes()
+    status, transcript, said = answer(library, script, 0)
+    requests = int(said)
+    if status != 0 or requests == 0:
+        return f"status {status} with {requests} requests, where none fails"
+    for number in range(1, requests + 1):
+        status, front, _ = answer(library, script, number)
+        if status != 9 or not transcript.startswith(front):
+            return f"request {number} failed: status {status}, {front!r}"
+    print(f"{path.name}: each of {requests} requests failed in turn, with status 9 and a front of the transcript")
+    return None
+
+
+def main():
+    compiler = shutil.which("cc")
+    if compiler is None:
+        print("no C compiler is here: no request for memory is made to fail")
+        return 0
+    subprocess.run([TOP / "gnb", "run"], input=b"module builtin\n", stdout=subprocess.DEVNULL, check=True)
+    with tempfile.TemporaryDirectory() as folder:
+        library = f"{folder}/failing.so"
+        subprocess.run([compiler, "-shared", "-fPIC", "-o", library, TOP / "tools/failing_allocations.c", "-ldl"], check=True)
+        for path in sorted((TOP / "examples").glob("*.script")):
+            wrong = each_fails(library, path)
+            if wrong:
+                print(f"{path.name}: {wrong}")
+                return 1
+    return 0
+
+
+if __name__ == "__main__":
+    sys.exit(main())
