@@ -13,7 +13,7 @@ use Rattle.scenario_text.specs.Grammar.{event_of, header_of, is_skipped, GivesOr
 use Rattle.scenario_text.specs.Print.{print}
 use Rattle.static_runner.specs.declared.runner.Runner.{Runner}
 use Rattle.scenario_cli.specs.declared.status.Ended.{Ended}
-use Rattle.scenario_cli.specs.declared.status.Ended.TheVariants.{Done, Usage, Script, ReadFault, WriteFault, Memory, TooLong}
+use Rattle.scenario_cli.specs.declared.status.Ended.TheVariants.{Done, Usage, Checked, Script, NoModule, ReadFault, WriteFault, Memory, TooLong}
 use Rattle.scenario_cli.specs.declared.script.Meaning.{Meaning}
 use Rattle.scenario_cli.specs.declared.script.Meaning.TheVariants as meanings
 use Rattle.scenario_cli.specs.Headline.{GrowsByPart}
@@ -44,6 +44,8 @@ pub first_fails : (old new : Runner) (a b : Option (List ℕ)) (before after : �
     → WritesAll a b before after (print (lines.Happens event ∷ [])) (Err ended) → ApplyStops old new a b event ended
 first_fails old new a b before after event printed (Done n) goes w = absurd w
 first_fails old new a b before after event printed Usage goes w = absurd w
+first_fails old new a b before after event printed Checked goes w = absurd w
+first_fails old new a b before after event printed (NoModule place reason) goes w = absurd w
 first_fails old new a b before after event printed (Script place reason) goes w = absurd w
 first_fails old new a b before after event printed (ReadFault taken) goes w = absurd w
 first_fails old new a b before after event printed WriteFault goes w =
@@ -60,6 +62,8 @@ second_writes old new a b c before after event printed (Ok done) goes h w = reco
 }
 second_writes old new a b c before after event printed (Err (Done n)) goes h w = absurd w
 second_writes old new a b c before after event printed (Err Usage) goes h w = absurd w
+second_writes old new a b c before after event printed (Err Checked) goes h w = absurd w
+second_writes old new a b c before after event printed (Err (NoModule place reason)) goes h w = absurd w
 second_writes old new a b c before after event printed (Err (Script place reason)) goes h w = absurd w
 second_writes old new a b c before after event printed (Err (ReadFault taken)) goes h w = absurd w
 second_writes old new a b c before after event printed (Err WriteFault) goes h w =

@@ -1,7 +1,7 @@
 pub mod Written
-pub mod Inputs
 pub mod Runs
 pub mod Applied
 pub mod Turned
 pub mod Finished
 pub mod Complete
+pub mod Checks

@@ -7,7 +7,9 @@ use Rattle.gnb_base.specs.declared.lines.ReadError.{ReadError}
 use Rattle.gnb_base.specs.declared.lines.ReadError.TheVariants as errors
 use Rattle.gnb_base.specs.declared.lines.ReadPhase.TheVariants as phases
 use Rattle.gnb_base.specs.Lines.{HasNoLf}
-use Rattle.gnb_base.specs.Reading.{Reading, IsUntouched, fresh, input_limit, NextMeets}
+use Rattle.gnb_base.specs.Reading.{Reading, fresh, input_limit, NextMeets}
+use Rattle.input_lines.specs.Inputs.{left_of}
+use Rattle.input_lines.proofs.Stopped.{stopped, is_read_fault, is_too_long, was_going}
 use Rattle.scenario_text.specs.declared.event.Event.{Event}
 use Rattle.scenario_text.specs.declared.line.OutLine.TheVariants as lines
 use Rattle.scenario_text.specs.Grammar.{header_of, is_skipped}
@@ -16,11 +18,12 @@ use Rattle.static_runner.specs.declared.runner.Runner.{Runner}
 use Rattle.static_runner.specs.Shows.{Shows, Goes}
 use Rattle.scenario_cli.specs.declared.status.Ended.{Ended}
 use Rattle.scenario_cli.specs.declared.status.Ended.TheVariants.{Done, Script, ReadFault, WriteFault, Memory, TooLong}
-use Rattle.scenario_cli.specs.Headline.{left_of, meanings, AreScript, EndsSo, run_text, GrowsByPart}
+use Rattle.scenario_cli.specs.Headline.{meanings, AreScript, EndsSo, run_text, GrowsByPart}
 use Rattle.scenario_cli.specs.Stops.{RanTo, Printed}
 use Rattle.scenario_cli.specs.Turns.{end_of_read, StopsReading, HeaderStops, HeaderUnread, NoLine, NoHeader, HasHeader, IsEvent, LineStops, Refused, NoMemory, Applies, ApplyStops, Faulty, NoRoom, LineApplies, Skips, Happens, TakesLine, TakesEnd, TurnStops, Unread, Unapplied, Unwritten, TurnMeets}
 use Rattle.scenario_cli.proofs.Written.{appends_none, appends_more, part_none, part_more, part_of, part_all}
-use Rattle.scenario_cli.proofs.Inputs.{HandedOut, Stands, Within, AtEnd, nothing_handed, handed_of, taken_on, line_handed, comes_next, end_handed, consumes_none, consumes_more}
+use Rattle.input_lines.specs.Standing.{HandedOut}
+use Rattle.input_lines.proofs.HandedOut.{nothing_handed, handed_of, line_handed, comes_next, end_handed, consumes_none}
 use Rattle.scenario_cli.proofs.Runs.{run_begins, no_text, script_skips, script_more, text-more, shows_more, print-cons}
 
 -- the lines that were handed out are a header, and then these events, whose text was written; the runner shows them
@@ -166,62 +169,35 @@ before_line left0 left1 held0 held1 reading runner count s = record {
   appends = s.appends;
 }
 
-open_phase : (left : Option (List ℕ)) (reading : Reading) (taken : List ℕ) (lines : List (List ℕ)) → Stands left reading taken lines → (reading.phase ≡ phases.Going) ⊎ (reading.phase ≡ phases.Ended)
-open_phase left reading taken lines (Within going e) = inl going
-open_phase left reading taken lines (AtEnd ended none at_end handed) = inr ended
-
-failed_going : (old new : Reading) → new.phase ≡ phases.Failed → (old.phase ≡ phases.Going) ⊎ (new ≡ old) → (old.phase ≡ phases.Going) ⊎ (old.phase ≡ phases.Ended) → old.phase ≡ phases.Going
-failed_going old new failed (inl going) opened = going
-failed_going old new failed (inr same) (inl going) = going
-failed_going old new failed (inr same) (inr ended) =
-    let e : old.phase ≡ phases.Failed = sym (ap (λ (r : Reading). r.phase) same) ∙ failed in absurd (cc)
-
-stays_same : (old new : Reading) (left1 left2 : Option (List ℕ)) (before after : ℕ) → (old.phase ≡ phases.Going) ⊎ IsUntouched old new left1 left2 before after → (old.phase ≡ phases.Going) ⊎ (new ≡ old)
-stays_same old new left1 left2 before after (inl going) = inl going
-stays_same old new left1 left2 before after (inr kept) = inr kept.reader
-
-long_going : (old : Reading) (X : Type 0) → ((old.phase ≡ phases.Going) × X) ⊎ (old.phase ≡ phases.TooLong) → (old.phase ≡ phases.Going) ⊎ (old.phase ≡ phases.Ended) → (old.phase ≡ phases.Going) × X
-long_going old X (inl seen) opened = seen
-long_going old X (inr long) (inl going) = absurd (cc)
-long_going old X (inr long) (inr ended) = absurd (cc)
-
 -- the bytes that were taken, with no line more
 stop_at : (left0 left1 left2 held0 held1 : Option (List ℕ)) (old : Reading) (more : List ℕ) (ended : Ended) (b : Before left0 left1 held0 held1 old) → old.phase ≡ phases.Going
     → Consumes left1 left2 more → EndsSo (left_of left0 left2) (b.taken ++ more) b.lines (old.kept ++ more) b.events ended → Printed held0 held1 b.events ended
     → RanTo left0 left2 held0 held1 ended
-stop_at left0 left1 left2 held0 held1 old more ended b going consumes ends printed = record {
-  taken = b.taken ++ more;
-  lines = b.lines;
-  kept = old.kept ++ more;
-  events = b.events;
-  consumes = consumes_more left0 left1 left2 b.taken more b.handed.consumes consumes;
-  handed = taken_on (left_of left0 left1) (left_of left0 left2) old b.taken more b.lines going b.handed.stands;
-  each = b.handed.each;
-  script = b.script;
-  ends = ends;
-  printed = printed;
-}
+stop_at left0 left1 left2 held0 held1 old more ended b going consumes ends printed =
+    let s = stopped left0 left1 left2 old b.taken more b.lines b.handed going consumes in
+    record {
+      taken = b.taken ++ more;
+      lines = b.lines;
+      kept = old.kept ++ more;
+      events = b.events;
+      consumes = s.consumes;
+      handed = s.handed;
+      each = s.each;
+      script = b.script;
+      ends = ends;
+      printed = printed;
+    }
 
 by_error : (left0 left1 left2 held0 held1 : Option (List ℕ)) (old new : Reading) (before after : ℕ) (error : ReadError) (b : Before left0 left1 held0 held1 old)
     → NextMeets old new left1 left2 before after (Err error) → RanTo left0 left2 held0 held1 (end_of_read error new.taken)
 by_error left0 left1 left2 held0 held1 old new before after errors.ReadFault b m =
     stop_at left0 left1 left2 held0 held1 old m.taken (ReadFault new.taken) b m.answers.going m.consumes
-    (record {
-      at = m.counts ∙ ap (λ (n : ℕ). n + length m.taken) b.handed.bytes ∙ sym (length-append b.taken m.taken);
-      no_line = subst (λ (kept : List ℕ). HasNoLf kept) m.answers.kept m.answers.without_lf;
-    }) b.appends
+    (is_read_fault left0 left1 left2 old new b.taken b.lines before after b.handed m) b.appends
 by_error left0 left1 left2 held0 held1 old new before after errors.TooLong b m =
-    let seen = long_going old _ m.answers.seen (open_phase (left_of left0 left1) old b.taken b.lines b.handed.stands) in
-    stop_at left0 left1 left2 held0 held1 old m.taken TooLong b seen.0 m.consumes
-    (record {
-      at = length-append b.taken m.taken ∙ sym (ap (λ (n : ℕ). n + length m.taken) b.handed.bytes) ∙ sym m.counts ∙ m.answers.at;
-      front = seen.1.0;
-      last = seen.1.1;
-      parts = seen.1.2;
-      no_line = seen.1.3;
-    }) b.appends
+    let long = is_too_long left0 left1 left2 old new b.taken b.lines before after b.handed m in
+    stop_at left0 left1 left2 held0 held1 old m.taken TooLong b long.0 m.consumes long.1 b.appends
 by_error left0 left1 left2 held0 held1 old new before after errors.Memory b m =
-    stop_at left0 left1 left2 held0 held1 old m.taken Memory b (failed_going old new m.answers.0 (stays_same old new left1 left2 before after m.stays) (open_phase (left_of left0 left1) old b.taken b.lines b.handed.stands)) m.consumes tt
+    stop_at left0 left1 left2 held0 held1 old m.taken Memory b (was_going left0 left1 left2 old new b.taken b.lines before after b.handed m) m.consumes tt
     (part_all held0 held1 _ b.appends)
 
 unread : (left0 left1 left2 held0 held1 : Option (List ℕ)) (old new : Reading) (before after : ℕ) (ended : Ended) → Before left0 left1 held0 held1 old

@@ -1,38 +1,29 @@
 -- What a call of the program does, for every input, every list of failing calls, and every status.
 use Rattle.std.specs.Prelude.{◌≡◌, ◌≢◌, ◌+◌, ◌<◌, ◌⊎◌, ℕ, Bool, false, List, [], ◌∷◌, ◌++◌, map, length, Option, Some, None, Result, Ok, Err, IfSome, if◌then◌else◌, codes}
 use Rattle.std.specs.List.{flat_map, AllByRecursion}
-use Rattle.std.specs.Bool.{MatchBool}
 use Rattle.std.specs.Str.{bytes_eq}
 use Rattle.std.specs.Io.KnownBytes.{Consumes, Appends, Keeps, IsAtEnd}
 use Rattle.gnb_base.specs.Lines.{line_feed, HasNoLf}
 use Rattle.gnb_base.specs.Reading.{input_limit}
+use Rattle.input_lines.specs.Inputs.{left_of, Handed, ComesNext, IsEmptyInput, IsReadFault, IsTooLong}
 use Rattle.scenario_text.specs.declared.event.Event.{Event}
 use Rattle.scenario_text.specs.declared.event.TextReason.{TextReason}
 use Rattle.scenario_text.specs.declared.event.TextReason.TheVariants.{Word}
 use Rattle.scenario_text.specs.Grammar.{event_of, header_of, is_skipped}
 use Rattle.scenario_text.specs.Print.{print}
 use Rattle.run_model.specs.Run.{run, lines_of}
+use Rattle.module_check.specs.declared.input.CheckedModule.{CheckedModule}
+use Rattle.module_check.specs.declared.input.CheckStop.{CheckStop}
+use Rattle.module_check.specs.Check.{ChecksInput}
 use Rattle.scenario_cli.specs.declared.status.Ended.{Ended}
-use Rattle.scenario_cli.specs.declared.status.Ended.TheVariants.{Done, Usage, Script, ReadFault, WriteFault, Memory, TooLong}
+use Rattle.scenario_cli.specs.declared.status.Ended.TheVariants.{Done, Usage, Checked, Script, NoModule, ReadFault, WriteFault, Memory, TooLong}
 use Rattle.scenario_cli.specs.declared.status.Status.{Status}
+use Rattle.scenario_cli.specs.declared.top.Form.{Form}
+use Rattle.scenario_cli.specs.declared.top.Form.TheVariants as forms
 use Rattle.scenario_cli.specs.Ends.{status_of, last_lines}
+use Rattle.scenario_cli.specs.Answers.{ended_of, check_text}
 
 -- ---- the input
-
--- what is left of an input that told its bytes at first; of another one nothing is known
-abbrev pub left_of : Option (List ℕ) → Option (List ℕ) → Option (List ℕ)
-left_of None left = None
-left_of (Some bytes) left = left
-
--- lines, each with its LF
-abbrev pub joined : List (List ℕ) → List ℕ
-joined lines = flat_map (λ line. line ++ line_feed ∷ []) lines
-
--- The bytes taken are these lines, each with its LF, and then bytes behind them; or the last line lacks its LF, which it
--- may at the end of the input alone.
-pub data Handed (left : Option (List ℕ)) (taken : List ℕ) (lines : List (List ℕ)) (kept : List ℕ) : Type 0 where
-  Whole : taken ≡ joined lines ++ kept → Handed left taken lines kept
-  Bare : (front : List (List ℕ)) (last : List ℕ) → lines ≡ front ++ last ∷ [] → last ≢ [] → taken ≡ joined front ++ last → kept ≡ [] → IsAtEnd left → Handed left taken lines kept
 
 -- what a line behind the header means: nothing where it is skipped
 abbrev pub meanings : List ℕ → List (Result Event TextReason)
@@ -48,19 +39,7 @@ abbrev pub IsWrong : List (List ℕ) → List ℕ → TextReason → Type 0
 IsWrong [] line reason = header_of line ≡ Err reason
 IsWrong (header ∷ lines) line reason = (is_skipped line ≡ false) × (event_of line ≡ Err reason)
 
--- a whole line comes next, with its LF or as the last one
-abbrev pub ComesNext : Option (List ℕ) → List ℕ → List ℕ → Type 0
-ComesNext left kept line = ((rest : List ℕ) × (kept ≡ line ++ line_feed ∷ rest)) ⊎ ((kept ≡ line) × (line ≢ []) × IsAtEnd left)
-
 -- ---- how it ends, behind these lines, which were applied
-
--- no line is there, where a header is awaited
-pub record IsEmptyInput (left : Option (List ℕ)) (lines : List (List ℕ)) (kept : List ℕ) (place : ℕ) (reason : TextReason) : Type 0 where
-  pub no_line : lines ≡ []
-  pub nothing : kept ≡ []
-  pub at_end : IsAtEnd left
-  pub first : place ≡ 1
-  pub word : reason ≡ Word
 
 -- the next line is wrong
 pub record IsWrongLine (left : Option (List ℕ)) (lines : List (List ℕ)) (kept : List ℕ) (place : ℕ) (reason : TextReason) : Type 0 where
@@ -77,22 +56,11 @@ pub record IsDone (left : Option (List ℕ)) (lines : List (List ℕ)) (kept : L
   pub at_end : IsAtEnd left
   pub counted : count ≡ length events
 
--- a read failed, where no whole line was kept
-pub record IsReadFault (taken kept : List ℕ) (place : ℕ) : Type 0 where
-  pub at : place ≡ length taken
-  pub no_line : HasNoLf kept
-
--- the byte behind the limit was taken, where no whole line was kept
-pub record IsTooLong (taken kept : List ℕ) : Type 0 where
-  pub at : length taken ≡ input_limit + 1
-  pub front : List ℕ
-  pub last : ℕ
-  pub parts : kept ≡ front ++ last ∷ []
-  pub no_line : HasNoLf front
-
 abbrev pub EndsSo : Option (List ℕ) → List ℕ → List (List ℕ) → List ℕ → List Event → Ended → Type 0
 EndsSo left taken lines kept events (Done count) = IsDone left lines kept events count
 EndsSo left taken lines kept events Usage = ⊥
+EndsSo left taken lines kept events Checked = ⊥
+EndsSo left taken lines kept events (NoModule place reason) = ⊥
 EndsSo left taken lines kept events (Script place reason) = IsEmptyInput left lines kept place reason ⊎ IsWrongLine left lines kept place reason
 EndsSo left taken lines kept events (ReadFault place) = IsReadFault taken kept place
 EndsSo left taken lines kept events WriteFault = Unit {0}
@@ -145,12 +113,33 @@ pub record UsageMeets (left0 left1 held0 held1 : Option (List ℕ)) (ended : End
   pub unread : Keeps left0 left1
   pub prints : UsagePrints held0 held1 ended
 
+-- ---- the word `check`
+
+-- The text of the answer was written; or a front of it where a write failed; or nothing at want of memory.
+pub data TellsSo (old new : Option (List ℕ)) (answer : Result CheckedModule CheckStop) (ended : Ended) : Type 0 where
+  Told : ended ≡ ended_of answer → Appends old new (check_text answer) → TellsSo old new answer ended
+  Cut : ended ≡ WriteFault → GrowsByPart old new (check_text answer) → TellsSo old new answer ended
+  Untold : ended ≡ Memory → Keeps old new → TellsSo old new answer ended
+
+-- with the word `check`: what the input is, and that it was told
+pub record CheckMeets (left0 left1 held0 held1 : Option (List ℕ)) (ended : Ended) : Type 0 where
+  pub answer : Result CheckedModule CheckStop
+  pub checks : ChecksInput left0 left1 answer
+  pub tells : TellsSo held0 held1 answer ended
+
+-- ---- the program
+
 -- the words of a form of the program
-abbrev pub is_run : List (List ℕ) → Bool
-is_run (word ∷ []) = bytes_eq word (codes "run")
-is_run words = false
+abbrev pub form_of : List (List ℕ) → Form
+form_of (word ∷ []) = if bytes_eq word (codes "run") then forms.Run else (if bytes_eq word (codes "check") then forms.Check else forms.Other)
+form_of words = forms.Other
+
+abbrev pub FormMeets : Form → Option (List ℕ) → Option (List ℕ) → Option (List ℕ) → Option (List ℕ) → Ended → Type 0
+FormMeets forms.Run left0 left1 held0 held1 ended = RunMeets left0 left1 held0 held1 ended
+FormMeets forms.Check left0 left1 held0 held1 ended = CheckMeets left0 left1 held0 held1 ended
+FormMeets forms.Other left0 left1 held0 held1 ended = UsageMeets left0 left1 held0 held1 ended
 
 pub record GnbMeets (words : List (List ℕ)) (left0 left1 held0 held1 : Option (List ℕ)) (status : Status) : Type 0 where
   pub ended : Ended
   pub status_is : status ≡ status_of ended
-  pub meets : MatchBool (is_run words) (RunMeets left0 left1 held0 held1 ended) (UsageMeets left0 left1 held0 held1 ended)
+  pub meets : FormMeets (form_of words) left0 left1 held0 held1 ended

@@ -5,3 +5,4 @@ pub mod Causes
 pub mod Turns
 pub mod Stops
 pub mod Whole
+pub mod Answers

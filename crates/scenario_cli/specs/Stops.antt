@@ -3,10 +3,11 @@ use Rattle.std.specs.Prelude.{ℕ, List, Option}
 use Rattle.std.specs.List.{AllByRecursion}
 use Rattle.std.specs.Io.KnownBytes.{Consumes, Appends}
 use Rattle.gnb_base.specs.Lines.{HasNoLf}
+use Rattle.input_lines.specs.Inputs.{left_of, Handed}
 use Rattle.scenario_text.specs.declared.event.Event.{Event}
 use Rattle.scenario_cli.specs.declared.status.Ended.{Ended}
 use Rattle.scenario_cli.specs.declared.status.Ended.TheVariants.{WriteFault, Memory}
-use Rattle.scenario_cli.specs.Headline.{left_of, Handed, AreScript, EndsSo, run_text, GrowsByPart}
+use Rattle.scenario_cli.specs.Headline.{AreScript, EndsSo, run_text, GrowsByPart}
 
 -- the run's text was written, or a front of it
 abbrev pub Printed : Option (List ℕ) → Option (List ℕ) → List Event → Ended → Type 0

@@ -1,7 +1,8 @@
 //! The program: runs a script of events over the units of a split base station, and prints every message, packet and
-//! delivery.
+//! delivery; or checks an ASN.1 module.
 #![tactic(auto)]
 
+pub mod check;
 pub mod output;
 pub mod script;
 pub mod status;

@@ -12,7 +12,7 @@ use scenario_text::print::print_line;
 use std::alloc::Global;
 
 /// The text of lines, each with its LF.
-fn text_of(alloc: Global, lines: &[OutLine]) -> Result<Octets, Memory>
+pub fn text_of(alloc: Global, lines: &[OutLine]) -> Result<Octets, Memory>
     ensures { IfOk result (λ text. text ≡ print lines.now) }
 {
     let mut text = Octets::new(alloc);
@@ -24,7 +24,7 @@ fn text_of(alloc: Global, lines: &[OutLine]) -> Result<Octets, Memory>
 }
 
 /// Writes all these bytes, in as many pieces as the sink takes. Nothing is written after a write that failed.
-fn write_all<K: Sink>(output: &mut K, bytes: &[u8]) -> Result<(), Failed>
+pub fn write_all<K: Sink>(output: &mut K, bytes: &[u8]) -> Result<(), Failed>
     ensures { Writes (K.held output.old) (K.held output.new) (K.faults output.old) (K.faults output.new) bytes.now result }
 {
     let mut rest = bytes;

@@ -2,8 +2,9 @@
 
 ghost use Rattle.std.specs.Prelude.{◌≡◌};
 ghost use Rattle.std.specs.Option.{option_to_list};
-ghost use Rattle.scenario_cli.specs.Ends.{reason_code, status_of, last_lines};
+ghost use Rattle.scenario_cli.specs.Ends.{reason_code, module_reason_code, status_of, last_lines};
 
+use asn1_types::ModuleReason;
 use scenario_text::event::TextReason;
 use scenario_text::line::OutLine;
 
@@ -14,8 +15,12 @@ pub enum Ended {
     Done { events: u64 },
     /// The words are no form of the program.
     Usage,
-    /// The line at `place` is no header or no event.
+    /// The input is a header and a module, and its name was told.
+    Checked,
+    /// The line at `place` is no header or no event, or one too many.
     Script { place: u64, reason: TextReason },
+    /// The text of a module is none; its first fault stands in the line at `place`.
+    NoModule { place: u64, reason: ModuleReason },
     /// A read failed, after so many bytes.
     ReadFault { taken: u64 },
     /// A write failed.
@@ -47,6 +52,23 @@ fn code_of(reason: TextReason) -> u16
     }
 }
 
+/// The number of a reason why a text is no module.
+pub fn module_code_of(reason: ModuleReason) -> u16
+    ensures { result ≡ module_reason_code reason }
+{
+    match reason {
+        ModuleReason::Token => 1,
+        ModuleReason::Form => 2,
+        ModuleReason::Unknown => 3,
+        ModuleReason::Twice => 4,
+        ModuleReason::Recursive => 5,
+        ModuleReason::OutOfProfile => 6,
+        ModuleReason::Bounds => 7,
+        ModuleReason::Deep => 8,
+        ModuleReason::Truncated => 9,
+    }
+}
+
 /// The place of the byte that is one too many.
 const PAST_LIMIT: u64 = 16_777_217;
 
@@ -56,8 +78,9 @@ impl Ended {
         ensures { result ≡ status_of self.now }
     {
         let (code, place, reason) = match *self {
-            Ended::Done { .. } => (0, 0, 0),
+            Ended::Done { .. } | Ended::Checked => (0, 0, 0),
             Ended::Usage => (2, 0, 0),
+            Ended::NoModule { place, reason } => (3, place, module_code_of(reason)),
             Ended::Script { place, reason } => (4, place, code_of(reason)),
             Ended::ReadFault { taken } => (6, taken, 0),
             Ended::WriteFault => (7, 0, 0),
@@ -77,7 +100,7 @@ impl Ended {
     {
         match *self {
             Ended::Done { events } => Some(OutLine::End { events }),
-            Ended::WriteFault | Ended::Memory => None,
+            Ended::Checked | Ended::WriteFault | Ended::Memory => None,
             _ => {
                 let Status {
                     code,

@@ -53,6 +53,8 @@ const FIVE_PACKETS: &str =
 const HELD: &str =
     "> static u1 A 1 1 12 1 4\n> offer u1 b1 dl 01\nput A.up1/1 u1 b1 dl - 30FF00010000000101\n> offer u1 b1 dl 02\nput A.up1/1 u1 b1 dl - 30FF00010000000102\n> offer u1 b1 dl 03\nput A.up1/1 u1 b1 dl - 30FF00010000000103\n> offer u1 b1 dl 04\nput A.up1/1 u1 b1 dl - 30FF00010000000104\n> offer u1 b1 dl 05\nput A.up1/1 u1 b1 dl - 30FF00010000000105\n> get A.up1/1\ngot A.up1/1 u1 b1 dl - 30FF00010000000101\nput A.du1/1 u1 b1 dl 0 34FF000F00000001000000840200000000000000800001\n> get A.up1/1\ngot A.up1/1 u1 b1 dl - 30FF00010000000102\nput A.du1/1 u1 b1 dl 1 34FF000F00000001000000840200000000010000800102\n> get A.up1/1\ngot A.up1/1 u1 b1 dl - 30FF00010000000103\nput A.du1/1 u1 b1 dl 2 34FF000F00000001000000840200000000020000800203\n> get A.up1/1\ngot A.up1/1 u1 b1 dl - 30FF00010000000104\nput A.du1/1 u1 b1 dl 3 34FF000F00000001000000840200000000030000800304\n> get A.up1/1\nheld A.up1/1 Quota\n> get A.up1/1\nheld A.up1/1 Quota\nend 12\n";
 
+const MODULE: &str = "module text\nM DEFINITIONS AUTOMATIC TAGS ::= BEGIN\nT ::= BOOLEAN\nEND\n";
+
 /// What a call is given, and the numbers of the reads and writes that fail.
 #[derive(Clone, Copy)]
 struct Call<'a> {
@@ -121,6 +123,37 @@ fn whole_calls(rt: HostRuntime) -> Result<(), Fail> {
         ),
         ("run", REFUSALS, status(0, 0, 0), REFUSED),
         ("run", FIVE_PACKETS, status(0, 0, 0), HELD),
+        ("run", "module text\n", status(4, 1, 1), "stop 4 1 1\n"),
+        ("check", "", status(4, 1, 1), "stop 4 1 1\n"),
+        ("check", "module", status(4, 1, 1), "stop 4 1 1\n"),
+        ("check", "module x\n", status(4, 1, 1), "stop 4 1 1\n"),
+        ("check", "module builtin\n", status(4, 1, 1), "stop 4 1 1\n"),
+        ("check", "module text x\n", status(4, 1, 4), "stop 4 1 4\n"),
+        ("check", MODULE, status(0, 0, 0), "module M 1\n"),
+        (
+            "check",
+            "module text\nM DEFINITIONS AUTOMATIC TAGS ::= BEGIN\nT ::= BOOLEAN END",
+            status(0, 0, 0),
+            "module M 1\n",
+        ),
+        (
+            "check",
+            "module text\nM DEFINITIONS AUTOMATIC TAGS ::= BEGIN\nT ::= REAL\nEND\nmore\n",
+            status(3, 3, 6),
+            "module 3 7 6\nstop 3 3 6\n",
+        ),
+        (
+            "check",
+            "module text\nM DEFINITIONS AUTOMATIC TAGS ::= BEGIN END x\n\n",
+            status(4, 3, 4),
+            "stop 4 3 4\n",
+        ),
+        (
+            "check",
+            "module text\nM DEFINITIONS AUTOMATIC TAGS ::= BEGIN\nEND\n\n",
+            status(4, 4, 4),
+            "stop 4 4 4\n",
+        ),
     ];
     for (word, input, answer, text) in rows {
         for piece in [1, 4096] {
@@ -216,6 +249,55 @@ fn each_write_fails(rt: &impl Abort, alloc: Global, piece: usize) -> Result<(), 
         assert!(rt; piece > 1 || held.as_slice().len() as u64 == number - 1);
     }
     assert!(rt; false);
+    Ok(())
+}
+
+/// A check whose reads or writes fail: of the line of a fault and the `stop` line a front was written.
+#[test]
+fn failing_checks(rt: HostRuntime) -> Result<(), Fail> {
+    let alloc = rt.alloc();
+    let wrong = "module text\nM END\nEND\n";
+    let told = "module 2 3 2\nstop 3 2 2\n";
+    for number in 1..28 {
+        let call = Call {
+            word: "check",
+            input: wrong,
+            piece: 1,
+            failing_reads: &[],
+            failing_writes: &[number],
+        };
+        let (answer, held, calls) = call.answer(alloc)?;
+        let all = number as usize > told.len();
+        assert_eq!(rt;
+            answer,
+            if all {
+                status(3, 2, 2)
+            } else {
+                status(7, 0, 0)
+            }
+        );
+        assert!(rt; told.as_bytes().starts_with(held.as_slice()));
+        assert_eq!(rt; calls, if all { told.len() as u64 } else { number });
+    }
+    for number in 1..24 {
+        let call = Call {
+            word: "check",
+            input: wrong,
+            piece: 1,
+            failing_reads: &[number],
+            failing_writes: &[],
+        };
+        let (answer, _, _) = call.answer(alloc)?;
+        let taken = number - 1;
+        assert_eq!(rt;
+            answer,
+            if taken < 22 {
+                status(6, taken, 0)
+            } else {
+                status(3, 2, 2)
+            }
+        );
+    }
     Ok(())
 }
 

@@ -7,7 +7,8 @@ use Rattle.gnb_base.specs.declared.lines.Line.{Line}
 use Rattle.gnb_base.specs.declared.lines.ReadPhase.TheVariants.{Going, Ended}
 use Rattle.gnb_base.specs.Lines.{line_feed, HasNoLf}
 use Rattle.gnb_base.specs.Reading.{Reading, fresh, NextMeets, EndsInLf, EndsInput}
-use Rattle.scenario_cli.specs.Headline.{left_of, joined, Handed, Whole, Bare, ComesNext}
+use Rattle.input_lines.specs.Inputs.{left_of, joined, Handed, Whole, Bare, ComesNext}
+use Rattle.input_lines.specs.Standing.{Stands, Within, AtEnd, HandedOut}
 
 -- ---- what is left of the source
 
@@ -45,7 +46,7 @@ each_more P (first ∷ lines) line h k = (h.0, each_more P lines line h.1 k)
 bytes_more : (taken more kept new : List ℕ) (lines : List (List ℕ)) → taken ≡ joined lines ++ kept → kept ++ more ≡ new → taken ++ more ≡ joined lines ++ new
 bytes_more taken more kept new lines e f = ap (λ ys. ys ++ more) e ∙ append_assoc (joined lines) kept more ∙ ap (λ ys. joined lines ++ ys) f
 
-joined-more : (lines : List (List ℕ)) (line : List ℕ) → joined (lines ++ line ∷ []) ≡ joined lines ++ (line ++ line_feed ∷ [])
+pub joined-more : (lines : List (List ℕ)) (line : List ℕ) → joined (lines ++ line ∷ []) ≡ joined lines ++ (line ++ line_feed ∷ [])
 joined-more lines line =
     flat_map-append (λ (l : List ℕ). l ++ line_feed ∷ []) lines (line ∷ [])
     ∙ ap (λ ys. joined lines ++ ys) (append-nil (line ++ line_feed ∷ []))
@@ -56,18 +57,6 @@ line_more lines line rest =
     ∙ ap (λ ys. joined lines ++ ys) (append_assoc line (line_feed ∷ []) rest))
 
 -- ---- where a reader stands
-
--- It keeps the bytes behind the lines; or the input has ended, and it keeps none.
-pub data Stands (left : Option (List ℕ)) (reading : Reading) (taken : List ℕ) (lines : List (List ℕ)) : Type 0 where
-  Within : reading.phase ≡ Going → taken ≡ joined lines ++ reading.kept → Stands left reading taken lines
-  AtEnd : reading.phase ≡ Ended → reading.kept ≡ [] → IsAtEnd left → Handed left taken lines [] → Stands left reading taken lines
-
-pub record HandedOut (left0 left1 : Option (List ℕ)) (reading : Reading) (taken : List ℕ) (lines : List (List ℕ)) : Type 0 where
-  pub consumes : Consumes left0 left1 taken
-  pub each : AllByRecursion HasNoLf lines
-  pub stands : Stands (left_of left0 left1) reading taken lines
-  pub bytes : reading.taken ≡ length taken
-  pub count : reading.lines ≡ length lines
 
 pub nothing_handed : (left : Option (List ℕ)) → HandedOut left left fresh [] []
 nothing_handed left = record { consumes = consumes_none left; each = tt; stands = Within refl refl; bytes = refl; count = refl }
@@ -146,3 +135,16 @@ pub end_handed : (left0 left1 left2 : Option (List ℕ)) (old new : Reading) (ta
 end_handed left0 left1 left2 old new taken lines before after h m =
     let none = both_nil old.kept m.taken m.answers.nothing in
     end_by_stand left0 left1 left2 old new taken m.taken lines h.consumes m.consumes none.0 none.1 h.stands m.answers.seen
+
+-- and the reader stands at the end
+pub end_stands : (left0 left1 left2 : Option (List ℕ)) (old new : Reading) (taken : List ℕ) (lines : List (List ℕ)) (before after : ℕ)
+    → HandedOut left0 left1 old taken lines → (m : NextMeets old new left1 left2 before after (Ok None)) → HandedOut left0 left2 new (taken ++ m.taken) lines
+end_stands left0 left1 left2 old new taken lines before after h m =
+    let end = end_handed left0 left1 left2 old new taken lines before after h m in
+    record {
+      consumes = end.consumes;
+      each = h.each;
+      stands = AtEnd m.answers.phase m.answers.kept end.at_end end.handed;
+      bytes = m.counts ∙ ap (λ (n : ℕ). n + length m.taken) h.bytes ∙ sym (length-append taken m.taken);
+      count = m.answers.lines ∙ h.count;
+    }

@@ -1,0 +1,3 @@
+pub mod HandedOut
+pub mod InputLines
+pub mod Stopped

@@ -1,0 +1,5 @@
+pub mod Steps
+pub mod Joining
+pub mod Gathering
+pub mod Checked
+pub mod Whole

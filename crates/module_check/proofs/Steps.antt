@@ -1,0 +1,28 @@
+-- What the calls of one step give together.
+use Rattle.std.proofs.Common.{◌≡◌, ℕ, ◌+◌, List, [], ◌∷◌, ◌++◌, Option, Some, None, Result, Ok, Err, refl, sym, ap, ◌∙◌, subst}
+use Rattle.gnb_base.specs.declared.lines.Line.{Line}
+use Rattle.gnb_base.specs.Lines.{line_feed}
+use Rattle.gnb_base.specs.Reading.{Reading, NextMeets}
+use Rattle.scenario_text.specs.declared.event.TextReason.{TextReason}
+use Rattle.scenario_text.specs.declared.event.TextReason.TheVariants.{Extra}
+use Rattle.module_check.specs.declared.input.CheckStop.{CheckStop}
+use Rattle.module_check.specs.declared.input.CheckStop.TheVariants.{Script, Memory}
+use Rattle.module_check.specs.Header.{text_header_of}
+use Rattle.module_check.specs.Steps.{HeaderStops, WrongLine, EndStops, OneMore, TurnStops, NoRoom, TurnMeets}
+
+pub wrong_header : (old new : Reading) (left0 left1 : Option (List ℕ)) (before after : ℕ) (found : Option Line) (line : Line) (text : List ℕ) (reason : TextReason)
+    → found ≡ Some line → NextMeets old new left0 left1 before after (Ok found) → text ≡ line.text → Err reason ≡ text_header_of text
+    → HeaderStops old new left0 left1 before after (Script 1 reason)
+wrong_header old new left0 left1 before after found line text reason e m same h =
+    WrongLine line reason (subst (λ (o : Option Line). NextMeets old new left0 left1 before after (Ok o)) e m) (ap text_header_of (sym same) ∙ sym h) refl
+
+pub one_more : (old new : Reading) (left0 left1 : Option (List ℕ)) (before after : ℕ) (found : Option Line) (line : Line)
+    → found ≡ Some line → NextMeets old new left0 left1 before after (Ok found) → EndStops old new left0 left1 before after (Script line.number Extra)
+one_more old new left0 left1 before after found line e m = OneMore line (subst (λ (o : Option Line). NextMeets old new left0 left1 before after (Ok o)) e m) refl
+
+pub no_room : (old new : Reading) (left0 left1 : Option (List ℕ)) (before after : ℕ) (octets0 octets1 : List ℕ) (found : Option Line) (line : Line) (stop : CheckStop) (result : Result (Option Line) CheckStop)
+    → found ≡ Some line → NextMeets old new left0 left1 before after (Ok found) → result ≡ Err stop → stop ≡ Memory
+    → TurnMeets old new left0 left1 before after octets0 octets1 result
+no_room old new left0 left1 before after octets0 octets1 found line stop result e m r s =
+    subst (λ (x : Result (Option Line) CheckStop). TurnMeets old new left0 left1 before after octets0 octets1 x) (sym (r ∙ ap (λ (x : CheckStop). Err x) s))
+    (NoRoom line (subst (λ (o : Option Line). NextMeets old new left0 left1 before after (Ok o)) e m) refl)

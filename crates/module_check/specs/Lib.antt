@@ -1,0 +1,4 @@
+pub mod Header
+pub mod Text
+pub mod Check
+pub mod Steps
