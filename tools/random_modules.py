@@ -214,7 +214,7 @@ def answer(command, text):
 
 def main():
     asked = argparse.ArgumentParser(description=__doc__, formatter_class=argparse.RawDescriptionHelpFormatter)
-    asked.add_argument("--count", type=int, default=400)
+    asked.add_argument("--count", type=int, default=350)
     asked.add_argument("--seed", type=int, default=1)
     asked.add_argument("command", nargs="*")
     given = asked.parse_args()
