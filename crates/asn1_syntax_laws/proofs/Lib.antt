@@ -1,0 +1,5 @@
+pub mod Sim
+pub mod SizeSims
+pub mod MemberSims
+pub mod TypeSims
+pub mod RowSims

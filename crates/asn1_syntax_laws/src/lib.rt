@@ -1,0 +1,2 @@
+//! Laws: what the reading functions read is what the grammar spells.
+#![tactic(auto)]
