@@ -1,10 +1,10 @@
 -- Where an item decides, it decides rightly.
-use Rattle.std.proofs.Common.{◌≡◌, ℕ, List, [], ◌∷◌, ◌++◌, Bool, true, false, cond, ◌||◌, ◌&&◌, eqb, refl, sym, ap, ◌∙◌, subst, inl, inr, arith, Option, Some, None}
+use Rattle.std.proofs.Common.{◌≡◌, ℕ, List, [], ◌∷◌, ◌++◌, Bool, true, false, cond, ◌||◌, ◌&&◌, refl, sym, ap, ◌∙◌, subst, inl, inr, Option, Some, None}
 use Rattle.std.specs.Prelude.{◌⊎◌, ◌==◌, not}
 use Rattle.std.proofs.lemmas.Bool.{eqb-true}
 use Rattle.asn1_tokens.specs.declared.token.Token.{Token}
 use Rattle.asn1_grammar.specs.Grammar.{Terminal, fits, Part, Symbol, Item, Whole, productions}
-use Rattle.asn1_grammar.specs.Open.{IsOneOf, Spells, nothing, item, part}
+use Rattle.asn1_grammar.specs.Open.{IsOneOf, Spells, item, part}
 use Rattle.asn1_grammar.proofs.Predict.{class, is_apart, not_both, is_begun, has_empty, empty_of, pick, chosen, heads, all_apart, avoids, tails, all_avoid, is_clear, is_in, all_in, avoids_within, all_avoid_within, is_clear_within, all_clear, are_told_apart, predictable}
 
 pub and_left : (a b : Bool) → a && b ≡ true → a ≡ true

@@ -1,6 +1,6 @@
 -- Each row of symbols spells something.
-use Rattle.std.proofs.Common.{◌≡◌, ℕ, ◌+◌, List, [], ◌∷◌, ◌++◌, Bool, true, false, refl, inl, inr, arith}
-use Rattle.std.specs.Prelude.{◌⊎◌, ◌==◌, codes, pos}
+use Rattle.std.proofs.Common.{◌≡◌, List, [], ◌∷◌, ◌++◌, true, refl, inl, inr}
+use Rattle.std.specs.Prelude.{codes, pos}
 use Rattle.asn1_tokens.specs.declared.token.Word.TheVariants as words
 use Rattle.asn1_tokens.specs.declared.token.Sign.TheVariants as signs
 use Rattle.asn1_tokens.specs.declared.token.Token.{Token}

@@ -1,14 +1,11 @@
 -- Reading with one item of look-ahead: what is left to be spelled, and what is left of the items.
-use Rattle.std.proofs.Common.{◌≡◌, ℕ, List, [], ◌∷◌, ◌++◌, Bool, true, false, map, refl, sym, ap, ◌∙◌, subst, Option, Some, None}
-use Rattle.std.specs.Prelude.{◌⊎◌}
+use Rattle.std.proofs.Common.{◌≡◌, List, [], ◌∷◌, ◌++◌, true, false, map, refl, sym, ap, subst, Some, None}
 use Rattle.asn1_tokens.specs.declared.token.Token.{Token}
-use Rattle.asn1_tokens.specs.declared.token.Token.TheVariants as tokens
 use Rattle.asn1_tokens.specs.Stream.{Placed, first_token, others}
-use Rattle.asn1_grammar.specs.Grammar.{Terminal, fits, Part, Symbol, Item, Whole, productions, Module}
-use Rattle.asn1_grammar.specs.Open.{IsOneOf, Spells, nothing, item, part, IsOpen}
-use Rattle.asn1_grammar.proofs.Predict.{chosen, tails, all_avoid, is_clear}
+use Rattle.asn1_grammar.specs.Grammar.{Terminal, fits, Part, Symbol, Item, Whole}
+use Rattle.asn1_grammar.specs.Open.{Spells, item, part}
+use Rattle.asn1_grammar.proofs.Predict.{chosen, is_clear}
 use Rattle.asn1_grammar.proofs.Decide.{and_left, item_spells, chosen_spells, unchosen, one_of, clear_expanded}
-use Rattle.asn1_grammar.proofs.Makes.{made_of}
 
 abbrev pub tokens_of : List Placed → List Token
 tokens_of ts = map (λ p. p.token) ts
@@ -56,9 +53,12 @@ path (expand {n} b {symbols} {left} {ts} {us} h rest) =
       front = inner.front;
       split = inner.split;
       back = λ vs s. part b one (inner.back vs s);
-      forth = λ c. let on = inner.forth (clear_expanded n b symbols one c) in (on.0, λ vs s.
-      let first = begun ts inner.front us vs inner.split in
-      on.1 vs (subst (Spells (b ++ symbols)) (sym first.1) (chosen_spells n (first_token ts) symbols first.0 b (and_left _ _ c) h (subst (Spells (Whole n ∷ symbols)) first.1 s))));
+      forth = λ c. let on = inner.forth (clear_expanded n b symbols one c) in (
+        on.0,
+        λ vs s.
+            let first = begun ts inner.front us vs inner.split in
+            on.1 vs (subst (Spells (b ++ symbols)) (sym first.1) (chosen_spells n (first_token ts) symbols first.0 b (and_left _ _ c) h (subst (Spells (Whole n ∷ symbols)) first.1 s))),
+      );
     }
 
 -- no production goes on with this item

@@ -1,6 +1,6 @@
 -- The grammar of modules, as productions over lexical items (X.680, clauses 13 and 16 to 29; X.681, 12.3 for the object sets in
 -- their fixed notation). A name has its own form here alone: what it refers to, and the bounds of numbers, are no part of it.
-use Rattle.std.specs.Prelude.{List, [], ◌∷◌, Bool, true, false, codes, ◌||◌, ◌==◌, ℕ}
+use Rattle.std.specs.Prelude.{List, [], ◌∷◌, Bool, true, false, codes, ◌||◌, ℕ}
 use Rattle.asn1_tokens.specs.declared.token.Word.{Word}
 use Rattle.asn1_tokens.specs.declared.token.Word.TheVariants as words
 use Rattle.asn1_tokens.specs.declared.token.Sign.{Sign}

@@ -3,3 +3,6 @@ pub mod SizeSims
 pub mod MemberSims
 pub mod TypeSims
 pub mod RowSims
+pub mod ModuleSims
+pub mod Streams
+pub mod Readings

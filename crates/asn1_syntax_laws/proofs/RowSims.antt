@@ -1,32 +1,26 @@
 -- The rows of information object sets, and the sets.
-use Rattle.std.proofs.Common.{◌≡◌, ℕ, ◌+◌, ◌≤◌, ◌<◌, List, [], ◌∷◌, ◌++◌, zero, suc, length, Bool, true, false, cond, ◌||◌, ◌&&◌, refl, sym, ap, ◌∙◌, subst, inl, inr, arith, Option, Some, None}
-use Rattle.std.specs.Prelude.{◌⊎◌, Result, Ok, Err, codes, is_some}
+use Rattle.std.proofs.Common.{◌≡◌, ℕ, ◌<◌, List, [], ◌∷◌, length, Bool, true, false, cond, ◌||◌, refl, ap, ◌∙◌, inl, inr, arith, Option, Some, None}
+use Rattle.std.specs.Prelude.{codes, is_some}
 use Rattle.asn1_tokens.specs.declared.token.Word.{Word}
 use Rattle.asn1_tokens.specs.declared.token.Word.TheVariants as words
 use Rattle.asn1_tokens.specs.declared.token.Sign.TheVariants as signs
 use Rattle.asn1_tokens.specs.declared.token.Token.{Token}
 use Rattle.asn1_tokens.specs.declared.token.Token.TheVariants as tokens
 use Rattle.asn1_tokens.specs.Words.{is_text}
-use Rattle.asn1_tokens.specs.Stream.{Placed, first_token, first_place, others}
+use Rattle.asn1_tokens.specs.Stream.{Placed, first_token, others}
 use Rattle.asn1_types.specs.declared.fault.ModuleReason.TheVariants as reasons
-use Rattle.asn1_types.specs.declared.fault.Fault.{Fault}
-use Rattle.asn1_types.specs.declared.definition.TypeId.{TypeId}
 use Rattle.asn1_types.specs.declared.definition.Node.{Node}
-use Rattle.asn1_types.specs.Reading.{◌>>=◌, Left, fault_at, unexpected, begins_with, begins_with_sign, word_at, sign_at, lower_of, lower_at, repeat_at}
-use Rattle.asn1_types.specs.Sizes.{natural_at}
-use Rattle.asn1_types.specs.Types.{type_at}
-use Rattle.asn1_assignments.specs.declared.assignment.Criticality.{Criticality}
+use Rattle.asn1_types.specs.Reading.{◌>>=◌, Left, fault_at, begins_with, begins_with_sign, lower_of, lower_at}
 use Rattle.asn1_assignments.specs.declared.assignment.Criticality.TheVariants as criticalities
-use Rattle.asn1_assignments.specs.declared.assignment.Presence.{Presence}
 use Rattle.asn1_assignments.specs.declared.assignment.Presence.TheVariants as presences
 use Rattle.asn1_assignments.specs.declared.assignment.IeRow.{IeRow}
 use Rattle.asn1_assignments.specs.declared.assignment.ProcedureRow.{ProcedureRow}
 use Rattle.asn1_assignments.specs.Rows.{new_number_at, found_or, criticality_of, criticality_at, presence_of, presence_at, has_id, ie_row_at, outcome_at, has_code, messages_at, procedure_row_at}
 use Rattle.asn1_assignments.specs.Sets.{set_goes_on_at, Rows, rows_with, ie_turn_at, procedure_turn_at, set_start_at, ie_set_at, procedure_set_at}
-use Rattle.asn1_grammar.specs.Grammar.{Terminal, ANumber, ACriticality, APresence, TheWord, TheSign, fits, is_criticality, is_presence, Part, AType, IeRows, MoreIeRows, ProcedureRows, MoreProcedureRows, SuccessfulOutcome, UnsuccessfulOutcome, Symbol, Item, Whole, word, sign, set_end, comma, ellipsis, open_brace, close_brace, productions}
+use Rattle.asn1_grammar.specs.Grammar.{Terminal, ANumber, ACriticality, APresence, TheWord, TheSign, fits, Part, AType, IeRows, MoreIeRows, ProcedureRows, MoreProcedureRows, SuccessfulOutcome, UnsuccessfulOutcome, Symbol, Item, Whole, word, sign, set_end, ellipsis, open_brace, close_brace, productions}
 use Rattle.asn1_grammar.proofs.Predict.{chosen}
-use Rattle.asn1_grammar.proofs.Steps.{Steps, here, shift, expand, then, IsStuck, at_item, at_part}
-use Rattle.asn1_syntax_laws.proofs.Sim.{Sim, goes, fails, Fails, IsFit, fit, and_then, and_so, first, next, maybe, fits_sign, fits_word, chosen_one, chosen_other, by_test, by_choice, by_flag, word_sim, sign_sim, taken, weaker, done, expands, misused, refused, part_of, repeat_sim}
+use Rattle.asn1_grammar.proofs.Steps.{at_item}
+use Rattle.asn1_syntax_laws.proofs.Sim.{Sim, goes, and_so, first, next, maybe, fits_sign, fits_word, chosen_one, chosen_other, by_choice, word_sim, sign_sim, taken, weaker, done, expands, misused, refused, part_of, repeat_sim}
 use Rattle.asn1_syntax_laws.proofs.SizeSims.{natural_sim}
 use Rattle.asn1_syntax_laws.proofs.TypeSims.{type_sim}
 

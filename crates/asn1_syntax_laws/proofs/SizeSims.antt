@@ -1,22 +1,17 @@
 -- Numbers, sizes and bounds.
-use Rattle.std.proofs.Common.{◌≡◌, ℕ, ◌+◌, ◌-◌, ◌^◌, ◌≤◌, ◌<◌, List, [], ◌∷◌, ◌++◌, length, Bool, true, false, cond, ◌||◌, ◌&&◌, refl, sym, ap, ◌∙◌, subst, inl, inr, arith, Option, Some, None}
-use Rattle.std.specs.Prelude.{◌⊎◌, Result, Ok, Err, ℤ, pos}
+use Rattle.std.proofs.Common.{◌≡◌, ℕ, ◌-◌, ◌^◌, List, [], ◌∷◌, Bool, true, false, ◌||◌, ◌&&◌, refl, inl, inr, Some, None}
+use Rattle.std.specs.Prelude.{Ok, Err, ℤ, pos}
 use Rattle.std.specs.Int.Signed.{le_z}
 use Rattle.asn1_tokens.specs.declared.token.Word.TheVariants as words
-use Rattle.asn1_tokens.specs.declared.token.Sign.{Sign}
 use Rattle.asn1_tokens.specs.declared.token.Sign.TheVariants as signs
-use Rattle.asn1_tokens.specs.declared.token.Token.{Token}
-use Rattle.asn1_tokens.specs.Stream.{Placed, first_token, first_place, others}
+use Rattle.asn1_tokens.specs.Stream.{Placed, first_token}
 use Rattle.asn1_types.specs.declared.fault.ModuleReason.TheVariants as reasons
-use Rattle.asn1_types.specs.declared.fault.Fault.{Fault}
-use Rattle.asn1_types.specs.declared.definition.Size.{Size}
-use Rattle.asn1_types.specs.declared.definition.Definition.{Definition}
-use Rattle.asn1_types.specs.Reading.{◌>>=◌, Left, fault_at, unexpected, begins_with_sign, word_at, sign_at, number_at}
+use Rattle.asn1_types.specs.Reading.{fault_at, begins_with_sign}
 use Rattle.asn1_types.specs.Sizes.{bounded_at, natural, natural_at, ellipsis_at, size_end_at, least_high, size_rest_at, size_at, optional_size_at, integer_ellipsis_at, integer_least, integer_greatest, greatest_beside, integer_at}
-use Rattle.asn1_grammar.specs.Grammar.{Terminal, AnUpper, ALower, ANumber, TheWord, TheSign, fits, Part, Mark, OptionalSize, HighSize, Symbol, Item, Whole, word, sign, size, comma, ellipsis, open_bracket, close_bracket, productions}
+use Rattle.asn1_grammar.specs.Grammar.{ANumber, Mark, OptionalSize, HighSize, Symbol, Item, Whole, sign, size, comma, ellipsis, open_bracket, close_bracket, productions}
 use Rattle.asn1_grammar.proofs.Predict.{chosen}
-use Rattle.asn1_grammar.proofs.Steps.{Steps, here, shift, expand, then, IsStuck, at_item, at_part}
-use Rattle.asn1_syntax_laws.proofs.Sim.{Sim, goes, fails, Fails, IsFit, fit, and_then, and_so, first, next, maybe, fits_sign, fits_word, chosen_one, chosen_other, by_test, by_choice, word_sim, sign_sim, number_sim, weaker, done, expands, misused, refused, is_sign-fits}
+use Rattle.asn1_grammar.proofs.Steps.{here}
+use Rattle.asn1_syntax_laws.proofs.Sim.{Sim, goes, fails, fit, and_then, and_so, first, next, maybe, fits_sign, chosen_one, chosen_other, by_test, by_choice, word_sim, sign_sim, number_sim, weaker, done, expands, misused}
 
 pub bounded_sim : (low high : ℤ) (symbols : List Symbol) (ts : List Placed) → Sim 1 (Item ANumber ∷ symbols) ts (λ _. symbols) (λ a. a.1) (bounded_at low high ts)
 unfolding bounded_at

@@ -1,12 +1,12 @@
 -- Types, with those inside them.
-use Rattle.std.proofs.Common.{◌≡◌, ℕ, ◌+◌, ◌≤◌, ◌<◌, List, [], ◌∷◌, ◌++◌, zero, suc, length, Bool, true, false, cond, ◌||◌, ◌&&◌, refl, sym, ap, ◌∙◌, subst, inl, inr, arith, Option, Some, None}
-use Rattle.std.specs.Prelude.{◌⊎◌, Result, Ok, Err}
+use Rattle.std.proofs.Common.{◌≡◌, ℕ, ◌≤◌, ◌<◌, List, [], ◌∷◌, ◌++◌, zero, suc, length, Bool, true, false, cond, refl, sym, ap, ◌∙◌, subst, arith, Option, Some, None}
+use Rattle.std.specs.Prelude.{Result}
 use Rattle.asn1_tokens.specs.declared.token.Word.{Word}
 use Rattle.asn1_tokens.specs.declared.token.Word.TheVariants as words
 use Rattle.asn1_tokens.specs.declared.token.Sign.TheVariants as signs
 use Rattle.asn1_tokens.specs.declared.token.Token.{Token}
 use Rattle.asn1_tokens.specs.declared.token.Token.TheVariants as tokens
-use Rattle.asn1_tokens.specs.Stream.{Placed, first_token, first_place, others}
+use Rattle.asn1_tokens.specs.Stream.{Placed, first_token, first_place}
 use Rattle.asn1_types.specs.declared.fault.Fault.{Fault}
 use Rattle.asn1_types.specs.declared.definition.TypeId.{TypeId}
 use Rattle.asn1_types.specs.declared.definition.Node.{Node}
@@ -17,14 +17,13 @@ use Rattle.asn1_types.specs.declared.members.Frame.{Frame}
 use Rattle.asn1_types.specs.declared.members.Frame.TheVariants as frames
 use Rattle.asn1_types.specs.declared.members.Head.{Head}
 use Rattle.asn1_types.specs.declared.members.Head.TheVariants as heads
-use Rattle.asn1_types.specs.Reading.{◌>>=◌, Left, word_in, first_word, unexpected, begins_with_sign, word_at, sign_at, upper_at}
-use Rattle.asn1_types.specs.Sizes.{size_at, optional_size_at, integer_at}
-use Rattle.asn1_types.specs.Members.{no_parts, names_at, entry_at, node, close_at}
-use Rattle.asn1_types.specs.Types.{enumerated_at, bit_string_at, octet_string_at, printable_string_at, simple_rest_at, is_simple, simple_at, list_head_at, components_head_at, sequence_head_at, choice_head_at, set_name_at, container_at, pdu_at, reference_at, head_by, head_at, next_id, Risen, risen, rise_at, type_turn_at, type_goes_on, type_within_at, type_at}
-use Rattle.asn1_grammar.specs.Grammar.{Terminal, AnUpper, ALower, ANumber, TheWord, TheSign, fits, Part, AType, FirstComponent, AfterAddition, OptionalSize, SequenceRest, Mark, AfterName, AfterAlternative, Symbol, Item, Whole, word, sign, size, set_name, comma, ellipsis, open_brace, close_brace, open_bracket, close_bracket, productions}
+use Rattle.asn1_types.specs.Reading.{Left, word_in, begins_with_sign}
+use Rattle.asn1_types.specs.Members.{no_parts, node}
+use Rattle.asn1_types.specs.Types.{enumerated_at, bit_string_at, octet_string_at, printable_string_at, simple_rest_at, is_simple, simple_at, list_head_at, components_head_at, sequence_head_at, choice_head_at, set_name_at, container_at, pdu_at, reference_at, head_by, head_at, Risen, risen, rise_at, type_turn_at, type_goes_on, type_within_at, type_at}
+use Rattle.asn1_grammar.specs.Grammar.{AnUpper, ALower, ANumber, TheWord, fits, AType, FirstComponent, AfterAddition, OptionalSize, SequenceRest, Mark, AfterName, AfterAlternative, Symbol, Item, Whole, word, sign, size, set_name, ellipsis, open_brace, close_brace, open_bracket, close_bracket, productions}
 use Rattle.asn1_grammar.proofs.Predict.{chosen}
-use Rattle.asn1_grammar.proofs.Steps.{Steps, here, shift, expand, then, IsStuck, at_item, at_part}
-use Rattle.asn1_syntax_laws.proofs.Sim.{Sim, goes, fails, Fails, IsFit, fit, and_then, and_so, first, next, maybe, fits_sign, fits_word, chosen_one, chosen_other, by_test, by_choice, word_sim, sign_sim, upper_sim, weaker, done, expands, misused, refused, part_of}
+use Rattle.asn1_grammar.proofs.Steps.{at_part}
+use Rattle.asn1_syntax_laws.proofs.Sim.{Sim, first, next, maybe, fits_sign, chosen_one, chosen_other, by_choice, word_sim, sign_sim, upper_sim, weaker, done, expands, refused, part_of}
 use Rattle.asn1_syntax_laws.proofs.SizeSims.{size_sim, optional_size_sim, integer_sim}
 use Rattle.asn1_syntax_laws.proofs.MemberSims.{names_sim, entry_sim, entry_from, frame_symbols, head_symbols, close_sim, member_symbols}
 
