@@ -22,7 +22,7 @@ clash r f s a b = cc
 
 has_one : (text : List ℕ) (f g : Fault) → HasFault text f → HasFault text g → f ≡ g
 has_one text f g (in_text w a) (in_text v b) = err_same (syntax_of text) f g a b
-has_one text f g (in_text w a) (in_module {s} w b j) = absurd (clash (syntax_of text) f s a b)
+has_one text f g (in_text w a) (in_module {s} v b j) = absurd (clash (syntax_of text) f s a b)
 has_one text f g (in_module {s} w a j) (in_text v b) = absurd (clash (syntax_of text) g s b a)
 has_one text f g (in_module {s} w a j) (in_module {s = t} v b k) =
     let same : s ≡ t = ok_same (syntax_of text) s t a b in
