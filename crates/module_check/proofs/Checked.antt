@@ -1,20 +1,18 @@
 -- The text is read, and the input ends behind it.
-use Rattle.std.proofs.Common.{◌≡◌, ◌⊎◌, ◌≤◌, ℕ, ◌+◌, ◌-◌, List, [], ◌∷◌, ◌++◌, length, take, drop, Option, Some, None, Result, Ok, Err, refl, sym, ap, ◌∙◌, subst, inl, inr, append-nil, arith}
+use Rattle.std.proofs.Common.{◌≡◌, ◌⊎◌, ◌≤◌, ℕ, ◌+◌, ◌-◌, List, [], ◌∷◌, ◌++◌, length, take, drop, Option, None, Result, Ok, Err, refl, sym, ap, ◌∙◌, subst, inl, inr, append-nil, arith}
 use Rattle.std.specs.Io.KnownBytes.{IsAtEnd}
-use Rattle.gnb_base.specs.declared.lines.Line.{Line}
 use Rattle.gnb_base.specs.declared.lines.ReadPhase.TheVariants.{Going, Ended}
 use Rattle.gnb_base.specs.Reading.{Reading, fresh, NextMeets}
 use Rattle.input_lines.specs.Inputs.{left_of}
 use Rattle.input_lines.specs.Standing.{Stands, Within, AtEnd}
 use Rattle.input_lines.proofs.HandedOut.{nothing_handed, handed_of, within, comes_next, end_handed, consumes_none, both_nil}
-use Rattle.scenario_text.specs.declared.event.TextReason.TheVariants.{Extra}
 use Rattle.module_check.specs.declared.input.CheckedModule.{CheckedModule}
 use Rattle.module_check.specs.declared.input.CheckStop.{CheckStop}
 use Rattle.module_check.specs.declared.input.CheckStop.TheVariants.{NoModule, Script, ReadFault, TooLong, Memory}
 use Rattle.module_check.specs.declared.text.Gathered.{Gathered}
 use Rattle.module_check.specs.Text.{IsOpen, IsClosed}
-use Rattle.module_check.specs.Check.{HasText, EndsSo, ChecksInput, Passes, BehindText, IsCaused, Unended, Further}
-use Rattle.module_check.specs.Steps.{TakesText, ModuleMeets, IsAlone, EndStops, EndUnread, OneMore, EndMeets}
+use Rattle.module_check.specs.Check.{HasText, EndsSo, ChecksInput, BehindText, IsCaused, Unended, Further}
+use Rattle.module_check.specs.Steps.{TakesText, ModuleMeets, IsAlone, EndStops, EndUnread, OneMore}
 use Rattle.module_check.proofs.Joining.{cut_at, header_within, drop_more}
 use Rattle.module_check.proofs.Gathering.{StopsSo, stop_at, unread, caused_before}
 

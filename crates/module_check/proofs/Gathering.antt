@@ -1,26 +1,23 @@
 -- The text so far, one line more, and each end.
-use Rattle.std.proofs.Common.{◌≡◌, ◌⊎◌, ◌≤◌, ℕ, ◌+◌, List, [], ◌∷◌, ◌++◌, length, true, false, Option, Some, None, Result, Ok, Err, refl, sym, ap, ◌∙◌, subst, inl, inr, length-append, append-nil, arith}
-use Rattle.std.specs.List.{AllByRecursion}
+use Rattle.std.proofs.Common.{◌≡◌, ◌≤◌, ℕ, ◌+◌, List, [], ◌∷◌, ◌++◌, length, true, false, Option, Some, None, Result, Ok, Err, refl, sym, ap, ◌∙◌, subst, inl, inr, length-append, arith}
 use Rattle.std.specs.Io.KnownBytes.{Consumes}
 use Rattle.gnb_base.specs.declared.lines.Line.{Line}
 use Rattle.gnb_base.specs.declared.lines.ReadError.{ReadError}
 use Rattle.gnb_base.specs.declared.lines.ReadError.TheVariants as errors
-use Rattle.gnb_base.specs.declared.lines.ReadPhase.TheVariants.{Going, Ended}
+use Rattle.gnb_base.specs.declared.lines.ReadPhase.TheVariants.{Going}
 use Rattle.gnb_base.specs.Causes.{Rose}
-use Rattle.gnb_base.specs.Lines.{line_feed, HasNoLf}
+use Rattle.gnb_base.specs.Lines.{line_feed}
 use Rattle.gnb_base.specs.Reading.{Reading, fresh, NextMeets}
 use Rattle.input_lines.specs.Inputs.{left_of, joined}
 use Rattle.input_lines.specs.Standing.{HandedOut}
-use Rattle.input_lines.proofs.HandedOut.{nothing_handed, handed_of, line_handed, comes_next, end_handed, end_stands, consumes_none, joined-more, each_more}
+use Rattle.input_lines.proofs.HandedOut.{nothing_handed, handed_of, line_handed, comes_next, end_handed, end_stands, joined-more, each_more}
 use Rattle.input_lines.proofs.Stopped.{stopped, is_read_fault, is_too_long, was_going}
-use Rattle.scenario_text.specs.declared.event.TextReason.{TextReason}
-use Rattle.scenario_text.specs.declared.event.TextReason.TheVariants.{Word}
 use Rattle.module_check.specs.declared.input.CheckedModule.{CheckedModule}
 use Rattle.module_check.specs.declared.input.CheckStop.{CheckStop}
 use Rattle.module_check.specs.declared.input.CheckStop.TheVariants.{NoModule, Script, ReadFault, TooLong, Memory}
 use Rattle.module_check.specs.declared.text.Gathered.{Gathered}
 use Rattle.module_check.specs.Header.{text_header_of}
-use Rattle.module_check.specs.Text.{IsOpen, IsClosed, is_end}
+use Rattle.module_check.specs.Text.{IsOpen, is_end}
 use Rattle.module_check.specs.Check.{ChecksInput, EndsSo, Passes, AtHeader, InText, IsCaused, Empty, NoHeader}
 use Rattle.module_check.specs.Steps.{stop_of_read, StopsReading, HasHeader, HeaderStops, HeaderUnread, NoLine, WrongLine, TakesLine, TakesNone, TurnStops, Unread, NoRoom, TakesText, TurnMeets, TextMeets}
 

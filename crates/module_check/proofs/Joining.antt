@@ -1,7 +1,6 @@
 -- The octets of a text, as they stand in the bytes that were taken.
-use Rattle.std.proofs.Common.{◌≡◌, ◌⊎◌, ◌≤◌, ℕ, ◌+◌, ◌-◌, List, [], ◌∷◌, ◌++◌, length, take, drop, Option, refl, sym, ap, ◌∙◌, subst, inl, inr, append_assoc, append-nil, length-append, arith}
+use Rattle.std.proofs.Common.{◌≡◌, ◌≤◌, ℕ, ◌+◌, ◌-◌, List, [], ◌∷◌, ◌++◌, length, take, drop, Option, sym, ap, ◌∙◌, subst, append_assoc, append-nil, length-append, arith}
 use Rattle.std.proofs.lemmas.List.{take_all, take_at, drop_at, drop-append-le, drop_all}
-use Rattle.std.specs.Io.KnownBytes.{IsAtEnd}
 use Rattle.gnb_base.specs.Lines.{line_feed}
 use Rattle.gnb_base.specs.Reading.{Reading}
 use Rattle.input_lines.specs.Inputs.{joined, Handed, Whole, Bare}

@@ -3,14 +3,12 @@ use Rattle.std.proofs.Common.{◌≡◌, ◌⊎◌, ℕ, ◌+◌, List, [], ◌�
 use Rattle.std.specs.Prelude.{codes}
 use Rattle.std.specs.List.{AllByRecursion}
 use Rattle.std.specs.Io.KnownBytes.{Consumes, IsAtEnd}
-use Rattle.gnb_base.specs.Lines.{line_feed, HasNoLf, lines_of, onto_line}
-use Rattle.gnb_base.specs.Reading.{input_limit}
+use Rattle.gnb_base.specs.Lines.{line_feed, HasNoLf, lines_of}
 use Rattle.gnb_base.proofs.LinesOf.{lines_of-line}
-use Rattle.input_lines.specs.Inputs.{joined, Handed, Whole, Bare, IsEmptyInput, IsTooLong}
+use Rattle.input_lines.specs.Inputs.{joined, Handed, Whole, Bare, IsTooLong}
 use Rattle.input_lines.proofs.HandedOut.{both_nil}
-use Rattle.input_lines.proofs.InputLines.{lines_of-joined, taken_is, all_lines, some_next, HasNext, next_of}
+use Rattle.input_lines.proofs.InputLines.{lines_of-joined, taken_is, all_lines, some_next, next_of}
 use Rattle.scenario_text.specs.declared.event.TextReason.{TextReason}
-use Rattle.asn1_types.specs.declared.fault.ModuleReason.{ModuleReason}
 use Rattle.asn1_assignments.specs.declared.assignment.Syntax.{Syntax}
 use Rattle.asn1_module.specs.Module.{Reads, type_ids}
 use Rattle.asn1_module_laws.proofs.Faults.{never_both}
@@ -18,7 +16,7 @@ use Rattle.module_check.specs.declared.input.CheckedModule.{CheckedModule}
 use Rattle.module_check.specs.declared.input.CheckStop.{CheckStop}
 use Rattle.module_check.specs.declared.input.CheckStop.TheVariants.{NoModule, Script, ReadFault, TooLong, Memory}
 use Rattle.module_check.specs.Header.{text_header_of}
-use Rattle.module_check.specs.Text.{IsOpen, IsClosed, IsModuleText, is_end, is_blank}
+use Rattle.module_check.specs.Text.{IsOpen, IsClosed, is_end, is_blank}
 use Rattle.module_check.specs.Check.{HasText, IsWrongInput, Empty, NoHeader, Unended, Further, ChecksInput, IsWhole, TellsModule}
 
 -- ---- the lines of a text

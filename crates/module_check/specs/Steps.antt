@@ -1,5 +1,5 @@
 -- What each step of a check does.
-use Rattle.std.specs.Prelude.{◌≡◌, ◌≤◌, ◌+◌, ◌⊎◌, ℕ, true, false, List, [], ◌∷◌, ◌++◌, length, drop, Option, Some, None, Result, Ok, Err}
+use Rattle.std.specs.Prelude.{◌≡◌, ◌≤◌, ◌+◌, ◌⊎◌, ℕ, false, List, [], ◌∷◌, ◌++◌, length, drop, Option, Some, None, Result, Ok, Err}
 use Rattle.gnb_base.specs.declared.lines.Line.{Line}
 use Rattle.gnb_base.specs.declared.lines.ReadError.{ReadError}
 use Rattle.gnb_base.specs.declared.lines.ReadError.TheVariants as errors
@@ -17,7 +17,7 @@ use Rattle.module_check.specs.declared.input.CheckStop.{CheckStop}
 use Rattle.module_check.specs.declared.input.CheckStop.TheVariants.{NoModule, Script, ReadFault, TooLong, Memory}
 use Rattle.module_check.specs.declared.text.Gathered.{Gathered}
 use Rattle.module_check.specs.Header.{text_header_of}
-use Rattle.module_check.specs.Text.{IsOpen, IsClosed, IsModuleText, is_blank, is_end}
+use Rattle.module_check.specs.Text.{IsOpen, IsClosed, IsModuleText, is_blank}
 use Rattle.module_check.specs.Check.{ChecksInput, IsCaused}
 
 -- ---- lines
