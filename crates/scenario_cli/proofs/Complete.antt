@@ -1,11 +1,11 @@
 -- A whole script runs to its end, unless memory runs out.
-use Rattle.std.proofs.Common.{◌≡◌, ◌⊎◌, ℕ, List, [], ◌∷◌, ◌++◌, length, map, false, Option, Some, None, Result, Ok, Err, refl, sym, ap, ◌∙◌, subst, inl, inr, append_assoc, append-nil, length-append, arith}
+use Rattle.std.proofs.Common.{◌≡◌, ◌⊎◌, ℕ, List, [], ◌∷◌, ◌++◌, length, map, false, Option, Some, None, Result, Ok, Err, refl, sym, ap, ◌∙◌, subst, inl, inr, length-append, arith}
 use Rattle.std.proofs.lemmas.Grind.{flat_map-append}
 use Rattle.std.specs.List.{flat_map, AllByRecursion}
-use Rattle.std.specs.Io.KnownBytes.{Consumes, Appends, IsAtEnd}
-use Rattle.gnb_base.specs.Lines.{line_feed, HasNoLf, lines_of}
-use Rattle.input_lines.specs.Inputs.{Handed, ComesNext, IsEmptyInput, IsTooLong}
-use Rattle.input_lines.proofs.InputLines.{taken_is, all_lines, HasNext, next_of}
+use Rattle.std.specs.Io.KnownBytes.{Consumes, Appends}
+use Rattle.gnb_base.specs.Lines.{HasNoLf, lines_of}
+use Rattle.input_lines.specs.Inputs.{Handed, IsEmptyInput, IsTooLong}
+use Rattle.input_lines.proofs.InputLines.{taken_is, all_lines, next_of}
 use Rattle.scenario_text.specs.declared.event.Event.{Event}
 use Rattle.scenario_text.specs.declared.event.TextReason.{TextReason}
 use Rattle.scenario_text.specs.Grammar.{event_of, is_skipped}

@@ -1,12 +1,11 @@
 -- A run so far, one turn more, and each of its ends.
-use Rattle.std.proofs.Common.{◌≡◌, ◌⊎◌, ◌<◌, ◌≤◌, ℕ, ◌+◌, List, [], ◌∷◌, ◌++◌, length, map, true, Option, Some, None, Ok, Err, refl, sym, ap, ◌∙◌, subst, inl, inr, length-append, arith}
+use Rattle.std.proofs.Common.{◌≡◌, ◌<◌, ◌≤◌, ℕ, ◌+◌, List, [], ◌∷◌, ◌++◌, length, map, true, Option, Some, None, Ok, Err, refl, sym, ap, ◌∙◌, subst, inl, inr, length-append, arith}
 use Rattle.std.specs.List.{flat_map}
 use Rattle.std.specs.Io.KnownBytes.{Consumes, Appends}
 use Rattle.gnb_base.specs.declared.lines.Line.{Line}
 use Rattle.gnb_base.specs.declared.lines.ReadError.{ReadError}
 use Rattle.gnb_base.specs.declared.lines.ReadError.TheVariants as errors
 use Rattle.gnb_base.specs.declared.lines.ReadPhase.TheVariants as phases
-use Rattle.gnb_base.specs.Lines.{HasNoLf}
 use Rattle.gnb_base.specs.Reading.{Reading, fresh, input_limit, NextMeets}
 use Rattle.input_lines.specs.Inputs.{left_of}
 use Rattle.input_lines.proofs.Stopped.{stopped, is_read_fault, is_too_long, was_going}

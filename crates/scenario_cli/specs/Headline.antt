@@ -1,14 +1,12 @@
 -- What a call of the program does, for every input, every list of failing calls, and every status.
-use Rattle.std.specs.Prelude.{◌≡◌, ◌≢◌, ◌+◌, ◌<◌, ◌⊎◌, ℕ, Bool, false, List, [], ◌∷◌, ◌++◌, map, length, Option, Some, None, Result, Ok, Err, IfSome, if◌then◌else◌, codes}
+use Rattle.std.specs.Prelude.{◌≡◌, ◌+◌, ◌<◌, ◌⊎◌, ℕ, false, List, [], ◌∷◌, ◌++◌, map, length, Option, Some, None, Result, Ok, Err, IfSome, if◌then◌else◌, codes}
 use Rattle.std.specs.List.{flat_map, AllByRecursion}
 use Rattle.std.specs.Str.{bytes_eq}
 use Rattle.std.specs.Io.KnownBytes.{Consumes, Appends, Keeps, IsAtEnd}
-use Rattle.gnb_base.specs.Lines.{line_feed, HasNoLf}
-use Rattle.gnb_base.specs.Reading.{input_limit}
+use Rattle.gnb_base.specs.Lines.{HasNoLf}
 use Rattle.input_lines.specs.Inputs.{left_of, Handed, ComesNext, IsEmptyInput, IsReadFault, IsTooLong}
 use Rattle.scenario_text.specs.declared.event.Event.{Event}
 use Rattle.scenario_text.specs.declared.event.TextReason.{TextReason}
-use Rattle.scenario_text.specs.declared.event.TextReason.TheVariants.{Word}
 use Rattle.scenario_text.specs.Grammar.{event_of, header_of, is_skipped}
 use Rattle.scenario_text.specs.Print.{print}
 use Rattle.run_model.specs.Run.{run, lines_of}
