@@ -70,8 +70,8 @@ fn is_known(definition: &Definition, assignments: &[Assignment]) -> bool
     }
 }
 
-#[tactic(auto, unfolding(crate::specs::Names::first_unknown))]
 /// The place of the first name that is not known.
+#[tactic(auto, unfolding(crate::specs::Names::first_unknown))]
 pub fn first_unknown(assignments: &[Assignment], nodes: &[Node]) -> Option<usize>
     ensures { result ≡ first_unknown assignments.now nodes.now }
 {
