@@ -7,7 +7,7 @@ use Rattle.asn1_tokens.specs.declared.token.Sign.TheVariants as signs
 use Rattle.asn1_tokens.specs.Stream.{items_of, first_place}
 use Rattle.asn1_types.specs.declared.definition.TypeId.{TypeId}
 use Rattle.asn1_types.specs.declared.definition.Node.{Node}
-use Rattle.asn1_types.specs.Reading.{Left, begins_with, begins_with_sign, word_at, sign_at, repeat_at}
+use Rattle.asn1_types.specs.Reading.{Left, begins_with, word_at, sign_at, repeat_at}
 use Rattle.asn1_types.specs.Types.{type_at}
 use Rattle.asn1_assignments.specs.declared.assignment.IeRow.{IeRow}
 use Rattle.asn1_assignments.specs.declared.assignment.ProcedureRow.{ProcedureRow}
