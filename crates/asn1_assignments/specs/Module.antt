@@ -36,11 +36,12 @@ has_all_types assignments = nat_le 1000 (count_by is_type assignments)
 abbrev pub is_assigned : List ℕ → List Assignment → Bool
 is_assigned name assignments = list_any (λ other. is_text other.name name) assignments
 
--- a name that is given for the first time
+-- A name that is given for the first time. That of a type behind the thousandth one is outside the bounds, also where it was
+-- given before.
 unfoldable pub new_assignment_at : List Assignment → Left → Result (List ℕ × Left) Fault
 new_assignment_at assignments ts = do
   name ← upper_at ts
-  if is_assigned name.0 assignments then Err (fault_at reasons.Twice ts) else Ok (name.0, name.1)
+  if begins_with_sign signs.Assignment name.1 && has_all_types assignments then Err (fault_at reasons.Bounds ts) else (if is_assigned name.0 assignments then Err (fault_at reasons.Twice ts) else Ok (name.0, name.1))
 
 -- what a name stands for
 unfoldable pub ie_body_at : ℕ → List Node → Left → Result (Body × List Node × Left) Fault
@@ -61,18 +62,16 @@ type_body_at turns nodes ts = do
   definition ← type_at turns nodes a
   Ok (bodies.Type definition.0, definition.1, definition.2)
 
--- The name of a type behind the thousandth one is outside the bounds.
-unfoldable pub body_at : ℕ → Fault → Bool → List Node → Left → Result (Body × List Node × Left) Fault
-body_at turns too_many full nodes ts =
+unfoldable pub body_at : ℕ → List Node → Left → Result (Body × List Node × Left) Fault
+body_at turns nodes ts =
     if begins_with words.ProtocolIes ts then ie_body_at turns nodes ts else (
-    if begins_with words.ElementaryProcedure ts then procedure_body_at turns nodes ts else (
-    if begins_with_sign signs.Assignment ts && full then Err too_many else
-    type_body_at turns nodes ts))
+    if begins_with words.ElementaryProcedure ts then procedure_body_at turns nodes ts else
+    type_body_at turns nodes ts)
 
 unfoldable pub assignment_at : ℕ → Parts → Left → Result (Parts × Left) Fault
 assignment_at turns so_far ts = do
   name ← new_assignment_at so_far.assignments ts
-  body ← body_at turns (fault_at reasons.Bounds ts) (has_all_types so_far.assignments) so_far.nodes name.1
+  body ← body_at turns so_far.nodes name.1
   Ok (
     record {
       assignments = so_far.assignments ++ record { name = name.0; place = (first_place ts).start; body = body.0; end = length body.1 } ∷ [];

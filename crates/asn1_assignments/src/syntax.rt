@@ -7,7 +7,7 @@ ghost use Rattle.asn1_assignments.specs.Module.{Parts, is_type, has_all_types, i
 use crate::assignment::{Assignment, Body, Syntax};
 use crate::sets::{ie_set, procedure_set};
 use asn1_tokens::{Sign, Word, is_text};
-use asn1_types::{Fault, Items, ModuleReason, Node, ReadError, Reader};
+use asn1_types::{Items, ModuleReason, Node, ReadError, Reader};
 use gnb_base::octets::Octets;
 use std::alloc::Global;
 
@@ -40,13 +40,18 @@ fn is_assigned(name: &[u8], assignments: &[Assignment]) -> bool
         .any(|other| is_text(other.name.as_slice(), name))
 }
 
-/// Takes a name that none of these has.
+/// Takes a name that none of these has. The name of a type is outside the bounds where these have all types, whether one of
+/// them has it or not.
 #[tactic(auto, unfolding(crate::specs::Module::new_assignment_at))]
 fn new_assignment(reader: &mut Reader, assignments: &[Assignment]) -> Result<Octets, ReadError>
     ensures { Gives (λ name. (name, reader.new)) result (new_assignment_at assignments.now reader.old) }
 {
+    let bounds = reader.fault(ModuleReason::Bounds);
     let twice = reader.fault(ModuleReason::Twice);
     let name = reader.upper()?;
+    if reader.begins_with_sign(Sign::Assignment) && has_all_types(assignments) {
+        return Err(ReadError::Fault(bounds));
+    }
     if is_assigned(name.as_slice(), assignments) {
         return Err(ReadError::Fault(twice));
     }
@@ -87,26 +92,21 @@ fn type_body(reader: &mut Reader, turns: u64, nodes: &mut Items<Node>) -> Result
     Ok(Body::Type(reader.definition(turns, nodes)?))
 }
 
-/// Takes what a name stands for. The fault is told for a type where the module is full of them.
+/// Takes what a name stands for.
 #[tactic(auto, unfolding(crate::specs::Module::body_at))]
 fn body(
     reader: &mut Reader,
     alloc: Global,
     turns: u64,
-    too_many: Fault,
-    full: bool,
     nodes: &mut Items<Node>,
 ) -> Result<Body, ReadError>
-    ensures { Gives (λ body. (body, nodes.new, reader.new)) result (body_at turns too_many full nodes.old reader.old) }
+    ensures { Gives (λ body. (body, nodes.new, reader.new)) result (body_at turns nodes.old reader.old) }
 {
     if reader.begins_with(Word::ProtocolIes) {
         return ie_body(reader, alloc, turns, nodes);
     }
     if reader.begins_with(Word::ElementaryProcedure) {
         return procedure_body(reader, alloc, turns, nodes);
-    }
-    if reader.begins_with_sign(Sign::Assignment) && full {
-        return Err(ReadError::Fault(too_many));
     }
     type_body(reader, turns, nodes)
 }
@@ -123,10 +123,8 @@ fn assignment(
     ensures { Gives (λ _. (record { assignments = assignments.new; nodes = nodes.new }, reader.new)) result (assignment_at turns (record { assignments = assignments.old; nodes = nodes.old }) reader.old) }
 {
     let place = reader.place();
-    let too_many = reader.fault(ModuleReason::Bounds);
     let name = new_assignment(reader, assignments.as_slice())?;
-    let full = has_all_types(assignments.as_slice());
-    let body = body(reader, alloc, turns, too_many, full, nodes)?;
+    let body = body(reader, alloc, turns, nodes)?;
     let end = nodes.len();
     assignments.push(Assignment {
         name,

@@ -1,15 +1,13 @@
 -- The numbers in the rows and assignments of a module that is read are those of its types.
-use Rattle.std.proofs.Common.{◌≡◌, ℕ, ◌+◌, ◌<◌, ◌≤◌, List, [], ◌∷◌, ◌++◌, length, Bool, ◌&&◌, subst, arith}
+use Rattle.std.proofs.Common.{◌≡◌, ℕ, ◌+◌, ◌<◌, ◌≤◌, List, [], ◌∷◌, ◌++◌, length, Bool, subst, arith}
 use Rattle.std.specs.Prelude.{Ok, Option, Some, None}
 use Rattle.asn1_tokens.specs.declared.token.Word.{Word}
 use Rattle.asn1_tokens.specs.declared.token.Word.TheVariants as words
 use Rattle.asn1_tokens.specs.declared.token.Sign.TheVariants as signs
 use Rattle.asn1_tokens.specs.Stream.{items_of, first_place}
-use Rattle.asn1_types.specs.declared.fault.Fault.{Fault}
-use Rattle.asn1_types.specs.declared.fault.ModuleReason.TheVariants as reasons
 use Rattle.asn1_types.specs.declared.definition.TypeId.{TypeId}
 use Rattle.asn1_types.specs.declared.definition.Node.{Node}
-use Rattle.asn1_types.specs.Reading.{Left, fault_at, begins_with, begins_with_sign, word_at, sign_at, repeat_at}
+use Rattle.asn1_types.specs.Reading.{Left, begins_with, word_at, sign_at, repeat_at}
 use Rattle.asn1_types.specs.Types.{type_at}
 use Rattle.asn1_assignments.specs.declared.assignment.IeRow.{IeRow}
 use Rattle.asn1_assignments.specs.declared.assignment.ProcedureRow.{ProcedureRow}
@@ -19,7 +17,7 @@ use Rattle.asn1_assignments.specs.declared.assignment.Assignment.{Assignment}
 use Rattle.asn1_assignments.specs.declared.assignment.Syntax.{Syntax}
 use Rattle.asn1_assignments.specs.Rows.{new_number_at, criticality_at, presence_at, has_id, has_code, ie_row_at, outcome_at, messages_at, procedure_row_at}
 use Rattle.asn1_assignments.specs.Sets.{Rows, rows_with, set_goes_on_at, ie_turn_at, procedure_turn_at, set_start_at, ie_set_at, procedure_set_at}
-use Rattle.asn1_assignments.specs.Module.{Parts, has_all_types, new_assignment_at, ie_body_at, procedure_body_at, type_body_at, body_at, assignment_at, module_turn_at, header_at, no_assignments, assignments_at, syntax_at, syntax_of}
+use Rattle.asn1_assignments.specs.Module.{Parts, new_assignment_at, ie_body_at, procedure_body_at, type_body_at, body_at, assignment_at, module_turn_at, header_at, no_assignments, assignments_at, syntax_at, syntax_of}
 use Rattle.asn1_module.specs.Links.{AreOrdered, OptionBelow, IesBelow, ProceduresBelow, BodyBelow, BodiesBelow, IsLinked}
 use Rattle.asn1_module.proofs.LinkLemmas.{type_ok, bind_ok, chosen, ok_same}
 use Rattle.asn1_module.proofs.TypeCount.{repeat_keeps}
@@ -214,16 +212,14 @@ type_body_ok turns nodes ts r h ordered =
     let ok = type_ok turns nodes a.0 definition.0 definition.1 ordered in
     subst (BodyOk (length nodes)) (ok_same _ _ definition.2) (record { ordered = ok.ordered; below = ok.below; grown = ok.grown })
 
-body_ok : (turns : ℕ) (too_many : Fault) (full : Bool) (nodes : List Node) (ts : Left) (r : Body × List Node × Left) → body_at turns too_many full nodes ts ≡ Ok r → AreOrdered 0 nodes → BodyOk (length nodes) r
+body_ok : (turns : ℕ) (nodes : List Node) (ts : Left) (r : Body × List Node × Left) → body_at turns nodes ts ≡ Ok r → AreOrdered 0 nodes → BodyOk (length nodes) r
 unfolding body_at
-body_ok turns too_many full nodes ts r h ordered =
+body_ok turns nodes ts r h ordered =
     chosen (begins_with words.ProtocolIes ts) _ _ (Ok r) h (BodyOk (length nodes) r)
     (λ _ h. ie_body_ok turns nodes ts r h ordered)
     (λ _ h. chosen (begins_with words.ElementaryProcedure ts) _ _ (Ok r) h (BodyOk (length nodes) r)
     (λ _ h. procedure_body_ok turns nodes ts r h ordered)
-    (λ _ h. chosen (begins_with_sign signs.Assignment ts && full) _ _ (Ok r) h (BodyOk (length nodes) r)
-    (λ _ h. cc)
-    (λ _ h. type_body_ok turns nodes ts r h ordered)))
+    (λ _ h. type_body_ok turns nodes ts r h ordered))
 
 record PartsOk (s : Parts) : Type 0 where
   ordered : AreOrdered 0 s.nodes
@@ -233,8 +229,8 @@ assignment_ok : (turns : ℕ) (s : Parts) (ts : Left) (r : Parts × Left) → as
 unfolding assignment_at
 assignment_ok turns s ts r h ok =
     let name = bind_ok (new_assignment_at s.assignments ts) _ r h in
-    let body = bind_ok (body_at turns (fault_at reasons.Bounds ts) (has_all_types s.assignments) s.nodes name.0.1) _ r name.2 in
-    let new = body_ok turns (fault_at reasons.Bounds ts) (has_all_types s.assignments) s.nodes name.0.1 body.0 body.1 ok.ordered in
+    let body = bind_ok (body_at turns s.nodes name.0.1) _ r name.2 in
+    let new = body_ok turns s.nodes name.0.1 body.0 body.1 ok.ordered in
     subst (λ (x : Parts × Left). PartsOk x.0) (ok_same _ _ body.2)
     (record {
       ordered = new.ordered;

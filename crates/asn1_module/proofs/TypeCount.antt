@@ -7,15 +7,14 @@ use Rattle.asn1_tokens.specs.declared.token.Word.TheVariants as words
 use Rattle.asn1_tokens.specs.declared.token.Sign.TheVariants as signs
 use Rattle.asn1_tokens.specs.Stream.{items_of, first_place, others}
 use Rattle.asn1_types.specs.declared.fault.Fault.{Fault}
-use Rattle.asn1_types.specs.declared.fault.ModuleReason.TheVariants as reasons
 use Rattle.asn1_types.specs.declared.definition.Node.{Node}
-use Rattle.asn1_types.specs.Reading.{◌>>=◌, Left, fault_at, unexpected, begins_with, begins_with_sign, word_at, sign_at, repeat_at}
+use Rattle.asn1_types.specs.Reading.{◌>>=◌, Left, unexpected, begins_with, begins_with_sign, word_at, sign_at, upper_at, repeat_at}
 use Rattle.asn1_assignments.specs.declared.assignment.Body.{Body}
 use Rattle.asn1_assignments.specs.declared.assignment.Body.TheVariants as bodies
 use Rattle.asn1_assignments.specs.declared.assignment.Assignment.{Assignment}
 use Rattle.asn1_assignments.specs.declared.assignment.Syntax.{Syntax}
 use Rattle.asn1_assignments.specs.Sets.{ie_set_at, procedure_set_at}
-use Rattle.asn1_assignments.specs.Module.{Parts, is_type, is_type_body, has_all_types, new_assignment_at, ie_body_at, procedure_body_at, type_body_at, body_at, assignment_at, module_turn_at, header_at, no_assignments, assignments_at, syntax_at, syntax_of}
+use Rattle.asn1_assignments.specs.Module.{Parts, is_type, is_type_body, has_all_types, is_assigned, new_assignment_at, ie_body_at, procedure_body_at, type_body_at, body_at, assignment_at, module_turn_at, header_at, no_assignments, assignments_at, syntax_at, syntax_of}
 use Rattle.asn1_module.specs.Module.{type_of, put_type, type_ids}
 
 -- both steps of a reading gave something
@@ -76,16 +75,28 @@ type_begins turns nodes ts r h =
     let a = bind_ok (sign_at signs.Assignment ts) _ r h in
     chosen (begins_with_sign signs.Assignment ts) (Ok (others ts)) (Err (unexpected ts)) (Ok a.0) a.1 (begins_with_sign signs.Assignment ts ≡ true) (λ is _. is) (λ _ not. cc)
 
-body_room : (assignments : List Assignment) (turns : ℕ) (too_many : Fault) (nodes : List Node) (ts : Left) (r : Body × List Node × Left) → body_at turns too_many (has_all_types assignments) nodes ts ≡ Ok r → HasRoom assignments r.0
+-- the name of a type is taken only where there is room for one
+name_room : (assignments : List Assignment) (ts : Left) (name : List ℕ × Left) → new_assignment_at assignments ts ≡ Ok name → (begins_with_sign signs.Assignment name.1 && has_all_types assignments) ≡ false
+unfolding new_assignment_at
+name_room assignments ts name h =
+    let upper = bind_ok (upper_at ts) _ name h in
+    chosen (begins_with_sign signs.Assignment upper.0.1 && has_all_types assignments) _ _ (Ok name) upper.2 (Free name)
+    (λ _ refused. cc)
+    (λ free h. chosen (is_assigned upper.0.0 assignments) _ _ (Ok name) h (Free name)
+    (λ _ refused. cc)
+    (λ _ same. subst Free (ok_same (upper.0.0, upper.0.1) name same) free))
+  where
+    Free : List ℕ × Left → Type 0
+    Free name = (begins_with_sign signs.Assignment name.1 && has_all_types assignments) ≡ false
+
+body_room : (assignments : List Assignment) (turns : ℕ) (nodes : List Node) (ts : Left) (r : Body × List Node × Left) → (begins_with_sign signs.Assignment ts && has_all_types assignments) ≡ false → body_at turns nodes ts ≡ Ok r → HasRoom assignments r.0
 unfolding body_at
-body_room assignments turns too_many nodes ts r h =
+body_room assignments turns nodes ts r free h =
     chosen (begins_with words.ProtocolIes ts) _ _ (Ok r) h (HasRoom assignments r.0)
     (λ _ ie. ie_room assignments turns nodes ts r ie)
     (λ _ h. chosen (begins_with words.ElementaryProcedure ts) _ _ (Ok r) h (HasRoom assignments r.0)
     (λ _ procedure. procedure_room assignments turns nodes ts r procedure)
-    (λ _ h. chosen (begins_with_sign signs.Assignment ts && has_all_types assignments) (Err too_many) (type_body_at turns nodes ts) (Ok r) h (HasRoom assignments r.0)
-    (λ _ refused. cc)
-    (λ free body. record { room = λ _. left (begins_with_sign signs.Assignment ts) (type_begins turns nodes ts r body) free })))
+    (λ _ body. record { room = λ _. left (begins_with_sign signs.Assignment ts) (type_begins turns nodes ts r body) free }))
   where
     left : (b : Bool) → b ≡ true → (b && has_all_types assignments) ≡ false → count_by is_type assignments < 1000
     left true p q = leb-false 1000 (count_by is_type assignments) q
@@ -104,9 +115,9 @@ assignment_keeps : (turns : ℕ) (s : Parts) (ts : Left) (r : Parts × Left) →
 unfolding assignment_at
 assignment_keeps turns s ts r h bound =
     let name = bind_ok (new_assignment_at s.assignments ts) _ r h in
-    let body = bind_ok (body_at turns (fault_at reasons.Bounds ts) (has_all_types s.assignments) s.nodes name.0.1) _ r name.2 in
+    let body = bind_ok (body_at turns s.nodes name.0.1) _ r name.2 in
     subst IsBounded (ap (λ (x : Parts × Left). x.0) (ok_same _ _ body.2))
-    (one_more s.assignments (record { name = name.0.0; place = (first_place ts).start; body = body.0.0; end = length body.0.1 }) bound (body_room s.assignments turns (fault_at reasons.Bounds ts) s.nodes name.0.1 body.0 body.1))
+    (one_more s.assignments (record { name = name.0.0; place = (first_place ts).start; body = body.0.0; end = length body.0.1 }) bound (body_room s.assignments turns s.nodes name.0.1 body.0 (name_room s.assignments ts name.0 name.1) body.1))
 
 turn_keeps : (turns : ℕ) (s : Parts) (ts : Left) (t : Bool × Parts × Left) → module_turn_at turns s ts ≡ Ok t → IsBounded s → IsBounded t.1
 unfolding module_turn_at

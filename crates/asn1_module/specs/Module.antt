@@ -13,22 +13,26 @@ use Rattle.asn1_assignments.specs.declared.assignment.Syntax.{Syntax}
 use Rattle.asn1_assignments.specs.declared.assignment.IeRow.{IeRow}
 use Rattle.asn1_assignments.specs.declared.assignment.ProcedureRow.{ProcedureRow}
 use Rattle.asn1_assignments.specs.Module.{syntax_of}
+use Rattle.asn1_syntax_laws.specs.Grammatical.{IsModuleFront, IsWrongItem}
 use Rattle.asn1_module.specs.Position.{line_after, column_after}
 use Rattle.asn1_module.specs.Judgement.{Judged, IsSound}
 use Rattle.asn1_module.specs.Links.{IsLinked}
 use Rattle.asn1_module.specs.declared.error.ModuleError.{ModuleError}
 use Rattle.asn1_module.specs.declared.error.ModuleError.TheVariants as errors
 
--- the front of that many octets of the text is this module
+-- The front of that many octets of the text is this module: the grammar spells its items, the module is what is read of them,
+-- its names refer to what they should, none reaches itself, and none nests too deep.
 pub record Reads (text : List ℕ) (octets : ℕ) (m : Syntax) : Type 0 where
-  pub spelled : syntax_of text ≡ Ok m
+  pub grammar : IsModuleFront text octets
+  pub read : syntax_of text ≡ Ok m
   pub sound : Judged m None
   pub ends : octets ≡ m.end
 
--- the first fault of a text
+-- The first fault of a text: an item with which no module goes on, or that passes a bound or gives something twice; or else the
+-- first fault of the module that the text spells.
 pub data HasFault (text : List ℕ) (fault : Fault) : Type 0 where
-  in_text : syntax_of text ≡ Err fault → HasFault text fault
-  in_module : {s : Syntax} → syntax_of text ≡ Ok s → Judged s (Some fault) → HasFault text fault
+  in_text : IsWrongItem text fault → syntax_of text ≡ Err fault → HasFault text fault
+  in_module : {s : Syntax} → IsModuleFront text s.end → syntax_of text ≡ Ok s → Judged s (Some fault) → HasFault text fault
 
 -- no front of the text is a module, and this is why
 pub record WrongText (text : List ℕ) (line column : ℕ) (reason : ModuleReason) : Type 0 where

@@ -1,0 +1,22 @@
+-- What the grammar spells, and which fronts of it are open.
+use Rattle.std.specs.Prelude.{◌≡◌, List, [], ◌∷◌, ◌++◌, ◌⊎◌, true}
+use Rattle.asn1_tokens.specs.declared.token.Token.{Token}
+use Rattle.asn1_grammar.specs.Grammar.{Terminal, Part, Symbol, Item, Whole, Module, fits, productions}
+
+abbrev pub IsOneOf : List Symbol → List (List Symbol) → Type 0
+IsOneOf body [] = ⊥
+IsOneOf body (other ∷ others) = (other ≡ body) ⊎ IsOneOf body others
+
+-- These symbols spell these items: an item that fits for each terminal, and for a part what one of its productions spells.
+pub data Spells : List Symbol → List Token → Type 0 where
+  nothing : Spells [] []
+  item : {terminal : Terminal} {token : Token} {symbols : List Symbol} {items : List Token} → fits terminal token ≡ true → Spells symbols items → Spells (Item terminal ∷ symbols) (token ∷ items)
+  part : {part : Part} (body : List Symbol) {symbols : List Symbol} {items : List Token} → IsOneOf body (productions part) → Spells (body ++ symbols) items → Spells (Whole part ∷ symbols) items
+
+-- the items are those of a module
+abbrev pub IsModuleText : List Token → Type 0
+IsModuleText items = Spells (Whole Module ∷ []) items
+
+-- some items behind these make a module's text
+abbrev pub IsOpen : List Token → Type 0
+IsOpen front = (more : List Token) × IsModuleText (front ++ more)
