@@ -1,8 +1,9 @@
 #!/usr/bin/env python3
-"""Compares Wireshark's reading of GTP-U packets with the table in crates/gtpu/src/tests.rt.
+"""Compares Wireshark's reading of packets with the tables in the tests of crates/gtpu and crates/nr_user_plane.
 
-Each packet of the table is put into a UDP datagram to port 2152, and tshark is asked for its header. Where tshark isn't
-installed this is said, and the check passes.
+Each packet is put into a UDP datagram to port 2152. Of those of the tests `packets..` tshark is asked for the GTP-U
+header, and of those of `frames_in_packets` for the NR-U frame. Where tshark isn't installed this is said, and the check
+passes.
 
 Usage: tools/tshark_check.py
 """
@@ -15,12 +16,19 @@ import subprocess
 import sys
 import tempfile
 
-TABLE = pathlib.Path(__file__).resolve().parents[1] / "crates/gtpu/src/tests.rt"
+CRATES = pathlib.Path(__file__).resolve().parents[1] / "crates"
+TABLE = CRATES / "gtpu/src/tests.rt"
+FRAMES = CRATES / "nr_user_plane/src/tests.rt"
 KINDS = {"EchoRequest": 1, "EchoResponse": 2, "ErrorIndication": 26, "EndMarker": 254, "GPdu": 255}
 FIELDS = [
     "gtp.flags.version", "gtp.flags.payload", "gtp.flags.e", "gtp.flags.s", "gtp.flags.pn", "gtp.message", "gtp.length",
     "gtp.teid", "gtp.seq_number", "gtp.npdu_number", "gtp.ext_hdr.next", "gtp.ext_hdr.length", "gtp.ext_hdr.pdcp_sn",
     "gtp.ext_hdr.long_pdcp_sn",
+]
+FRAME_FIELDS = [
+    "nrup.pdu_type", "nrup.report_polling", "nrup.retransmission_flag", "nrup.seq_num", "nrup.lost_pkt_rpt",
+    "nrup.high_delivered_nr_pdcp_sn_ind", "nrup.desrd_buff_sz_data_radio_bearer", "nrup.num_lost_nru_seq_num",
+    "nrup.start_num_lost_nru_seq_num", "nrup.end_num_lost_nru_seq_num", "nrup.high_success_delivered_nr_pdcp_sn",
 ]
 
 
@@ -28,16 +36,27 @@ def octets(text):
     return bytes.fromhex(text.replace("\\x", ""))
 
 
-def table():
-    """The rows of the table: the octets, and the value that they stand for as tshark's fields."""
-    text = re.sub(r"\s+", " ", TABLE.read_text().split("fn packets(")[1].split("#[test]")[0])
+def tables():
+    """The rows of each table: a name, the octets, and the value that they stand for as tshark's fields."""
+    tests = [test for test in TABLE.read_text().split("#[test]") if re.match(r"\s*fn packets", test)]
+    for test in tests:
+        yield from table(re.sub(r"\s+", " ", test))
+
+
+def table(text):
     named = {name: octets(body) for name, body in re.findall(r'let (\w+) = b"([^"]*)"', text)}
     row = re.compile(
-        r"\( ?(\w+), ?(?:Packet \{ (.*?)\.\.)?packet\( ?(\w+), ?(\w+), ?(\w+), ?b\"([^\"]*)\", ?b\"([^\"]*)\",? ?\)"
+        r"\( ?(?:(\w+)|b\"([^\"]*)\"\.as_slice\(\)), ?(?:Packet \{ (.*?)\.\.)?packet\( ?(\w+), ?(\w+), ?(\w+), ?b\"([^\"]*)\", ?b\"([^\"]*)\",? ?\)"
     )
-    for name, more, kind, teid, first, chain, _payload in row.findall(text):
+    rows = row.findall(text)
+    # no row is passed over: each has its `packet(..)`
+    if len(rows) != text.count("packet("):
+        sys.exit(f"{len(rows)} rows of {text.count('packet(')} were understood in {TABLE}")
+    for name, literal, more, kind, teid, first, chain, _payload in rows:
+        data = named[name] if name else octets(literal)
         optional = {key: int(value, 0) for key, value in re.findall(r"(\w+): Some\((\w+)\)", more)}
-        yield name, named[name], fields(named[name], KINDS[kind], int(teid.replace("_", ""), 0), optional, int(first, 0), octets(chain))
+        value = fields(data, KINDS[kind], int(teid.replace("_", ""), 0), optional, int(first, 0), octets(chain))
+        yield name or data.hex(), data, value
 
 
 def fields(data, kind, teid, optional, first, chain):
@@ -70,6 +89,48 @@ def fields(data, kind, teid, optional, first, chain):
     }
 
 
+def frames():
+    """The rows of the table of frames: the octets of a packet, and the frame in it as tshark's fields."""
+    text = re.sub(r"\s+", " ", FRAMES.read_text())
+    room = int(re.search(r"const ROOM: u32 = ([\d_]+);", text)[1])
+    test = text.split("fn frames_in_packets(")[1].split("#[test]")[0]
+    rows = re.findall(r'\( ?"([0-9A-F]+)", (data|status)\((.*?)\),? \)', test)
+    if len(rows) != test.count(" data(") + test.count(" status("):
+        sys.exit(f"only {len(rows)} rows were understood in {FRAMES}")
+    for data, kind, words in rows:
+        yield data, bytes.fromhex(data), data_fields(words) if kind == "data" else status_fields(words, room)
+
+
+def data_fields(words):
+    poll, restart, number = words.split(", ")
+    return of_frame({
+        "nrup.pdu_type": [0],
+        "nrup.report_polling": [int(poll == "true")],
+        "nrup.retransmission_flag": [int(restart == "true")],
+        "nrup.seq_num": [int(number)],
+    })
+
+
+def status_fields(words, room):
+    lost, delivered = re.fullmatch(r"&\[(.*)\], (.*)", words).groups()
+    ranges = [(int(start), int(end)) for start, end in re.findall(r"\((\d+), (\d+)\)", lost)]
+    number = [int(text) for text in re.findall(r"Some\((\d+)\)", delivered)]
+    return of_frame({
+        "nrup.pdu_type": [1],
+        "nrup.lost_pkt_rpt": [int(ranges != [])],
+        "nrup.high_delivered_nr_pdcp_sn_ind": [int(number != [])],
+        "nrup.desrd_buff_sz_data_radio_bearer": [room],
+        "nrup.num_lost_nru_seq_num": [len(ranges)] if ranges else [],
+        "nrup.start_num_lost_nru_seq_num": [start for start, _ in ranges],
+        "nrup.end_num_lost_nru_seq_num": [end for _, end in ranges],
+        "nrup.high_success_delivered_nr_pdcp_sn": number,
+    })
+
+
+def of_frame(told):
+    return {field: told.get(field, []) for field in FRAME_FIELDS}
+
+
 def capture(packets):
     """A pcap file with each packet in a UDP datagram over IPv4."""
     out = struct.pack("<IHHiIII", 0xA1B2C3D4, 2, 4, 0, 0, 65535, 228)
@@ -86,32 +147,40 @@ def numbers(text):
     return [words[word] if word in words else int(word, 0) for word in text.split(",") if word]
 
 
-def main():
-    rows = list(table())
-    if len(rows) < 10:
-        sys.exit(f"only {len(rows)} rows were found in {TABLE}")
-    if shutil.which("tshark") is None:
-        print(f"tshark isn't installed: {len(rows)} packets are not compared")
-        return
+def count_differences(rows, names):
+    """Asks tshark for these fields of each packet, and says where they are others than the table's."""
     with tempfile.NamedTemporaryFile(suffix=".pcap") as file:
         file.write(capture(data for _, data, _ in rows))
         file.flush()
         command = ["tshark", "-r", file.name, "-T", "fields", "-E", "separator=|", "-E", "occurrence=a"]
-        for field in FIELDS:
+        for field in names:
             command += ["-e", field]
-        lines = subprocess.run(command, check=True, capture_output=True, text=True).stdout.splitlines()
+        answer = subprocess.run(command, capture_output=True, text=True)
+    if answer.returncode != 0:
+        sys.exit(f"tshark failed: {answer.stderr}")
+    lines = answer.stdout.splitlines()
     if len(lines) != len(rows):
         sys.exit(f"tshark told of {len(lines)} packets, not {len(rows)}")
     wrong = 0
     for (name, _, wanted), line in zip(rows, lines):
-        for field, text in zip(FIELDS, line.split("|")):
+        for field, text in zip(names, line.split("|"), strict=True):
             told = numbers(text)
             if told != wanted[field]:
                 wrong += 1
                 print(f"{name}: {field} is {told}, not {wanted[field]}")
-    if wrong:
+    return wrong
+
+
+def main():
+    packets, in_packets = list(tables()), list(frames())
+    if len(packets) < 20 or len(in_packets) < 10:
+        sys.exit(f"only {len(packets)} packets and {len(in_packets)} frames were found in {TABLE} and {FRAMES}")
+    if shutil.which("tshark") is None:
+        print(f"tshark isn't installed: {len(packets)} packets and {len(in_packets)} frames are not compared")
+        return
+    if count_differences(packets, FIELDS) + count_differences(in_packets, FRAME_FIELDS):
         sys.exit(1)
-    print(f"{len(rows)} packets are read alike")
+    print(f"{len(packets)} packets and {len(in_packets)} frames are read alike")
 
 
 if __name__ == "__main__":

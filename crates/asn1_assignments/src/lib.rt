@@ -8,3 +8,6 @@ mod syntax;
 
 pub use assignment::{Assignment, Body, Criticality, IeRow, Presence, ProcedureRow, Syntax};
 pub use syntax::read_syntax;
+
+#[cfg(test)]
+mod tests;

@@ -4,9 +4,9 @@ use Rattle.std.proofs.lemmas.List.{length-replicate, take_all}
 use Rattle.std.proofs.lemmas.Bool.{cases_lt}
 use Rattle.asn1_types.specs.declared.definition.Node.{Node}
 use Rattle.asn1_assignments.specs.declared.assignment.Syntax.{Syntax}
-use Rattle.asn1_module.specs.declared.graph.Edge.{Edge}
-use Rattle.asn1_module.specs.Graph.{vertex_count, edges_of}
-use Rattle.asn1_module.specs.Paths.{IsDepth, Nests}
+use Rattle.asn1_graph.specs.declared.graph.Edge.{Edge}
+use Rattle.asn1_graph.specs.Graph.{vertex_count, edges_of}
+use Rattle.asn1_graph.specs.Paths.{IsDepth, Nests}
 use Rattle.asn1_module.specs.Judgement.{node_weights, weights_of, IsTooDeep}
 
 pub deep_told : (count : ℕ) (edges : List Edge) (weights t : List ℕ) (v : ℕ) → IsDepth count edges weights t → v < count → 60 < get_or t v 0 → (d : ℕ) × Nests count edges weights v d × (60 < d)

@@ -1,5 +1,3 @@
-pub mod GraphLemmas
-pub mod PathLemmas
 pub mod JudgementLemmas
 pub mod TypeCount
 pub mod LinkLemmas

@@ -10,8 +10,8 @@ use Rattle.asn1_types.specs.declared.fault.ModuleReason.TheVariants as reasons
 use Rattle.asn1_assignments.specs.declared.assignment.Assignment.{Assignment}
 use Rattle.asn1_assignments.specs.declared.assignment.Syntax.{Syntax}
 use Rattle.asn1_module.specs.Names.{first_unknown}
-use Rattle.asn1_module.specs.Graph.{vertex_count, edges_of}
-use Rattle.asn1_module.specs.Paths.{Leads, Nests, IsFirst}
+use Rattle.asn1_graph.specs.Graph.{vertex_count, edges_of}
+use Rattle.asn1_graph.specs.Paths.{Leads, Nests, IsFirst}
 
 -- SEQUENCE, CHOICE, SEQUENCE OF, a container and a PDU count one level each
 abbrev pub weight_of : Definition → ℕ

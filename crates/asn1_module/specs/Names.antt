@@ -1,5 +1,5 @@
 -- What the names in types refer to.
-use Rattle.std.specs.Prelude.{ℕ, List, [], ◌∷◌, Bool, true, false, Option, Some, None, position, if◌then◌else◌, ◌==◌}
+use Rattle.std.specs.Prelude.{ℕ, List, [], ◌∷◌, Bool, true, false, Option, Some, None, if◌then◌else◌, ◌==◌}
 use Rattle.asn1_tokens.specs.Words.{is_text}
 use Rattle.asn1_types.specs.declared.definition.Definition.{Definition}
 use Rattle.asn1_types.specs.declared.definition.Definition.TheVariants as types
@@ -9,10 +9,6 @@ use Rattle.asn1_module.specs.declared.names.Kind.TheVariants as kinds
 use Rattle.asn1_assignments.specs.declared.assignment.Body.{Body}
 use Rattle.asn1_assignments.specs.declared.assignment.Body.TheVariants as bodies
 use Rattle.asn1_assignments.specs.declared.assignment.Assignment.{Assignment}
-
--- the number of the assignment of a name
-abbrev pub number_of : List ℕ → List Assignment → Option ℕ
-number_of name assignments = position (λ other. is_text other.name name) assignments
 
 abbrev pub kind_of_body : Body → Kind
 kind_of_body (bodies.Type definition) = kinds.Type

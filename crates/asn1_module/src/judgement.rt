@@ -2,14 +2,13 @@
 
 ghost use Rattle.std.specs.Prelude.{◌≡◌, ◌+◌, ◌<◌, ◌^◌, ◌++◌, IfOk, OnOk, length, replicate, None};
 ghost use Rattle.asn1_module.specs.Names.{first_unknown};
-ghost use Rattle.asn1_module.specs.Graph.{vertex_count, edges_of};
-ghost use Rattle.asn1_module.specs.Paths.{IsFirst, IsDepth, Leads};
+ghost use Rattle.asn1_graph.specs.Graph.{vertex_count, edges_of};
+ghost use Rattle.asn1_graph.specs.Paths.{IsFirst, IsDepth, Leads};
 ghost use Rattle.asn1_module.specs.Judgement.{weight_of, node_weights, weights_of, IsFirstRecursive, IsFirstDeep, Judged, IsAt};
 
-use crate::graph::{Edge, edges_of, vertex_count};
 use crate::names::first_unknown;
-use crate::paths::{depths, reached, value_at};
 use asn1_assignments::Syntax;
+use asn1_graph::{Edge, depths, edges_of, reached, value_at, vertex_count};
 use asn1_types::{Definition, Fault, ModuleReason, Node};
 use gnb_base::octets::Memory;
 use std::alloc::Global;

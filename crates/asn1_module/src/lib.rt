@@ -2,11 +2,9 @@
 #![tactic(auto)]
 
 mod error;
-mod graph;
 mod judgement;
 mod module;
 mod names;
-mod paths;
 mod position;
 
 pub use asn1_assignments::{Criticality, IeRow, Presence, ProcedureRow};

@@ -1,20 +1,11 @@
 //! What the names in types refer to.
 
 ghost use Rattle.std.specs.Prelude.{◌≡◌};
-ghost use Rattle.asn1_module.specs.Names.{number_of, kind_of_body, kind_of_name, is_such, is_known, first_unknown};
+ghost use Rattle.asn1_module.specs.Names.{kind_of_body, kind_of_name, is_such, is_known, first_unknown};
 
 use asn1_assignments::{Assignment, Body};
 use asn1_tokens::is_text;
 use asn1_types::{Definition, Node};
-
-/// The number of the assignment of a name.
-pub fn number_of(name: &[u8], assignments: &[Assignment]) -> Option<usize>
-    ensures { result ≡ number_of name.now assignments.now }
-{
-    assignments
-        .iter()
-        .position(|other| is_text(other.name.as_slice(), name))
-}
 
 /// What a name may stand for.
 #[derive(Clone, Copy, Debug, PartialEq, Eq)]
@@ -70,8 +61,8 @@ fn is_known(definition: &Definition, assignments: &[Assignment]) -> bool
     }
 }
 
-#[tactic(auto, unfolding(crate::specs::Names::first_unknown))]
 /// The place of the first name that is not known.
+#[tactic(auto, unfolding(crate::specs::Names::first_unknown))]
 pub fn first_unknown(assignments: &[Assignment], nodes: &[Node]) -> Option<usize>
     ensures { result ≡ first_unknown assignments.now nodes.now }
 {

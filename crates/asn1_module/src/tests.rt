@@ -210,6 +210,140 @@ fn refusals_are_placed(rt: HostRuntime) -> Result<(), Fail> {
     Ok(())
 }
 
+/// A list on the second line, each of its entries a letter with a number from 0 on and the rest of the entry; and what stands
+/// on the third line.
+struct Crowd {
+    open: &'static str,
+    letter: char,
+    count: u32,
+    rest: &'static str,
+    last: &'static str,
+}
+
+/// Lists that are full, each with one more entry, whose name is refused.
+const CROWDS: [(Crowd, ModuleReason); 9] = [
+    (
+        Crowd {
+            open: "A ::= ENUMERATED {",
+            letter: 'n',
+            count: 256,
+            rest: ", ",
+            last: "n0} END",
+        },
+        ModuleReason::Bounds,
+    ),
+    (
+        Crowd {
+            open: "A ::= SEQUENCE {",
+            letter: 'n',
+            count: 256,
+            rest: " BOOLEAN, ",
+            last: "n0 BOOLEAN} END",
+        },
+        ModuleReason::Bounds,
+    ),
+    (
+        Crowd {
+            open: "A ::= CHOICE {",
+            letter: 'n',
+            count: 256,
+            rest: " BOOLEAN, ",
+            last: "n0 BOOLEAN} END",
+        },
+        ModuleReason::Bounds,
+    ),
+    (
+        Crowd {
+            open: "A ::= ENUMERATED {a, ..., ",
+            letter: 'n',
+            count: 64,
+            rest: ", ",
+            last: "a} END",
+        },
+        ModuleReason::Bounds,
+    ),
+    (
+        Crowd {
+            open: "A ::= SEQUENCE {..., ",
+            letter: 'n',
+            count: 64,
+            rest: " BOOLEAN, ",
+            last: "n0 BOOLEAN} END",
+        },
+        ModuleReason::Bounds,
+    ),
+    (
+        Crowd {
+            open: "",
+            letter: 'T',
+            count: 1000,
+            rest: " ::= BOOLEAN ",
+            last: "U ::= BOOLEAN END",
+        },
+        ModuleReason::Bounds,
+    ),
+    (
+        Crowd {
+            open: "",
+            letter: 'T',
+            count: 1000,
+            rest: " ::= BOOLEAN ",
+            last: "T0 ::= BOOLEAN END",
+        },
+        ModuleReason::Bounds,
+    ),
+    (
+        Crowd {
+            open: "",
+            letter: 'T',
+            count: 1000,
+            rest: " ::= BOOLEAN ",
+            last: "T0 PROTOCOL-IES ::= {{",
+        },
+        ModuleReason::Twice,
+    ),
+    (
+        Crowd {
+            open: "",
+            letter: 'T',
+            count: 1000,
+            rest: " ::= BOOLEAN ",
+            last: "T0 END",
+        },
+        ModuleReason::Twice,
+    ),
+];
+
+fn crowd_text(alloc: Global, crowd: &Crowd) -> Result<String, AllocError> {
+    let mut text = format!(in alloc; "M DEFINITIONS AUTOMATIC TAGS ::= BEGIN\n{}", crowd.open)?;
+    for i in 0..crowd.count {
+        let entry = format!(in alloc; "{}{}{}", crowd.letter, i, crowd.rest)?;
+        text.push_str(&entry)?;
+    }
+    text.push_str("\n")?;
+    text.push_str(crowd.last)?;
+    Ok(text)
+}
+
+#[test]
+fn full_lists_take_no_more(rt: HostRuntime) -> Result<(), Fail> {
+    for (crowd, reason) in &CROWDS {
+        let text = crowd_text(rt.alloc(), crowd)?;
+        let error = read_module(rt.alloc(), text.as_bytes())
+            .err()
+            .ok_or("the text is no module")?;
+        assert!(rt;
+            error
+                == ModuleError::Refused {
+                    line: 3,
+                    column: 1,
+                    reason: *reason,
+                }
+        );
+    }
+    Ok(())
+}
+
 #[test]
 fn profile_is_read_whole(rt: HostRuntime) -> Result<(), Fail> {
     let (module, octets) = read_module(rt.alloc(), PROFILE).ok().ok_or("a module")?;

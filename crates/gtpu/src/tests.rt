@@ -1,6 +1,7 @@
 //! Packets written out by hand: those that stand on the links of this program, some with further fields, and each refusal.
 
 use super::*;
+use std::process::Abort;
 use std::test::Fail;
 
 /// A packet with these extension headers and no other optional field.
@@ -118,13 +119,106 @@ fn packets(rt: HostRuntime) -> Result<(), Fail> {
             },
         ),
     ];
+    go_both_ways(&rt, rt.alloc(), &rows)
+}
+
+/// Each packet is read from its octets and written as them.
+fn go_both_ways(rt: &impl Abort, alloc: Global, rows: &[(&[u8], Packet)]) -> Result<(), Fail> {
     for (octets, packet) in rows {
         let read = decode(octets)?;
-        assert_eq!(rt; read, packet);
-        let written = encode(rt.alloc(), &read)?;
-        assert_eq!(rt; written.as_slice(), octets);
+        assert_eq!(rt; read, *packet);
+        let written = encode(alloc, &read)?;
+        assert_eq!(rt; written.as_slice(), *octets);
     }
     Ok(())
+}
+
+#[test]
+fn packets_of_a_handover(rt: HostRuntime) -> Result<(), Fail> {
+    use Kind::{EndMarker, GPdu};
+
+    let rows = [
+        // forwarded with a COUNT, forwarded without one, and the end on N3
+        (
+            b"\x34\xFF\x00\x09\x00\x00\x00\x03\x00\x00\x00\xC0\x01\x00\x00\x00\x01".as_slice(),
+            packet(GPdu, 3, 0xC0, b"\x01\x00\x00\x00", b"\x01"),
+        ),
+        (
+            b"\x34\xFF\x00\x09\x00\x00\x00\x03\x00\x00\x00\xC0\x01\x00\x01\x00\x02".as_slice(),
+            packet(GPdu, 3, 0xC0, b"\x01\x00\x01\x00", b"\x02"),
+        ),
+        (
+            b"\x34\xFF\x00\x09\x00\x00\x00\x04\x00\x00\x00\xC0\x01\x00\x00\x00\x45".as_slice(),
+            packet(GPdu, 4, 0xC0, b"\x01\x00\x00\x00", b"\x45"),
+        ),
+        (
+            b"\x30\xFF\x00\x01\x00\x00\x00\x03\x04".as_slice(),
+            packet(GPdu, 3, 0, b"", b"\x04"),
+        ),
+        (
+            b"\x30\xFF\x00\x01\x00\x00\x00\x03\x05".as_slice(),
+            packet(GPdu, 3, 0, b"", b"\x05"),
+        ),
+        (
+            b"\x30\xFE\x00\x00\x00\x00\x00\x01".as_slice(),
+            packet(EndMarker, 1, 0, b"", b""),
+        ),
+    ];
+    go_both_ways(&rt, rt.alloc(), &rows)
+}
+
+#[test]
+fn packets_of_f1u(rt: HostRuntime) -> Result<(), Fail> {
+    use Kind::GPdu;
+
+    let rows = [
+        // the first packet, one put again after a loss, the next, that one put again, and a status
+        (
+            b"\x34\xFF\x00\x0F\x00\x00\x00\x01\x00\x00\x00\x84\x02\x00\x00\x00\x00\x00\x00\x00\x80\x00\x45".as_slice(),
+            packet(
+                GPdu,
+                1,
+                0x84,
+                b"\x02\x00\x00\x00\x00\x00\x00\x00",
+                b"\x80\x00\x45",
+            ),
+        ),
+        (
+            b"\x34\xFF\x00\x0F\x00\x00\x00\x01\x00\x00\x00\x84\x02\x00\x01\x00\x00\x02\x00\x00\x80\x00\x01".as_slice(),
+            packet(
+                GPdu,
+                1,
+                0x84,
+                b"\x02\x00\x01\x00\x00\x02\x00\x00",
+                b"\x80\x00\x01",
+            ),
+        ),
+        (
+            b"\x34\xFF\x00\x0F\x00\x00\x00\x01\x00\x00\x00\x84\x02\x00\x00\x00\x00\x03\x00\x00\x80\x01\x02".as_slice(),
+            packet(
+                GPdu,
+                1,
+                0x84,
+                b"\x02\x00\x00\x00\x00\x03\x00\x00",
+                b"\x80\x01\x02",
+            ),
+        ),
+        (
+            b"\x34\xFF\x00\x0F\x00\x00\x00\x01\x00\x00\x00\x84\x02\x00\x01\x00\x00\x03\x00\x00\x80\x01\x02".as_slice(),
+            packet(
+                GPdu,
+                1,
+                0x84,
+                b"\x02\x00\x01\x00\x00\x03\x00\x00",
+                b"\x80\x01\x02",
+            ),
+        ),
+        (
+            b"\x34\xFF\x00\x0C\x00\x00\x00\x02\x00\x00\x00\x84\x02\x10\x00\x00\x01\x00\x00\x00".as_slice(),
+            packet(GPdu, 2, 0x84, b"\x02\x10\x00\x00\x01\x00\x00\x00", b""),
+        ),
+    ];
+    go_both_ways(&rt, rt.alloc(), &rows)
 }
 
 #[test]

@@ -60,7 +60,7 @@ pub record IsFresh (r : Option N3) (packet : List ℕ) : Type 0 where
   pub is : r ≡ Some (on_n3.Packet octets)
   pub packet_is : octets.now ≡ packet
 
-fresh_read : (r : Option N3) (packet : List ℕ) → IsSomeAnd r (λ x. n3_item x ≡ fresh packet) → IsFresh r packet
+pub fresh_read : (r : Option N3) (packet : List ℕ) → IsSomeAnd r (λ x. n3_item x ≡ fresh packet) → IsFresh r packet
 fresh_read None packet h = absurd h
 fresh_read (Some (on_n3.Packet octets)) packet h = record { octets = octets; is = refl; packet_is = Prim.cc }
 fresh_read (Some on_n3.End) packet h = Prim.cc
@@ -103,7 +103,7 @@ pub record IsFramed (r : Option F1uDownlink) (pdu : List ℕ) : Type 0 where
   pub is : r ≡ Some (downlink.Pdu restart number content octets)
   pub pdu_is : octets.now ≡ pdu
 
-framed_read : (r : Option F1uDownlink) (restart : Bool) (number : ℕ) (content : Content) (pdu : List ℕ) → IsSomeAnd r (λ x. downlink_item x ≡ framed restart number content pdu) → IsFramed r pdu
+pub framed_read : (r : Option F1uDownlink) (restart : Bool) (number : ℕ) (content : Content) (pdu : List ℕ) → IsSomeAnd r (λ x. downlink_item x ≡ framed restart number content pdu) → IsFramed r pdu
 framed_read None restart number content pdu h = absurd h
 framed_read (Some (downlink.Pdu a b c octets)) restart number content pdu h = record { restart = a; number = b; content = c; octets = octets; is = refl; pdu_is = Prim.cc }
 framed_read (Some (downlink.Poll a b)) restart number content pdu h = Prim.cc

@@ -17,9 +17,9 @@ TakesPacket old new downlink packet (Numbered count bytes) =
     (has_room old ≡ true) × (count ≡ old.next) × (bytes ≡ f1u_downlink_data static_bits downlink old.frames old.next packet)
     × (new ≡ record old { next = old.next + 1; frames = old.frames + 1; unconfirmed = old.unconfirmed ++ packet ∷ [] })
 
--- Octets of N3 that are no packet change nothing; else their packet waits or is numbered.
+-- Octets of N3 that are no packet change nothing; else, and only else, their packet waits or is numbered.
 abbrev pub TakesOctets : Sender → Sender → ℕ → List ℕ → FromN3 → Type 0
-TakesOctets old new downlink octets Ignored = new ≡ old
+TakesOctets old new downlink octets Ignored = (new ≡ old) × ((packet : List ℕ) → DecodesOn n3 static_bits (fresh packet) octets → ⊥)
 TakesOctets old new downlink octets Waits = (packet : List ℕ) × DecodesOn n3 static_bits (fresh packet) octets × TakesPacket old new downlink packet Waits
 TakesOctets old new downlink octets (Numbered count bytes) =
     (packet : List ℕ) × DecodesOn n3 static_bits (fresh packet) octets × TakesPacket old new downlink packet (Numbered count bytes)

@@ -1,7 +1,7 @@
 //! The CU-UP of the static downlink bearer: it takes packets from N3, numbers them, and makes frames for the DU
 //! (TS 38.401, 8.9; TS 38.323, 5.2.1; TS 38.425, 5.2).
 
-ghost use Rattle.std.specs.Prelude.{◌≡◌, ◌<◌, ◌≤◌, ◌^◌, [], List, ℕ, length, IfOk, IfSome, IsSomeAnd, true, false};
+ghost use Rattle.std.specs.Prelude.{◌≡◌, ◌<◌, ◌≤◌, ◌^◌, [], List, ℕ, length, IfOk, IfSome, IfNone, IsSomeAnd, true, false};
 ghost use Rattle.link_layouts.specs.Decoding.{IsSized, DecodesOn, n3, fresh};
 ghost use Rattle.link_layouts.specs.Links.{n3_downlink, f1u_downlink_data};
 ghost use Rattle.run_model.specs.Run.{static_bits};
@@ -78,6 +78,7 @@ pub fn n3_octets(alloc: Global, teid: u32, packet: &[u8]) -> Result<Octets, Memo
 fn n3_packet(bytes: &[u8]) -> Option<&[u8]>
     ensures sized { IfSome result (λ p. IsSized p.now) }
     ensures only { IfSome result (λ p. DecodesOn n3 static_bits (fresh p.now) bytes.now) }
+    ensures none { IfNone result ((packet : List ℕ) → DecodesOn n3 static_bits (fresh packet) bytes.now → ⊥) }
     ensures read { (teid : ℕ) (packet : List ℕ) → teid < 2 ^ 32 → IsSized packet → bytes.now ≡ n3_downlink teid packet → IsSomeAnd result (λ p. p.now ≡ packet) }
 {
     match read_n3(bytes) {

@@ -41,8 +41,9 @@ impl Ue {
         // The PDU of the COUNT to deliver is delivered.
         ensures next { (packet : List ℕ) → self.old.deliv < 2 ^ 32 - 1 → IsSized packet → bytes.now ≡ radio_data static_bits self.old.deliv packet
             → IsSomeAnd result (Delivers self.old self.new packet) }
-        // Nothing else is.
-        ensures only { IfSome result (λ delivery. IsAwaited self.old.deliv delivery.packet.now bytes.now) }
+        // What is delivered is the packet of a PDU of that COUNT, and of each such PDU it is.
+        ensures only { IfSome result (λ delivery. IsAwaited self.old.deliv delivery.packet.now bytes.now × Delivers self.old self.new delivery.packet.now delivery) }
+        ensures none { IfNone result ((packet : List ℕ) → IsAwaited self.old.deliv packet bytes.now → ⊥) }
         ensures stays { IfNone result (self.new ≡ self.old) }
     {
         let count = self.deliv;
@@ -60,6 +61,7 @@ impl Ue {
 fn awaited(count: u32, bytes: &[u8]) -> Option<&[u8]>
     ensures given { OnSome result (count < 2 ^ 32 - 1) }
     ensures only { IfSome result (λ p. IsAwaited count p.now bytes.now) }
+    ensures none { IfNone result ((packet : List ℕ) → IsAwaited count packet bytes.now → ⊥) }
     ensures read { (packet : List ℕ) → count < 2 ^ 32 - 1 → IsSized packet → bytes.now ≡ radio_data static_bits count packet → IsSomeAnd result (λ p. p.now ≡ packet) }
 {
     match pdcp::read_pdu(SnBits::Len12, bytes) {
@@ -74,6 +76,7 @@ fn if_numbered(count: u32, number: u32, packet: &[u8]) -> Option<&[u8]>
     ensures given { OnSome result (count < 2 ^ 32 - 1) }
     ensures same { IfSome result (λ p. p.now ≡ packet.now) }
     ensures near { OnSome result (IsNear Len12 count number count) }
+    ensures none { IfNone result (IsNear Len12 count number count → ⊥) }
     ensures stands { number ≡ count % 4096 → count < 2 ^ 32 - 1 → IsSome result }
 {
     match pdcp::near(SnBits::Len12, count, number) {

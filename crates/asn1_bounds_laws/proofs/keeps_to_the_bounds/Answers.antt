@@ -1,0 +1,5 @@
+use Rattle.asn1_bounds_laws.proofs.ModuleBounds.{proper}
+use Rattle.asn1_bounds_laws.proofs.keeps_to_the_bounds.Goals as goal
+
+pub returns : goal.returns
+returns c text n m reads = proper text m reads.read

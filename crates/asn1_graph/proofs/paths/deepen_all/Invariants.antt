@@ -1,0 +1,10 @@
+use Rattle.std.proofs.Common.{length}
+use Rattle.asn1_graph.specs.Paths.{depth_cap}
+use Rattle.asn1_graph.proofs.PathLemmas.{TellsWell, slack}
+use Rattle.asn1_graph.proofs.paths.deepen_all.Given as goal
+
+abbrev pub invariant-loop : goal.invariant-loop
+invariant-loop l = TellsWell (length l.weights) l.edges l.weights l.table
+
+abbrev pub decreases-loop : goal.decreases-loop
+decreases-loop l = slack depth_cap l.table

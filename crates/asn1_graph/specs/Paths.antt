@@ -1,0 +1,60 @@
+-- Paths through a module's types and assignments: what reaches itself, and how deep types stand one inside another.
+use Rattle.std.specs.Prelude.{◌≡◌, ℕ, ◌+◌, ◌<◌, ◌≤◌, List, [], ◌∷◌, ◌⊎◌, length, Bool, true, false, ◌||◌, ◌&&◌, ◌==◌, nat_lt, min, slice_set, slice_index, if◌then◌else◌, Option, Some, None}
+use Rattle.asn1_graph.specs.declared.graph.Edge.{Edge}
+use Rattle.asn1_graph.specs.Graph.{edge}
+
+abbrev pub IsAmong : Edge → List Edge → Type 0
+IsAmong e [] = ⊥
+IsAmong e (f ∷ es) = (f ≡ e) ⊎ IsAmong e es
+
+-- a step from one of so many vertices to another
+pub record IsStep (count : ℕ) (edges : List Edge) (a b : ℕ) : Type 0 where
+  pub among : IsAmong (edge a b) edges
+  pub from : a < count
+  pub to : b < count
+
+-- a path of one step or more
+pub data Leads (count : ℕ) (edges : List Edge) (a : ℕ) : ℕ → Type 0 where
+  first : {b : ℕ} → IsStep count edges a b → Leads count edges a b
+  further : {b c : ℕ} → Leads count edges a b → IsStep count edges b c → Leads count edges a c
+
+-- Types that stand one inside another, from this one on: each adds its own weight, 1 for one that counts.
+pub data Nests (count : ℕ) (edges : List Edge) (weights : List ℕ) : ℕ → ℕ → Type 0 where
+  alone : {a : ℕ} → a < count → Nests count edges weights a (slice_index weights a)
+  around : {a b d : ℕ} → IsStep count edges a b → Nests count edges weights b d → Nests count edges weights a (slice_index weights a + d)
+
+-- a table with the greater of a value and its own at a place, and whether it changed
+abbrev pub raised : List ℕ → ℕ → ℕ → Bool × List ℕ
+raised table at value = if nat_lt at (length table) && nat_lt (slice_index table at) value then (true, slice_set table at value) else (false, table)
+
+-- marks what a marked vertex, or the first one, leads to
+unfoldable pub mark_step : ℕ → List ℕ → Edge → Bool × List ℕ
+mark_step start table e = if (e.from == start) || nat_lt 0 (slice_index table e.from) then raised table e.to 1 else (false, table)
+
+-- a depth above this one isn't told apart
+abbrev pub depth_cap : ℕ
+depth_cap = 61
+
+-- what stands around a type is as deep as this one and its own weight
+unfoldable pub depth_step : List ℕ → List ℕ → Edge → Bool × List ℕ
+depth_step weights table e = if nat_lt e.to (length table) then raised table e.from (min depth_cap (slice_index weights e.from + slice_index table e.to)) else (false, table)
+
+-- one round over all steps, and whether one of them changed the table
+unfoldable pub round_of : (List ℕ → Edge → Bool × List ℕ) → Bool → List ℕ → List Edge → Bool × List ℕ
+round_of act changed table [] = (changed, table)
+round_of act changed table (e ∷ es) = round_of act (changed || (act table e).0) (act table e).1 es
+
+-- the table marks what a vertex leads to
+pub record IsReach (count : ℕ) (edges : List Edge) (start : ℕ) (table : List ℕ) : Type 0 where
+  pub marked : (v : ℕ) → 0 < slice_index table v → Leads count edges start v
+  pub all : (v : ℕ) → Leads count edges start v → 0 < slice_index table v
+
+-- the table tells how deep types stand one inside another, up to the cap
+pub record IsDepth (count : ℕ) (edges : List Edge) (weights table : List ℕ) : Type 0 where
+  pub reached : (v : ℕ) → v < count → (d : ℕ) × Nests count edges weights v d × (slice_index table v ≤ d)
+  pub most : (v d : ℕ) → Nests count edges weights v d → min depth_cap d ≤ slice_index table v
+
+-- the first of so many numbers that has a property, if one does
+abbrev pub IsFirst : (ℕ → Type 0) → ℕ → Option ℕ → Type 0
+IsFirst P count None = (k : ℕ) → k < count → P k → ⊥
+IsFirst P count (Some k) = (k < count) × P k × ((j : ℕ) → j < k → P j → ⊥)

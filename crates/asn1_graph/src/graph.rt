@@ -1,0 +1,165 @@
+//! Which types and assignments lead to which.
+
+ghost use Rattle.std.specs.Prelude.{◌≡◌, ◌+◌, ◌-◌, ◌^◌, ◌<◌, ◌++◌, ◌∷◌, [], length, OnOk, IfOk};
+ghost use Rattle.asn1_graph.specs.Graph.{number_of, member_edges, all_member_edges, named_edges, node_edges, nodes_edges, range_edges, parts_edges, edges_of, vertex_count};
+
+use asn1_assignments::{Assignment, Syntax};
+use asn1_tokens::is_text;
+use asn1_types::{Component, Definition, Extensible, Items, Node};
+use gnb_base::octets::Memory;
+use std::alloc::Global;
+
+/// One step, from a vertex to another. The vertices are a module's types by their numbers, and then its assignments.
+#[derive(Clone, Copy, Debug, PartialEq, Eq)]
+pub struct Edge {
+    pub from: usize,
+    pub to: usize,
+}
+
+/// How many vertices a module has.
+pub fn vertex_count(syntax: &Syntax) -> usize
+    ensures { result ≡ vertex_count syntax.now }
+{
+    syntax.nodes.as_slice().len() + syntax.assignments.as_slice().len()
+}
+
+/// Adds the steps from a type to those of its members.
+#[tactic(auto, unfolding(crate::specs::Graph::member_edges))]
+fn push_members(edges: &mut Items<Edge>, from: usize, members: &[Component]) -> Result<(), Memory>
+    ensures { OnOk result (edges.new ≡ edges.old ++ member_edges from members.now) }
+{
+    for member in members {
+        let to = member.definition.number;
+        edges.push(Edge { from, to })?;
+    }
+    Ok(())
+}
+
+/// Adds the steps from a type to those of the members of its root and of its additions.
+#[tactic(auto, unfolding(crate::specs::Graph::member_edges))]
+fn push_all_members(
+    edges: &mut Items<Edge>,
+    from: usize,
+    members: &Extensible<Component>,
+) -> Result<(), Memory>
+    ensures { OnOk result (edges.new ≡ edges.old ++ all_member_edges from members.now) }
+{
+    push_members(edges, from, members.root.as_slice())?;
+    match &members.additions {
+        None => Ok(()),
+        Some(added) => push_members(edges, from, added.as_slice()),
+    }
+}
+
+/// The number of the assignment of a name.
+fn number_of(name: &[u8], assignments: &[Assignment]) -> Option<usize>
+    ensures { result ≡ number_of name.now assignments.now }
+{
+    assignments
+        .iter()
+        .position(|other| is_text(other.name.as_slice(), name))
+}
+
+/// Adds the step from a type to the assignment of the name in it.
+fn push_named(
+    edges: &mut Items<Edge>,
+    base: usize,
+    assignments: &[Assignment],
+    from: usize,
+    name: &[u8],
+) -> Result<(), Memory>
+    requires { base + length assignments.now < 2 ^ 64 }
+    ensures { OnOk result (edges.new ≡ edges.old ++ named_edges base assignments.now from name.now) }
+{
+    match number_of(name, assignments) {
+        None => Ok(()),
+        Some(number) => edges.push(Edge {
+            from,
+            to: base + number,
+        }),
+    }
+}
+
+/// Adds the steps from a type; `base` is the number of types.
+#[tactic(auto, unfolding(crate::specs::Graph::node_edges))]
+fn push_node(
+    edges: &mut Items<Edge>,
+    base: usize,
+    assignments: &[Assignment],
+    from: usize,
+    definition: &Definition,
+) -> Result<(), Memory>
+    requires { base + length assignments.now < 2 ^ 64 }
+    ensures { OnOk result (edges.new ≡ edges.old ++ node_edges base assignments.now from definition.now) }
+{
+    match definition {
+        Definition::Sequence(members) | Definition::Choice(members) => {
+            push_all_members(edges, from, members)
+        }
+        Definition::SequenceOf { element, .. } => edges.push(Edge {
+            from,
+            to: element.number,
+        }),
+        Definition::Reference(name) | Definition::IeContainer(name) | Definition::Pdu(name) => {
+            push_named(edges, base, assignments, from, name.as_slice())
+        }
+        _ => Ok(()),
+    }
+}
+
+/// Adds the steps from each type.
+#[tactic(auto, unfolding(crate::specs::Graph::nodes_edges))]
+fn push_nodes(
+    edges: &mut Items<Edge>,
+    assignments: &[Assignment],
+    nodes: &[Node],
+) -> Result<(), Memory>
+    requires { length nodes.now + length assignments.now < 2 ^ 64 }
+    ensures { OnOk result (edges.new ≡ edges.old ++ nodes_edges (length nodes.now) assignments.now 0 nodes.now) }
+{
+    for (from, node) in nodes.iter().enumerate() {
+        push_node(edges, nodes.len(), assignments, from, &node.definition)?;
+    }
+    Ok(())
+}
+
+/// Adds the steps from an assignment to each of so many types.
+fn push_range(edges: &mut Items<Edge>, from: usize, first: usize, end: usize) -> Result<(), Memory>
+    ensures { OnOk result (edges.new ≡ edges.old ++ range_edges from first (end - first)) }
+{
+    for to in first..end {
+        edges.push(Edge { from, to })?;
+    }
+    Ok(())
+}
+
+/// Adds the steps from each assignment; the vertex of the first one is `base`.
+#[tactic(auto, unfolding(crate::specs::Graph::parts_edges))]
+fn push_parts(
+    edges: &mut Items<Edge>,
+    base: usize,
+    assignments: &[Assignment],
+) -> Result<(), Memory>
+    requires { base + length assignments.now < 2 ^ 64 }
+    ensures { OnOk result (edges.new ≡ edges.old ++ parts_edges base 0 assignments.now) }
+{
+    let mut first = 0;
+    for (number, assignment) in assignments.iter().enumerate() {
+        push_range(edges, base + number, first, assignment.end)?;
+        first = assignment.end;
+    }
+    Ok(())
+}
+
+/// The steps of a module.
+#[tactic(auto, unfolding(crate::specs::Graph::edges_of))]
+pub fn edges_of(alloc: Global, syntax: &Syntax) -> Result<Items<Edge>, Memory>
+    ensures { IfOk result (λ edges. edges ≡ edges_of syntax.now) }
+{
+    let nodes = syntax.nodes.as_slice();
+    let assignments = syntax.assignments.as_slice();
+    let mut edges = Items::new(alloc);
+    push_nodes(&mut edges, assignments, nodes)?;
+    push_parts(&mut edges, nodes.len(), assignments)?;
+    Ok(edges)
+}
