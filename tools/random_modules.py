@@ -8,18 +8,11 @@ check passes.
 Usage: tools/random_modules.py [--count N] [--seed S] [COMMAND ..]
 """
 
-import argparse
-import concurrent.futures
-import os
-import pathlib
-import random
 import re
-import subprocess
 import sys
 
-TOP = pathlib.Path(__file__).resolve().parents[1]
-PROGRAM = [str(TOP / "gnb")]
-OTHER = TOP / "../shared/oracle/gnb.py"
+import other_reading
+
 # numbers at the bounds of what a module may say, and beyond
 NUMBERS = [
     "0", "1", "2", "3", "7", "63", "64", "255", "256", "65535", "65536", "4294967295", "9223372036854775807", "9223372036854775808",
@@ -207,35 +200,10 @@ def module_input(chance):
     return header + text
 
 
-def answer(command, text):
-    ran = subprocess.run([*command, "check"], input=text.encode(), stdout=subprocess.PIPE, check=False)
-    return ran.returncode, ran.stdout
-
-
-def main():
-    asked = argparse.ArgumentParser(description=__doc__, formatter_class=argparse.RawDescriptionHelpFormatter)
-    asked.add_argument("--count", type=int, default=350)
-    asked.add_argument("--seed", type=int, default=1)
-    asked.add_argument("command", nargs="*")
-    given = asked.parse_args()
-    other = given.command or ([sys.executable, str(OTHER)] if OTHER.exists() else None)
-    if other is None:
-        print(f"no other reading is here: {given.count} random modules are not compared")
-        return 0
-    texts = [module_input(random.Random(given.seed * 1_000_003 + number)) for number in range(given.count)]
-    answer(PROGRAM, texts[0])
-    statuses = {}
-    with concurrent.futures.ThreadPoolExecutor(os.cpu_count()) as pool:
-        for number, (ours, theirs) in enumerate(pool.map(lambda text: (answer(PROGRAM, text), answer(other, text)), texts)):
-            if ours != theirs:
-                print(f"module {number} differs:\n{texts[number]}\n-- ours: {ours}\n-- theirs: {theirs}")
-                return 1
-            last = ours[1].split(b"\n")[-2].split()
-            told = "done" if ours[0] == 0 else f"{ours[0]} for {int(last[3])}"
-            statuses[told] = statuses.get(told, 0) + 1
-    print(f"{given.count} random modules are alike; by status and reason: {dict(sorted(statuses.items()))}")
-    return 0
+def told(status, output):
+    """The status, with the reason in the last line."""
+    return "0" if status == 0 else f"{status} for {int(output.split(bytes([10]))[-2].split()[3])}"
 
 
 if __name__ == "__main__":
-    sys.exit(main())
+    sys.exit(other_reading.compare(__doc__, "modules", "check", 350, module_input, told))

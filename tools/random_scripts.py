@@ -7,15 +7,10 @@ said, and the check passes.
 Usage: tools/random_scripts.py [--count N] [--seed S] [COMMAND ..]
 """
 
-import argparse
-import pathlib
-import random
-import subprocess
 import sys
 
-TOP = pathlib.Path(__file__).resolve().parents[1]
-PROGRAM = [str(TOP / "gnb")]
-OTHER = TOP / "../shared/oracle/gnb.py"
+import other_reading
+
 QUOTAS = [4, 5, 8, 64, 4096]
 TUNNELS = ["A.up1/1"] * 6 + ["A.du1/1"] * 6 + ["A.up1/2", "A.up1/9", "A.du1/2", "B.du2/1", "core/1", "u1/1"]
 # what no script may have; events that the other reading may have and this program not yet are left out
@@ -55,32 +50,5 @@ def script(chance):
     return "\n".join(lines) + chance.choice(["", "\n"])
 
 
-def answer(command, text):
-    ran = subprocess.run([*command, "run"], input=text.encode(), stdout=subprocess.PIPE, check=False)
-    return ran.returncode, ran.stdout
-
-
-def main():
-    asked = argparse.ArgumentParser(description=__doc__, formatter_class=argparse.RawDescriptionHelpFormatter)
-    asked.add_argument("--count", type=int, default=250)
-    asked.add_argument("--seed", type=int, default=1)
-    asked.add_argument("command", nargs="*")
-    given = asked.parse_args()
-    other = given.command or ([sys.executable, str(OTHER)] if OTHER.exists() else None)
-    if other is None:
-        print(f"no other reading is here: {given.count} random scripts are not compared")
-        return 0
-    statuses = {}
-    for number in range(given.count):
-        text = script(random.Random(given.seed * 1_000_003 + number))
-        ours, theirs = answer(PROGRAM, text), answer(other, text)
-        if ours != theirs:
-            print(f"script {number} differs:\n{text}\n-- ours: {ours}\n-- theirs: {theirs}")
-            return 1
-        statuses[ours[0]] = statuses.get(ours[0], 0) + 1
-    print(f"{given.count} random scripts are alike; by status: {dict(sorted(statuses.items()))}")
-    return 0
-
-
 if __name__ == "__main__":
-    sys.exit(main())
+    sys.exit(other_reading.compare(__doc__, "scripts", "run", 250, script, lambda status, _output: str(status)))

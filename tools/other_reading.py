@@ -1,0 +1,48 @@
+"""Compares what the program prints with what another reading of the same specification prints.
+
+The other reading is a program that takes the same words and input as ours. Without one this is said, and the comparison passes.
+"""
+
+import argparse
+import collections
+import concurrent.futures
+import os
+import pathlib
+import random
+import subprocess
+import sys
+
+TOP = pathlib.Path(__file__).resolve().parents[1]
+PROGRAM = [str(TOP / "gnb")]
+OTHER = TOP / "../shared/oracle/gnb.py"
+
+
+def answer(command, word, text):
+    """The status and the output of a program."""
+    ran = subprocess.run([*command, word], input=text.encode(), stdout=subprocess.PIPE, check=False)
+    return ran.returncode, ran.stdout
+
+
+def compare(usage, what, word, count, make, told):
+    """Compares so many inputs, each made by chance; `told` names what a status and an output came to."""
+    asked = argparse.ArgumentParser(description=usage, formatter_class=argparse.RawDescriptionHelpFormatter)
+    asked.add_argument("--count", type=int, default=count)
+    asked.add_argument("--seed", type=int, default=1)
+    asked.add_argument("command", nargs="*")
+    given = asked.parse_args()
+    other = given.command or ([sys.executable, str(OTHER)] if OTHER.exists() else None)
+    if other is None:
+        print(f"no other reading is here: {given.count} random {what} are not compared")
+        return 0
+    texts = [make(random.Random(given.seed * 1_000_003 + number)) for number in range(given.count)]
+    answer(PROGRAM, word, texts[0])  # builds the program before several are run side by side
+    outcomes = collections.Counter()
+    with concurrent.futures.ThreadPoolExecutor(os.cpu_count()) as pool:
+        both = pool.map(lambda text: (answer(PROGRAM, word, text), answer(other, word, text)), texts)
+        for text, (ours, theirs) in zip(texts, both):
+            if ours != theirs:
+                print(f"random {what} differ:\n{text}\n-- ours: {ours}\n-- theirs: {theirs}")
+                return 1
+            outcomes[told(*ours)] += 1
+    print(f"{given.count} random {what} are alike; by status: {dict(sorted(outcomes.items()))}")
+    return 0
