@@ -11,13 +11,14 @@ use std::io::{Read, Write};
 /// Reads from a reader, and counts how many reads failed, up to the last value.
 #[derive(Drop)]
 pub struct StdSource<R: Read> {
-    reader: R,
+    pub reader: R,
     pub faults: u64,
 }
 
 impl<R: Read> StdSource<R> {
     pub fn new(reader: R) -> StdSource<R>
-        ensures { result.faults ≡ 0 }
+        ensures same { result.reader ≡ reader }
+        ensures none { result.faults ≡ 0 }
     {
         StdSource { reader, faults: 0 }
     }
@@ -43,13 +44,14 @@ impl<R: Read> Source for StdSource<R> {
 /// last value. A write that takes none of some bytes is a fault too.
 #[derive(Drop)]
 pub struct StdSink<W: Write> {
-    writer: W,
+    pub writer: W,
     pub faults: u64,
 }
 
 impl<W: Write> StdSink<W> {
     pub fn new(writer: W) -> StdSink<W>
-        ensures { result.faults ≡ 0 }
+        ensures same { result.writer ≡ writer }
+        ensures none { result.faults ≡ 0 }
     {
         StdSink { writer, faults: 0 }
     }
