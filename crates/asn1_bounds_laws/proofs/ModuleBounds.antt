@@ -1,4 +1,5 @@
 -- Sets and modules that are read are within the bounds, and give each name, id and code once.
+use Rattle.std.proofs.lemmas.List.{map-append}
 use Rattle.std.proofs.Common.{◌≡◌, ℕ, ◌+◌, ◌≤◌, ◌<◌, List, [], ◌∷◌, ◌++◌, length, map, Bool, false, ◌&&◌, sym, subst, arith, Option}
 use Rattle.std.specs.Prelude.{Ok, ◌==◌}
 use Rattle.asn1_tokens.specs.declared.token.Word.{Word}
@@ -20,7 +21,7 @@ use Rattle.asn1_assignments.specs.Module.{Parts, has_all_types, is_assigned, new
 use Rattle.asn1_text_laws.proofs.Taken.{Gives, ok, no_value, and_gives, by_choice}
 use Rattle.asn1_text_laws.proofs.MemberTexts.{Next, repeat_gives}
 use Rattle.asn1_bounds_laws.specs.Proper.{IsNew, AreOnce, Each, ie_id, procedure_code, IsBodyWithin, name_of, IsProper}
-use Rattle.asn1_bounds_laws.proofs.Parts.{once_put, each_put, map_put, new_of, text_differs, number_differs}
+use Rattle.asn1_bounds_laws.proofs.Parts.{once_put, each_put, new_of, text_differs, number_differs}
 use Rattle.asn1_bounds_laws.proofs.TypeBounds.{any_value, natural_within, NodesWithin, type_within}
 
 new_number_within : (taken : ℕ → Bool) (high : ℕ) (ts : Left) → Gives (λ (a : ℕ × Left). (a.0 ≤ high) × (taken a.0 ≡ false)) (new_number_at taken high ts)
@@ -86,7 +87,7 @@ RowsWithin number limit rows ts = (Each (λ n. n < limit) (map number rows.rows)
 
 row_put : {R : Type 0} (number : R → ℕ) (limit : ℕ) (rows : List R) (row : R) (nodes : List Node) (us : Left) → (Each (λ n. n < limit) (map number rows) × AreOnce (map number rows)) → RowWithin number limit rows (row, nodes, us) → RowsWithin number limit (rows_with (rows ++ row ∷ []) nodes) us
 row_put number limit rows row nodes us so_far new = (
-  subst (λ (ns : List ℕ). Each (λ n. n < limit) ns × AreOnce ns) (sym (map_put number rows row)) (each_put (λ n. n < limit) (map number rows) (number row) so_far.0 new.0.0, once_put (map number rows) (number row) so_far.1 new.0.1),
+  subst (λ (ns : List ℕ). Each (λ n. n < limit) ns × AreOnce ns) (sym (map-append number rows (row ∷ []))) (each_put (λ n. n < limit) (map number rows) (number row) so_far.0 new.0.0, once_put (map number rows) (number row) so_far.1 new.0.1),
   new.1,
 )
 
@@ -146,7 +147,7 @@ assignment_put : (so_far : Parts) (new : Assignment) (nodes : List Node) (us : L
 assignment_put so_far new nodes us p n body is_new = (
   n,
   each_put (λ (assignment : Assignment). IsBodyWithin assignment.body) so_far.assignments new p.1 body,
-  subst AreOnce (sym (map_put name_of so_far.assignments new)) (once_put (map name_of so_far.assignments) new.name p.2 is_new),
+  subst AreOnce (sym (map-append name_of so_far.assignments (new ∷ []))) (once_put (map name_of so_far.assignments) new.name p.2 is_new),
 )
 
 assignment_within : (turns : ℕ) (so_far : Parts) (ts : Left) → SoFar so_far ts → Gives SoFarAt (assignment_at turns so_far ts)

@@ -1,4 +1,7 @@
 -- Lists that grow by one part at a time, and sizes.
+use Rattle.std.proofs.lemmas.List.{append_assoc, append-nil, map-append}
+use Rattle.std.proofs.lemmas.Bool.{eq-eqb}
+use Rattle.asn1_text_laws.proofs.Taken.{and_parts}
 use Rattle.std.proofs.Common.{◌≡◌, ℕ, ◌+◌, ◌≤◌, ◌<◌, List, [], ◌∷◌, ◌++◌, length, map, Bool, true, false, ◌||◌, ◌&&◌, eqb, refl, sym, ap, ◌∙◌, subst, arith, Option, Some, None}
 use Rattle.std.specs.Prelude.{nat_le, nat_eq, is_none, ◌==◌}
 use Rattle.std.specs.List.{list_any}
@@ -14,11 +17,7 @@ le_of a b h = grind arith
 pub lt_of : (a b : ℕ) → nat_le a b ≡ false → b < a
 lt_of a b h = grind arith
 
-pub and_parts : (a b : Bool) → a && b ≡ true → (a ≡ true) × (b ≡ true)
-and_parts true b h = (refl, h)
-and_parts false b h = cc
-
-or_parts : (a b : Bool) → a || b ≡ false → (a ≡ false) × (b ≡ false)
+pub or_parts : (a b : Bool) → a || b ≡ false → (a ≡ false) × (b ≡ false)
 or_parts true b h = cc
 or_parts false b h = (refl, h)
 
@@ -36,20 +35,13 @@ pub each_put : {A : Type 0} (P : A → Type 0) (xs : List A) (x : A) → Each P 
 each_put P [] x each p = (p, tt)
 each_put P (y ∷ xs) x each p = (each.0, each_put P xs x each.1 p)
 
-pub map_put : {A B : Type 0} (f : A → B) (xs : List A) (x : A) → map f (xs ++ x ∷ []) ≡ map f xs ++ f x ∷ []
-map_put f [] x = refl
-map_put f (y ∷ xs) x = ap (λ (l : List _). f y ∷ l) (map_put f xs x)
-
 pub new_of : {A B : Type 0} (p : A → Bool) (f : A → B) (x : B) → ((a : A) → p a ≡ false → f a ≡ x → ⊥) → (xs : List A) → list_any p xs ≡ false → IsNew x (map f xs)
 new_of p f x differ [] h = tt
 new_of p f x differ (a ∷ xs) h = (differ a (or_parts _ _ h).0, new_of p f x differ xs (or_parts _ _ h).1)
 
-eqb-same : (n : ℕ) → eqb n n ≡ true
-eqb-same n = grind arith
-
 pointwise-same : (a : List ℕ) → pointwise nat_eq a a ≡ true
 pointwise-same [] = refl
-pointwise-same (x ∷ a) = both (eqb x x) (pointwise nat_eq a a) (eqb-same x) (pointwise-same a)
+pointwise-same (x ∷ a) = both (eqb x x) (pointwise nat_eq a a) (eq-eqb x x refl) (pointwise-same a)
   where
     both : (b c : Bool) → b ≡ true → c ≡ true → b && c ≡ true
     both true c p q = q
@@ -63,7 +55,7 @@ text_differs a b h e = clash (subst (λ (x : List ℕ). pointwise nat_eq a x ≡
     clash g = cc
 
 pub number_differs : (a b : ℕ) → a == b ≡ false → a ≡ b → ⊥
-number_differs a b h e = clash (subst (λ (x : ℕ). eqb a x ≡ true) e (eqb-same a))
+number_differs a b h e = clash (subst (λ (x : ℕ). eqb a x ≡ true) e (eq-eqb a a refl))
   where
     clash : eqb a b ≡ true → ⊥
     clash g = cc
@@ -87,24 +79,16 @@ length-put : {T : Type 0} (xs : List T) (x : T) → length (xs ++ x ∷ []) ≡ 
 length-put [] x = omega arith
 length-put (y ∷ xs) x = omega (arith, length-put xs x)
 
-append_nil : {A : Type 0} (xs : List A) → xs ++ [] ≡ xs
-append_nil [] = refl
-append_nil (x ∷ xs) = ap (λ (l : List _). x ∷ l) (append_nil xs)
-
-assoc : {A : Type 0} (xs ys zs : List A) → (xs ++ ys) ++ zs ≡ xs ++ (ys ++ zs)
-assoc [] ys zs = refl
-assoc (x ∷ xs) ys zs = ap (λ (l : List _). x ∷ l) (assoc xs ys zs)
-
 -- all parts with one more
 all_put : {T : Type 0} (root : List T) (added : Option (List T)) (x : T) → all_parts (put_part root added x) ≡ (root ++ additions_of added) ++ x ∷ []
-all_put root None x = append_nil (root ++ x ∷ []) ∙ ap (λ (l : List _). l ++ x ∷ []) (sym (append_nil root))
-all_put root (Some added) x = sym (assoc root added (x ∷ []))
+all_put root None x = append-nil (root ++ x ∷ []) ∙ ap (λ (l : List _). l ++ x ∷ []) (sym (append-nil root))
+all_put root (Some added) x = sym (append_assoc root added (x ∷ []))
 
 pub put_grows : {T : Type 0} (least : ℕ) (name : T → List ℕ) (parts : Extensible T) (x : T) → least ≤ 1 → Growing least name parts → is_full parts ≡ false → IsNew (name x) (map name (all_parts parts)) → Growing least name (with_part parts x) × (least ≤ length (with_part parts x).root)
 put_grows {T} least name parts x small g full new = go parts.additions g.additions full g.enough names
   where
     names : AreOnce (map name (all_parts (with_part parts x)))
-    names = subst AreOnce (sym (ap (map name) (all_put parts.root parts.additions x) ∙ map_put name (all_parts parts) x)) (once_put (map name (all_parts parts)) (name x) g.names new)
+    names = subst AreOnce (sym (ap (map name) (all_put parts.root parts.additions x) ∙ map-append name (all_parts parts) (x ∷ []))) (once_put (map name (all_parts parts)) (name x) g.names new)
 
     go : (added : Option (List T)) → length (additions_of added) ≤ 64 → is_filled parts.root added ≡ false → (is_none added ≡ false → least ≤ length parts.root) → AreOnce (map name (all_parts (put_part parts.root added x))) → Growing least name (put_part parts.root added x) × (least ≤ length (put_part parts.root added x).root)
     go None few filled enough once = (

@@ -1,4 +1,5 @@
 -- The lists in braces.
+use Rattle.std.proofs.lemmas.List.{append_assoc, append-nil, map-append}
 use Rattle.std.proofs.Common.{◌≡◌, ℕ, List, [], ◌∷◌, ◌++◌, zero, suc, map, Bool, true, false, cond, ◌&&◌, refl, sym, ap, ◌∙◌, Option, Some, None}
 use Rattle.std.specs.Prelude.{Result, Ok, is_none}
 use Rattle.asn1_tokens.specs.declared.token.Word.TheVariants as words
@@ -19,7 +20,7 @@ use Rattle.asn1_types.specs.declared.members.Head.TheVariants as heads
 use Rattle.asn1_types.specs.Reading.{Left, begins_with, begins_with_sign, repeat_at}
 use Rattle.asn1_types.specs.Members.{no_parts, put_part, with_part, extended, can_extend, all_parts, is_full, has_name, has_component, new_name_at, list_goes_on_at, name_entry_at, names_turn_at, names_at, least_members, composed, node, named_at, entry_at, optional_at, component, member_end_at, close_at}
 use Rattle.asn1_text_laws.specs.Written.{Written, word, sign, lower, separated, addition_entries, entries_of, type_text, optional_text, component_text, optional_size_text, definition_text}
-use Rattle.asn1_text_laws.proofs.Taken.{Taken, ◌then◌, nothing_taken, written_as, Gives, ok, no_value, and_gives, by_choice, word_gives, sign_gives, lower_gives}
+use Rattle.asn1_text_laws.proofs.Taken.{Taken, ◌then◌, nothing_taken, written_as, Gives, ok, no_value, and_gives, and_parts, by_choice, word_gives, sign_gives, lower_gives}
 
 pub new_name_gives : (taken : List ℕ → Bool) (full : Bool) (ts : List Placed) → Gives (λ (a : List ℕ × Left). Taken (lower a.0) ts a.1) (new_name_at taken full ts)
 unfolding new_name_at
@@ -56,31 +57,19 @@ with_last s [] e tail = refl
 with_last s (f ∷ []) e tail = refl
 with_last s (f ∷ g ∷ es) e tail = ap (λ (l : List Token). f (sign s l)) (with_last s (g ∷ es) e tail)
 
-pub map_put : {A B : Type 0} (f : A → B) (xs : List A) (x : A) → map f (xs ++ x ∷ []) ≡ map f xs ++ f x ∷ []
-map_put f [] x = refl
-map_put f (y ∷ xs) x = ap (λ (l : List _). f y ∷ l) (map_put f xs x)
-
-append_nil : {A : Type 0} (xs : List A) → xs ++ [] ≡ xs
-append_nil [] = refl
-append_nil (x ∷ xs) = ap (λ (l : List _). x ∷ l) (append_nil xs)
-
-assoc : {A : Type 0} (xs ys zs : List A) → (xs ++ ys) ++ zs ≡ xs ++ (ys ++ zs)
-assoc [] ys zs = refl
-assoc (x ∷ xs) ys zs = ap (λ (l : List _). x ∷ l) (assoc xs ys zs)
-
 -- the entries of a list with one more part, and with `...`
 pub entries_put : {T : Type 0} (text : T → Written) (parts : Extensible T) (x : T) → entries_of text (with_part parts x) ≡ entries_of text parts ++ text x ∷ []
 entries_put text parts x = go parts.additions
   where
     go : (added : Option (List _)) → entries_of text (put_part parts.root added x) ≡ (map text parts.root ++ addition_entries text added) ++ text x ∷ []
-    go None = append_nil (map text (parts.root ++ x ∷ [])) ∙ map_put text parts.root x ∙ sym (ap (λ (l : List Written). l ++ text x ∷ []) (append_nil (map text parts.root)))
-    go (Some added) = ap (λ (l : List Written). map text parts.root ++ sign signs.Ellipsis ∷ l) (map_put text added x) ∙ sym (assoc (map text parts.root) (sign signs.Ellipsis ∷ map text added) (text x ∷ []))
+    go None = append-nil (map text (parts.root ++ x ∷ [])) ∙ map-append text parts.root (x ∷ []) ∙ sym (ap (λ (l : List Written). l ++ text x ∷ []) (append-nil (map text parts.root)))
+    go (Some added) = ap (λ (l : List Written). map text parts.root ++ sign signs.Ellipsis ∷ l) (map-append text added (x ∷ [])) ∙ sym (append_assoc (map text parts.root) (sign signs.Ellipsis ∷ map text added) (text x ∷ []))
 
 pub entries_extended : {T : Type 0} (text : T → Written) (parts : Extensible T) → is_none parts.additions ≡ true → entries_of text (extended parts) ≡ entries_of text parts ++ sign signs.Ellipsis ∷ []
 entries_extended text parts none = go parts.additions none
   where
     go : (added : Option (List _)) → is_none added ≡ true → map text parts.root ++ sign signs.Ellipsis ∷ [] ≡ (map text parts.root ++ addition_entries text added) ++ sign signs.Ellipsis ∷ []
-    go None h = sym (ap (λ (l : List Written). l ++ sign signs.Ellipsis ∷ []) (append_nil (map text parts.root)))
+    go None h = sym (ap (λ (l : List Written). l ++ sign signs.Ellipsis ∷ []) (append-nil (map text parts.root)))
     go (Some added) h = cc
 
 -- ---- names of an ENUMERATED
@@ -88,10 +77,6 @@ entries_extended text parts none = go parts.additions none
 -- one more entry was taken
 abbrev Entered : (Extensible (List ℕ)) → List Placed → Extensible (List ℕ) × Left → Type 0
 Entered names ts a = (e : Written) × (entries_of lower a.0 ≡ entries_of lower names ++ e ∷ []) × Taken e ts a.1
-
-and_parts : (a b : Bool) → a && b ≡ true → (a ≡ true) × (b ≡ true)
-and_parts true b h = (refl, h)
-and_parts false b h = cc
 
 name_entry_gives : (names : Extensible (List ℕ)) (ts : List Placed) → Gives (Entered names ts) (name_entry_at names ts)
 unfolding name_entry_at

@@ -1,5 +1,6 @@
 -- The rows of information object sets, and the sets.
-use Rattle.std.proofs.Common.{◌≡◌, ℕ, List, [], ◌∷◌, ◌++◌, map, Bool, true, false, cond, ◌&&◌, refl, sym, ap, ◌∙◌, subst, Option, Some, None}
+use Rattle.std.proofs.lemmas.List.{map-append}
+use Rattle.std.proofs.Common.{◌≡◌, ℕ, List, [], ◌∷◌, ◌++◌, map, Bool, true, false, cond, refl, sym, ap, ◌∙◌, subst, Option, Some, None}
 use Rattle.std.specs.Prelude.{codes, nat_eq}
 use Rattle.std.specs.Cmp.Lexicographic.{pointwise}
 use Rattle.std.proofs.lemmas.Bool.{eqb-true}
@@ -21,14 +22,10 @@ use Rattle.asn1_assignments.specs.Rows.{new_number_at, found_or, criticality_of,
 use Rattle.asn1_assignments.specs.Sets.{set_goes_on_at, Rows, rows_with, ie_turn_at, procedure_turn_at, set_start_at, ie_set_at, procedure_set_at}
 use Rattle.asn1_module.specs.Links.{AreOrdered}
 use Rattle.asn1_text_laws.specs.Written.{Written, word, sign, natural, lower, separated, type_text, texts_of, criticality_name, presence_name, ie_row_text, outcome_text, procedure_row_text, rows_text}
-use Rattle.asn1_text_laws.proofs.Taken.{Taken, ◌then◌, nothing_taken, written_as, Gives, ok, no_value, and_gives, gives_so, by_choice, word_gives, sign_gives, lower_gives}
+use Rattle.asn1_text_laws.proofs.Taken.{Taken, ◌then◌, nothing_taken, written_as, Gives, ok, no_value, and_gives, gives_so, and_parts, by_choice, word_gives, sign_gives, lower_gives}
 use Rattle.asn1_text_laws.proofs.SizeTexts.{natural_gives}
-use Rattle.asn1_text_laws.proofs.MemberTexts.{each_with, with_sign, with_last, Next, repeat_gives, map_put}
+use Rattle.asn1_text_laws.proofs.MemberTexts.{each_with, with_sign, with_last, Next, repeat_gives}
 use Rattle.asn1_text_laws.proofs.TypeTexts.{Grows, grows_then, grows_not, type_gives}
-
-and_parts : (a b : Bool) → a && b ≡ true → (a ≡ true) × (b ≡ true)
-and_parts true b h = (refl, h)
-and_parts false b h = cc
 
 pointwise_same : (a b : List ℕ) → pointwise nat_eq a b ≡ true → a ≡ b
 pointwise_same [] [] h = refl
@@ -150,9 +147,9 @@ RowsClosed text all old start rows ts = Grows old rows.nodes × (Grows rows.node
 
 row_put : {R : Type 0} (text : List Written → R → Written) (all old : List Node) (start : List Placed) (rows : List R) (nodes new : List Node) (row : R) (us : Left) → Grows old nodes → Grows nodes new → (more : Bool) → (Grows new all → Taken (λ t. each_with signs.Bar (map (text (texts_of all)) rows) (text (texts_of all) row (set_more_text more t))) start us) → (more ≡ true → RowsSoFar text all old start (rows_with (rows ++ row ∷ []) new) us) × (more ≡ false → RowsClosed text all old start (rows_with (rows ++ row ∷ []) new) us)
 row_put text all old start rows nodes new row us grew grows true took =
-    (λ _. (grows_then old nodes new grew grows, λ up. written_as (each_with signs.Bar (map (text (texts_of all)) (rows ++ row ∷ []))) (λ t. with_sign signs.Bar (map (text (texts_of all)) rows) (text (texts_of all) row) t ∙ ap (λ (l : List Written). each_with signs.Bar l t) (sym (map_put (text (texts_of all)) rows row))) (took up)), λ h. cc)
+    (λ _. (grows_then old nodes new grew grows, λ up. written_as (each_with signs.Bar (map (text (texts_of all)) (rows ++ row ∷ []))) (λ t. with_sign signs.Bar (map (text (texts_of all)) rows) (text (texts_of all) row) t ∙ ap (λ (l : List Written). each_with signs.Bar l t) (sym (map-append (text (texts_of all)) rows (row ∷ [])))) (took up)), λ h. cc)
 row_put text all old start rows nodes new row us grew grows false took =
-    (λ h. cc, λ _. (grows_then old nodes new grew grows, λ up. written_as (λ t. separated signs.Bar (map (text (texts_of all)) (rows ++ row ∷ [])) (sign signs.Comma (sign signs.Ellipsis (sign signs.RightBrace t)))) (λ t. with_last signs.Bar (map (text (texts_of all)) rows) (text (texts_of all) row) (sign signs.Comma (sign signs.Ellipsis (sign signs.RightBrace t))) ∙ ap (λ (l : List Written). separated signs.Bar l (sign signs.Comma (sign signs.Ellipsis (sign signs.RightBrace t)))) (sym (map_put (text (texts_of all)) rows row))) (took up)))
+    (λ h. cc, λ _. (grows_then old nodes new grew grows, λ up. written_as (λ t. separated signs.Bar (map (text (texts_of all)) (rows ++ row ∷ [])) (sign signs.Comma (sign signs.Ellipsis (sign signs.RightBrace t)))) (λ t. with_last signs.Bar (map (text (texts_of all)) rows) (text (texts_of all) row) (sign signs.Comma (sign signs.Ellipsis (sign signs.RightBrace t))) ∙ ap (λ (l : List Written). separated signs.Bar l (sign signs.Comma (sign signs.Ellipsis (sign signs.RightBrace t)))) (sym (map-append (text (texts_of all)) rows (row ∷ [])))) (took up)))
 
 ie_turn_gives : (all old : List Node) (start : List Placed) → AreOrdered 0 all → (turns : ℕ) (so_far : Rows IeRow) (ts : List Placed) → RowsSoFar ie_row_text all old start so_far ts → Gives (Next (RowsSoFar ie_row_text all old start) (RowsClosed ie_row_text all old start)) (ie_turn_at turns so_far ts)
 unfolding ie_turn_at

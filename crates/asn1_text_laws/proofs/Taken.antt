@@ -1,5 +1,6 @@
 -- What a reading function took, as the items that its value is written with.
-use Rattle.std.proofs.Common.{◌≡◌, ℕ, List, [], ◌∷◌, ◌++◌, get_or, Bool, true, false, cond, refl, sym, ap, ◌∙◌}
+use Rattle.std.proofs.lemmas.List.{append_assoc}
+use Rattle.std.proofs.Common.{◌≡◌, ℕ, List, [], ◌∷◌, ◌++◌, get_or, Bool, true, false, cond, ◌&&◌, refl, sym, ap, ◌∙◌}
 use Rattle.std.specs.Prelude.{Result, Ok, Err, ℤ}
 use Rattle.std.proofs.lemmas.Bool.{eqb-true}
 use Rattle.asn1_tokens.specs.declared.token.Word.{Word}
@@ -21,10 +22,6 @@ pub record Taken (text : Written) (ts us : List Placed) : Type 0 where
   pub split : ts ≡ front ++ us
   pub said : (tail : List Token) → tokens_of front ++ tail ≡ text tail
 
-assoc : {A : Type 0} (xs ys zs : List A) → (xs ++ ys) ++ zs ≡ xs ++ (ys ++ zs)
-assoc [] ys zs = refl
-assoc (x ∷ xs) ys zs = ap (λ (l : List _). x ∷ l) (assoc xs ys zs)
-
 tokens_append : (xs ys : List Placed) (t : List Token) → tokens_of (xs ++ ys) ++ t ≡ tokens_of xs ++ (tokens_of ys ++ t)
 tokens_append [] ys t = refl
 tokens_append (x ∷ xs) ys t = ap (λ (l : List Token). x.token ∷ l) (tokens_append xs ys t)
@@ -33,7 +30,7 @@ infixr 5 ◌then◌
 pub ◌then◌ : {a b : Written} {ts us vs : List Placed} → Taken a ts us → Taken b us vs → Taken (λ t. a (b t)) ts vs
 ◌then◌ {a} {b} one two = record {
   front = one.front ++ two.front;
-  split = one.split ∙ ap (λ (l : List Placed). one.front ++ l) two.split ∙ sym (assoc one.front two.front _);
+  split = one.split ∙ ap (λ (l : List Placed). one.front ++ l) two.split ∙ sym (append_assoc one.front two.front _);
   said = λ tail. tokens_append one.front two.front tail ∙ one.said (tokens_of two.front ++ tail) ∙ ap a (two.said tail);
 }
 
@@ -54,6 +51,10 @@ and_gives no_value on = no_value
 pub gives_so : {A : Type 0} {P Q : A → Type 0} {r : Result A Fault} → Gives P r → ((a : A) → P a → Q a) → Gives Q r
 gives_so (ok {a} p) on = ok (on a p)
 gives_so no_value on = no_value
+
+pub and_parts : (a b : Bool) → a && b ≡ true → (a ≡ true) × (b ≡ true)
+and_parts true b h = (refl, h)
+and_parts false b h = cc
 
 pub by_choice : {X : Type 0} (P : X → Type 0) (b : Bool) (x y : X) → (b ≡ true → P x) → (b ≡ false → P y) → P (cond b x y)
 by_choice P true x y p q = p refl

@@ -1,4 +1,6 @@
 -- Types, with those inside them.
+use Rattle.std.proofs.lemmas.List.{append_assoc, append-nil, length-append, get_or_append_left}
+use Rattle.std.proofs.Math.Seq.{get_or-append_seam}
 use Rattle.std.proofs.Common.{◌≡◌, ℕ, ◌+◌, ◌<◌, List, [], ◌∷◌, ◌++◌, zero, suc, length, map, fold, get_or, true, false, refl, sym, ap, ◌∙◌, subst, arith, Option, Some, None}
 use Rattle.std.specs.Prelude.{Result, Ok, Err}
 use Rattle.asn1_tokens.specs.declared.token.Word.{Word}
@@ -123,34 +125,13 @@ fold-append : (ts : List Written) (xs ys : List Node) → fold with_text ts (xs 
 fold-append ts [] ys = refl
 fold-append ts (x ∷ xs) ys = fold-append (with_text ts x) xs ys
 
-append_nil : {A : Type 0} (xs : List A) → xs ++ [] ≡ xs
-append_nil [] = refl
-append_nil (x ∷ xs) = ap (λ (l : List _). x ∷ l) (append_nil xs)
-
-assoc : {A : Type 0} (xs ys zs : List A) → (xs ++ ys) ++ zs ≡ xs ++ (ys ++ zs)
-assoc [] ys zs = refl
-assoc (x ∷ xs) ys zs = ap (λ (l : List _). x ∷ l) (assoc xs ys zs)
-
 kept : (ts : List Written) (xs : List Node) → (more : List Written) × (fold with_text ts xs ≡ ts ++ more)
-kept ts [] = ([], sym (append_nil ts))
-kept ts (x ∷ xs) = let inner = kept (with_text ts x) xs in (definition_text ts x.definition ∷ inner.0, inner.1 ∙ assoc ts (definition_text ts x.definition ∷ []) inner.0)
-
-length-append : {A : Type 0} (xs ys : List A) → length (xs ++ ys) ≡ length xs + length ys
-length-append [] ys = omega arith
-length-append (x ∷ xs) ys = omega (arith, length-append xs ys)
+kept ts [] = ([], sym (append-nil ts))
+kept ts (x ∷ xs) = let inner = kept (with_text ts x) xs in (definition_text ts x.definition ∷ inner.0, inner.1 ∙ append_assoc ts (definition_text ts x.definition ∷ []) inner.0)
 
 length-texts : (ts : List Written) (xs : List Node) → length (fold with_text ts xs) ≡ length ts + length xs
 length-texts ts [] = omega arith
 length-texts ts (x ∷ xs) = omega (arith, length-texts (with_text ts x) xs, length-append ts (definition_text ts x.definition ∷ []))
-
-get-before : {A : Type 0} (xs ys : List A) (i : ℕ) (d : A) → i < length xs → get_or (xs ++ ys) i d ≡ get_or xs i d
-get-before [] ys i d h = absurd (omega arith)
-get-before (x ∷ xs) ys zero d h = refl
-get-before (x ∷ xs) ys (suc i) d h = get-before xs ys i d (omega (arith, h))
-
-get-at : {A : Type 0} (xs : List A) (y : A) (ys : List A) (d : A) → get_or (xs ++ y ∷ ys) (length xs) d ≡ y
-get-at [] y ys d = refl
-get-at (x ∷ xs) y ys d = get-at xs y ys d
 
 -- the first texts are the same
 abbrev SameBelow : ℕ → List Written → List Written → Type 0
@@ -202,16 +183,16 @@ own_text nodes new more ordered tail =
     later = kept (with_text before new) more
 
     whole : all ≡ before ++ definition_text before new.definition ∷ later.0
-    whole = fold-append [] (nodes ++ new ∷ []) more ∙ ap (λ (ts : List Written). fold with_text ts more) (fold-append [] nodes (new ∷ [])) ∙ later.1 ∙ assoc before (definition_text before new.definition ∷ []) later.0
+    whole = fold-append [] (nodes ++ new ∷ []) more ∙ ap (λ (ts : List Written). fold with_text ts more) (fold-append [] nodes (new ∷ [])) ∙ later.1 ∙ append_assoc before (definition_text before new.definition ∷ []) later.0
 
     count : length before ≡ length nodes
     count = length-texts [] nodes ∙ omega arith
 
     at : get_or all (length nodes) (λ (t : List Token). t) ≡ definition_text before new.definition
-    at = ap (λ (ts : List Written). get_or ts (length nodes) (λ (t : List Token). t)) whole ∙ ap (λ (n : ℕ). get_or (before ++ definition_text before new.definition ∷ later.0) n (λ (t : List Token). t)) (sym count) ∙ get-at before (definition_text before new.definition) later.0 (λ t. t)
+    at = ap (λ (ts : List Written). get_or ts (length nodes) (λ (t : List Token). t)) whole ∙ ap (λ (n : ℕ). get_or (before ++ definition_text before new.definition ∷ later.0) n (λ (t : List Token). t)) (sym count) ∙ get_or-append_seam before (definition_text before new.definition) later.0 (λ t. t)
 
     same : SameBelow (length nodes) all before
-    same i h = ap (λ (ts : List Written). get_or ts i (λ (t : List Token). t)) whole ∙ get-before before (definition_text before new.definition ∷ later.0) i (λ t. t) (omega (arith, h, count))
+    same i h = ap (λ (ts : List Written). get_or ts i (λ (t : List Token). t)) whole ∙ get_or_append_left before (definition_text before new.definition ∷ later.0) (λ t. t) i (omega (arith, h, count))
 
     inside : IsInside (length nodes) new.definition
     inside = subst (λ (n : ℕ). IsInside n new.definition) (omega arith) (ordered_at 0 nodes new more ordered)
@@ -223,10 +204,10 @@ abbrev pub Grows : List Node → List Node → Type 0
 Grows old new = (more : List Node) × (new ≡ old ++ more)
 
 pub grows_then : (a b c : List Node) → Grows a b → Grows b c → Grows a c
-grows_then a b c one two = (one.0 ++ two.0, two.1 ∙ ap (λ (l : List Node). l ++ two.0) one.1 ∙ assoc a one.0 two.0)
+grows_then a b c one two = (one.0 ++ two.0, two.1 ∙ ap (λ (l : List Node). l ++ two.0) one.1 ∙ append_assoc a one.0 two.0)
 
 pub grows_not : (nodes : List Node) → Grows nodes nodes
-grows_not nodes = ([], sym (append_nil nodes))
+grows_not nodes = ([], sym (append-nil nodes))
 
 gives_when : {A : Type 0} {P : A → Type 0} (E : Type 0) (r : Result A Fault) → (E → Gives P r) → Gives (λ a. E → P a) r
 gives_when {P} E (Ok a) on = ok (λ e. value (on e))
