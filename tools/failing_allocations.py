@@ -1,7 +1,7 @@
 #!/usr/bin/env python3
-"""Runs each script of examples/ once for each of its requests for memory, and lets that request fail.
+"""Runs each script and each check of examples/ once for each of its requests for memory, and lets that request fail.
 
-Every run must end with status 9 and a front of the script's transcript. A C compiler makes the library that lets a request
+Every run must end with status 9 and a front of what is printed where none fails. A C compiler makes the library that lets a request
 fail; where there is none this is said, and the check passes.
 
 Usage: tools/failing_allocations.py
@@ -16,25 +16,25 @@ import tempfile
 
 TOP = pathlib.Path(__file__).resolve().parents[1]
 PROGRAM = TOP / "crates/scenario_cli/out/scenario_cli"
+WORDS = {".script": "run", ".check": "check"}
 
 
-def answer(library, script, number):
+def answer(library, path, number):
     around = dict(os.environ, LD_PRELOAD=library, FAILING_ALLOCATION=str(number))
-    ran = subprocess.run([PROGRAM, "run"], input=script, capture_output=True, env=around, check=False)
+    ran = subprocess.run([PROGRAM, WORDS[path.suffix]], input=path.read_bytes(), capture_output=True, env=around, check=False)
     return ran.returncode, ran.stdout, ran.stderr
 
 
 def each_fails(library, path):
-    script = path.read_bytes()
-    status, transcript, said = answer(library, script, 0)
+    status, transcript, said = answer(library, path, 0)
     requests = int(said)
-    if status != 0 or requests == 0:
+    if status == 9 or requests == 0:
         return f"status {status} with {requests} requests, where none fails"
     for number in range(1, requests + 1):
-        status, front, _ = answer(library, script, number)
+        status, front, _ = answer(library, path, number)
         if status != 9 or not transcript.startswith(front):
             return f"request {number} failed: status {status}, {front!r}"
-    print(f"{path.name}: each of {requests} requests failed in turn, with status 9 and a front of the transcript")
+    print(f"{path.name}: each of {requests} requests failed in turn, with status 9 and a front of what is printed")
     return None
 
 
@@ -47,7 +47,7 @@ def main():
     with tempfile.TemporaryDirectory() as folder:
         library = f"{folder}/failing.so"
         subprocess.run([compiler, "-shared", "-fPIC", "-o", library, TOP / "tools/failing_allocations.c", "-ldl"], check=True)
-        for path in sorted((TOP / "examples").glob("*.script")):
+        for path in sorted(path for path in (TOP / "examples").iterdir() if path.suffix in WORDS):
             wrong = each_fails(library, path)
             if wrong:
                 print(f"{path.name}: {wrong}")
