@@ -49,7 +49,7 @@ told_rest [] bodies h = h
 told_rest (Item j ∷ b) bodies h = and_right _ _ h
 told_rest (Whole n ∷ b) bodies h = cc
 
-no_part_first : (n : Part) (b : List Symbol) (bodies : List (List Symbol)) → are_told_apart bodies ≡ true → IsOneOf (Whole n ∷ b) bodies → ⊥
+pub no_part_first : (n : Part) (b : List Symbol) (bodies : List (List Symbol)) → are_told_apart bodies ≡ true → IsOneOf (Whole n ∷ b) bodies → ⊥
 no_part_first n b [] h one = absurd one
 no_part_first n b (c ∷ bodies) h (inl same) = clash (subst (λ (d : List Symbol). are_told_apart (d ∷ bodies) ≡ true) same h)
   where
@@ -74,13 +74,13 @@ picks other k b t (c ∷ bodies) told (inr one) h = ap (λ (x : Bool). cond x (S
     not_begun (Whole n ∷ d) w = refl
 
 -- the empty production is there
-empty_told : (bodies : List (List Symbol)) → IsOneOf [] bodies → has_empty bodies ≡ true
+pub empty_told : (bodies : List (List Symbol)) → IsOneOf [] bodies → has_empty bodies ≡ true
 empty_told [] one = absurd one
 empty_told ([] ∷ bodies) one = refl
 empty_told ((s ∷ b) ∷ bodies) (inl same) = cc
 empty_told ((s ∷ b) ∷ bodies) (inr one) = empty_told bodies one
 
-empty_found : (bodies : List (List Symbol)) → has_empty bodies ≡ true → empty_of bodies ≡ Some []
+pub empty_found : (bodies : List (List Symbol)) → has_empty bodies ≡ true → empty_of bodies ≡ Some []
 empty_found [] h = cc
 empty_found ([] ∷ bodies) h = refl
 empty_found ((s ∷ b) ∷ bodies) h = empty_found bodies h

@@ -1,4 +1,5 @@
 -- Each row of symbols spells something.
+use Rattle.std.proofs.lemmas.Bool.{eq-eqb}
 use Rattle.std.proofs.Common.{◌≡◌, List, [], ◌∷◌, ◌++◌, true, refl, inl, inr}
 use Rattle.std.specs.Prelude.{codes, pos}
 use Rattle.asn1_tokens.specs.declared.token.Word.TheVariants as words
@@ -8,7 +9,6 @@ use Rattle.asn1_tokens.specs.declared.token.Token.TheVariants as tokens
 use Rattle.asn1_tokens.specs.Words.{word_number, sign_number, is_text}
 use Rattle.asn1_grammar.specs.Grammar.{Terminal, AnUpper, ALower, ANumber, ACriticality, APresence, TheWord, TheSign, fits, Part, Symbol, Item, Whole, productions, Module, Assignments, Meaning, IeRows, MoreIeRows, ProcedureRows, MoreProcedureRows, SuccessfulOutcome, UnsuccessfulOutcome, AType, Mark, OptionalSize, HighSize, SequenceRest, FirstComponent, NextComponent, AfterComponent, AfterAddition, OptionalWord, NextAlternative, AfterAlternative, AfterAlternativeAddition, NextName, AfterName, AfterNameAddition}
 use Rattle.asn1_grammar.specs.Open.{IsOneOf, Spells, nothing, item, part}
-use Rattle.asn1_grammar.proofs.Predict.{eqb-same}
 
 abbrev pub Makes : List Symbol → Type 0
 Makes symbols = (items : List Token) × Spells symbols items
@@ -20,8 +20,8 @@ sample ALower = (tokens.Lower [], refl)
 sample ANumber = (tokens.Number (pos 0), refl)
 sample ACriticality = (tokens.Lower (codes "reject"), refl)
 sample APresence = (tokens.Lower (codes "optional"), refl)
-sample (TheWord w) = (tokens.Word w, eqb-same (word_number w))
-sample (TheSign s) = (tokens.Sign s, eqb-same (sign_number s))
+sample (TheWord w) = (tokens.Word w, eq-eqb (word_number w) (word_number w) refl)
+sample (TheSign s) = (tokens.Sign s, eq-eqb (sign_number s) (sign_number s) refl)
 
 an_item : (k : Terminal) {symbols : List Symbol} → Makes symbols → Makes (Item k ∷ symbols)
 an_item k made = let one = sample k in (one.0 ∷ made.0, item one.1 made.1)

@@ -1,5 +1,5 @@
 -- One item decides which production of a part is meant.
-use Rattle.std.proofs.Common.{◌≡◌, ℕ, ◌+◌, List, [], ◌∷◌, Bool, true, false, cond, ◌||◌, ◌&&◌, eqb, refl, sym, ap, ◌∙◌, arith, Option, Some, None}
+use Rattle.std.proofs.Common.{◌≡◌, ℕ, ◌+◌, List, [], ◌∷◌, Bool, true, false, cond, ◌||◌, ◌&&◌, refl, sym, ap, ◌∙◌, arith, Option, Some, None}
 use Rattle.std.specs.Prelude.{◌==◌, not}
 use Rattle.std.proofs.lemmas.Bool.{eqb-true}
 use Rattle.asn1_tokens.specs.declared.token.Word.TheVariants as words
@@ -42,12 +42,6 @@ fits-class _ _ h = cc
 
 abbrev pub is_apart : Terminal → Terminal → Bool
 is_apart k j = not (class k == class j)
-
-pub eqb-same : (n : ℕ) → eqb n n ≡ true
-eqb-same n = by_test (eqb n n)
-  where
-    by_test : (b : Bool) → eqb n n ≡ true
-    by_test b = grind arith
 
 pub not_both : (k j : Terminal) (t : Token) → is_apart k j ≡ true → fits k t ≡ true → fits j t ≡ true → ⊥
 not_both k j t apart h g = go (class k == class j) refl apart

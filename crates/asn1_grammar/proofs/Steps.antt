@@ -1,14 +1,11 @@
 -- Reading with one item of look-ahead: what is left to be spelled, and what is left of the items.
-use Rattle.std.proofs.Common.{◌≡◌, List, [], ◌∷◌, ◌++◌, true, false, map, refl, sym, ap, subst, Some, None}
+use Rattle.std.proofs.Common.{◌≡◌, List, [], ◌∷◌, ◌++◌, true, false, refl, sym, ap, subst, Some, None}
 use Rattle.asn1_tokens.specs.declared.token.Token.{Token}
 use Rattle.asn1_tokens.specs.Stream.{Placed, first_token, others}
 use Rattle.asn1_grammar.specs.Grammar.{Terminal, fits, Part, Symbol, Item, Whole}
-use Rattle.asn1_grammar.specs.Open.{Spells, item, part}
+use Rattle.asn1_grammar.specs.Open.{tokens_of, Spells, item, part}
 use Rattle.asn1_grammar.proofs.Predict.{chosen, is_clear}
 use Rattle.asn1_grammar.proofs.Decide.{and_left, item_spells, chosen_spells, unchosen, one_of, clear_expanded}
-
-abbrev pub tokens_of : List Placed → List Token
-tokens_of ts = map (λ p. p.token) ts
 
 -- from symbols and items to those that are left, by items that fit and productions that the next item chooses
 pub data Steps : List Symbol → List Placed → List Symbol → List Placed → Type 0 where

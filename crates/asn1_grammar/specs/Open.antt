@@ -1,7 +1,12 @@
 -- What the grammar spells, and which fronts of it are open.
-use Rattle.std.specs.Prelude.{◌≡◌, List, [], ◌∷◌, ◌++◌, ◌⊎◌, true}
+use Rattle.std.specs.Prelude.{◌≡◌, List, [], ◌∷◌, ◌++◌, ◌⊎◌, true, map}
 use Rattle.asn1_tokens.specs.declared.token.Token.{Token}
+use Rattle.asn1_tokens.specs.Stream.{Placed}
 use Rattle.asn1_grammar.specs.Grammar.{Terminal, Part, Symbol, Item, Whole, Module, fits, productions}
+
+-- items without their places
+abbrev pub tokens_of : List Placed → List Token
+tokens_of items = map (λ item. item.token) items
 
 abbrev pub IsOneOf : List Symbol → List (List Symbol) → Type 0
 IsOneOf body [] = ⊥

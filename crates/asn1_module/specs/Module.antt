@@ -1,5 +1,5 @@
 -- Which texts are modules, and what is wrong with the others.
-use Rattle.std.specs.Prelude.{◌≡◌, ℕ, ◌≤◌, IsSome, List, [], ◌∷◌, length, take, Bool, false, ◌==◌, Option, Some, None, Ok, Err, if◌then◌else◌}
+use Rattle.std.specs.Prelude.{◌≡◌, ℕ, ◌≤◌, IsSome, List, [], ◌∷◌, length, take, Bool, false, ◌==◌, Option, Some, None, if◌then◌else◌}
 use Rattle.asn1_tokens.specs.Words.{is_text}
 use Rattle.asn1_types.specs.declared.fault.Fault.{Fault}
 use Rattle.asn1_types.specs.declared.fault.ModuleReason.{ModuleReason}
@@ -12,27 +12,24 @@ use Rattle.asn1_assignments.specs.declared.assignment.Assignment.{Assignment}
 use Rattle.asn1_assignments.specs.declared.assignment.Syntax.{Syntax}
 use Rattle.asn1_assignments.specs.declared.assignment.IeRow.{IeRow}
 use Rattle.asn1_assignments.specs.declared.assignment.ProcedureRow.{ProcedureRow}
-use Rattle.asn1_assignments.specs.Module.{syntax_of}
-use Rattle.asn1_syntax_laws.specs.Grammatical.{IsModuleFront, IsWrongItem}
+use Rattle.asn1_reading_laws.specs.Texts.{IsTextOf, IsFirstWrong}
 use Rattle.asn1_module.specs.Position.{line_after, column_after}
 use Rattle.asn1_module.specs.Judgement.{Judged, IsSound}
 use Rattle.asn1_module.specs.Links.{IsLinked}
 use Rattle.asn1_module.specs.declared.error.ModuleError.{ModuleError}
 use Rattle.asn1_module.specs.declared.error.ModuleError.TheVariants as errors
 
--- The front of that many octets of the text is this module: the grammar spells its items, the module is what is read of them,
--- its names refer to what they should, none reaches itself, and none nests too deep.
+-- The front of that many octets of the text is this module's, its names refer to what they should, none reaches itself, and none
+-- nests too deep.
 pub record Reads (text : List ℕ) (octets : ℕ) (m : Syntax) : Type 0 where
-  pub grammar : IsModuleFront text octets
-  pub read : syntax_of text ≡ Ok m
+  pub is : IsTextOf text m
   pub sound : Judged m None
   pub ends : octets ≡ m.end
 
--- The first fault of a text: an item with which no module goes on, or that passes a bound or gives something twice; or else the
--- first fault of the module that the text spells.
+-- The first fault of a text: its first wrong item; or else the first fault of the module whose text it is.
 pub data HasFault (text : List ℕ) (fault : Fault) : Type 0 where
-  in_text : IsWrongItem text fault → syntax_of text ≡ Err fault → HasFault text fault
-  in_module : {s : Syntax} → IsModuleFront text s.end → syntax_of text ≡ Ok s → Judged s (Some fault) → HasFault text fault
+  in_text : IsFirstWrong text fault → HasFault text fault
+  in_module : {m : Syntax} → IsTextOf text m → Judged m (Some fault) → HasFault text fault
 
 -- no front of the text is a module, and this is why
 pub record WrongText (text : List ℕ) (line column : ℕ) (reason : ModuleReason) : Type 0 where

@@ -1,3 +1,2 @@
 pub mod Judgements
 pub mod Faults
-pub mod LexicalLemmas

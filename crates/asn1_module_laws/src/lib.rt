@@ -1,9 +1,7 @@
 //! Laws over the definitions of module reading. No code stands on them.
 #![tactic(auto)]
 
-ghost use Rattle.std.specs.Prelude.{◌≡◌, ◌⊎◌, ◌||◌, ℕ, List, ◌∷◌, true};
-ghost use Rattle.asn1_tokens.specs.Scan.{is_upper, is_lower, is_digit, after_name, after_number};
-ghost use Rattle.asn1_module_laws.specs.Lexical.{IsLongest, IsName, IsNumber};
+ghost use Rattle.std.specs.Prelude.{◌≡◌, ◌⊎◌, ℕ, List};
 ghost use Rattle.asn1_types.specs.declared.fault.ModuleReason.{ModuleReason};
 ghost use Rattle.asn1_assignments.specs.declared.assignment.Syntax.{Syntax};
 ghost use Rattle.asn1_module.specs.Module.{Reads, WrongText};
@@ -18,10 +16,4 @@ pub fn one_answer()
 /// Each text has a reading or a fault.
 pub fn some_answer()
     ensures { (text : List ℕ) → ((n : ℕ) × (m : Syntax) × Reads text n m) ⊎ ((l : ℕ) × (c : ℕ) × (r : ModuleReason) × WrongText text l c r) }
-{}
-
-/// A name is as long as it can be, and so is a number without its sign.
-pub fn longest_items()
-    ensures name { (c : ℕ) (cs : List ℕ) → is_upper c || is_lower c ≡ true → IsLongest IsName (c ∷ cs) (after_name (c ∷ cs)) }
-    ensures number { (c : ℕ) (cs : List ℕ) → is_digit c ≡ true → IsLongest IsNumber (c ∷ cs) (after_number (c ∷ cs)) }
 {}

@@ -1,3 +1,5 @@
+pub mod Exact
+pub mod Gives
 pub mod Sim
 pub mod SizeSims
 pub mod MemberSims

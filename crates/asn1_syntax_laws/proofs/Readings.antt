@@ -1,5 +1,6 @@
 -- What the reading functions read of a text is what the grammar spells.
-use Rattle.std.proofs.Common.{◌≡◌, ℕ, ◌+◌, ◌≤◌, List, [], ◌∷◌, ◌++◌, zero, suc, length, Bool, true, false, cond, refl, sym, ap, ◌∙◌, subst, inl, inr, arith, Some, None}
+use Rattle.std.proofs.lemmas.List.{append_assoc}
+use Rattle.std.proofs.Common.{◌≡◌, ℕ, ◌+◌, ◌≤◌, List, [], ◌∷◌, ◌++◌, zero, suc, length, Bool, true, false, cond, refl, sym, ap, ◌∙◌, subst, inl, inr, arith, Option, Some, None}
 use Rattle.std.specs.Prelude.{Result, Ok, Err}
 use Rattle.asn1_tokens.specs.declared.token.Word.TheVariants as words
 use Rattle.asn1_tokens.specs.declared.token.Sign.TheVariants as signs
@@ -11,11 +12,12 @@ use Rattle.asn1_types.specs.Reading.{◌>>=◌, Left, reason_of, begins_with, re
 use Rattle.asn1_assignments.specs.declared.assignment.Syntax.{Syntax}
 use Rattle.asn1_assignments.specs.Module.{Parts, assignment_at, module_turn_at, header_at, no_assignments, assignments_at, syntax_at, syntax_of}
 use Rattle.asn1_grammar.specs.Grammar.{AnUpper, TheWord, fits, Module, Assignments, Symbol, Item, Whole, word, sign, productions}
-use Rattle.asn1_grammar.specs.Open.{Spells, nothing, item, part, IsModuleText, IsOpen}
-use Rattle.asn1_grammar.proofs.Predict.{chosen}
-use Rattle.asn1_grammar.proofs.Makes.{made_of}
-use Rattle.asn1_grammar.proofs.Steps.{Steps, then, path, stuck}
-use Rattle.asn1_syntax_laws.specs.Grammatical.{tokens_of, IsModuleFront, IsWrong, not_open, bounds, twice, IsWrongItem}
+use Rattle.asn1_grammar.specs.Open.{tokens_of, Spells, nothing, item, part, IsModuleText, IsOpen}
+use Rattle.asn1_grammar.proofs.Predict.{chosen, pick, is_begun, empty_of, predictable}
+use Rattle.asn1_grammar.proofs.Decide.{and_left, empty_told, empty_found, no_part_first}
+use Rattle.asn1_grammar.proofs.Makes.{Makes, made_of}
+use Rattle.asn1_grammar.proofs.Steps.{Steps, then, path, IsStuck, at_item, at_part, stuck}
+use Rattle.asn1_syntax_laws.specs.Grammatical.{IsModuleFront, GoesOn, IsWrong, not_open, bounds, twice, IsWrongItem}
 use Rattle.asn1_syntax_laws.proofs.Sim.{Sim, goes, fails, Fails, Why, IsFit, fit, fails_behind, part_of, fits_word}
 use Rattle.asn1_syntax_laws.proofs.ModuleSims.{header_sim, assignments_sim}
 use Rattle.asn1_syntax_laws.proofs.Streams.{items-stream, items-le, still, first_of_stream}
@@ -65,10 +67,6 @@ syntax_read turns ts bound = go (header_at ts) (header_read ts)
 
 -- ---- what it says of the text
 
-assoc : (xs : List Token) (t : Token) (ys : List Token) → (xs ++ t ∷ []) ++ ys ≡ xs ++ t ∷ ys
-assoc [] t ys = refl
-assoc (x ∷ xs) t ys = ap (λ (zs : List Token). x ∷ zs) (assoc xs t ys)
-
 last_spelled : (p : Placed) → fits (TheWord words.End) p.token ≡ true → Spells (Whole Assignments ∷ []) (p.token ∷ [])
 unfolding productions
 last_spelled p h = part (word words.End ∷ []) (inl refl) (item h nothing)
@@ -90,29 +88,59 @@ front_of text s (reads us steps ends at) =
 goes_on : (front : List Token) (t : Token) (left : List Symbol) → ((vs : List Token) → Spells left vs → IsModuleText (front ++ vs)) → IsFit left t → IsOpen (front ++ t ∷ [])
 goes_on front t left back (fit {symbols} h) =
     let more = made_of symbols in
-    (more.0, subst IsModuleText (sym (assoc front t more.0)) (back (t ∷ more.0) (item h more.1)))
+    (more.0, subst IsModuleText (sym (append_assoc front (t ∷ []) more.0)) (back (t ∷ more.0) (item h more.1)))
 
 item_wrong : (front : List Token) (us : List Placed) (p : Placed) (ps : List Placed) (left : List Symbol) (reason : ModuleReason) → us ≡ p ∷ ps → ((vs : List Token) → Spells left vs → IsModuleText (front ++ vs)) → ((vs : List Token) → IsModuleText (front ++ first_token us ∷ vs) → Spells left (first_token us ∷ vs)) → Why left us reason → IsWrong front p.token reason
 item_wrong front us p ps left reason is back forth (inl stops) =
     subst (IsWrong front p.token) (ap (λ (xs : List Placed). reason_of (first_token xs)) (sym is) ∙ sym stops.1)
-    (not_open (λ more. stuck more.0 stops.0 (forth more.0 (subst IsModuleText (assoc front p.token more.0 ∙ ap (λ (xs : List Placed). front ++ first_token xs ∷ more.0) (sym is)) more.1))))
+    (not_open (λ more. stuck more.0 stops.0 (forth more.0 (subst IsModuleText (append_assoc front (p.token ∷ []) more.0 ∙ ap (λ (xs : List Placed). front ++ first_token xs ∷ more.0) (sym is)) more.1))))
 item_wrong front us p ps left reason is back forth (inr (fits, inl same)) =
     subst (IsWrong front p.token) (sym same) (bounds (goes_on front p.token left back (subst (λ (xs : List Placed). IsFit left (first_token xs)) is fits)))
 item_wrong front us p ps left reason is back forth (inr (fits, inr same)) =
     subst (IsWrong front p.token) (sym same) (twice (goes_on front p.token left back (subst (λ (xs : List Placed). IsFit left (first_token xs)) is fits)))
 
+-- what is stuck spells an item at least
+not_nothing : {left : List Symbol} {t : Token} → IsStuck left t → Spells left [] → ⊥
+unfolding chosen
+not_nothing (at_part {n} {t} h) (part [] one rest) = never (empty_of (productions n)) (empty_found (productions n) (empty_told (productions n) one)) (productions n) h
+  where
+    never : (other : Option (List Symbol)) → other ≡ Some [] → (bodies : List (List Symbol)) → pick other bodies t ≡ None → ⊥
+    never other is [] e = cc
+    never other is (body ∷ bodies) e = go (is_begun body t) (never other is bodies) e
+      where
+        go : (b : Bool) → (pick other bodies t ≡ None → ⊥) → cond b (Some body) (pick other bodies t) ≡ None → ⊥
+        go true on g = cc
+        go false on g = on g
+not_nothing (at_item f) spelled = elim spelled [ ]
+not_nothing (at_part h) (part (Item k ∷ b) one rest) = elim rest [ ]
+not_nothing (at_part {n} h) (part (Whole m ∷ b) one rest) = no_part_first m b (productions n) (and_left _ _ (predictable n)) one
+
+one_more : (front : List Token) (t : Token) (more : List Token) → IsModuleText (front ++ t ∷ more) → GoesOn front
+one_more front t more spelled = (t, (more, subst IsModuleText (sym (append_assoc front (t ∷ []) more)) spelled))
+
+-- some item may stand where one is refused
+goes_further : (front : List Token) (t : Token) (left : List Symbol) → IsStuck left t → ((vs : List Token) → Spells left vs → IsModuleText (front ++ vs)) → GoesOn front
+goes_further front t left stuck back = go (made_of left)
+  where
+    go : Makes left → GoesOn front
+    go ([], made) = absurd (not_nothing stuck made)
+    go (x ∷ xs, made) = one_more front x xs (back (x ∷ xs) made)
+
+goes_before : (front : List Token) (us : List Placed) (left : List Symbol) (reason : ModuleReason) → ((vs : List Token) → Spells left vs → IsModuleText (front ++ vs)) → Why left us reason → GoesOn front
+goes_before front us left reason back (inl stops) = goes_further front (first_token us) left stops.0 back
+goes_before front us left reason back (inr (fits, which)) = (first_token us, goes_on front (first_token us) left back fits)
+
 wrong_of : (text : List ℕ) (f : Fault) → Outcome (items_of text) (Err f) → IsWrongItem text f
 wrong_of text f (wrong late) =
     let found = first_of_stream (still late.steps (items-stream text)) in
     let way = path late.steps in
-    let more = made_of late.left in
     record {
       front = way.front;
       item = found.0;
       rest = found.1;
       items = way.split ∙ ap (λ (xs : List Placed). way.front ++ xs) found.2;
       at = late.at ∙ ap (λ (xs : List Placed). (first_place xs).start) found.2;
-      before = (more.0, way.back more.0 more.1);
+      before = goes_before (tokens_of way.front) late.us late.left f.reason way.back late.why;
       wrong = item_wrong (tokens_of way.front) late.us found.0 found.1 late.left f.reason found.2 way.back (way.forth refl).1 late.why;
     }
 

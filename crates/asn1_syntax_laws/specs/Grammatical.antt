@@ -1,16 +1,12 @@
 -- What the grammar says of a text: where its module ends, and what is wrong with its first wrong item.
-use Rattle.std.specs.Prelude.{◌≡◌, ℕ, List, [], ◌∷◌, ◌++◌, map}
+use Rattle.std.specs.Prelude.{◌≡◌, ℕ, List, [], ◌∷◌, ◌++◌}
 use Rattle.asn1_tokens.specs.declared.token.Token.{Token}
 use Rattle.asn1_tokens.specs.Stream.{Placed, items_of}
 use Rattle.asn1_types.specs.declared.fault.ModuleReason.{ModuleReason}
 use Rattle.asn1_types.specs.declared.fault.ModuleReason.TheVariants.{Bounds, Twice}
 use Rattle.asn1_types.specs.declared.fault.Fault.{Fault}
 use Rattle.asn1_types.specs.Reading.{reason_of}
-use Rattle.asn1_grammar.specs.Open.{IsModuleText, IsOpen}
-
--- the items without their places
-abbrev pub tokens_of : List Placed → List Token
-tokens_of items = map (λ item. item.token) items
+use Rattle.asn1_grammar.specs.Open.{tokens_of, IsModuleText, IsOpen}
 
 -- the items of the text up to this octet, each as long as it can be in the whole text, are a module's
 pub record IsModuleFront (text : List ℕ) (octets : ℕ) : Type 0 where
@@ -20,6 +16,10 @@ pub record IsModuleFront (text : List ℕ) (octets : ℕ) : Type 0 where
   pub items : items_of text ≡ front ++ last ∷ rest
   pub spelled : IsModuleText (tokens_of front ++ last.token ∷ [])
   pub ends : octets ≡ last.place.end
+
+-- some item may stand behind these
+abbrev pub GoesOn : List Token → Type 0
+GoesOn front = (token : Token) × IsOpen (front ++ token ∷ [])
 
 -- Behind these items this one is wrong: no module goes on with it, or one does, but a bound is passed or a name, id or code
 -- was given before.
@@ -35,5 +35,5 @@ pub record IsWrongItem (text : List ℕ) (fault : Fault) : Type 0 where
   pub rest : List Placed
   pub items : items_of text ≡ front ++ item ∷ rest
   pub at : fault.place ≡ item.place.start
-  pub before : IsOpen (tokens_of front)
+  pub before : GoesOn (tokens_of front)
   pub wrong : IsWrong (tokens_of front) item.token fault.reason

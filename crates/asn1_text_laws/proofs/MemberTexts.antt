@@ -20,7 +20,9 @@ use Rattle.asn1_types.specs.declared.members.Head.TheVariants as heads
 use Rattle.asn1_types.specs.Reading.{Left, begins_with, begins_with_sign, repeat_at}
 use Rattle.asn1_types.specs.Members.{no_parts, put_part, with_part, extended, can_extend, all_parts, is_full, has_name, has_component, new_name_at, list_goes_on_at, name_entry_at, names_turn_at, names_at, least_members, composed, node, named_at, entry_at, optional_at, component, member_end_at, close_at}
 use Rattle.asn1_text_laws.specs.Written.{Written, word, sign, lower, separated, addition_entries, entries_of, type_text, optional_text, component_text, optional_size_text, definition_text}
-use Rattle.asn1_text_laws.proofs.Taken.{Taken, ◌then◌, nothing_taken, written_as, Gives, ok, no_value, and_gives, and_parts, by_choice, word_gives, sign_gives, lower_gives}
+use Rattle.asn1_syntax_laws.proofs.Sim.{by_choice}
+use Rattle.asn1_syntax_laws.proofs.Gives.{Gives, ok, no_value, and_gives, and_parts}
+use Rattle.asn1_text_laws.proofs.Taken.{Taken, ◌then◌, nothing_taken, written_as, word_gives, sign_gives, lower_gives}
 
 pub new_name_gives : (taken : List ℕ → Bool) (full : Bool) (ts : List Placed) → Gives (λ (a : List ℕ × Left). Taken (lower a.0) ts a.1) (new_name_at taken full ts)
 unfolding new_name_at

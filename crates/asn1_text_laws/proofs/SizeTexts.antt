@@ -13,7 +13,9 @@ use Rattle.asn1_types.specs.declared.definition.Definition.{Definition}
 use Rattle.asn1_types.specs.Reading.{Left, fault_at, begins_with_sign}
 use Rattle.asn1_types.specs.Sizes.{natural as natural_of, bounded_at, natural_at, ellipsis_at, size_end_at, least_high, size_rest_at, size_at, optional_size_at, integer_ellipsis_at, integer_least, integer_greatest, greatest_beside, integer_at}
 use Rattle.asn1_text_laws.specs.Written.{Written, word, sign, natural, mark_text, high_text, size_text, optional_size_text, definition_text}
-use Rattle.asn1_text_laws.proofs.Taken.{Taken, ◌then◌, nothing_taken, written_as, Gives, ok, no_value, and_gives, gives_so, and_parts, by_choice, word_gives, sign_gives, number_gives}
+use Rattle.asn1_syntax_laws.proofs.Sim.{by_choice}
+use Rattle.asn1_syntax_laws.proofs.Gives.{Gives, ok, no_value, and_gives, gives_so, and_parts}
+use Rattle.asn1_text_laws.proofs.Taken.{Taken, ◌then◌, nothing_taken, written_as, word_gives, sign_gives, number_gives}
 
 pub bounded_gives : (low high : ℤ) (ts : List Placed) → Gives (λ (a : ℤ × Left). Taken (λ t. tokens.Number a.0 ∷ t) ts a.1 × (le_z low a.0 ≡ true)) (bounded_at low high ts)
 unfolding bounded_at

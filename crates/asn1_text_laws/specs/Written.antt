@@ -25,7 +25,7 @@ use Rattle.asn1_assignments.specs.declared.assignment.Body.{Body}
 use Rattle.asn1_assignments.specs.declared.assignment.Body.TheVariants as bodies
 use Rattle.asn1_assignments.specs.declared.assignment.Assignment.{Assignment}
 use Rattle.asn1_assignments.specs.declared.assignment.Syntax.{Syntax}
-use Rattle.asn1_syntax_laws.specs.Grammatical.{tokens_of}
+use Rattle.asn1_grammar.specs.Open.{tokens_of}
 
 -- what is written before the items that follow
 abbrev pub Written : Type 0

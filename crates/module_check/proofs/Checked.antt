@@ -10,7 +10,7 @@ use Rattle.module_check.specs.declared.input.CheckedModule.{CheckedModule}
 use Rattle.module_check.specs.declared.input.CheckStop.{CheckStop}
 use Rattle.module_check.specs.declared.input.CheckStop.TheVariants.{NoModule, Script, ReadFault, TooLong, Memory}
 use Rattle.module_check.specs.declared.text.Gathered.{Gathered}
-use Rattle.module_check.specs.Text.{IsOpen, IsClosed}
+use Rattle.module_check.specs.Text.{IsUnclosed, IsClosed}
 use Rattle.module_check.specs.Check.{HasText, EndsSo, ChecksInput, BehindText, IsCaused, Unended, Further}
 use Rattle.module_check.specs.Steps.{TakesText, ModuleMeets, IsAlone, EndStops, EndUnread, OneMore}
 use Rattle.module_check.proofs.Joining.{cut_at, header_within, drop_more}
@@ -22,8 +22,8 @@ ended_none : (left : Option (List ℕ)) (reading : Reading) (taken : List ℕ) (
 ended_none left reading taken lines ended (Within going e) = absurd (cc)
 ended_none left reading taken lines ended (AtEnd same none at_end handed) = (none, at_end)
 
-whole_at : (left : Option (List ℕ)) (reading : Reading) (taken : List ℕ) (lines body : List (List ℕ)) → Stands left reading taken lines → IsClosed body ⊎ (IsOpen body × (reading.phase ≡ Ended))
-    → IsClosed body ⊎ (IsOpen body × (reading.kept ≡ []) × IsAtEnd left)
+whole_at : (left : Option (List ℕ)) (reading : Reading) (taken : List ℕ) (lines body : List (List ℕ)) → Stands left reading taken lines → IsClosed body ⊎ (IsUnclosed body × (reading.phase ≡ Ended))
+    → IsClosed body ⊎ (IsUnclosed body × (reading.kept ≡ []) × IsAtEnd left)
 whole_at left reading taken lines body stands (inl closed) = inl closed
 whole_at left reading taken lines body stands (inr rest) = let end = ended_none left reading taken lines rest.1 stands in inr (rest.0, end.0, end.1)
 
@@ -40,8 +40,8 @@ has_text left0 left1 reading gathered text t e = record {
       (ap (λ (n : ℕ). take (n - (length t.header + 1)) gathered.octets) (sym t.handed.bytes) ∙ ap (λ (n : ℕ). take (reading.taken - (n + 1)) gathered.octets) (sym t.size) ∙ sym e);
 }
 
-still_closed : (reading : Reading) (body : List (List ℕ)) (left : Option (List ℕ)) (kept : List ℕ) → reading.phase ≡ Going → IsClosed body ⊎ (IsOpen body × (reading.phase ≡ Ended))
-    → IsClosed body ⊎ (IsOpen body × (kept ≡ []) × IsAtEnd left)
+still_closed : (reading : Reading) (body : List (List ℕ)) (left : Option (List ℕ)) (kept : List ℕ) → reading.phase ≡ Going → IsClosed body ⊎ (IsUnclosed body × (reading.phase ≡ Ended))
+    → IsClosed body ⊎ (IsUnclosed body × (kept ≡ []) × IsAtEnd left)
 still_closed reading body left kept going (inl closed) = inl closed
 still_closed reading body left kept going (inr rest) = let ended = rest.1 in absurd (cc)
 
@@ -143,8 +143,8 @@ as_result first after Memory h = tt
 pub with_cause : (first after : ℕ) (stop : CheckStop) (result : Result CheckedModule CheckStop) → result ≡ Err stop → IsCaused {X = Unit {0}} first after (Err stop) → IsCaused first after result
 with_cause first after stop result e h = subst (λ (x : Result CheckedModule CheckStop). IsCaused first after x) (sym e) (as_result first after stop h)
 
-whole_end : (body : List (List ℕ)) (left : Option (List ℕ)) (kept : List ℕ) (X : Type 0) → kept ≡ [] → IsAtEnd left → IsClosed body ⊎ (IsOpen body × X)
-    → IsClosed body ⊎ (IsOpen body × (kept ≡ []) × IsAtEnd left)
+whole_end : (body : List (List ℕ)) (left : Option (List ℕ)) (kept : List ℕ) (X : Type 0) → kept ≡ [] → IsAtEnd left → IsClosed body ⊎ (IsUnclosed body × X)
+    → IsClosed body ⊎ (IsUnclosed body × (kept ≡ []) × IsAtEnd left)
 whole_end body left kept X none at_end (inl closed) = inl closed
 whole_end body left kept X none at_end (inr rest) = inr (rest.0, none, at_end)
 

@@ -17,7 +17,7 @@ use Rattle.module_check.specs.declared.input.CheckStop.{CheckStop}
 use Rattle.module_check.specs.declared.input.CheckStop.TheVariants.{NoModule, Script, ReadFault, TooLong, Memory}
 use Rattle.module_check.specs.declared.text.Gathered.{Gathered}
 use Rattle.module_check.specs.Header.{text_header_of}
-use Rattle.module_check.specs.Text.{IsOpen, is_end}
+use Rattle.module_check.specs.Text.{IsUnclosed, is_end}
 use Rattle.module_check.specs.Check.{ChecksInput, EndsSo, Passes, AtHeader, InText, IsCaused, Empty, NoHeader}
 use Rattle.module_check.specs.Steps.{stop_of_read, StopsReading, HasHeader, HeaderStops, HeaderUnread, NoLine, WrongLine, TakesLine, TakesNone, TurnStops, Unread, NoRoom, TakesText, TurnMeets, TextMeets}
 
@@ -118,7 +118,7 @@ pub record SoFar (left0 left1 : Option (List ℕ)) (reading : Reading) (gathered
   pub body : List (List ℕ)
   pub handed : HandedOut left0 left1 reading taken (header ∷ body)
   pub is_header : text_header_of header ≡ Ok tt
-  pub others : IsOpen body
+  pub others : IsUnclosed body
   pub size : gathered.header ≡ length header
   pub octets : gathered.octets ≡ joined body
   pub last : gathered.last ≡ length body + 1

@@ -11,12 +11,12 @@ use Rattle.input_lines.proofs.InputLines.{lines_of-joined, taken_is, all_lines, 
 use Rattle.scenario_text.specs.declared.event.TextReason.{TextReason}
 use Rattle.asn1_assignments.specs.declared.assignment.Syntax.{Syntax}
 use Rattle.asn1_module.specs.Module.{Reads, type_ids}
-use Rattle.asn1_module_laws.proofs.Faults.{never_both}
+use Rattle.asn1_module_laws.proofs.Faults.{reading_once, never_both}
 use Rattle.module_check.specs.declared.input.CheckedModule.{CheckedModule}
 use Rattle.module_check.specs.declared.input.CheckStop.{CheckStop}
 use Rattle.module_check.specs.declared.input.CheckStop.TheVariants.{NoModule, Script, ReadFault, TooLong, Memory}
 use Rattle.module_check.specs.Header.{text_header_of}
-use Rattle.module_check.specs.Text.{IsOpen, IsClosed, is_end, is_blank}
+use Rattle.module_check.specs.Text.{IsUnclosed, IsClosed, is_end, is_blank}
 use Rattle.module_check.specs.Check.{HasText, IsWrongInput, Empty, NoHeader, Unended, Further, ChecksInput, IsWhole, TellsModule}
 
 -- ---- the lines of a text
@@ -28,11 +28,11 @@ none_of : (bytes : List ℕ) → lines_of bytes ≡ [] → bytes ≡ []
 none_of [] e = refl
 none_of (byte ∷ bytes) e = absurd (grind arith)
 
-open_fails : (front : List (List ℕ)) (last : List ℕ) (rest : List (List ℕ)) → is_end last ≡ true → IsOpen ((front ++ last ∷ []) ++ rest) → ⊥
+open_fails : (front : List (List ℕ)) (last : List ℕ) (rest : List (List ℕ)) → is_end last ≡ true → IsUnclosed ((front ++ last ∷ []) ++ rest) → ⊥
 open_fails [] last rest e h = let clash : true ≡ false = sym e ∙ h.0 in cc
 open_fails (line ∷ front) last rest e h = open_fails front last rest e h.1
 
-closed_once : (front : List (List ℕ)) (last : List ℕ) (rest others : List (List ℕ)) (end : List ℕ) → is_end last ≡ true → IsOpen others → (front ++ last ∷ []) ++ rest ≡ others ++ end ∷ [] → rest ≡ []
+closed_once : (front : List (List ℕ)) (last : List ℕ) (rest others : List (List ℕ)) (end : List ℕ) → is_end last ≡ true → IsUnclosed others → (front ++ last ∷ []) ++ rest ≡ others ++ end ∷ [] → rest ≡ []
 closed_once [] last rest [] end e h same = cc
 closed_once [] last rest (line ∷ others) end e h same =
     let first : last ≡ line = cc in
@@ -44,11 +44,11 @@ closed_once (line ∷ front) last rest (other ∷ others) end e h same =
     let tail : (front ++ last ∷ []) ++ rest ≡ others ++ end ∷ [] = cc in
     closed_once front last rest others end e h.1 tail
 
-nothing_behind : (lines body rest : List (List ℕ)) → IsClosed body → lines ≡ body ++ rest → IsClosed lines ⊎ IsOpen lines → rest ≡ []
+nothing_behind : (lines body rest : List (List ℕ)) → IsClosed body → lines ≡ body ++ rest → IsClosed lines ⊎ IsUnclosed lines → rest ≡ []
 nothing_behind lines body rest closed e (inl whole) =
     closed_once closed.front closed.last rest whole.front whole.last closed.end whole.others (ap (λ (ls : List (List ℕ)). ls ++ rest) (sym closed.parts) ∙ sym e ∙ whole.parts)
 nothing_behind lines body rest closed e (inr whole) =
-    absurd (open_fails closed.front closed.last rest closed.end (subst (λ (ls : List (List ℕ)). IsOpen ls) (e ∙ ap (λ (ls : List (List ℕ)). ls ++ rest) closed.parts) whole))
+    absurd (open_fails closed.front closed.last rest closed.end (subst (λ (ls : List (List ℕ)). IsUnclosed ls) (e ∙ ap (λ (ls : List (List ℕ)). ls ++ rest) closed.parts) whole))
 
 -- ---- what was taken
 
@@ -82,7 +82,7 @@ at_the_end input text taken kept told left lines e h handed each none at_end has
     record { all = sym all; none = none; same = same_text input text taken kept told has.header e first.0 (sym all) none has.octets }
 
 -- where the text has ended
-behind_text : (input text taken kept told : List ℕ) (left : Option (List ℕ)) (lines : List (List ℕ)) → input ≡ header0 ++ line_feed ∷ text → IsClosed (lines_of text) ⊎ IsOpen (lines_of text)
+behind_text : (input text taken kept told : List ℕ) (left : Option (List ℕ)) (lines : List (List ℕ)) → input ≡ header0 ++ line_feed ∷ text → IsClosed (lines_of text) ⊎ IsUnclosed (lines_of text)
     → Consumes (Some input) left taken → Handed left taken lines kept → AllByRecursion HasNoLf lines → (has : HasText left taken lines kept told) → IsClosed has.body
     → AllTaken input text taken kept told
 behind_text input text taken kept told None lines e whole h handed each has closed = absurd h
@@ -102,14 +102,11 @@ all_taken : (input text : List ℕ) (m : Syntax) (taken kept told : List ℕ) (l
 all_taken input text m taken kept told left lines w h handed each has =
     go has.whole
   where
-    go : IsClosed has.body ⊎ (IsOpen has.body × (kept ≡ []) × IsAtEnd left) → AllTaken input text taken kept told
+    go : IsClosed has.body ⊎ (IsUnclosed has.body × (kept ≡ []) × IsAtEnd left) → AllTaken input text taken kept told
     go (inl closed) = behind_text input text taken kept told left lines w.parts w.whole h handed each has closed
     go (inr end) = at_the_end input text taken kept told left lines w.parts h handed each end.1 end.2 has
 
 -- ---- each end
-
-one_reading : (text : List ℕ) (a b : ℕ) (m n : Syntax) → Reads text a m → Reads text b n → (m ≡ n) × (a ≡ b)
-one_reading text a b m n h k = let same : m ≡ n = cc in (same, h.ends ∙ ap (λ (s : Syntax). s.end) same ∙ sym k.ends)
 
 of_wrong : (input text : List ℕ) (m : Syntax) (taken kept : List ℕ) (left : Option (List ℕ)) (lines : List (List ℕ)) (place : ℕ) (reason : TextReason) → IsWhole input text m
     → Consumes (Some input) left taken → Handed left taken lines kept → AllByRecursion HasNoLf lines → IsWrongInput left taken lines kept place reason → ⊥
@@ -125,7 +122,7 @@ of_wrong input text m taken kept left lines place reason w h handed each (NoHead
     cc
 of_wrong input text m taken kept left lines place reason w h handed each (Unended e) =
     let a = all_taken input text m taken kept e.text left lines w h handed each e.has in
-    let one = one_reading text e.octets w.is.octets e.m m (subst (λ (t : List ℕ). Reads t e.octets e.m) a.same e.reads) w.is.reads in
+    let one = reading_once text e.m m e.octets w.is.octets (subst (λ (t : List ℕ). Reads t e.octets e.m) a.same e.reads) w.is.reads in
     let clash : false ≡ true = sym e.more ∙ ap (λ (t : List ℕ). is_blank (drop e.octets t)) a.same ∙ ap (λ (n : ℕ). is_blank (drop n text)) one.1 ∙ w.is.alone in
     cc
 of_wrong input text m taken kept left lines place reason w h handed each (Further e) =
@@ -140,7 +137,7 @@ pub tells_module : (input text : List ℕ) (m : Syntax) (left : Option (List ℕ
 tells_module input text m left (Ok checked) w c none =
     let e = c.ends in
     let a = all_taken input text m c.taken c.kept e.text left c.lines w c.consumes c.handed c.each e.has in
-    let one = one_reading text e.is.octets w.is.octets e.m m (subst (λ (t : List ℕ). Reads t e.is.octets e.m) a.same e.is.reads) w.is.reads in
+    let one = reading_once text e.m m e.is.octets w.is.octets (subst (λ (t : List ℕ). Reads t e.is.octets e.m) a.same e.is.reads) w.is.reads in
     (e.name ∙ ap (λ (s : Syntax). s.name) one.0, e.types ∙ ap (λ (s : Syntax). length (type_ids s.assignments)) one.0)
 tells_module input text m left (Err (NoModule line column reason)) w c none =
     let e = c.ends in

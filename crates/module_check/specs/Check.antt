@@ -15,7 +15,7 @@ use Rattle.module_check.specs.declared.input.CheckedModule.{CheckedModule}
 use Rattle.module_check.specs.declared.input.CheckStop.{CheckStop}
 use Rattle.module_check.specs.declared.input.CheckStop.TheVariants as stops
 use Rattle.module_check.specs.Header.{text_header_of}
-use Rattle.module_check.specs.Text.{IsOpen, IsClosed, IsModuleText, is_blank}
+use Rattle.module_check.specs.Text.{IsUnclosed, IsClosed, IsOneModule, is_blank}
 
 -- The text was handed out whole: it is what was taken behind the header's line, and before the bytes kept.
 pub record HasText (left : Option (List ℕ)) (taken : List ℕ) (lines : List (List ℕ)) (kept text : List ℕ) : Type 0 where
@@ -23,7 +23,7 @@ pub record HasText (left : Option (List ℕ)) (taken : List ℕ) (lines : List (
   pub body : List (List ℕ)
   pub parts : lines ≡ header ∷ body
   pub is_header : text_header_of header ≡ Ok tt
-  pub whole : IsClosed body ⊎ (IsOpen body × (kept ≡ []) × IsAtEnd left)
+  pub whole : IsClosed body ⊎ (IsUnclosed body × (kept ≡ []) × IsAtEnd left)
   pub octets : drop (length header + 1) taken ≡ text ++ kept
 
 -- ---- how it ends, behind these lines
@@ -33,7 +33,7 @@ pub record IsChecked (left : Option (List ℕ)) (taken : List ℕ) (lines : List
   pub text : List ℕ
   pub m : Syntax
   pub has : HasText left taken lines kept text
-  pub is : IsModuleText text m
+  pub is : IsOneModule text m
   pub all : kept ≡ []
   pub at_end : IsAtEnd left
   pub name : checked.name ≡ m.name
@@ -73,7 +73,7 @@ pub record HasLine (left : Option (List ℕ)) (taken : List ℕ) (lines : List (
   pub m : Syntax
   pub line : List ℕ
   pub has : HasText left taken lines kept text
-  pub is : IsModuleText text m
+  pub is : IsOneModule text m
   pub next : ComesNext left kept line
   pub one : HasNoLf line
   pub at : place ≡ length lines + 1
@@ -89,8 +89,8 @@ pub data IsWrongInput (left : Option (List ℕ)) (taken : List ℕ) (lines : Lis
 -- end is a module.
 pub data Passes (left : Option (List ℕ)) (taken : List ℕ) (lines : List (List ℕ)) (kept : List ℕ) : Type 0 where
   AtHeader : lines ≡ [] → Passes left taken lines kept
-  InText : (header : List ℕ) (body : List (List ℕ)) → lines ≡ header ∷ body → text_header_of header ≡ Ok tt → IsOpen body → Passes left taken lines kept
-  BehindText : (text : List ℕ) (m : Syntax) → HasText left taken lines kept text → IsModuleText text m → Passes left taken lines kept
+  InText : (header : List ℕ) (body : List (List ℕ)) → lines ≡ header ∷ body → text_header_of header ≡ Ok tt → IsUnclosed body → Passes left taken lines kept
+  BehindText : (text : List ℕ) (m : Syntax) → HasText left taken lines kept text → IsOneModule text m → Passes left taken lines kept
 
 abbrev pub EndsSo : Option (List ℕ) → List ℕ → List (List ℕ) → List ℕ → Result CheckedModule CheckStop → Type 0
 EndsSo left taken lines kept (Ok checked) = IsChecked left taken lines kept checked
@@ -125,8 +125,8 @@ IsCaused before after (Err stops.Memory) = Unit {0}
 pub record IsWhole (input text : List ℕ) (m : Syntax) : Type 0 where
   pub within : length input ≤ input_limit
   pub parts : input ≡ codes "module text" ++ line_feed ∷ text
-  pub whole : IsClosed (lines_of text) ⊎ IsOpen (lines_of text)
-  pub is : IsModuleText text m
+  pub whole : IsClosed (lines_of text) ⊎ IsUnclosed (lines_of text)
+  pub is : IsOneModule text m
 
 -- the module is told, unless memory runs out
 abbrev pub TellsModule : Syntax → Result CheckedModule CheckStop → Type 0

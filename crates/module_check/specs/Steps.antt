@@ -17,7 +17,7 @@ use Rattle.module_check.specs.declared.input.CheckStop.{CheckStop}
 use Rattle.module_check.specs.declared.input.CheckStop.TheVariants.{NoModule, Script, ReadFault, TooLong, Memory}
 use Rattle.module_check.specs.declared.text.Gathered.{Gathered}
 use Rattle.module_check.specs.Header.{text_header_of}
-use Rattle.module_check.specs.Text.{IsOpen, IsClosed, IsModuleText, is_blank}
+use Rattle.module_check.specs.Text.{IsUnclosed, IsClosed, IsOneModule, is_blank}
 use Rattle.module_check.specs.Check.{ChecksInput, IsCaused}
 
 -- ---- lines
@@ -82,7 +82,7 @@ pub record TakesText (left0 left1 : Option (List ℕ)) (reading : Reading) (gath
   pub body : List (List ℕ)
   pub handed : HandedOut left0 left1 reading taken (header ∷ body)
   pub is_header : text_header_of header ≡ Ok tt
-  pub whole : IsClosed body ⊎ (IsOpen body × (reading.phase ≡ Ended))
+  pub whole : IsClosed body ⊎ (IsUnclosed body × (reading.phase ≡ Ended))
   pub size : gathered.header ≡ length header
   pub octets : gathered.octets ≡ joined body
   pub last : gathered.last ≡ length body + 1
@@ -113,7 +113,7 @@ ReadsSo text (Err TooLong) = ⊥
 
 pub record IsAlone (text : List ℕ) (checked : CheckedModule) : Type 0 where
   pub m : Syntax
-  pub is : IsModuleText text m
+  pub is : IsOneModule text m
   pub name : checked.name ≡ m.name
   pub types : checked.types ≡ length (type_ids m.assignments)
 

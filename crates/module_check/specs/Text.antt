@@ -12,15 +12,15 @@ abbrev pub is_end : List ℕ → Bool
 is_end line = bytes_eq line (codes "END")
 
 -- none of the lines is `END`
-abbrev pub IsOpen : List (List ℕ) → Type 0
-IsOpen lines = AllByRecursion (λ line. is_end line ≡ false) lines
+abbrev pub IsUnclosed : List (List ℕ) → Type 0
+IsUnclosed lines = AllByRecursion (λ line. is_end line ≡ false) lines
 
 -- the last one is, and no other
 pub record IsClosed (lines : List (List ℕ)) : Type 0 where
   pub front : List (List ℕ)
   pub last : List ℕ
   pub parts : lines ≡ front ++ last ∷ []
-  pub others : IsOpen front
+  pub others : IsUnclosed front
   pub end : is_end last ≡ true
 
 abbrev pub is_end_of_text : Token → Bool
@@ -38,7 +38,7 @@ abbrev pub is_blank : List ℕ → Bool
 is_blank text = is_end_of_text (first_token (items_of text))
 
 -- the text is a module, with nothing but white space and comments behind it
-pub record IsModuleText (text : List ℕ) (m : Syntax) : Type 0 where
+pub record IsOneModule (text : List ℕ) (m : Syntax) : Type 0 where
   pub octets : ℕ
   pub reads : Reads text octets m
   pub alone : is_blank (drop octets text) ≡ true

@@ -1,5 +1,8 @@
-use Rattle.asn1_module_laws.proofs.Faults.{fault_once, never_both}
+use Rattle.asn1_module_laws.proofs.Faults.{reading_once, fault_once, never_both}
 use Rattle.asn1_module_laws.proofs.one_answer.Goals as goal
+
+pub returns-clause-reading : goal.returns-clause-reading
+returns-clause-reading c = reading_once
 
 pub returns-clause-fault : goal.returns-clause-fault
 returns-clause-fault c = fault_once

@@ -3,13 +3,13 @@ use Rattle.std.proofs.Common.{◌≡◌, ℕ, ◌≤◌, List, [], ◌∷◌, �
 use Rattle.std.specs.Prelude.{◌⊎◌, ◌==◌}
 use Rattle.std.proofs.lemmas.Bool.{eqb-true}
 use Rattle.asn1_tokens.specs.Scan.{is_upper, is_lower, is_digit, is_name_part, begins, goes_on, after_name, after_digits, after_number}
-use Rattle.asn1_module_laws.specs.Lexical.{IsNameRest, IsName, AreDigits, IsNumber, IsLongest}
+use Rattle.asn1_lexical_laws.specs.Lexical.{IsNameRest, IsName, AreDigits, IsNumber, IsLongest}
 
-by_test : (P : Type 0) (b : Bool) → (b ≡ true → P) → (b ≡ false → P) → P
+pub by_test : (P : Type 0) (b : Bool) → (b ≡ true → P) → (b ≡ false → P) → P
 by_test P true p q = p refl
 by_test P false p q = q refl
 
-clash : {P : Type 0} (b : Bool) → b ≡ true → b ≡ false → P
+pub clash : {P : Type 0} (b : Bool) → b ≡ true → b ≡ false → P
 clash true p q = cc
 clash false p q = cc
 

@@ -1,0 +1,9 @@
+pub mod Runs
+pub mod Views
+pub mod Insides
+pub mod SizeRuns
+pub mod MemberRuns
+pub mod TypeRuns
+pub mod RowRuns
+pub mod ModuleRuns
+pub mod Judged

@@ -1,0 +1,13 @@
+pub mod OneItem
+pub mod OneType
+pub mod OneRow
+pub mod OneModule
+pub mod InBraces
+pub mod Taken
+pub mod NameTaken
+pub mod MemberTaken
+pub mod HeadTaken
+pub mod TypeTaken
+pub mod RowTaken
+pub mod SetTaken
+pub mod ModuleTaken

@@ -1,0 +1,4 @@
+pub mod Items
+pub mod Types
+pub mod Rows
+pub mod Module
