@@ -12,7 +12,7 @@ by_choice : {X : Type 0} (P : X → Type 0) (b : Bool) (x y : X) → (b ≡ true
 by_choice P true x y p q = p refl
 by_choice P false x y p q = q refl
 
-by_bool : (P : Type 0) (b : Bool) → (b ≡ true → P) → (b ≡ false → P) → P
+pub by_bool : (P : Type 0) (b : Bool) → (b ≡ true → P) → (b ≡ false → P) → P
 by_bool P true p q = p refl
 by_bool P false p q = q refl
 
@@ -36,7 +36,7 @@ eqb-refl : (n : ℕ) → eqb n n ≡ true
 eqb-refl n = by_bool (eqb n n ≡ true) (eqb n n) (λ h. h) (λ h. grind arith)
 
 -- a value above 0 stands inside its table
-inside : (t : List ℕ) (v : ℕ) → 0 < get_or t v 0 → v < length t
+pub inside : (t : List ℕ) (v : ℕ) → 0 < get_or t v 0 → v < length t
 inside t v h = elim (cases_lt v (length t)) [ inl lt ↦ lt | inr past ↦ absurd (omega (arith, get_or_past t v 0 past)) ]
 
 -- how far a table is from one that is full
@@ -47,12 +47,12 @@ slack_set : (cap : ℕ) (t : List ℕ) (at v : ℕ) → at < length t → get_or
 slack_set cap t at v h less most = omega (arith, sum_by-set (λ x. cap - x) t at v 0 h)
 
 -- what a change of a table owes
-record Fair (cap : ℕ) (t : List ℕ) (r : Bool × List ℕ) : Type 0 where
-  still : r.0 ≡ false → r.1 ≡ t
-  less : r.0 ≡ true → slack cap r.1 < slack cap t
-  size : length r.1 ≡ length t
+pub record Fair (cap : ℕ) (t : List ℕ) (r : Bool × List ℕ) : Type 0 where
+  pub still : r.0 ≡ false → r.1 ≡ t
+  pub less : r.0 ≡ true → slack cap r.1 < slack cap t
+  pub size : length r.1 ≡ length t
 
-raised_cases : (P : Bool × List ℕ → Type 0) (t : List ℕ) (at v : ℕ) → (at < length t → get_or t at 0 < v → P (true, set t at v)) → P (false, t) → P (raised t at v)
+pub raised_cases : (P : Bool × List ℕ → Type 0) (t : List ℕ) (at v : ℕ) → (at < length t → get_or t at 0 < v → P (true, set t at v)) → P (false, t) → P (raised t at v)
 raised_cases P t at v p q =
     by_choice P (ltb at (length t) && ltb (get_or t at 0) v) (true, set t at v) (false, t) (λ h. p (ltb-true _ _ (both_left _ _ h)) (ltb-true _ _ (both_right _ _ h))) (λ _. q)
   where
@@ -64,13 +64,13 @@ raised_cases P t at v p q =
     both_right true b h = h
     both_right false b h = cc
 
-raised_fair : (cap : ℕ) (t : List ℕ) (at v : ℕ) → v ≤ cap → Fair cap t (raised t at v)
+pub raised_fair : (cap : ℕ) (t : List ℕ) (at v : ℕ) → v ≤ cap → Fair cap t (raised t at v)
 raised_fair cap t at v most = raised_cases (Fair cap t) t at v
     (λ h less. record { still = λ e. cc; less = λ _. slack_set cap t at v h less most; size = length-set t at v })
     (record { still = λ _. refl; less = λ e. cc; size = refl })
 
 -- where it didn't change, the value was as great before
-raised_false : (t : List ℕ) (at v : ℕ) → (raised t at v).0 ≡ false → at < length t → v ≤ get_or t at 0
+pub raised_false : (t : List ℕ) (at v : ℕ) → (raised t at v).0 ≡ false → at < length t → v ≤ get_or t at 0
 raised_false t at v h lt =
     by_bool (v ≤ get_or t at 0) (ltb (get_or t at 0) v)
     (λ less. absurd (clash (ltb at (length t)) (ltb (get_or t at 0) v) (lt-ltb _ _ lt) less h))
@@ -139,7 +139,7 @@ pub record MarksWell (count : ℕ) (edges : List Edge) (start : ℕ) (t : List �
   pub size : length t ≡ count
   pub marked : (v : ℕ) → 0 < get_or t v 0 → Leads count edges start v
 
-at_or_not : (P : ℕ → Type 0) (at v : ℕ) → P at → (v ≢ at → P v) → P v
+pub at_or_not : (P : ℕ → Type 0) (at v : ℕ) → P at → (v ≢ at → P v) → P v
 at_or_not P at v here there = by_bool (P v) (eqb v at) (λ h. subst P (sym (eqb-true v at h)) here) (λ h. there (λ same. clash (eqb v at) (ap (λ (n : ℕ). eqb n at) same ∙ eqb-refl at) h))
   where
     clash : (b : Bool) → b ≡ true → b ≡ false → ⊥

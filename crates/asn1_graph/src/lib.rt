@@ -5,4 +5,4 @@ mod graph;
 mod paths;
 
 pub use graph::{Edge, edges_of, vertex_count};
-pub use paths::{depths, reached, value_at};
+pub use paths::{depths, looping, reached, value_at};

@@ -1,7 +1,7 @@
 //! Paths through a module's types and assignments.
 
-ghost use Rattle.std.specs.Prelude.{◌≡◌, ◌+◌, ◌<◌, ◌≤◌, ◌↔◌, IfOk, IsTrue, length, slice_index, false, replicate};
-ghost use Rattle.asn1_graph.specs.Paths.{raised, mark_step, depth_step, round_of, IsReach, IsDepth, Leads};
+ghost use Rattle.std.specs.Prelude.{◌≡◌, ◌+◌, ◌<◌, ◌≤◌, ◌↔◌, IfOk, IsTrue, length, min, slice_index, false, replicate};
+ghost use Rattle.asn1_graph.specs.Paths.{raised, mark_step, depth_step, round_of, marks_from, marks_to, trimmed, IsReach, IsDepth, IsTrimmed, Leads};
 
 use crate::graph::Edge;
 use gnb_base::octets::Memory;
@@ -89,6 +89,58 @@ pub fn reached(alloc: Global, edges: &[Edge], count: usize, start: usize) -> Res
     let mut table = Vec::from_elem(alloc, 0, count)?;
     mark_all(&mut table, start, edges);
     Ok(table)
+}
+
+/// Whether both ends of a step have marks: the lesser of the two.
+fn both_marks(marked: &[u8], edge: Edge) -> u8
+    ensures { result ≡ min (slice_index marked.now edge.from) (slice_index marked.now edge.to) }
+{
+    value_at(marked, edge.from).min(value_at(marked, edge.to))
+}
+
+/// Marks where each step between vertices with marks in another table begins.
+#[tactic(auto, unfolding(crate::specs::Paths::marks_of))]
+fn mark_from(table: &mut [u8], marked: &[u8], edges: &[Edge])
+    ensures { table.new ≡ marks_from marked.now table.old edges.now }
+{
+    for edge in edges {
+        raise(table, edge.from, both_marks(marked, *edge));
+    }
+}
+
+/// Marks where each step between vertices with marks in another table ends.
+#[tactic(auto, unfolding(crate::specs::Paths::marks_of))]
+fn mark_to(table: &mut [u8], marked: &[u8], edges: &[Edge])
+    ensures { table.new ≡ marks_to marked.now table.old edges.now }
+{
+    for edge in edges {
+        raise(table, edge.to, both_marks(marked, *edge));
+    }
+}
+
+/// The marks without those of vertices that lead to no marked one, or that none leads to.
+fn trimmed(alloc: Global, table: &[u8], edges: &[Edge]) -> Result<Vec<u8>, Memory>
+    ensures { IfOk result (λ new. new.items ≡ trimmed table.now edges.now) }
+{
+    let mut sources = Vec::from_elem(alloc, 0, table.len())?;
+    mark_from(&mut sources, table, edges);
+    let mut targets = Vec::from_elem(alloc, 0, table.len())?;
+    mark_to(&mut targets, &sources, edges);
+    Ok(targets)
+}
+
+/// Marks, of so many vertices, each that leads to itself. It begins with all, and trims until a trim takes none away, so that few others stay marked.
+pub fn looping(alloc: Global, edges: &[Edge], count: usize) -> Result<Vec<u8>, Memory>
+    ensures { IfOk result (λ table. IsTrimmed count edges.now table.items) }
+{
+    let mut table = Vec::from_elem(alloc, 1, count)?;
+    loop {
+        let fewer = trimmed(alloc, &table, edges)?;
+        if fewer.as_slice() == table.as_slice() {
+            return Ok(table);
+        }
+        table = fewer;
+    }
 }
 
 /// Deepens a table that has each vertex's own weight.

@@ -1,14 +1,14 @@
 //! What is wrong with a module whose text is in the grammar.
 
-ghost use Rattle.std.specs.Prelude.{◌≡◌, ◌+◌, ◌<◌, ◌^◌, ◌++◌, IfOk, OnOk, length, replicate, None};
+ghost use Rattle.std.specs.Prelude.{◌≡◌, ◌+◌, ◌<◌, ◌^◌, ◌++◌, ◌↔◌, IfOk, IsTrue, OnOk, length, replicate, None};
 ghost use Rattle.asn1_module.specs.Names.{first_unknown};
 ghost use Rattle.asn1_graph.specs.Graph.{vertex_count, edges_of};
-ghost use Rattle.asn1_graph.specs.Paths.{IsFirst, IsDepth, Leads};
+ghost use Rattle.asn1_graph.specs.Paths.{IsFirst, IsDepth, MarksLoops, Leads};
 ghost use Rattle.asn1_module.specs.Judgement.{weight_of, node_weights, weights_of, IsFirstRecursive, IsFirstDeep, Judged, IsAt};
 
 use crate::names::first_unknown;
 use asn1_assignments::Syntax;
-use asn1_graph::{Edge, depths, edges_of, reached, value_at, vertex_count};
+use asn1_graph::{Edge, depths, edges_of, looping, reached, value_at, vertex_count};
 use asn1_types::{Definition, Fault, ModuleReason, Node};
 use gnb_base::octets::Memory;
 use std::alloc::Global;
@@ -52,6 +52,25 @@ fn weights_of(alloc: Global, syntax: &Syntax) -> Result<Vec<u8>, Memory>
     Ok(weights)
 }
 
+/// Whether a vertex leads to itself. Those without a mark don't, so only marked ones are searched from.
+fn is_looping(
+    alloc: Global,
+    edges: &[Edge],
+    count: usize,
+    marks: &[u8],
+    vertex: usize,
+) -> Result<bool, Memory>
+    requires inner { vertex < count }
+    requires marks { MarksLoops count edges.now marks.now }
+    ensures { IfOk result (λ found. IsTrue found ↔ Leads count edges.now vertex vertex) }
+{
+    if value_at(marks, vertex) == 0 {
+        return Ok(false);
+    }
+    let table = reached(alloc, edges, count, vertex)?;
+    Ok(value_at(&table, vertex) > 0)
+}
+
 /// The first assignment that reaches itself.
 fn first_recursive(alloc: Global, syntax: &Syntax, edges: &[Edge]) -> Result<Option<usize>, Memory>
     requires { edges.now ≡ edges_of syntax.now }
@@ -59,9 +78,9 @@ fn first_recursive(alloc: Global, syntax: &Syntax, edges: &[Edge]) -> Result<Opt
 {
     let base = syntax.nodes.as_slice().len();
     let count = vertex_count(syntax);
+    let marks = looping(alloc, edges, count)?;
     for number in 0..syntax.assignments.as_slice().len() {
-        let table = reached(alloc, edges, count, base + number)?;
-        if table.get(base + number).copied().unwrap_or(0) > 0 {
+        if is_looping(alloc, edges, count, &marks, base + number)? {
             return Ok(Some(number));
         }
     }
