@@ -1,4 +1,5 @@
 -- What is told of the items of a text, by the run that read them.
+use mathlib.Core.List.{reverse_aux}
 use Rattle.std.proofs.Common.{◌≡◌, ℕ, ◌+◌, List, [], ◌∷◌, ◌++◌, length, Bool, true, false, refl, sym, ap, ◌∙◌, subst}
 use Rattle.std.proofs.lemmas.List.{append_assoc}
 use Rattle.std.specs.Prelude.{Result, Ok, Err}
@@ -14,7 +15,7 @@ use Rattle.asn1_assignments.specs.Module.{Parts, header_at, assignments_at, synt
 use Rattle.asn1_grammar.specs.Open.{tokens_of}
 use Rattle.asn1_syntax_laws.proofs.Streams.{IsStream, items-stream, first_of_stream}
 use Rattle.asn1_syntax_laws.proofs.Streams as streams
-use Rattle.asn1_item_laws.specs.Fine.{IsFine, AreFine, backwards, Because, passes_bound, is_repeated, AreFineTo, IsJudged}
+use Rattle.asn1_item_laws.specs.Fine.{IsFine, AreFine, Because, passes_bound, is_repeated, AreFineTo, IsJudged}
 use Rattle.asn1_syntax_laws.proofs.Exact.{a_word}
 use Rattle.asn1_item_laws.proofs.Runs.{Fines, here, past, Wrongs, Run, goes, fails, behind_fines}
 use Rattle.asn1_item_laws.proofs.ModuleRuns.{Between, header_run, assignments_run}
@@ -28,7 +29,7 @@ tokens_append (x ∷ xs) ys = ap (λ (l : List Token). x.token ∷ l) (tokens_ap
 record Front (before : List Token) (ts : Left) (after : List Token) (us : Left) : Type 0 where
   front : List Placed
   split : ts ≡ front ++ us
-  turned : after ≡ backwards before (tokens_of front)
+  turned : after ≡ reverse_aux (tokens_of front) before
   fine : AreFine before (tokens_of front) (tokens_of us)
 
 front_of : {before after : List Token} {ts us : Left} → Fines before ts after us → Front before ts after us
@@ -44,7 +45,7 @@ front_of (past {p} {before} {after} {ts} {us} not one more) = further (front_of 
     }
 
 -- and one more
-fine_snoc : (before xs behind : List Token) (t : Token) → AreFine before xs (t ∷ behind) → IsFine (backwards before xs) t behind → AreFine before (xs ++ t ∷ []) behind
+fine_snoc : (before xs behind : List Token) (t : Token) → AreFine before xs (t ∷ behind) → IsFine (reverse_aux xs before) t behind → AreFine before (xs ++ t ∷ []) behind
 fine_snoc before [] behind t h one = (one, tt)
 fine_snoc before (x ∷ xs) behind t h one = (subst (λ (l : List Token). IsFine before x l) (sym (append_assoc xs (t ∷ []) behind)) h.0, fine_snoc (x ∷ before) xs behind t h.1 one)
 

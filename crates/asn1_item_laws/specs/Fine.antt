@@ -1,6 +1,6 @@
 -- Which items pass a bound of the profile, or give something that was given before: told of an item, those before it, the nearest
 -- first, and those behind it.
-use Rattle.std.specs.Prelude.{◌≡◌, ℕ, List, [], ◌∷◌, ◌++◌, Bool, true, false, ◌&&◌, nat_le}
+use Rattle.std.specs.Prelude.{◌≡◌, ℕ, List, [], ◌∷◌, ◌++◌, reverse, Bool, true, false, ◌&&◌, nat_le}
 use Rattle.asn1_tokens.specs.declared.token.Word.TheVariants as words
 use Rattle.asn1_tokens.specs.declared.token.Sign.{Sign}
 use Rattle.asn1_tokens.specs.declared.token.Sign.TheVariants as signs
@@ -60,11 +60,6 @@ abbrev pub AreFine : List Token → List Token → List Token → Type 0
 AreFine before [] behind = Unit {0}
 AreFine before (token ∷ tokens) behind = IsFine before token (tokens ++ behind) × AreFine (token ∷ before) tokens behind
 
--- these items, the last one first, behind others
-abbrev pub backwards : List Token → List Token → List Token
-backwards before [] = before
-backwards before (token ∷ tokens) = backwards (token ∷ before) tokens
-
 -- Why there is a fault at an item. Bounds goes before Twice.
 pub data Because (before : List Token) (token : Token) (behind : List Token) : ModuleReason → Type 0 where
   misplaced : Because before token behind (reason_of token)
@@ -89,4 +84,4 @@ pub record IsJudged (text : List ℕ) (fault : Fault) : Type 0 where
   pub items : items_of text ≡ front ++ item ∷ rest
   pub at : fault.place ≡ item.place.start
   pub fine : AreFine [] (tokens_of front) (item.token ∷ tokens_of rest)
-  pub because : Because (backwards [] (tokens_of front)) item.token (tokens_of rest) fault.reason
+  pub because : Because (reverse (tokens_of front)) item.token (tokens_of rest) fault.reason

@@ -9,6 +9,8 @@ use Rattle.asn1_tokens.specs.declared.token.Token.TheVariants as tokens
 use Rattle.asn1_tokens.specs.Stream.{is_last}
 use Rattle.asn1_tokens.specs.Words.{is_word, word_number}
 use Rattle.asn1_grammar.specs.Grammar.{Terminal, TheWord, fits, Part, Symbol, Item, Whole, Module, Assignments, productions}
+use Rattle.asn1_grammar.proofs.Decide.{and_left, and_right}
+use Rattle.asn1_reading_laws.proofs.Splits.{head_same, tail_same}
 use Rattle.asn1_grammar.specs.Open.{IsOneOf, Spells, nothing, item, part, IsModuleText}
 
 abbrev is_end : Token → Bool
@@ -52,14 +54,6 @@ unfolding productions
 parts_weigh Module = refl
 parts_weigh Assignments = refl
 parts_weigh _ = refl
-
-and_left : (a b : Bool) → a && b ≡ true → a ≡ true
-and_left true b h = refl
-and_left false b h = cc
-
-and_right : (a b : Bool) → a && b ≡ true → b ≡ true
-and_right true b h = h
-and_right false b h = cc
 
 one_weighs : (n : ℕ) (b : List Symbol) (bodies : List (List Symbol)) → all_weigh n bodies ≡ true → IsOneOf b bodies → weight b ≡ n
 one_weighs n b [] h one = absurd one
@@ -160,14 +154,8 @@ fits_goes k _ h = refl
 each_goes : {symbols : List Symbol} {items : List Token} → Spells symbols items → (front : List Token) (t : Token) (more : List Token) → items ≡ front ++ t ∷ more → is_last t ≡ false
 each_goes nothing [] t more e = cc
 each_goes nothing (x ∷ front) t more e = cc
-each_goes (item {terminal = k} {token = u} {items} h rest) [] t more e = ap is_last (sym (head_same u t items more e)) ∙ fits_goes k u h
-  where
-    head_same : (a b : Token) (xs ys : List Token) → a ∷ xs ≡ b ∷ ys → a ≡ b
-    head_same a b xs ys e = cc
-each_goes (item {token = u} {items} h rest) (x ∷ front) t more e = each_goes rest front t more (tail_same u x items (front ++ t ∷ more) e)
-  where
-    tail_same : (a b : Token) (xs ys : List Token) → a ∷ xs ≡ b ∷ ys → xs ≡ ys
-    tail_same a b xs ys e = cc
+each_goes (item {terminal = k} {token = u} h rest) [] t more e = ap is_last (sym (head_same e)) ∙ fits_goes k u h
+each_goes (item h rest) (x ∷ front) t more e = each_goes rest front t more (tail_same e)
 each_goes (part b one rest) front t more e = each_goes rest front t more e
 
 pub spelled_goes : {symbols : List Symbol} (front : List Token) (t : Token) (more : List Token) → Spells symbols (front ++ t ∷ more) → is_last t ≡ false

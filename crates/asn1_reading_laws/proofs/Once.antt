@@ -1,6 +1,7 @@
 -- A text is one module's, or has one first wrong item, and never both.
+use mathlib.Core.List.{reverse_aux}
 use Rattle.std.proofs.lemmas.List.{append_assoc, append-nil}
-use Rattle.std.proofs.Common.{◌≡◌, ℕ, List, [], ◌∷◌, ◌++◌, Bool, true, false, refl, sym, ap, ◌∙◌, subst}
+use Rattle.std.proofs.Common.{◌≡◌, ℕ, List, [], ◌∷◌, ◌++◌, reverse, Bool, true, false, refl, sym, ap, ◌∙◌, subst}
 use Rattle.asn1_tokens.specs.declared.token.Token.{Token}
 use Rattle.asn1_tokens.specs.Stream.{Placed}
 use Rattle.asn1_types.specs.declared.fault.ModuleReason.{ModuleReason}
@@ -8,7 +9,7 @@ use Rattle.asn1_types.specs.declared.fault.Fault.{Fault}
 use Rattle.asn1_assignments.specs.declared.assignment.Syntax.{Syntax}
 use Rattle.asn1_grammar.specs.Open.{tokens_of, IsModuleText, IsOpen}
 use Rattle.asn1_syntax_laws.specs.Grammatical.{GoesOn}
-use Rattle.asn1_item_laws.specs.Fine.{IsFine, AreFine, backwards}
+use Rattle.asn1_item_laws.specs.Fine.{IsFine, AreFine}
 use Rattle.asn1_lexical_laws.specs.Lexical.{AreItems}
 use Rattle.asn1_lexical_laws.proofs.Streams.{items_scanned}
 use Rattle.asn1_reading_laws.specs.Texts.{IsTextOf, IsWrong, not_open, bounds, twice, IsFirstWrong}
@@ -20,7 +21,7 @@ tokens_apart [] p mid = refl
 tokens_apart (x ∷ f) p mid = ap (λ (l : List Token). x.token ∷ l) (tokens_apart f p mid)
 
 -- each of fine items is fine
-fine_there : (before f : List Token) (t : Token) (mid behind : List Token) → AreFine before (f ++ t ∷ mid) behind → IsFine (backwards before f) t (mid ++ behind)
+fine_there : (before f : List Token) (t : Token) (mid behind : List Token) → AreFine before (f ++ t ∷ mid) behind → IsFine (reverse_aux f before) t (mid ++ behind)
 fine_there before [] t mid behind fine = fine.0
 fine_there before (x ∷ f) t mid behind fine = fine_there (x ∷ before) f t mid behind fine.1
 
@@ -39,7 +40,7 @@ goes_before {t = t} (bounds is_open h) = (t, is_open)
 goes_before {t = t} (twice is_open h g) = (t, is_open)
 
 -- an item that is fine, and with which a module goes on, isn't wrong
-fine_not_wrong : {f : List Token} {t : Token} {behind : List Token} {r : ModuleReason} → IsFine (backwards [] f) t behind → IsOpen (f ++ t ∷ []) → IsWrong f t behind r → ⊥
+fine_not_wrong : {f : List Token} {t : Token} {behind : List Token} {r : ModuleReason} → IsFine (reverse f) t behind → IsOpen (f ++ t ∷ []) → IsWrong f t behind r → ⊥
 fine_not_wrong fine is_open (not_open on not) = not is_open
 fine_not_wrong fine is_open (bounds o h) = clash _ h fine.within
 fine_not_wrong fine is_open (twice o h g) = clash _ g fine.new

@@ -6,10 +6,10 @@ pub data Apart {A : Type 0} (f : List A) (p : A) (r : List A) (g : List A) (q : 
   earlier : (mid : List A) → g ≡ f ++ p ∷ mid → r ≡ mid ++ q ∷ s → Apart f p r g q s
   later : (mid : List A) → f ≡ g ++ q ∷ mid → s ≡ mid ++ p ∷ r → Apart f p r g q s
 
-head_same : {A : Type 0} {x y : A} {xs ys : List A} → x ∷ xs ≡ y ∷ ys → x ≡ y
+pub head_same : {A : Type 0} {x y : A} {xs ys : List A} → x ∷ xs ≡ y ∷ ys → x ≡ y
 head_same e = cc
 
-tail_same : {A : Type 0} {x y : A} {xs ys : List A} → x ∷ xs ≡ y ∷ ys → xs ≡ ys
+pub tail_same : {A : Type 0} {x y : A} {xs ys : List A} → x ∷ xs ≡ y ∷ ys → xs ≡ ys
 tail_same e = cc
 
 -- both begin with one more item

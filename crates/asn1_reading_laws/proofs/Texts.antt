@@ -1,5 +1,5 @@
 -- A text is one module's, or has one first wrong item, never both.
-use Rattle.std.proofs.Common.{◌≡◌, ℕ, List, [], ◌∷◌, ◌++◌, length, refl, sym, ap, ◌∙◌, subst}
+use Rattle.std.proofs.Common.{◌≡◌, ℕ, List, [], ◌∷◌, ◌++◌, length, reverse, refl, sym, ap, ◌∙◌, subst}
 use Rattle.asn1_tokens.specs.declared.token.Token.{Token}
 use Rattle.asn1_tokens.specs.declared.token.Token.TheVariants as tokens
 use Rattle.asn1_tokens.specs.Stream.{Placed, items_of, is_last}
@@ -12,7 +12,7 @@ use Rattle.asn1_syntax_laws.specs.Grammatical as grammar
 use Rattle.asn1_grammar.specs.Open.{tokens_of}
 use Rattle.asn1_syntax_laws.specs.Grammatical.{IsModuleFront, GoesOn, IsWrongItem}
 use Rattle.asn1_item_laws.specs.Fine as judged
-use Rattle.asn1_item_laws.specs.Fine.{passes_bound, is_repeated, IsFine, AreFine, backwards, Because, AreFineTo, IsJudged}
+use Rattle.asn1_item_laws.specs.Fine.{passes_bound, is_repeated, IsFine, AreFine, Because, AreFineTo, IsJudged}
 use Rattle.asn1_value_laws.specs.Module.{MeansModule}
 use Rattle.asn1_lexical_laws.specs.Lexical.{AreItems}
 use Rattle.asn1_lexical_laws.proofs.Streams.{all_items}
@@ -68,7 +68,7 @@ bounds_not_twice : reasons.Bounds ≡ reasons.Twice → ⊥
 bounds_not_twice e = cc
 
 -- both say why
-wrong_since : (front : List Token) (t : Token) (behind : List Token) (r s : ModuleReason) → r ≡ s → GoesOn front → grammar.IsWrong front t r → Because (backwards [] front) t behind s → IsWrong front t behind r
+wrong_since : (front : List Token) (t : Token) (behind : List Token) (r s : ModuleReason) → r ≡ s → GoesOn front → grammar.IsWrong front t r → Because (reverse front) t behind s → IsWrong front t behind r
 wrong_since front t behind r s e on (grammar.not_open not) because = not_open on not
 wrong_since front t behind r s e on (grammar.bounds is_open) judged.misplaced = absurd (not_reason t (sym e))
 wrong_since front t behind r s e on (grammar.bounds is_open) (judged.bounds h) = bounds is_open h
@@ -89,9 +89,9 @@ one_wrong_item text f g j split = record {
       (subst (λ (p : Placed). AreFine [] (tokens_of j.front) (p.token ∷ tokens_of g.rest)) (sym split.items)
       (subst (λ (r : List Placed). AreFine [] (tokens_of j.front) (j.item.token ∷ tokens_of r)) (sym split.rests) j.fine));
   wrong = wrong_since (tokens_of g.front) g.item.token (tokens_of g.rest) f.reason f.reason refl g.before g.wrong
-      (subst (λ (l : List Placed). Because (backwards [] (tokens_of l)) g.item.token (tokens_of g.rest) f.reason) (sym split.fronts)
-      (subst (λ (p : Placed). Because (backwards [] (tokens_of j.front)) p.token (tokens_of g.rest) f.reason) (sym split.items)
-      (subst (λ (r : List Placed). Because (backwards [] (tokens_of j.front)) j.item.token (tokens_of r) f.reason) (sym split.rests) j.because)));
+      (subst (λ (l : List Placed). Because (reverse (tokens_of l)) g.item.token (tokens_of g.rest) f.reason) (sym split.fronts)
+      (subst (λ (p : Placed). Because (reverse (tokens_of j.front)) p.token (tokens_of g.rest) f.reason) (sym split.items)
+      (subst (λ (r : List Placed). Because (reverse (tokens_of j.front)) j.item.token (tokens_of r) f.reason) (sym split.rests) j.because)));
 }
 
 pub first_wrong : (text : List ℕ) (f : Fault) → IsWrongItem text f → IsJudged text f → IsFirstWrong text f

@@ -1,5 +1,5 @@
 -- Which texts are modules, but for what their names refer to, and what the first wrong item of the others is.
-use Rattle.std.specs.Prelude.{◌≡◌, ℕ, List, [], ◌∷◌, ◌++◌, length, true, false}
+use Rattle.std.specs.Prelude.{◌≡◌, ℕ, List, [], ◌∷◌, ◌++◌, length, reverse, true, false}
 use Rattle.asn1_tokens.specs.declared.token.Token.{Token}
 use Rattle.asn1_tokens.specs.Stream.{Placed}
 use Rattle.asn1_lexical_laws.specs.Lexical.{AreItems}
@@ -10,7 +10,7 @@ use Rattle.asn1_types.specs.Reading.{reason_of}
 use Rattle.asn1_assignments.specs.declared.assignment.Syntax.{Syntax}
 use Rattle.asn1_grammar.specs.Open.{tokens_of, IsModuleText, IsOpen}
 use Rattle.asn1_syntax_laws.specs.Grammatical.{GoesOn}
-use Rattle.asn1_item_laws.specs.Fine.{passes_bound, is_repeated, AreFine, backwards}
+use Rattle.asn1_item_laws.specs.Fine.{passes_bound, is_repeated, AreFine}
 use Rattle.asn1_value_laws.specs.Module.{MeansModule}
 
 -- The text's items begin with a module's: the grammar spells them, none passes a bound or gives something again, and they mean this
@@ -29,8 +29,8 @@ pub record IsTextOf (text : List ℕ) (m : Syntax) : Type 0 where
 -- passes a bound, or gives something again.
 pub data IsWrong (front : List Token) (token : Token) (behind : List Token) : ModuleReason → Type 0 where
   not_open : GoesOn front → (IsOpen (front ++ token ∷ []) → ⊥) → IsWrong front token behind (reason_of token)
-  bounds : IsOpen (front ++ token ∷ []) → passes_bound (backwards [] front) token behind ≡ true → IsWrong front token behind Bounds
-  twice : IsOpen (front ++ token ∷ []) → passes_bound (backwards [] front) token behind ≡ false → is_repeated (backwards [] front) token ≡ true → IsWrong front token behind Twice
+  bounds : IsOpen (front ++ token ∷ []) → passes_bound (reverse front) token behind ≡ true → IsWrong front token behind Bounds
+  twice : IsOpen (front ++ token ∷ []) → passes_bound (reverse front) token behind ≡ false → is_repeated (reverse front) token ≡ true → IsWrong front token behind Twice
 
 -- the first wrong item of a text, where a fault is told
 pub record IsFirstWrong (text : List ℕ) (fault : Fault) : Type 0 where
