@@ -1,3 +1,4 @@
+pub mod Blank
 pub mod Steps
 pub mod Joining
 pub mod Gathering

@@ -16,7 +16,7 @@ use Rattle.module_check.specs.declared.input.CheckedModule.{CheckedModule}
 use Rattle.module_check.specs.declared.input.CheckStop.{CheckStop}
 use Rattle.module_check.specs.declared.input.CheckStop.TheVariants.{NoModule, Script, ReadFault, TooLong, Memory}
 use Rattle.module_check.specs.Header.{text_header_of}
-use Rattle.module_check.specs.Text.{IsUnclosed, IsClosed, is_end, is_blank}
+use Rattle.module_check.specs.Text.{IsUnclosed, IsClosed, IsBlank, is_end}
 use Rattle.module_check.specs.Check.{HasText, IsWrongInput, Empty, NoHeader, Unended, Further, ChecksInput, IsWhole, TellsModule}
 
 -- ---- the lines of a text
@@ -123,8 +123,7 @@ of_wrong input text m taken kept left lines place reason w h handed each (NoHead
 of_wrong input text m taken kept left lines place reason w h handed each (Unended e) =
     let a = all_taken input text m taken kept e.text left lines w h handed each e.has in
     let one = reading_once text e.m m e.octets w.is.octets (subst (λ (t : List ℕ). Reads t e.octets e.m) a.same e.reads) w.is.reads in
-    let clash : false ≡ true = sym e.more ∙ ap (λ (t : List ℕ). is_blank (drop e.octets t)) a.same ∙ ap (λ (n : ℕ). is_blank (drop n text)) one.1 ∙ w.is.alone in
-    cc
+    absurd (e.more (subst IsBlank (ap (λ (n : ℕ). drop n text) (sym one.1) ∙ ap (λ (t : List ℕ). drop e.octets t) (sym a.same)) w.is.alone))
 of_wrong input text m taken kept left lines place reason w h handed each (Further e) =
     some_next left kept e.line e.next (all_taken input text m taken kept e.text left lines w h handed each e.has).none
 

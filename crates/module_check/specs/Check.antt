@@ -1,5 +1,5 @@
 -- What checking a module takes of its input, and what it comes to: the first cause in reading order.
-use Rattle.std.specs.Prelude.{◌≡◌, ◌≤◌, ◌+◌, ◌⊎◌, ℕ, false, List, [], ◌∷◌, ◌++◌, length, drop, Option, Result, Ok, Err, codes}
+use Rattle.std.specs.Prelude.{◌≡◌, ◌≤◌, ◌+◌, ◌⊎◌, ℕ, List, [], ◌∷◌, ◌++◌, length, drop, Option, Result, Ok, Err, codes}
 use Rattle.std.specs.List.{AllByRecursion}
 use Rattle.std.specs.Io.KnownBytes.{Consumes, IsAtEnd}
 use Rattle.gnb_base.specs.Causes.{Rose}
@@ -15,7 +15,7 @@ use Rattle.module_check.specs.declared.input.CheckedModule.{CheckedModule}
 use Rattle.module_check.specs.declared.input.CheckStop.{CheckStop}
 use Rattle.module_check.specs.declared.input.CheckStop.TheVariants as stops
 use Rattle.module_check.specs.Header.{text_header_of}
-use Rattle.module_check.specs.Text.{IsUnclosed, IsClosed, IsOneModule, is_blank}
+use Rattle.module_check.specs.Text.{IsUnclosed, IsClosed, IsOneModule, IsBlank}
 
 -- The text was handed out whole: it is what was taken behind the header's line, and before the bytes kept.
 pub record HasText (left : Option (List ℕ)) (taken : List ℕ) (lines : List (List ℕ)) (kept text : List ℕ) : Type 0 where
@@ -63,7 +63,7 @@ pub record GoesOn (left : Option (List ℕ)) (taken : List ℕ) (lines : List (L
   pub m : Syntax
   pub has : HasText left taken lines kept text
   pub reads : Reads text octets m
-  pub more : is_blank (drop octets text) ≡ false
+  pub more : IsBlank (drop octets text) → ⊥
   pub at : place ≡ length lines
   pub extra : reason ≡ Extra
 

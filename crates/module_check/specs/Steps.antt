@@ -1,5 +1,5 @@
 -- What each step of a check does.
-use Rattle.std.specs.Prelude.{◌≡◌, ◌≤◌, ◌+◌, ◌⊎◌, ℕ, false, List, [], ◌∷◌, ◌++◌, length, drop, Option, Some, None, Result, Ok, Err}
+use Rattle.std.specs.Prelude.{◌≡◌, ◌≤◌, ◌+◌, ◌⊎◌, ℕ, List, [], ◌∷◌, ◌++◌, length, drop, Option, Some, None, Result, Ok, Err}
 use Rattle.gnb_base.specs.declared.lines.Line.{Line}
 use Rattle.gnb_base.specs.declared.lines.ReadError.{ReadError}
 use Rattle.gnb_base.specs.declared.lines.ReadError.TheVariants as errors
@@ -17,7 +17,7 @@ use Rattle.module_check.specs.declared.input.CheckStop.{CheckStop}
 use Rattle.module_check.specs.declared.input.CheckStop.TheVariants.{NoModule, Script, ReadFault, TooLong, Memory}
 use Rattle.module_check.specs.declared.text.Gathered.{Gathered}
 use Rattle.module_check.specs.Header.{text_header_of}
-use Rattle.module_check.specs.Text.{IsUnclosed, IsClosed, IsOneModule, is_blank}
+use Rattle.module_check.specs.Text.{IsUnclosed, IsClosed, IsOneModule, IsBlank}
 use Rattle.module_check.specs.Check.{ChecksInput, IsCaused}
 
 -- ---- lines
@@ -121,7 +121,7 @@ pub record HasMore (text : List ℕ) (last place : ℕ) (reason : _) : Type 0 wh
   pub m : Syntax
   pub octets : ℕ
   pub reads : Reads text octets m
-  pub more : is_blank (drop octets text) ≡ false
+  pub more : IsBlank (drop octets text) → ⊥
   pub at : place ≡ last
   pub extra : reason ≡ Extra
 

@@ -5,6 +5,7 @@ use Rattle.std.specs.Str.{bytes_eq}
 use Rattle.asn1_tokens.specs.Stream.{items_of, first_token}
 use Rattle.asn1_tokens.specs.declared.token.Token.{Token}
 use Rattle.asn1_tokens.specs.declared.token.Token.TheVariants as tokens
+use Rattle.asn1_lexical_laws.specs.Lexical.{IsGap}
 use Rattle.asn1_assignments.specs.declared.assignment.Syntax.{Syntax}
 use Rattle.asn1_module.specs.Module.{Reads}
 
@@ -33,7 +34,11 @@ is_end_of_text (tokens.Word word) = false
 is_end_of_text (tokens.Number value) = false
 is_end_of_text (tokens.Sign sign) = false
 
--- nothing but white space and comments: the first lexical item is the text's end
+-- nothing but white space and comments
+abbrev pub IsBlank : List ℕ → Type 0
+IsBlank text = IsGap text []
+
+-- the first lexical item is the text's end
 abbrev pub is_blank : List ℕ → Bool
 is_blank text = is_end_of_text (first_token (items_of text))
 
@@ -41,4 +46,4 @@ is_blank text = is_end_of_text (first_token (items_of text))
 pub record IsOneModule (text : List ℕ) (m : Syntax) : Type 0 where
   pub octets : ℕ
   pub reads : Reads text octets m
-  pub alone : is_blank (drop octets text) ≡ true
+  pub alone : IsBlank (drop octets text)

@@ -1,6 +1,16 @@
-use Rattle.std.proofs.Common.{◌∙◌}
-use Rattle.module_check.proofs.Steps.{is_alone, blank_behind}
+use Rattle.std.proofs.Common.{◌∙◌, refl}
+use Rattle.module_check.proofs.Steps.{is_alone, blank_behind, more_behind}
 use Rattle.module_check.proofs.check.read_alone.Goals as goal
+
+pub returns-then-not-branch : goal.returns-then-not-branch
+returns-then-not-branch c = record {
+  m = c.in_ok-module.module;
+  octets = c.in_ok-module.end;
+  reads = c.in_ok-module.ensures;
+  more = more_behind _ _ _ _ c.in_ok-is_blank.ensures c.min.ensures c.if-not-branch.true;
+  at = refl;
+  extra = refl;
+}
 
 pub returns : goal.returns
 returns c =
