@@ -8,7 +8,7 @@ use crate::assignment::{Assignment, Body, Syntax};
 use crate::sets::{ie_set, procedure_set};
 use asn1_tokens::{Sign, Word, is_text};
 use asn1_types::{Items, ModuleReason, Node, ReadError, Reader};
-use gnb_base::octets::Octets;
+use gnb_types::octets::Octets;
 use std::alloc::Global;
 
 const TYPES: usize = 1000;

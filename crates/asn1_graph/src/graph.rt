@@ -6,7 +6,7 @@ ghost use Rattle.asn1_graph.specs.Graph.{number_of, member_edges, all_member_edg
 use asn1_assignments::{Assignment, Syntax};
 use asn1_tokens::is_text;
 use asn1_types::{Component, Definition, Extensible, Items, Node};
-use gnb_base::octets::Memory;
+use gnb_types::octets::Memory;
 use std::alloc::Global;
 
 /// One step, from a vertex to another. The vertices are a module's types by their numbers, and then its assignments.

@@ -4,7 +4,7 @@ ghost use Rattle.std.specs.Prelude.{◌≡◌, ◌+◌, ◌<◌, ◌≤◌, ◌�
 ghost use Rattle.asn1_graph.specs.Paths.{raised, mark_step, depth_step, round_of, marks_from, marks_to, trimmed, IsReach, IsDepth, IsTrimmed, Leads};
 
 use crate::graph::Edge;
-use gnb_base::octets::Memory;
+use gnb_types::octets::Memory;
 use std::alloc::Global;
 
 const DEPTH_CAP: u8 = 61;

@@ -10,7 +10,7 @@ use crate::names::first_unknown;
 use asn1_assignments::Syntax;
 use asn1_graph::{Edge, depths, edges_of, looping, reached, value_at, vertex_count};
 use asn1_types::{Definition, Fault, ModuleReason, Node};
-use gnb_base::octets::Memory;
+use gnb_types::octets::Memory;
 use std::alloc::Global;
 
 /// As deep types may stand one inside another.

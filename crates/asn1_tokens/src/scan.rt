@@ -7,7 +7,7 @@ ghost use Rattle.asn1_tokens.specs.declared.scan.Gap.TheVariants.{Between};
 
 use crate::token::{Sign, Token};
 use crate::words::{is_left_out, word_of};
-use gnb_base::octets::{Memory, Octets};
+use gnb_types::octets::{Memory, Octets};
 use std::alloc::Global;
 
 /// Where a byte stands that belongs to no lexical item: between comments, at the second hyphen of a comment's mark,

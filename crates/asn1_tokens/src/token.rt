@@ -1,6 +1,6 @@
 //! Lexical items.
 
-use gnb_base::octets::Octets;
+use gnb_types::octets::Octets;
 
 /// The reserved words of the grammar (X.680, 12.38), with those of its two parameterised types and of its object sets.
 #[derive(Clone, Copy, Debug, PartialEq, Eq)]

@@ -5,7 +5,7 @@ ghost use Rattle.asn1_tokens.specs.Stream.{items_of, first_token, first_place, o
 
 use crate::scan::{after_gap, lexeme_at};
 use crate::token::{Place, Token};
-use gnb_base::octets::Memory;
+use gnb_types::octets::Memory;
 use std::alloc::Global;
 use std::marker::Model;
 use std::mem::replace;

@@ -8,7 +8,7 @@ use crate::definition::{Component, Definition, Extensible, Node, Size, TypeId};
 use crate::fault::{ModuleReason, ReadError};
 use crate::reader::Reader;
 use asn1_tokens::{Sign, Word, is_text};
-use gnb_base::octets::Octets;
+use gnb_types::octets::Octets;
 
 /// What a list of members belongs to.
 #[derive(Clone, Copy, Debug, PartialEq, Eq)]

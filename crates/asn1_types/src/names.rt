@@ -9,7 +9,7 @@ use crate::fault::{ModuleReason, ReadError};
 use crate::items::Items;
 use crate::reader::Reader;
 use asn1_tokens::{Sign, is_text};
-use gnb_base::octets::{Memory, Octets};
+use gnb_types::octets::{Memory, Octets};
 use std::alloc::Global;
 
 const ROOT_PARTS: usize = 256;

@@ -6,7 +6,7 @@ ghost use Rattle.asn1_types.specs.Reading.{Gives, first_word, unexpected, begins
 
 use crate::fault::{Fault, ModuleReason, ReadError};
 use asn1_tokens::{Sign, Token, Tokens, Word};
-use gnb_base::octets::Octets;
+use gnb_types::octets::Octets;
 use std::alloc::Global;
 use std::marker::Model;
 

@@ -12,7 +12,7 @@ use crate::members::{Frame, Group, Head};
 use crate::reader::Reader;
 use crate::stack::Stack;
 use asn1_tokens::{Sign, Word};
-use gnb_base::octets::Octets;
+use gnb_types::octets::Octets;
 
 impl Items<Node> {
     /// One more type, and its number. After an error the state is free.

@@ -5,7 +5,7 @@ ghost use Rattle.std.specs.Vec.{vec_capacity};
 ghost use Rattle.bits_core.specs.Bits.{bits_of, octet_bits, zeros, pad_of};
 
 use crate::low::low_bits;
-use gnb_base::octets::{Memory, Octets};
+use gnb_types::octets::{Memory, Octets};
 use std::alloc::Global;
 use std::marker::Model;
 

@@ -1,4 +1,3 @@
-pub mod HexLemmas
 pub mod Handing
 mod LineLemmas
 mod LineReaderLemmas

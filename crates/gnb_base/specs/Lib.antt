@@ -1,6 +1,4 @@
 pub mod Causes
-pub mod Hex
-pub mod Names
 pub mod Lines
 pub mod Handing
 pub mod Reading

@@ -1,13 +1,11 @@
-//! What every crate stands on: the names of nodes, terminals and bearers, lists of bytes, and the outside of the program.
+//! The outside of the program, and the lines of its input; with it the plain types of `gnb_types`.
 #![tactic(auto)]
 
-pub mod bits;
-pub mod hex;
 pub mod lines;
 pub mod memory;
-pub mod names;
-pub mod octets;
 pub mod outside;
 pub mod standard;
 #[cfg(test)]
 mod tests;
+
+pub use gnb_types::{bits, hex, names, octets, plans, reasons, tags};

@@ -6,8 +6,8 @@ ghost use Rattle.gnb_base.specs.Handing.{Call, Run, HandedOut, texts, lines_hand
 ghost use Rattle.gnb_base.specs.Lines.{lines_of, AreLines, HasNoLf, IsFirstLf};
 ghost use Rattle.gnb_base.specs.Reading.{Reading, fresh, NextMeets, FillsFront, input_limit, piece_size};
 
-use crate::octets::{Memory, Octets};
 use crate::outside::{Failed, Source};
+use gnb_types::octets::{Memory, Octets};
 use std::alloc::Global;
 use std::marker::Model;
 use std::mem;

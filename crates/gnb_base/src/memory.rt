@@ -6,8 +6,8 @@ ghost use Rattle.std.specs.Io.KnownBytes.{ReadConsumes, WriteAppends};
 ghost use Rattle.gnb_base.specs.Causes.{HasCause};
 ghost use Rattle.gnb_base.specs.InMemory.{starts, failed_from, moved_from, moved};
 
-use crate::octets::Octets;
 use crate::outside::{Failed, Sink, Source};
+use gnb_types::octets::Octets;
 use std::alloc::Global;
 use std::marker::Model;
 

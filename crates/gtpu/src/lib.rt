@@ -12,7 +12,7 @@ ghost use Rattle.gtpu.specs.Headers.{ExtensionHeader, IsChain, AreHeaders, conte
 ghost use Rattle.gtpu.specs.Packets.{GtpuPacket, Gtpu, view, kind_code, flags_of, fields_of, body_of, gtpu_octets};
 ghost use Rattle.gtpu.specs.Refusals.{IsRefusal};
 
-use gnb_base::octets::{Memory, Octets};
+use gnb_types::octets::{Memory, Octets};
 pub use headers::{LONG_PDCP_PDU_NUMBER, NR_RAN_CONTAINER, PDCP_PDU_NUMBER};
 use std::alloc::Global;
 use thiserror::Error;

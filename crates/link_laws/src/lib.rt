@@ -2,7 +2,7 @@
 #![tactic(auto)]
 
 ghost use Rattle.std.specs.Prelude.{◌≡◌, ℕ, ◌%◌, ◌^◌, ◌<◌, ◌≤◌, Bool, false, List, length, Option};
-ghost use Rattle.gnb_base.specs.declared.names.SnBits.{SnBits};
+ghost use Rattle.gnb_types.specs.declared.names.SnBits.{SnBits};
 ghost use Rattle.gtpu.specs.declared.GtpuError.{GtpuError};
 ghost use Rattle.gtpu.specs.Refusals.{IsRefusal};
 ghost use Rattle.nr_user_plane.specs.declared.frames.Frame.TheVariants.{Status};

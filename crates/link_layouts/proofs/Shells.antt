@@ -1,6 +1,6 @@
 -- The GTP-U packet that each layout of a link is.
 use Rattle.std.proofs.Common.{◌≡◌, ℕ, ◌+◌, ◌^◌, ◌<◌, ◌≤◌, List, [], ◌∷◌, ◌++◌, length, refl, sym, subst, arith}
-use Rattle.gnb_base.specs.declared.names.SnBits.{SnBits}
+use Rattle.gnb_types.specs.declared.names.SnBits.{SnBits}
 use Rattle.gtpu.specs.Headers.{ExtensionHeader, IsHeader}
 use Rattle.gtpu.specs.Packets.{Gtpu, gtpu_octets, body_of}
 use Rattle.gtpu.proofs.Chains.{no_headers, one_header}

@@ -1,8 +1,8 @@
 -- Each layout decodes on its link, to what was put.
 use Rattle.std.proofs.Common.{◌≡◌, ℕ, ◌+◌, ◌-◌, ◌*◌, ◌/◌, ◌%◌, ◌^◌, ◌<◌, ◌≤◌, Bool, true, false, if◌then◌else◌, Option, Some, None, List, [], ◌∷◌, ◌++◌, length, replicate, flat_map, refl, sym, subst, length-append, arith, lt-ltb}
 use Rattle.std.proofs.lemmas.List.{length-replicate}
-use Rattle.gnb_base.specs.declared.names.SnBits.{SnBits}
-use Rattle.gnb_base.specs.declared.names.SnBits.TheVariants.{Len12, Len18}
+use Rattle.gnb_types.specs.declared.names.SnBits.{SnBits}
+use Rattle.gnb_types.specs.declared.names.SnBits.TheVariants.{Len12, Len18}
 use Rattle.gtpu.specs.Headers.{ExtensionHeader, IsHeader, header_octets}
 use Rattle.gtpu.specs.Packets.{Gtpu, gtpu_octets, body_of, optional_of, has_flag, flags_of}
 use Rattle.gtpu.proofs.Chains.{no_headers, are_one_header}

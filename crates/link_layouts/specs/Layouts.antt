@@ -1,7 +1,7 @@
 -- What is written on each link, beside the layouts of `Links`: the TEID first, then what the packet carries.
 use Rattle.std.specs.Prelude.{ℕ, ◌%◌, Bool, true, false, Option, List, [], ◌∷◌, ◌++◌}
-use Rattle.gnb_base.specs.declared.names.SnBits.{SnBits}
-use Rattle.gnb_base.specs.declared.names.SnBits.TheVariants.{Len12, Len18}
+use Rattle.gnb_types.specs.declared.names.SnBits.{SnBits}
+use Rattle.gnb_types.specs.declared.names.SnBits.TheVariants.{Len12, Len18}
 use Rattle.gtpu.specs.Headers.{ExtensionHeader}
 use Rattle.gtpu.specs.Packets.{gtpu_octets}
 use Rattle.nr_user_plane.specs.declared.frames.Frame.{Frame}

@@ -1,6 +1,6 @@
 -- When a packet says nothing on a link: none of the forms that stand there is its.
 use Rattle.std.proofs.Common.{◌≡◌, ℕ, Bool, true, false, List, [], Option, Some, None, IfNone, subst, sym}
-use Rattle.gnb_base.specs.declared.names.SnBits.{SnBits}
+use Rattle.gnb_types.specs.declared.names.SnBits.{SnBits}
 use Rattle.gtpu.specs.declared.Kind.TheVariants.{GPdu}
 use Rattle.gtpu.specs.Packets.{GtpuPacket}
 use Rattle.nr_user_plane.specs.declared.frames.Frame.TheVariants.{Data, Status}

@@ -1,6 +1,6 @@
 -- From what a packet says on a link to what its octets say.
 use Rattle.std.proofs.Common.{◌≡◌, ℕ, List, Option, Some, None, IfSome, IfNone, IsSomeAnd}
-use Rattle.gnb_base.specs.declared.names.SnBits.{SnBits}
+use Rattle.gnb_types.specs.declared.names.SnBits.{SnBits}
 use Rattle.gtpu.specs.Packets.{GtpuPacket, Gtpu}
 use Rattle.link_layouts.specs.Decoding.{Link, Item, Says, DecodesOn}
 use Rattle.link_layouts.proofs.OneItem.{says_of, one_said}

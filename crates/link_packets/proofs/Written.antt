@@ -1,6 +1,6 @@
 -- What is written is the layout of the link.
 use Rattle.std.proofs.Common.{◌≡◌, ℕ, ◌+◌, ◌/◌, ◌%◌, ◌≤◌, Bool, List, [], ◌∷◌, ◌++◌, length, get_or, bit_and, sym, ap, subst, ◌∙◌, arith}
-use Rattle.gnb_base.specs.declared.names.SnBits.TheVariants.{Len18}
+use Rattle.gnb_types.specs.declared.names.SnBits.TheVariants.{Len18}
 use Rattle.std.specs.Int.{w32, to_be_bytes}
 use Rattle.std.proofs.lemmas.Nat.{and_mask}
 use Rattle.gtpu.specs.Headers.{IsHeader, header_octets}

@@ -1,6 +1,6 @@
 -- What the one extension header of a packet tells, whatever its payload is.
 use Rattle.std.specs.Prelude.{◌≡◌, ℕ, List}
-use Rattle.gnb_base.specs.declared.names.SnBits.{SnBits}
+use Rattle.gnb_types.specs.declared.names.SnBits.{SnBits}
 use Rattle.gtpu.specs.Headers.{ExtensionHeader}
 use Rattle.gtpu.specs.Packets.{GtpuPacket}
 use Rattle.nr_user_plane.specs.declared.frames.Frame.{Frame}

@@ -10,7 +10,7 @@ ghost use Rattle.pdcp.specs.Pdus.{Content, content_of};
 ghost use Rattle.link_layouts.specs.Decoding.{IsSized, CarriesPdu, IsBare, HasHeader, SaysFresh, SaysNumbered, SaysEnd};
 ghost use Rattle.link_packets.specs.Parts.{HasFrame, HasNumber};
 
-use gnb_base::names::SnBits;
+use gnb_types::names::SnBits;
 use gtpu::{Kind, LONG_PDCP_PDU_NUMBER, NR_RAN_CONTAINER, PDCP_PDU_NUMBER, Packet};
 use nr_user_plane::frames::Frame;
 use nr_user_plane::ranges::Ranges;

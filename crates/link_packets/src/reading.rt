@@ -1,14 +1,14 @@
 //! What octets on a tunnel say. A reader evaluates neither spare bits and unused fields nor the TEID in the octets.
 
 ghost use Rattle.std.specs.Prelude.{◌≡◌, IfSome, IfNone, IsSomeAnd};
-ghost use Rattle.gnb_base.specs.declared.names.SnBits.{SnBits as Bits};
+ghost use Rattle.gnb_types.specs.declared.names.SnBits.{SnBits as Bits};
 ghost use Rattle.gtpu.specs.Headers.{IsChain};
 ghost use Rattle.gtpu.specs.Packets.{view};
 ghost use Rattle.link_layouts.specs.Decoding.{Item, n3, f1u_downlink, f1u_uplink, forwarding_down, forwarding_up, Says, DecodesOn};
 ghost use Rattle.link_packets.specs.Items.{n3_item, downlink_item, uplink_item, forwarded_item};
 
 use crate::layers::{data_of, fresh_of, is_end, numbered_of, pdu_of, read_radio, status_of};
-use gnb_base::names::SnBits;
+use gnb_types::names::SnBits;
 use gtpu::Packet;
 use nr_user_plane::ranges::Ranges;
 use pdcp::pdu::Pdu;

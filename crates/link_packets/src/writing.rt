@@ -11,9 +11,9 @@ ghost use Rattle.link_layouts.specs.Links.{n3_downlink};
 ghost use Rattle.link_layouts.specs.Layouts as layouts;
 ghost use Rattle.link_packets.specs.Parts.{header};
 
-use gnb_base::bits::Bits;
-use gnb_base::names::SnBits;
-use gnb_base::octets::{Memory, Octets};
+use gnb_types::bits::Bits;
+use gnb_types::names::SnBits;
+use gnb_types::octets::{Memory, Octets};
 use gtpu::{Kind, LONG_PDCP_PDU_NUMBER, NR_RAN_CONTAINER, PDCP_PDU_NUMBER, Packet};
 use nr_user_plane::frames::Frame;
 use nr_user_plane::ranges::Ranges;

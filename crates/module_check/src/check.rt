@@ -10,8 +10,8 @@ use crate::text::take_text;
 use asn1_module::{Module, ModuleError, read_module};
 use asn1_tokens::{Token, Tokens};
 use gnb_base::lines::LineReader;
-use gnb_base::octets::{Memory, Octets};
 use gnb_base::outside::Source;
+use gnb_types::octets::{Memory, Octets};
 use scenario_text::event::TextReason;
 use std::alloc::Global;
 

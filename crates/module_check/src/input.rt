@@ -7,8 +7,8 @@ ghost use Rattle.module_check.specs.Steps.{stop_of_read, ReadsLine, HeaderMeets,
 
 use asn1_types::ModuleReason;
 use gnb_base::lines::{Line, LineReader, ReadError};
-use gnb_base::octets::{Memory, Octets};
 use gnb_base::outside::Source;
+use gnb_types::octets::{Memory, Octets};
 use scenario_text::event::TextReason;
 
 /// A module that was read: its name, and how many types have names.

@@ -7,8 +7,8 @@ ghost use Rattle.module_check.specs.Steps.{TurnMeets, TextMeets};
 
 use crate::input::{CheckStop, next_line, take_header};
 use gnb_base::lines::{Line, LineReader};
-use gnb_base::octets::{Memory, Octets};
 use gnb_base::outside::Source;
+use gnb_types::octets::{Memory, Octets};
 use std::alloc::Global;
 
 /// The lines of a text, each with its LF, and the number of the last one; `header` is how many octets the header has.

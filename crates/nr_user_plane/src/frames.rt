@@ -7,7 +7,7 @@ ghost use Rattle.nr_user_plane.specs.declared.frames.Frame.{Frame};
 ghost use Rattle.nr_user_plane.specs.Reasons.{refusals, first_reason, kind, lost_len, delivered_len, has_lost, has_delivered, number24_at, is_clear_status, is_padding, Answers, AnswersStatus, AnswersLost, AnswersPairs};
 
 use crate::ranges::Ranges;
-use gnb_base::octets::{Memory, Octets};
+use gnb_types::octets::{Memory, Octets};
 use std::alloc::Global;
 use thiserror::Error;
 

@@ -1,8 +1,8 @@
 -- What has no reason to be refused is a PDU, and what is written is one.
 use Rattle.std.proofs.Common.{◌≡◌, ℕ, ◌+◌, ◌-◌, ◌*◌, ◌%◌, ◌^◌, ◌<◌, ◌≤◌, Bool, true, List, [], ◌∷◌, length, refl, arith, None, inl, inr, lit<}
 use Rattle.std.proofs.lemmas.Bool.{cases_lt}
-use Rattle.gnb_base.specs.declared.names.SnBits.{SnBits}
-use Rattle.gnb_base.specs.declared.names.SnBits.TheVariants.{Len12, Len18}
+use Rattle.gnb_types.specs.declared.names.SnBits.{SnBits}
+use Rattle.gnb_types.specs.declared.names.SnBits.TheVariants.{Len12, Len18}
 use Rattle.pdcp.specs.Pdus.{Content, data_pdu, status_report, Pdcp, refusals, first_reason, radio_data, report_octets, bitmap, fewest}
 use Rattle.pdcp.specs.Numbers.{space}
 

@@ -1,6 +1,6 @@
 -- The COUNT of a received number (TS 38.323, 5.2.2). The standard computes it by comparing halves; here it is named.
 use Rattle.std.specs.Prelude.{◌≡◌, ℕ, ◌+◌, ◌-◌, ◌^◌, ◌%◌, ◌<◌, ◌≤◌, ◌⊎◌}
-use Rattle.gnb_base.specs.declared.names.SnBits.{SnBits}
+use Rattle.gnb_types.specs.declared.names.SnBits.{SnBits}
 use Rattle.pdcp.specs.Numbers.{space, half}
 
 -- the last COUNT that is ever given

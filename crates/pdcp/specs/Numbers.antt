@@ -1,7 +1,7 @@
 -- Sequence numbers (TS 38.323, 6.3.2, 7.2), and numbers as octets.
 use Rattle.std.specs.Prelude.{ℕ, ◌/◌, ◌%◌, List, [], ◌∷◌}
-use Rattle.gnb_base.specs.declared.names.SnBits.{SnBits}
-use Rattle.gnb_base.specs.declared.names.SnBits.TheVariants.{Len12, Len18}
+use Rattle.gnb_types.specs.declared.names.SnBits.{SnBits}
+use Rattle.gnb_types.specs.declared.names.SnBits.TheVariants.{Len12, Len18}
 
 -- how many sequence numbers there are
 abbrev pub space : SnBits → ℕ

@@ -1,8 +1,8 @@
 -- PDCP PDUs as octets: data PDUs with numbers of 12 and 18 bits (TS 38.323, 6.2.2.2, 6.2.2.3), and the status report
 -- (6.2.3.1).
 use Rattle.std.specs.Prelude.{◌≡◌, ◌==◌, ℕ, ◌+◌, ◌*◌, ◌-◌, ◌/◌, ◌%◌, ◌^◌, ◌<◌, ◌≤◌, Bool, true, false, ◌&&◌, not, if◌then◌else◌, nat_lt, nat_le, Option, Some, None, List, [], ◌∷◌, ◌++◌, length, slice_index}
-use Rattle.gnb_base.specs.declared.names.SnBits.{SnBits}
-use Rattle.gnb_base.specs.declared.names.SnBits.TheVariants.{Len12, Len18}
+use Rattle.gnb_types.specs.declared.names.SnBits.{SnBits}
+use Rattle.gnb_types.specs.declared.names.SnBits.TheVariants.{Len12, Len18}
 use Rattle.pdcp.specs.declared.pdu.Pdu.{Pdu}
 use Rattle.pdcp.specs.declared.pdu.Pdu.TheVariants as pdus
 use Rattle.pdcp.specs.declared.pdu.PduError.{PduError}

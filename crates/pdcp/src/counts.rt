@@ -4,7 +4,7 @@ ghost use Rattle.std.specs.Prelude.{◌≡◌, ℕ, ◌^◌, ◌<◌, IfSome, If
 ghost use Rattle.pdcp.specs.Numbers.{space};
 ghost use Rattle.pdcp.specs.Near.{IsNear, IsRaised, IsOutside};
 
-use gnb_base::names::SnBits;
+use gnb_types::names::SnBits;
 
 /// The last COUNT that is ever given.
 pub const LAST_COUNT: u32 = u32::MAX - 1;

@@ -1,7 +1,7 @@
 //! Laws of PDUs and of the COUNT of a number. Each function does nothing: its contract is the law.
 
 ghost use Rattle.std.specs.Prelude.{◌≡◌, ℕ, ◌+◌, ◌%◌, ◌^◌, ◌<◌, ◌≤◌, Bool, false, List, length, slice_index_or, None};
-ghost use Rattle.gnb_base.specs.declared.names.SnBits.{SnBits};
+ghost use Rattle.gnb_types.specs.declared.names.SnBits.{SnBits};
 ghost use Rattle.pdcp.specs.Numbers.{space, half};
 ghost use Rattle.pdcp.specs.Near.{IsNear, last_count};
 ghost use Rattle.pdcp.specs.Pdus.{Content, data_pdu, status_report, Pdcp, refusals, first_reason, radio_data, report_octets, bitmap, bitmap_bit};

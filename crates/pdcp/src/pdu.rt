@@ -3,9 +3,9 @@
 ghost use Rattle.std.specs.Prelude.{◌≡◌, ◌<◌, ◌≤◌, length, false, IsTrue, IfOk, IfErr, IsOkAnd};
 ghost use Rattle.pdcp.specs.Pdus.{Content, content_of, Pdcp, is_data, refusals, first_reason, radio_data, octet_of, report_octets};
 
-use gnb_base::bits::Bits;
-use gnb_base::names::SnBits;
-use gnb_base::octets::{Memory, Octets};
+use gnb_types::bits::Bits;
+use gnb_types::names::SnBits;
+use gnb_types::octets::{Memory, Octets};
 use std::alloc::Global;
 use thiserror::Error;
 

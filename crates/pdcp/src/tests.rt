@@ -1,8 +1,8 @@
 //! Octets of packets on the links of a worked network, and refusals written by hand.
 
 use crate::{Pdu, PduError, near, read_pdu, write_pdu, write_report};
-use gnb_base::bits::Bits;
-use gnb_base::names::SnBits;
+use gnb_types::bits::Bits;
+use gnb_types::names::SnBits;
 use std::test::Fail;
 
 #[derive(Drop)]

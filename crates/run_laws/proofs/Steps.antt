@@ -3,9 +3,9 @@ use Rattle.std.proofs.Common.{◌≡◌, ℕ, ◌+◌, zero, suc, Bool, true, fa
 use Rattle.std.proofs.lemmas.List.{append-nil, length-map}
 use Rattle.std.proofs.lemmas.Grind.{flat_map-append}
 use Rattle.std.specs.List.{enumerate_from}
-use Rattle.gnb_base.specs.declared.names.UeId.{UeId}
-use Rattle.gnb_base.specs.declared.names.BearerId.{BearerId}
-use Rattle.gnb_base.specs.declared.names.NodeId.{NodeId}
+use Rattle.gnb_types.specs.declared.names.UeId.{UeId}
+use Rattle.gnb_types.specs.declared.names.BearerId.{BearerId}
+use Rattle.gnb_types.specs.declared.names.NodeId.{NodeId}
 use Rattle.scenario_text.specs.declared.event.Event.{Event}
 use Rattle.scenario_text.specs.declared.event.Event.TheVariants as events
 use Rattle.scenario_text.specs.declared.line.Link.{Link}

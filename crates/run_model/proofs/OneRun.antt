@@ -2,7 +2,7 @@
 use Rattle.std.proofs.Common.{◌≡◌, ℕ, ◌+◌, Bool, true, false, cond, List, [], ◌∷◌, ◌++◌, map, length, Option, Some, None, unwrap_or, refl, sym, ap, subst, ◌∙◌, nat_lt, ◌==◌}
 use Rattle.std.specs.FinMap.{FinMap, get, insert, get-insert, empty, get-empty}
 use Rattle.std.specs.List.{list_any, fold}
-use Rattle.gnb_base.specs.declared.names.UeId.{UeId}
+use Rattle.gnb_types.specs.declared.names.UeId.{UeId}
 use Rattle.scenario_text.specs.declared.event.Event.{Event}
 use Rattle.scenario_text.specs.declared.event.Event.TheVariants as events
 use Rattle.scenario_text.specs.declared.line.RefuseReason.{RefuseReason}

@@ -4,13 +4,13 @@ use Rattle.std.specs.Prelude.{ℕ, Bool, List, [], ◌∷◌}
 use Rattle.std.specs.declared.cmp.Ordering.{Ordering}
 use Rattle.std.specs.Ordering.{nat_cmp, eq_by_cmp, on}
 use Rattle.std.specs.Cmp.Lexicographic.{slice_cmp}
-use Rattle.gnb_base.specs.declared.names.Gnb.TheVariants.{A, B}
-use Rattle.gnb_base.specs.declared.names.NodeId.{NodeId}
-use Rattle.gnb_base.specs.declared.names.NodeId.TheVariants.{CuCp, CuUp, Du, Core, Ue}
-use Rattle.gnb_base.specs.declared.names.UeId.{UeId}
-use Rattle.gnb_base.specs.declared.names.BearerId.{BearerId}
-use Rattle.gnb_base.specs.declared.names.Dir.{Dir}
-use Rattle.gnb_base.specs.declared.names.Dir.TheVariants.{Dl, Ul}
+use Rattle.gnb_types.specs.declared.names.Gnb.TheVariants.{A, B}
+use Rattle.gnb_types.specs.declared.names.NodeId.{NodeId}
+use Rattle.gnb_types.specs.declared.names.NodeId.TheVariants.{CuCp, CuUp, Du, Core, Ue}
+use Rattle.gnb_types.specs.declared.names.UeId.{UeId}
+use Rattle.gnb_types.specs.declared.names.BearerId.{BearerId}
+use Rattle.gnb_types.specs.declared.names.Dir.{Dir}
+use Rattle.gnb_types.specs.declared.names.Dir.TheVariants.{Dl, Ul}
 
 -- the end of a tunnel: the node, and the TEID that it gave (TS 29.281, 3.1)
 pub record Place : Type 0 where

@@ -2,9 +2,9 @@
 use Rattle.std.specs.Prelude.{ℕ, List, [], unwrap_or}
 use Rattle.std.specs.declared.cmp.Ordering.{Ordering}
 use Rattle.std.specs.FinMap.{FinMap, get, empty}
-use Rattle.gnb_base.specs.declared.names.UeId.{UeId}
-use Rattle.gnb_base.specs.declared.names.SnBits.{SnBits}
-use Rattle.gnb_base.specs.declared.names.SnBits.TheVariants.{Len12, Len18}
+use Rattle.gnb_types.specs.declared.names.UeId.{UeId}
+use Rattle.gnb_types.specs.declared.names.SnBits.{SnBits}
+use Rattle.gnb_types.specs.declared.names.SnBits.TheVariants.{Len12, Len18}
 use Rattle.run_model.specs.Keys.{Place, Bearer, place_cmp, bearer_cmp, seat_cmp, radio_cmp}
 
 -- a numbered packet: its COUNT (TS 38.323, 6.3.5), which stands beside it in full

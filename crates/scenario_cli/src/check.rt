@@ -7,8 +7,8 @@ ghost use Rattle.scenario_cli.specs.Headline.{CheckMeets};
 
 use crate::output::{text_of, write_all};
 use crate::status::{Ended, module_code_of};
-use gnb_base::octets::{Memory, Octets};
 use gnb_base::outside::{Sink, Source};
+use gnb_types::octets::{Memory, Octets};
 use module_check::{CheckStop, CheckedModule, check_module};
 use std::alloc::Global;
 

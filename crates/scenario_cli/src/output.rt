@@ -5,8 +5,8 @@ ghost use Rattle.scenario_text.specs.Print.{print};
 ghost use Rattle.scenario_cli.specs.Writes.{Writes, WritesLines};
 
 use crate::status::Ended;
-use gnb_base::octets::{Memory, Octets};
 use gnb_base::outside::{Failed, Sink};
+use gnb_types::octets::{Memory, Octets};
 use scenario_text::line::OutLine;
 use scenario_text::print::print_line;
 use std::alloc::Global;

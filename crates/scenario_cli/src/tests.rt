@@ -5,7 +5,7 @@ ghost use Rattle.std.specs.Prelude.{◌<◌};
 use crate::status::Status;
 use crate::top::gnb;
 use gnb_base::memory::{MemorySink, MemorySource};
-use gnb_base::octets::Octets;
+use gnb_types::octets::Octets;
 use std::alloc::Global;
 use std::cmp::min;
 use std::process::Abort;

@@ -10,13 +10,13 @@ use Rattle.std.proofs.lemmas.Bool.Decides.{nat_tests}
 use Rattle.std.proofs.lemmas.List.{take-append-drop}
 use Rattle.std.proofs.lemmas.Slice.Eq.{bytes_eq-Decides}
 use Rattle.std.proofs.lemmas.Fmt.{decimal_is_IsNumeral, decimal-digits_value, decimal_nonempty, first_decimal}
-use Rattle.gnb_base.specs.Names.{gnb_text, node_text, ue_text, bearer_text}
-use Rattle.gnb_base.specs.declared.names.Gnb.{Gnb}
-use Rattle.gnb_base.specs.declared.names.Gnb.TheVariants.{A, B}
-use Rattle.gnb_base.specs.declared.names.NodeId.{NodeId}
-use Rattle.gnb_base.specs.declared.names.NodeId.TheVariants.{CuCp, CuUp, Du, Core, Ue}
-use Rattle.gnb_base.specs.declared.names.UeId.{UeId}
-use Rattle.gnb_base.specs.declared.names.BearerId.{BearerId}
+use Rattle.gnb_types.specs.Names.{gnb_text, node_text, ue_text, bearer_text}
+use Rattle.gnb_types.specs.declared.names.Gnb.{Gnb}
+use Rattle.gnb_types.specs.declared.names.Gnb.TheVariants.{A, B}
+use Rattle.gnb_types.specs.declared.names.NodeId.{NodeId}
+use Rattle.gnb_types.specs.declared.names.NodeId.TheVariants.{CuCp, CuUp, Du, Core, Ue}
+use Rattle.gnb_types.specs.declared.names.UeId.{UeId}
+use Rattle.gnb_types.specs.declared.names.BearerId.{BearerId}
 use Rattle.scenario_text.specs.Grammar.{◌is◌, ◌begins◌, is_plain, number_of, ue_of, bearer_of, unit_of, node_of}
 use Rattle.scenario_text.specs.Texts.{IsWithin, IsUe, IsBearer, IsNode}
 use Rattle.scenario_text.proofs.NumberLemmas.{own, Plain-from}

@@ -7,13 +7,13 @@ use Rattle.std.specs.Char.{is_ascii_digit}
 use Rattle.std.specs.Str.{bytes_eq}
 use Rattle.std.specs.Str.Parse.{digits_value}
 use denote.Ref.{Bor}
-use Rattle.gnb_base.specs.Hex.{read_hex}
-use Rattle.gnb_base.specs.declared.names.Gnb.{Gnb}
-use Rattle.gnb_base.specs.declared.names.Gnb.TheVariants.{A, B}
-use Rattle.gnb_base.specs.declared.names.NodeId.{NodeId}
-use Rattle.gnb_base.specs.declared.names.NodeId.TheVariants.{CuCp, CuUp, Du, Core, Ue}
-use Rattle.gnb_base.specs.declared.names.UeId.{UeId}
-use Rattle.gnb_base.specs.declared.names.BearerId.{BearerId}
+use Rattle.gnb_types.specs.Hex.{read_hex}
+use Rattle.gnb_types.specs.declared.names.Gnb.{Gnb}
+use Rattle.gnb_types.specs.declared.names.Gnb.TheVariants.{A, B}
+use Rattle.gnb_types.specs.declared.names.NodeId.{NodeId}
+use Rattle.gnb_types.specs.declared.names.NodeId.TheVariants.{CuCp, CuUp, Du, Core, Ue}
+use Rattle.gnb_types.specs.declared.names.UeId.{UeId}
+use Rattle.gnb_types.specs.declared.names.BearerId.{BearerId}
 use Rattle.scenario_text.specs.declared.event.Event.{Event}
 use Rattle.scenario_text.specs.declared.event.Event.TheVariants as events
 use Rattle.scenario_text.specs.declared.event.TextReason.{TextReason}

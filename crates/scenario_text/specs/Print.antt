@@ -2,8 +2,8 @@
 use Rattle.std.specs.Prelude.{ℕ, List, [], ◌∷◌, ◌++◌, codes, Option, Some, None}
 use Rattle.std.specs.List.{flat_map}
 use Rattle.std.specs.Fmt.{decimal}
-use Rattle.gnb_base.specs.Hex.{hex_of}
-use Rattle.gnb_base.specs.Names.{node_text, ue_text, bearer_text, dir_text}
+use Rattle.gnb_types.specs.Hex.{hex_of}
+use Rattle.gnb_types.specs.Names.{node_text, ue_text, bearer_text, dir_text}
 use Rattle.scenario_text.specs.declared.event.Event.{Event}
 use Rattle.scenario_text.specs.declared.event.Event.TheVariants as events
 use Rattle.scenario_text.specs.declared.line.Link.{Link}

@@ -1,12 +1,12 @@
 -- The numbers that an event may have, and which lines are the text of an event: the grammar once more, from the event
 -- to the line.
 use Rattle.std.specs.Prelude.{◌≡◌, ℕ, ◌-◌, ◌^◌, ◌<◌, ◌≤◌, List, length, codes, All}
-use Rattle.gnb_base.specs.Hex.{IsHexOf}
-use Rattle.gnb_base.specs.Names.{ue_text, bearer_text}
-use Rattle.gnb_base.specs.declared.names.NodeId.{NodeId}
-use Rattle.gnb_base.specs.declared.names.NodeId.TheVariants.{CuCp, CuUp, Du, Core, Ue}
-use Rattle.gnb_base.specs.declared.names.UeId.{UeId}
-use Rattle.gnb_base.specs.declared.names.BearerId.{BearerId}
+use Rattle.gnb_types.specs.Hex.{IsHexOf}
+use Rattle.gnb_types.specs.Names.{ue_text, bearer_text}
+use Rattle.gnb_types.specs.declared.names.NodeId.{NodeId}
+use Rattle.gnb_types.specs.declared.names.NodeId.TheVariants.{CuCp, CuUp, Du, Core, Ue}
+use Rattle.gnb_types.specs.declared.names.UeId.{UeId}
+use Rattle.gnb_types.specs.declared.names.BearerId.{BearerId}
 use Rattle.scenario_text.specs.Print.{event_text, ◌then◌}
 use Rattle.scenario_text.specs.declared.event.Event.{Event}
 use Rattle.scenario_text.specs.declared.event.Event.TheVariants as events

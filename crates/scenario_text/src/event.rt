@@ -1,7 +1,7 @@
 //! The events of a script, and why a line is none.
 
-use gnb_base::names::{BearerId, NodeId, UeId};
-use gnb_base::octets::Octets;
+use gnb_types::names::{BearerId, NodeId, UeId};
+use gnb_types::octets::Octets;
 
 /// What a line of a script makes happen.
 #[derive(Clone, Debug, PartialEq, Eq, Drop)]

@@ -1,8 +1,8 @@
 //! The lines of a transcript.
 
 use crate::event::Event;
-use gnb_base::names::{BearerId, Dir, NodeId, UeId};
-use gnb_base::octets::Octets;
+use gnb_types::names::{BearerId, Dir, NodeId, UeId};
+use gnb_types::octets::Octets;
 
 /// A tunnel, named by its end, or the radio of a bearer, a direction and an epoch.
 #[derive(Clone, Copy, Debug, PartialEq, Eq)]

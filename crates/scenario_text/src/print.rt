@@ -1,12 +1,12 @@
 //! The text of events and of lines, by `Display`.
 
 ghost use Rattle.std.specs.Prelude.{◌≡◌, Some, IfOk};
-ghost use Rattle.gnb_base.specs.Hex.{hex_of};
+ghost use Rattle.gnb_types.specs.Hex.{hex_of};
 ghost use Rattle.scenario_text.specs.Print.{event_text, link_text, count_text, item_text, refusal_text, hold_text, line_text};
 
 use crate::event::Event;
 use crate::line::{HeldReason, Item, Link, OutLine, RefuseReason};
-use gnb_base::octets::{Memory, Octets};
+use gnb_types::octets::{Memory, Octets};
 use std::alloc::Global;
 use std::fmt;
 

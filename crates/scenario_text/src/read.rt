@@ -10,9 +10,9 @@ ghost use Rattle.scenario_text.specs.Texts.{InRange};
 ghost use Rattle.scenario_text.specs.declared.read.TextError.TheVariants.{Refused as RefusedFor, Memory as OutOfMemory};
 
 use crate::event::{Event, TextReason};
-use gnb_base::hex::{HexError, hex_bytes};
-use gnb_base::names::{BearerId, Gnb, NodeId, UeId};
-use gnb_base::octets::Octets;
+use gnb_types::hex::{HexError, hex_bytes};
+use gnb_types::names::{BearerId, Gnb, NodeId, UeId};
+use gnb_types::octets::Octets;
 use std::alloc::Global;
 
 /// Why a line isn't read as an event.

@@ -4,8 +4,8 @@ use crate::event::TextReason;
 use crate::line::{HeldReason, Item, Link, OutLine, RefuseReason};
 use crate::print::print_line;
 use crate::read::{TextError, is_skipped, read_event, read_header};
-use gnb_base::names::{BearerId, Dir, Gnb, NodeId, UeId};
-use gnb_base::octets::{Memory, Octets};
+use gnb_types::names::{BearerId, Dir, Gnb, NodeId, UeId};
+use gnb_types::octets::{Memory, Octets};
 use std::alloc::Global;
 use std::test::Fail;
 

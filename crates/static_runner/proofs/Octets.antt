@@ -2,7 +2,7 @@
 use Rattle.std.proofs.Common.{◌≡◌, ℕ, ◌+◌, ◌-◌, ◌^◌, ◌<◌, ◌%◌, Bool, false, List, length, Option, Some, None, Result, Ok, Err, refl, sym, ap, subst, ◌∙◌, arith}
 use denote.Ref.{Bor}
 use Rattle.std.specs.Prelude.{IsOkAnd, IfOk, IsSome, IfSome, IsSomeAnd}
-use Rattle.gnb_base.specs.declared.names.SnBits.TheVariants.{Len12}
+use Rattle.gnb_types.specs.declared.names.SnBits.TheVariants.{Len12}
 use Rattle.pdcp.specs.Near.{IsNear}
 use Rattle.pdcp.specs.Pdus.{Pdcp, data_pdu, Content, content_of}
 use Rattle.pdcp.specs.declared.pdu.Pdu.{Pdu}

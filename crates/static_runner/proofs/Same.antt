@@ -1,10 +1,10 @@
 -- The tests of the code on names, and those of the tables.
 use Rattle.std.proofs.Common.{◌≡◌, ℕ, Bool, true, false, ◌&&◌, eqb, eq-eqb, refl, sym, ap, ◌∙◌}
 use Rattle.std.proofs.lemmas.Bool.{false≢true, eqb-true}
-use Rattle.gnb_base.specs.declared.names.UeId.{UeId}
-use Rattle.gnb_base.specs.declared.names.BearerId.{BearerId}
+use Rattle.gnb_types.specs.declared.names.UeId.{UeId}
+use Rattle.gnb_types.specs.declared.names.BearerId.{BearerId}
 use Rattle.std.specs.Cmp.{eq_by_cmp_equiv}
-use Rattle.gnb_base.specs.declared.names.NodeId.{NodeId}
+use Rattle.gnb_types.specs.declared.names.NodeId.{NodeId}
 use Rattle.run_model.specs.Keys.{Bearer, Place, Radio, bearer_cmp, same_bearer, same_place, same_radio}
 use Rattle.run_model.specs.Run.{static_bearer, static_radio, downlink_of, radio_of, place_at}
 use Rattle.run_model.proofs.Tables.{bearer_exact, place_exact, radio_exact, place_total, radio_total}

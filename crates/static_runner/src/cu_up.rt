@@ -7,8 +7,8 @@ ghost use Rattle.link_layouts.specs.Links.{n3_downlink, f1u_downlink_data};
 ghost use Rattle.run_model.specs.Run.{static_bits};
 ghost use Rattle.static_runner.specs.Header.{frame_header};
 
-use gnb_base::names::SnBits;
-use gnb_base::octets::{Memory, Octets};
+use gnb_types::names::SnBits;
+use gnb_types::octets::{Memory, Octets};
 use gtpu::{Kind, NR_RAN_CONTAINER, Packet};
 use link_packets::{N3, read_n3};
 use nr_user_plane::Frame;

@@ -6,7 +6,7 @@ ghost use Rattle.link_layouts.specs.Links.{f1u_downlink_data, radio_data};
 ghost use Rattle.run_model.specs.Run.{static_bits};
 ghost use Rattle.static_runner.specs.Units.{IsFramed};
 
-use gnb_base::names::SnBits;
+use gnb_types::names::SnBits;
 use link_packets::{F1uDownlink, read_f1u_downlink};
 
 /// The PDU that octets on an F1-U downlink tunnel carry, None where they are no frame with one.

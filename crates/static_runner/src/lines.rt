@@ -3,7 +3,7 @@
 ghost use Rattle.std.specs.Prelude.{◌≡◌, List, [], ◌∷◌, ◌++◌, OnOk, OnErr, IfOk};
 ghost use Rattle.scenario_text.specs.declared.line.OutLine.{OutLine};
 
-use gnb_base::octets::Memory;
+use gnb_types::octets::Memory;
 use scenario_text::line::OutLine;
 use std::alloc::Global;
 use std::marker::Model;

@@ -1,7 +1,7 @@
 //! The first packet on its way from the core to the terminal, and an event that is refused.
 
 use crate::runner::Runner;
-use gnb_base::octets::Octets;
+use gnb_types::octets::Octets;
 use scenario_text::print::print_line;
 use scenario_text::read::read_event;
 use std::test::Fail;

@@ -5,11 +5,11 @@ ghost use Rattle.std.specs.Prelude.{◌≡◌, ◌+◌, ◌-◌, ◌^◌, ◌<�
 ghost use Rattle.link_layouts.specs.Decoding.{IsSized};
 ghost use Rattle.link_layouts.specs.Links.{radio_data};
 ghost use Rattle.run_model.specs.Run.{static_bits};
-ghost use Rattle.gnb_base.specs.declared.names.SnBits.TheVariants.{Len12};
+ghost use Rattle.gnb_types.specs.declared.names.SnBits.TheVariants.{Len12};
 ghost use Rattle.pdcp.specs.Near.{IsNear};
 ghost use Rattle.static_runner.specs.Delivers.{IsAwaited};
 
-use gnb_base::names::SnBits;
+use gnb_types::names::SnBits;
 use pdcp::Pdu;
 
 /// What the terminal keeps of its downlink bearer.

@@ -1,7 +1,7 @@
 use Rattle.std.proofs.Common.{subst}
 use Rattle.link_layouts.specs.Decoding.{DecodesOn, n3}
 use Rattle.link_packets.specs.Items.{n3_item}
-use Rattle.gnb_base.specs.declared.names.SnBits.TheVariants.{Len12}
+use Rattle.gnb_types.specs.declared.names.SnBits.TheVariants.{Len12}
 use Rattle.static_runner.proofs.Octets.{n3_read, fresh_read, fresh_sized}
 use Rattle.static_runner.proofs.cu_up.n3_packet.Goals as goal
 

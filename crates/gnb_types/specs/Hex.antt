@@ -1,8 +1,8 @@
 -- Bytes as hexadecimal text: two digits for each byte, the high one first.
 use Rattle.std.specs.Prelude.{◌≡◌, ℕ, ◌+◌, ◌-◌, ◌*◌, ◌/◌, ◌%◌, ◌<◌, ◌≤◌, ◌⊎◌, ◌&&◌, nat_lt, nat_le, if◌then◌else◌, List, [], ◌∷◌, Option, Some, None, Result, Ok, Err}
 use Rattle.std.specs.List.{flat_map}
-use Rattle.gnb_base.specs.declared.hex.HexError.{HexError}
-use Rattle.gnb_base.specs.declared.hex.HexError.TheVariants as errors
+use Rattle.gnb_types.specs.declared.hex.HexError.{HexError}
+use Rattle.gnb_types.specs.declared.hex.HexError.TheVariants as errors
 
 -- the digit of a number below 16: `0` to `9`, then `A` to `F`
 abbrev pub hex_digit : ℕ → ℕ

@@ -1,14 +1,14 @@
 -- How nodes, terminals, bearers and directions are written.
 use Rattle.std.specs.Prelude.{ℕ, List, ◌++◌, codes}
 use Rattle.std.specs.Fmt.{decimal}
-use Rattle.gnb_base.specs.declared.names.Gnb.{Gnb}
-use Rattle.gnb_base.specs.declared.names.Gnb.TheVariants.{A, B}
-use Rattle.gnb_base.specs.declared.names.NodeId.{NodeId}
-use Rattle.gnb_base.specs.declared.names.NodeId.TheVariants.{CuCp, CuUp, Du, Core, Ue}
-use Rattle.gnb_base.specs.declared.names.UeId.{UeId}
-use Rattle.gnb_base.specs.declared.names.BearerId.{BearerId}
-use Rattle.gnb_base.specs.declared.names.Dir.{Dir}
-use Rattle.gnb_base.specs.declared.names.Dir.TheVariants.{Dl, Ul}
+use Rattle.gnb_types.specs.declared.names.Gnb.{Gnb}
+use Rattle.gnb_types.specs.declared.names.Gnb.TheVariants.{A, B}
+use Rattle.gnb_types.specs.declared.names.NodeId.{NodeId}
+use Rattle.gnb_types.specs.declared.names.NodeId.TheVariants.{CuCp, CuUp, Du, Core, Ue}
+use Rattle.gnb_types.specs.declared.names.UeId.{UeId}
+use Rattle.gnb_types.specs.declared.names.BearerId.{BearerId}
+use Rattle.gnb_types.specs.declared.names.Dir.{Dir}
+use Rattle.gnb_types.specs.declared.names.Dir.TheVariants.{Dl, Ul}
 
 abbrev pub gnb_text : Gnb → List ℕ
 gnb_text A = codes "A"

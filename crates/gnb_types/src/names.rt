@@ -1,7 +1,7 @@
 //! The names of gNBs, units, terminals and bearers (TS 38.401, 6.1), in this project's numbers.
 
 ghost use Rattle.std.specs.Prelude.{Some};
-ghost use Rattle.gnb_base.specs.Names.{gnb_text, node_text, ue_text, bearer_text, dir_text};
+ghost use Rattle.gnb_types.specs.Names.{gnb_text, node_text, ue_text, bearer_text, dir_text};
 
 use std::fmt;
 

@@ -1,6 +1,6 @@
 use Rattle.std.proofs.Common.{arith}
-use Rattle.gnb_base.proofs.HexLemmas.{hex_none, hex_odd, hex_more, hex_stop, hex_all}
-use Rattle.gnb_base.proofs.hex.bytes_of.Goals as goal
+use Rattle.gnb_types.proofs.HexLemmas.{hex_none, hex_odd, hex_more, hex_stop, hex_all}
+use Rattle.gnb_types.proofs.hex.bytes_of.Goals as goal
 
 pub returns-then-text-ne0 : goal.returns-then-text-ne0
 returns-then-text-ne0 c = hex_odd c.args.text.now (omega arith)

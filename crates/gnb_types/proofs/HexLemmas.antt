@@ -4,9 +4,9 @@ use Rattle.std.proofs.lemmas.List.{drop_more, drop_all}
 use Rattle.std.proofs.lemmas.Bool.Decides.{nat_tests}
 use Rattle.std.proofs.lemmas.List.Elements.{All-head, All-tail}
 use Rattle.std.specs.Prelude.{All, IfOk, Result, Ok, Err}
-use Rattle.gnb_base.specs.declared.hex.HexError.{HexError}
+use Rattle.gnb_types.specs.declared.hex.HexError.{HexError}
 use Rattle.std.specs.Option.{option_map}
-use Rattle.gnb_base.specs.Hex.{hex_digit, hex_of, digit_of, byte_of, byte_before, read_hex, IsDigitOf, IsHexOf, GivesHex}
+use Rattle.gnb_types.specs.Hex.{hex_digit, hex_of, digit_of, byte_of, byte_before, read_hex, IsDigitOf, IsHexOf, GivesHex}
 
 -- the bytes so far, and those of what is left
 abbrev pub onto : List ℕ → Option (List ℕ) → Option (List ℕ)

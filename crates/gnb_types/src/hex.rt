@@ -1,8 +1,8 @@
 //! Bytes as hexadecimal text.
 
 ghost use Rattle.std.specs.Prelude.{◌≡◌, ◌<◌, ◌↔◌, ℕ, List, IfOk, All};
-ghost use Rattle.gnb_base.specs.Hex.{hex_digit, hex_of, digit_of, byte_of, read_hex, IsHexOf, GivesHex};
-ghost use Rattle.gnb_base.specs.declared.hex.HexError.TheVariants.{Memory as OutOfMemory};
+ghost use Rattle.gnb_types.specs.Hex.{hex_digit, hex_of, digit_of, byte_of, read_hex, IsHexOf, GivesHex};
+ghost use Rattle.gnb_types.specs.declared.hex.HexError.TheVariants.{Memory as OutOfMemory};
 
 use crate::octets::{Memory, Octets};
 use std::alloc::Global;

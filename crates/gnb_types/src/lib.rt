@@ -1,0 +1,12 @@
+//! The plain types that every crate stands on: names of nodes, terminals and bearers, lists, plans, and what units take and give.
+#![tactic(auto)]
+
+pub mod bits;
+pub mod hex;
+pub mod names;
+pub mod octets;
+pub mod plans;
+pub mod reasons;
+pub mod tags;
+#[cfg(test)]
+mod tests;
