@@ -7,6 +7,7 @@ use Rattle.gnb_base.specs.declared.lines.ReadPhase.{ReadPhase}
 use Rattle.gnb_base.specs.declared.lines.ReadPhase.TheVariants.{Going, Ended, TooLong, Failed}
 use Rattle.gnb_base.specs.declared.lines.ReadError.{ReadError}
 use Rattle.gnb_base.specs.declared.lines.ReadError.TheVariants as errors
+use Rattle.gnb_base.specs.Outside.{SourceAt}
 use Rattle.gnb_base.specs.Lines.{line_feed, lines_of, HasNoLf}
 use Rattle.gnb_base.specs.Reading.{Reading, IsUntouched, fresh, EndsInLf, EndsInput, NextMeets}
 use Rattle.gnb_base.specs.Handing.{Call, line_in, texts, lines_handed_out, Run, HandedOut}
@@ -55,34 +56,34 @@ done_ends old left taken more lines h nothing (inr ended) =
     ap (λ (xs : List ℕ). lines_of (taken ++ xs)) none ∙ ap lines_of (append-nil taken) ∙ h.ended ended
 
 -- one call
-module _ (old new : Reading) (left0 left1 : Option (List ℕ)) (before after : ℕ) (taken : List ℕ) (lines : List (List ℕ)) (h : HandedOut old taken lines) where
-  bytes_so : (more : List ℕ) → new.taken ≡ old.taken + length more → length (taken ++ more) ≡ new.taken
-  bytes_so more counts = omega (arith, length-append taken more, h.bytes, counts)
+module _ (old new : Reading) (before after : SourceAt) (taken : List ℕ) (lines : List (List ℕ)) (h : HandedOut old taken lines) where
+  bytes_taken : (more : List ℕ) → new.taken ≡ old.taken + length more → length (taken ++ more) ≡ new.taken
+  bytes_taken more counts = omega (arith, length-append taken more, h.bytes, counts)
 
-  pub handed_line : (line : Line) (m : NextMeets old new left0 left1 before after (Ok (Some line))) → HandedOut new (taken ++ m.taken) (lines ++ line.text ∷ [])
+  pub handed_line : (line : Line) (m : NextMeets old new before after (Ok (Some line))) → HandedOut new (taken ++ m.taken) (lines ++ line.text ∷ [])
   handed_line line m =
       record {
-        going = λ on rest. line_goes old new left1 taken m.taken rest line.text lines h m.answers.going m.answers.without_lf m.answers.ends on;
-        ended = λ at_end. line_ends old new left1 taken m.taken line.text lines h m.answers.going m.answers.without_lf m.answers.ends at_end;
-        bytes = bytes_so m.taken m.counts;
+        going = λ on rest. line_goes old new after.left taken m.taken rest line.text lines h m.answers.going m.answers.without_lf m.answers.ends on;
+        ended = λ at_end. line_ends old new after.left taken m.taken line.text lines h m.answers.going m.answers.without_lf m.answers.ends at_end;
+        bytes = bytes_taken m.taken m.counts;
         count = λ _. omega (arith, length-append lines (line.text ∷ []), h.count m.answers.going, m.answers.number, m.answers.lines);
       }
 
-  pub handed_done : (m : NextMeets old new left0 left1 before after (Ok None)) → HandedOut new (taken ++ m.taken) lines
+  pub handed_done : (m : NextMeets old new before after (Ok None)) → HandedOut new (taken ++ m.taken) lines
   handed_done m =
       record {
         going = λ on rest. not_both new _ m.answers.phase on;
-        ended = λ _. done_ends old left1 taken m.taken lines h m.answers.nothing m.answers.seen;
-        bytes = bytes_so m.taken m.counts;
+        ended = λ _. done_ends old after.left taken m.taken lines h m.answers.nothing m.answers.seen;
+        bytes = bytes_taken m.taken m.counts;
         count = λ on. not_both new _ m.answers.phase on;
       }
 
-  pub handed_fault : (m : NextMeets old new left0 left1 before after (Err errors.ReadFault)) → HandedOut new (taken ++ m.taken) lines
+  pub handed_fault : (m : NextMeets old new before after (Err errors.ReadFault)) → HandedOut new (taken ++ m.taken) lines
   handed_fault m =
       record {
         going = λ _ rest. taken_more old taken m.taken rest lines h m.answers.going ∙ ap (λ (xs : List ℕ). lines ++ lines_of (xs ++ rest)) (sym m.answers.kept);
         ended = λ at_end. not_both new _ at_end m.answers.phase;
-        bytes = bytes_so m.taken m.counts;
+        bytes = bytes_taken m.taken m.counts;
         count = λ _. h.count m.answers.going ∙ sym m.answers.lines;
       }
 
@@ -92,11 +93,11 @@ module _ (old new : Reading) (left0 left1 : Option (List ℕ)) (before after : �
       record {
         going = λ on rest. absurd (not_going (sym is ∙ on));
         ended = λ at_end. absurd (not_ended (sym is ∙ at_end));
-        bytes = bytes_so more counts;
+        bytes = bytes_taken more counts;
         count = λ on. absurd (not_going (sym is ∙ on));
       }
 
-  pub handed_call : (result : Result (Option Line) ReadError) (m : NextMeets old new left0 left1 before after result) → HandedOut new (taken ++ m.taken) (lines ++ texts (line_in result))
+  pub handed_call : (result : Result (Option Line) ReadError) (m : NextMeets old new before after result) → HandedOut new (taken ++ m.taken) (lines ++ texts (line_in result))
   handed_call (Ok (Some line)) m = handed_line line m
   handed_call (Ok None) m = subst (HandedOut new (taken ++ m.taken)) (sym (append-nil lines)) (handed_done m)
   handed_call (Err errors.ReadFault) m = subst (HandedOut new (taken ++ m.taken)) (sym (append-nil lines)) (handed_fault m)
@@ -106,14 +107,14 @@ module _ (old new : Reading) (left0 left1 : Option (List ℕ)) (before after : �
       subst (HandedOut new (taken ++ m.taken)) (sym (append-nil lines)) (stopped m.taken Failed m.answers.0 (λ (e : Failed ≡ Going). (cc)) (λ (e : Failed ≡ Ended). (cc)) m.counts)
 
 -- nothing is left of the source at the end, where an earlier end was of the same source
-pub done_at_end : (old new : Reading) (left0 left1 : Option (List ℕ)) (before after : ℕ) (m : NextMeets old new left0 left1 before after (Ok None))
-    → (old.phase ≡ Ended → IsAtEnd left0) → IsAtEnd left1
-done_at_end old new left0 left1 before after m earlier = by m.answers.seen m.stays
+pub done_at_end : (old new : Reading) (before after : SourceAt) (m : NextMeets old new before after (Ok None))
+    → (old.phase ≡ Ended → IsAtEnd before.left) → IsAtEnd after.left
+done_at_end old new before after m earlier = by m.answers.seen m.stays
   where
-    by : ((old.phase ≡ Going) × IsAtEnd left1) ⊎ (old.phase ≡ Ended) → (old.phase ≡ Going) ⊎ IsUntouched old new left0 left1 before after → IsAtEnd left1
+    by : ((old.phase ≡ Going) × IsAtEnd after.left) ⊎ (old.phase ≡ Ended) → (old.phase ≡ Going) ⊎ IsUntouched old new before after → IsAtEnd after.left
     by (inl (going, end)) s = end
     by (inr ended) (inl going) = not_both old _ ended going
-    by (inr ended) (inr same) = subst IsAtEnd (sym same.source) (earlier ended)
+    by (inr ended) (inr same) = subst (λ (s : SourceAt). IsAtEnd s.left) (sym same.source) (earlier ended)
 
 -- all calls
 pub handed_run : (old new : Reading) (calls : List Call) (taken first : List ℕ) (lines : List (List ℕ)) → HandedOut old first lines → Run old calls taken new
@@ -124,7 +125,7 @@ handed_run old new [] taken first lines h (none, same) =
     (subst (λ (xs : List ℕ). HandedOut new xs lines) bytes (subst (λ (r : Reading). HandedOut r first lines) (sym same) h))
 handed_run old new (c ∷ calls) taken first lines h (mid, m, rest, split, more) =
     let further = handed_run mid new calls rest (first ++ m.taken) (lines ++ texts (line_in c.result))
-    (handed_call old mid c.left0 c.left1 c.before c.after first lines h c.result m) more in
+    (handed_call old mid c.before c.after first lines h c.result m) more in
     let bytes : (first ++ m.taken) ++ rest ≡ first ++ taken = append_assoc first m.taken rest ∙ ap (λ (xs : List ℕ). first ++ xs) (sym split) in
     let all : (lines ++ texts (line_in c.result)) ++ texts (lines_handed_out calls) ≡ lines ++ texts (lines_handed_out (c ∷ calls)) =
     append_assoc lines (texts (line_in c.result)) (texts (lines_handed_out calls))

@@ -1,10 +1,11 @@
 -- Bytes without LF, and the front of a piece that a read filled.
-use Rattle.std.proofs.Common.{◌≡◌, ◌≢◌, ℕ, ◌+◌, ◌<◌, ◌≤◌, List, [], ◌∷◌, ◌++◌, length, get_or, take, Option, Result, Ok, Err, sym, subst, arith}
+use Rattle.std.proofs.Common.{◌≡◌, ◌≢◌, ◌==◌, ℕ, ◌+◌, ◌-◌, ◌<◌, ◌≤◌, Bool, true, false, if◌then◌else◌, List, [], ◌∷◌, ◌++◌, length, get_or, take, Option, Result, Ok, Err, refl, sym, ap, ◌∙◌, subst, arith, append-nil, nat_eq, eqb-true}
 use Rattle.std.proofs.lemmas.List.{take_more, take_all, take-append-le}
 use Rattle.std.specs.Io.{ReadsAtMost}
 use Rattle.std.specs.Io.KnownBytes.{ReadConsumes, Consumes}
-use Rattle.gnb_base.specs.Lines.{line_feed, HasNoLf}
-use Rattle.gnb_base.specs.Reading.{FillsFront}
+use Rattle.gnb_base.specs.Lines.{line_feed, HasNoLf, past_line}
+use Rattle.gnb_base.specs.Pieces.{FillsFront}
+use Rattle.gnb_base.specs.Reading.{piece_size}
 
 pub HasNoLf-append : (xs ys : List ℕ) → HasNoLf xs → HasNoLf ys → HasNoLf (xs ++ ys)
 HasNoLf-append [] ys p q = q
@@ -25,3 +26,30 @@ pub fills_front : {E : Type 0} (left0 left1 : Option (List ℕ)) (wanted : ℕ) 
 fills_front left0 left1 wanted (Ok n) front rest consumes most same =
     (subst (Consumes left0 left1) (sym (take-append-le n front rest most.0)) consumes.0, λ none asked. consumes.1 none (omega arith))
 fills_front left0 left1 wanted (Err e) front rest consumes most same = consumes
+
+-- ---- the bytes after the first LF
+
+other_byte : (byte : ℕ) (test : Bool) (xs ys : List ℕ) → byte ≢ line_feed → test ≡ (byte == line_feed) → (if test then xs else ys) ≡ ys
+other_byte byte true xs ys other tested = absurd (other (eqb-true byte line_feed (sym tested)))
+other_byte byte false xs ys other tested = refl
+
+pub past_line-skips : (xs ys : List ℕ) → HasNoLf xs → past_line (xs ++ ys) ≡ past_line ys
+past_line-skips [] ys h = refl
+past_line-skips (x ∷ xs) ys h = other_byte x (x == line_feed) (xs ++ ys) (past_line (xs ++ ys)) h.0 refl ∙ past_line-skips xs ys h.1
+
+fewer : (test : Bool) (xs ys : List ℕ) (n : ℕ) → length xs ≤ n → length ys ≤ n → length (if test then xs else ys) ≤ n
+fewer true xs ys n h k = h
+fewer false xs ys n h k = k
+
+-- a line of some bytes, ended or not, leaves fewer
+pub past_line-length : (xs : List ℕ) → length (past_line xs) ≤ length xs - 1
+past_line-length [] = omega arith
+past_line-length (x ∷ xs) = fewer (x == line_feed) xs (past_line xs) (length (x ∷ xs) - 1) (omega arith) (omega (arith, past_line-length xs))
+
+-- after bytes without LF and at most a piece more, fewer than one read asks for
+pub few_after : (xs ys : List ℕ) → HasNoLf xs → length ys ≤ piece_size → length (past_line (xs ++ ys)) < piece_size
+few_after xs ys h short = omega (arith, ap (λ (zs : List ℕ). length zs) (past_line-skips xs ys h), past_line-length ys)
+
+-- after a line
+pub few_past : (all text rest : List ℕ) → all ≡ text ++ line_feed ∷ rest → HasNoLf text → length rest < piece_size → length (past_line all) < piece_size
+few_past all text rest e h short = omega (arith, ap (λ (xs : List ℕ). length (past_line xs)) e, ap length (past_line-skips text (line_feed ∷ rest) h))

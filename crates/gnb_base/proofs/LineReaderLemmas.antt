@@ -8,11 +8,11 @@ use Rattle.gnb_base.specs.declared.lines.ReadPhase.{ReadPhase}
 use Rattle.gnb_base.specs.declared.lines.ReadPhase.TheVariants.{Going, Ended, TooLong}
 use Rattle.gnb_base.specs.declared.lines.ReadError.{ReadError}
 use Rattle.gnb_base.specs.declared.lines.ReadError.TheVariants as errors
-use Rattle.gnb_base.specs.Causes.{Rose}
-use Rattle.gnb_base.specs.Lines.{line_feed, HasNoLf, IsFirstLf}
-use Rattle.gnb_base.specs.Reading.{Reading, input_limit, piece_size}
+use Rattle.gnb_base.specs.Outside.{SourceAt, one_more, Rose}
+use Rattle.gnb_base.specs.Lines.{line_feed, HasNoLf, IsFirstLf, past_line}
+use Rattle.gnb_base.specs.Reading.{Reading, CountsReadFault, FailsLast, input_limit, piece_size}
 use Rattle.gnb_base.specs.LineReader.{reading_of, PhaseFits, IsSound, TakesOff, TakesRest, Reads, ReadsMore}
-use Rattle.gnb_base.proofs.LineLemmas.{HasNoLf-append}
+use Rattle.gnb_base.proofs.LineLemmas.{HasNoLf-append, few_after}
 
 -- what wasn't looked at of the last piece
 abbrev pub rest_of : Inside → List ℕ
@@ -27,6 +27,12 @@ kept_length r sound = omega (arith, length-append r.begun.items (rest_of r), res
 some_length : (xs : List ℕ) → xs ≢ [] → 0 < length xs
 some_length [] h = absurd (h refl)
 some_length (x ∷ xs) h = omega arith
+
+-- of the kept bytes, those after the first line are less than a piece
+pub kept_few : (r : Inside) (old : Reading) → reading_of r ≡ old → IsSound r → length (past_line old.kept) < piece_size
+kept_few r old is sound =
+    subst (λ (o : Reading). length (past_line o.kept) < piece_size) is
+    (few_after r.begun.items (rest_of r) sound.begun (omega (arith, rest_length r sound, sound.room)))
 
 -- what a sound reader that goes on has taken
 pub going_within : (r : Inside) (old : Reading) → reading_of r ≡ old → IsSound r → old.phase ≡ Going → r.taken ≤ input_limit
@@ -56,9 +62,9 @@ last_taken r old new line is sound going text some number lines kept taken phase
 parted : (xs : List ℕ) (i : ℕ) → i < length xs → xs ≡ take i xs ++ get_or xs i 0 ∷ drop (i + 1) xs
 parted xs i h = sym (take-append-drop i xs) ∙ ap (λ (ys : List ℕ). take i xs ++ ys) (drop_more xs i 0 h)
 
--- the rest behind a place of it
-rest_behind : (r : Inside) (i : ℕ) → i < r.stop - r.start → drop (i + 1) (rest_of r) ≡ take (r.stop - (r.start + (i + 1))) (drop (r.start + (i + 1)) r.piece.items)
-rest_behind r i h =
+-- the rest after a place of it
+rest_after : (r : Inside) (i : ℕ) → i < r.stop - r.start → drop (i + 1) (rest_of r) ≡ take (r.stop - (r.start + (i + 1))) (drop (r.start + (i + 1)) r.piece.items)
+rest_after r i h =
     let m = r.stop - (r.start + (i + 1)) in
     let size : r.stop - r.start ≡ (i + 1) + m = omega arith in
     ap (λ (n : ℕ). drop (i + 1) (take n (drop r.start r.piece.items))) size
@@ -70,13 +76,13 @@ pub line_taken : (r : Inside) (old new : Reading) (line : Line) (i : ℕ) → re
     → new.taken ≡ r.taken → new.phase ≡ Going → TakesOff old new line
 line_taken r old new line i is sound going lf text number lines kept taken phase =
     let within = going_within r old is sound going in
-    let behind : i < r.stop - r.start = omega (arith, lf.in_range, rest_length r sound) in
+    let inside : i < r.stop - r.start = omega (arith, lf.in_range, rest_length r sound) in
     let shorter : length new.kept < piece_size =
     omega (arith, ap length kept, length-take (r.stop - (r.start + (i + 1))) (drop (r.start + (i + 1)) r.piece.items), sound.room) in
     let whole : rest_of r ≡ take i (rest_of r) ++ line_feed ∷ new.kept =
     parted (rest_of r) i lf.in_range
     ∙ ap (λ (b : ℕ). take i (rest_of r) ++ b ∷ drop (i + 1) (rest_of r)) lf.here
-    ∙ ap (λ (ys : List ℕ). take i (rest_of r) ++ line_feed ∷ ys) (rest_behind r i behind ∙ sym kept) in
+    ∙ ap (λ (ys : List ℕ). take i (rest_of r) ++ line_feed ∷ ys) (rest_after r i inside ∙ sym kept) in
     record {
       split = sym (ap (λ (o : Reading). o.kept) is) ∙ ap (λ (ys : List ℕ). r.begun.items ++ ys) whole
           ∙ sym (append_assoc r.begun.items (take i (rest_of r)) (line_feed ∷ new.kept))
@@ -110,93 +116,96 @@ same_first r piece i same lf = subst (λ (p : List ℕ). IsFirstLf (take (r.stop
 pub phase_is : (r : Inside) (old : Reading) → reading_of r ≡ old → old.phase ≡ Going → r.phase ≡ Going
 phase_is r old is going = ap (λ (o : Reading). o.phase) is ∙ going
 
-pub behind_nothing : (xs ys : List ℕ) → xs ≡ [] → xs ++ ys ≡ ys
-behind_nothing xs ys e = ap (λ (zs : List ℕ). zs ++ ys) e
+pub after_nothing : (xs ys : List ℕ) → xs ≡ [] → xs ++ ys ≡ ys
+after_nothing xs ys e = ap (λ (zs : List ℕ). zs ++ ys) e
 
 Consumes-none : (a b : Option (List ℕ)) → Keeps a b → Consumes a b []
 Consumes-none None b h = tt
 Consumes-none (Some xs) None h = h
 Consumes-none (Some xs) (Some ys) h = sym h
 
--- the kept bytes, moved together behind the begun line
+-- the kept bytes, moved together after the begun line
 pub gathered : (r : Inside) (old : Reading) (items piece : List ℕ) → reading_of r ≡ old → piece ≡ r.piece.items
     → items ≡ r.begun.items ++ take (r.stop - r.start) (drop r.start piece) → items ≡ old.kept
 gathered r old items piece is same e =
     e ∙ ap (λ (p : List ℕ). r.begun.items ++ take (r.stop - r.start) (drop r.start p)) same ∙ ap (λ (o : Reading). o.kept) is
 
--- and a front of a piece behind them
+-- and a front of a piece after them
 pub more_kept : (items kept whole piece : List ℕ) (count : ℕ) → items ≡ kept → whole ≡ piece → items ++ take (count - 0) whole ≡ kept ++ take count piece
 more_kept items kept whole piece count e same =
     let all : count - 0 ≡ count = omega arith in
     ap (λ (xs : List ℕ). xs ++ take (count - 0) whole) e
     ∙ ap (λ (n : ℕ). kept ++ take n whole) all ∙ ap (λ (p : List ℕ). kept ++ take count p) same
 
-pub read_failed : (r : Inside) (old new : Reading) (left0 left1 : Option (List ℕ)) (before after : ℕ) → reading_of r ≡ old → IsSound r → old.phase ≡ Going
-    → new.kept ≡ old.kept → new.taken ≡ r.taken → new.lines ≡ r.lines → new.phase ≡ Going
-    → Keeps left0 left1 → before ≤ after → Rose before after → ReadsMore old new left0 left1 before after (Err errors.ReadFault)
-read_failed r old new left0 left1 before after is sound going kept taken lines phase keeps later rose =
-    let within = going_within r old is sound going in
-    record {
-      piece = [];
-      consumes = Consumes-none left0 left1 keeps;
-      later = later;
-      kept = kept ∙ sym (append-nil old.kept);
-      taken = omega (arith, taken, ap (λ (o : Reading). o.taken) is);
-      lines = lines ∙ ap (λ (o : Reading). o.lines) is;
-      fits = subst (λ (p : ReadPhase). PhaseFits p new) (sym phase) (omega (arith, taken, within));
-      reads = (refl, phase, rose);
-    }
+module _ (r : Inside) (old new : Reading) (before after : SourceAt) (is : reading_of r ≡ old) where
+  pub read_failed : IsSound r → old.phase ≡ Going → new.kept ≡ old.kept → new.taken ≡ r.taken → new.lines ≡ r.lines → new.phase ≡ Going
+      → Keeps before.left after.left → after.calls ≡ one_more before.calls → Rose before.faults after.faults → after.failed ≡ true
+      → ReadsMore old new before after (Err errors.ReadFault)
+  read_failed sound going kept taken lines phase keeps calls rose failed =
+      let within = going_within r old is sound going in
+      record {
+        piece = [];
+        consumes = Consumes-none before.left after.left keeps;
+        calls = omega (arith, calls);
+        faults = rose;
+        failed = failed;
+        kept = kept ∙ sym (append-nil old.kept);
+        taken = omega (arith, taken, ap (λ (o : Reading). o.taken) is);
+        lines = lines ∙ ap (λ (o : Reading). o.lines) is;
+        fits = subst (λ (p : ReadPhase). PhaseFits p new) (sym phase) (omega (arith, taken, within));
+        reads = (refl, phase);
+      }
 
-pub read_done : (r : Inside) (old new : Reading) (left0 left1 : Option (List ℕ)) (before after : ℕ) (piece : List ℕ) (count : ℕ) (result : Result Bool ReadError)
-    → reading_of r ≡ old → new.kept ≡ old.kept ++ take count piece → new.taken ≡ r.taken + count → new.lines ≡ r.lines
-    → count ≤ length piece → Consumes left0 left1 (take count piece) → before ≤ after
-    → PhaseFits new.phase new → Reads new left1 before after (take count piece) result → ReadsMore old new left0 left1 before after result
-read_done r old new left0 left1 before after piece count result is kept taken lines fits consumes later phased reads =
-    record {
-      piece = take count piece;
-      consumes = consumes;
-      later = later;
-      kept = kept;
-      taken = omega (arith, taken, ap (λ (o : Reading). o.taken) is, length-take count piece);
-      lines = lines ∙ ap (λ (o : Reading). o.lines) is;
-      fits = phased;
-      reads = reads;
-    }
+  -- a read that succeeded
+  module _ (piece : List ℕ) (count : ℕ) (kept : new.kept ≡ old.kept ++ take count piece) (taken : new.taken ≡ r.taken + count) (lines : new.lines ≡ r.lines)
+      (most : count ≤ length piece) (consumes : Consumes before.left after.left (take count piece)) (calls : after.calls ≡ one_more before.calls) where
+    read_done : (result : Result Bool ReadError) → CountsReadFault before.faults after.faults result → FailsLast before.failed after.failed result
+        → PhaseFits new.phase new → Reads new after.left (take count piece) result → ReadsMore old new before after result
+    read_done result faults failed phased reads =
+        record {
+          piece = take count piece;
+          consumes = consumes;
+          calls = omega (arith, calls);
+          faults = faults;
+          failed = failed;
+          kept = kept;
+          taken = omega (arith, taken, ap (λ (o : Reading). o.taken) is, length-take count piece);
+          lines = lines ∙ ap (λ (o : Reading). o.lines) is;
+          fits = phased;
+          reads = reads;
+        }
 
--- whether bytes came
-came : (new : Reading) (left : Option (List ℕ)) (before after count wanted : ℕ) (piece : List ℕ) (test : Bool) → count ≤ length piece → new.phase ≡ Going
-    → 0 < wanted → (count ≡ 0 → 0 < wanted → IsAtEnd left) → test ≡ nat_lt 0 count → Reads new left before after (take count piece) (Ok test)
-came new left before after count wanted piece true most phase asked end tested =
-    let some : 0 < count = omega (arith, ltb-true 0 count (sym tested)) in
-    (omega (arith, length-take count piece, most), phase)
-came new left before after count wanted piece false most phase asked end tested =
-    let none : count ≡ 0 = omega (arith, ltb-false 0 count (sym tested)) in
-    (ap (λ (n : ℕ). take n piece) none, phase, end none asked)
+    not_failed : after.failed ≡ false → after.failed ≡ true → before.failed ≡ true
+    not_failed ok failed = let e : false ≡ true = sym ok ∙ failed in absurd (cc)
 
-pub read_ok : (r : Inside) (old new : Reading) (left0 left1 : Option (List ℕ)) (before after : ℕ) (piece : List ℕ) (count wanted : ℕ)
-    → reading_of r ≡ old → new.kept ≡ old.kept ++ take count piece → new.taken ≡ r.taken + count → new.lines ≡ r.lines → new.phase ≡ Going
-    → count ≤ length piece → Consumes left0 left1 (take count piece) → (count ≡ 0 → 0 < wanted → IsAtEnd left1) → before ≤ after
-    → 0 < wanted → new.taken ≤ input_limit → ReadsMore old new left0 left1 before after (Ok (nat_lt 0 count))
-read_ok r old new left0 left1 before after piece count wanted is kept taken lines phase most consumes end later asked within =
-    read_done r old new left0 left1 before after piece count (Ok (nat_lt 0 count)) is kept taken lines most consumes later
-    (subst (λ (p : ReadPhase). PhaseFits p new) (sym phase) within)
-    (came new left1 before after count wanted piece (nat_lt 0 count) most phase asked end refl)
+    -- whether bytes came
+    came : (wanted : ℕ) (test : Bool) → new.phase ≡ Going → 0 < wanted → (count ≡ 0 → 0 < wanted → IsAtEnd after.left) → test ≡ nat_lt 0 count
+        → Reads new after.left (take count piece) (Ok test)
+    came wanted true phase asked end tested =
+        let some : 0 < count = omega (arith, ltb-true 0 count (sym tested)) in
+        (omega (arith, length-take count piece, most), phase)
+    came wanted false phase asked end tested =
+        let none : count ≡ 0 = omega (arith, ltb-false 0 count (sym tested)) in
+        (ap (λ (n : ℕ). take n piece) none, phase, end none asked)
 
--- only the byte behind the limit leads past it
+    pub read_ok : (wanted : ℕ) → new.phase ≡ Going → (count ≡ 0 → 0 < wanted → IsAtEnd after.left) → 0 < wanted → new.taken ≤ input_limit
+        → after.faults ≡ before.faults → after.failed ≡ false → ReadsMore old new before after (Ok (nat_lt 0 count))
+    read_ok wanted phase end asked within faults ok =
+        read_done (Ok (nat_lt 0 count)) faults (not_failed ok) (subst (λ (p : ReadPhase). PhaseFits p new) (sym phase) within)
+        (came wanted (nat_lt 0 count) phase asked end refl)
+
+    pub read_too_long : new.phase ≡ TooLong → (r.taken ≡ input_limit) × (count ≡ 1) → after.faults ≡ before.faults → after.failed ≡ false
+        → ReadsMore old new before after (Err errors.TooLong)
+    read_too_long phase one faults ok =
+        let full : r.taken ≡ input_limit = one.0 in
+        let single : count ≡ 1 = one.1 in
+        read_done (Err errors.TooLong) faults (not_failed ok) (subst (λ (p : ReadPhase). PhaseFits p new) (sym phase) (omega (arith, taken)))
+        (omega (arith, length-take count piece, most), phase)
+
+-- only the byte after the limit leads past it
 pub one_too_many : (taken count wanted : ℕ) → taken ≤ input_limit → count ≤ wanted → (taken < input_limit → taken + wanted ≤ input_limit)
     → (taken ≡ input_limit → wanted ≡ 1) → input_limit < taken + count → (taken ≡ input_limit) × (count ≡ 1)
 one_too_many taken count wanted within most inside alone past = (grind arith, grind arith)
-
-pub read_too_long : (r : Inside) (old new : Reading) (left0 left1 : Option (List ℕ)) (before after : ℕ) (piece : List ℕ) (count : ℕ)
-    → reading_of r ≡ old → new.kept ≡ old.kept ++ take count piece → new.taken ≡ r.taken + count → new.lines ≡ r.lines → new.phase ≡ TooLong
-    → count ≤ length piece → Consumes left0 left1 (take count piece) → before ≤ after → (r.taken ≡ input_limit) × (count ≡ 1)
-    → ReadsMore old new left0 left1 before after (Err errors.TooLong)
-read_too_long r old new left0 left1 before after piece count is kept taken lines phase most consumes later one =
-    let full : r.taken ≡ input_limit = one.0 in
-    let single : count ≡ 1 = one.1 in
-    read_done r old new left0 left1 before after piece count (Err errors.TooLong) is kept taken lines most consumes later
-    (subst (λ (p : ReadPhase). PhaseFits p new) (sym phase) (omega (arith, taken)))
-    (omega (arith, length-take count piece, most), phase)
 
 pub read_sound : (r n : Inside) (old : Reading) (count : ℕ) → reading_of r ≡ old → IsSound r → HasNoLf old.kept → n.begun.items ≡ old.kept
     → n.start ≡ 0 → n.stop ≡ count → length n.piece.items ≡ piece_size → count ≤ piece_size → n.taken ≡ r.taken + count → n.lines ≡ r.lines

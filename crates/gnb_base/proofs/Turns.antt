@@ -1,5 +1,5 @@
 -- Several turns of `next`: the bytes of all reads, one after the other.
-use Rattle.std.proofs.Common.{◌≡◌, ◌⊎◌, inl, inr, ℕ, ◌+◌, ◌≤◌, List, [], ◌∷◌, ◌++◌, length, Option, Some, None, Result, Ok, Err, refl, sym, ap, ◌∙◌, subst, arith, append_assoc, append-nil}
+use Rattle.std.proofs.Common.{◌≡◌, ◌⊎◌, inl, inr, ℕ, ◌+◌, ◌≤◌, ◌<◌, true, List, [], ◌∷◌, ◌++◌, length, Option, Some, None, Result, Ok, Err, refl, sym, ap, ◌∙◌, subst, arith, append_assoc, append-nil}
 use Rattle.std.proofs.lemmas.List.{length-append}
 use Rattle.std.proofs.KnownBytes.{Consumes-nil, Consumes-trans}
 use Rattle.std.specs.Io.KnownBytes.{Consumes, IsAtEnd}
@@ -7,38 +7,43 @@ use Rattle.gnb_base.specs.declared.lines.Line.{Line}
 use Rattle.gnb_base.specs.declared.lines.ReadPhase.TheVariants.{Going, Ended, TooLong}
 use Rattle.gnb_base.specs.declared.lines.ReadError.{ReadError}
 use Rattle.gnb_base.specs.declared.lines.ReadError.TheVariants as errors
-use Rattle.gnb_base.specs.Lines.{HasNoLf}
-use Rattle.gnb_base.specs.Reading.{Reading, EndsInLf, EndsInput, Answers, NextMeets}
+use Rattle.gnb_base.specs.Outside.{SourceAt}
+use Rattle.gnb_base.specs.Lines.{HasNoLf, past_line}
+use Rattle.gnb_base.specs.Reading.{Reading, EndsInLf, EndsInput, Answers, CountsReadFault, FailsLast, NextMeets, piece_size}
 use Rattle.gnb_base.specs.LineReader.{GoesOn}
 use Rattle.gnb_base.proofs.LineLemmas.{HasNoLf-front}
 
 -- the reads so far, from an old reader to the one now
-pub record SoFar (old now : Reading) (left0 left1 : Option (List ℕ)) (before after : ℕ) : Type 0 where
+pub record SoFar (old now : Reading) (before after : SourceAt) : Type 0 where
   pub taken : List ℕ
-  pub consumes : Consumes left0 left1 taken
+  pub consumes : Consumes before.left after.left taken
+  pub calls : after.calls ≤ before.calls + length taken
+  pub faults : after.faults ≡ before.faults
+  pub failed : after.failed ≡ true → before.failed ≡ true
   pub counts : now.taken ≡ old.taken + length taken
-  pub later : before ≤ after
   pub kept : now.kept ≡ old.kept ++ taken
   pub lines : now.lines ≡ old.lines
   pub went : old.phase ≡ Going
   pub going : now.phase ≡ Going
-  pub lazy : (taken ≡ []) ⊎ HasNoLf old.kept
+  pub lazy : ((taken ≡ []) × (after ≡ before)) ⊎ HasNoLf old.kept
 
-pub none_so_far : (old : Reading) (left : Option (List ℕ)) (count : ℕ) → old.phase ≡ Going → SoFar old old left left count count
-none_so_far old left count going =
+pub none_so_far : (old : Reading) (source : SourceAt) → old.phase ≡ Going → SoFar old old source source
+none_so_far old source going =
     record {
       taken = [];
-      consumes = Consumes-nil left;
+      consumes = Consumes-nil source.left;
+      calls = omega arith;
+      faults = refl;
+      failed = λ e. e;
       counts = omega arith;
-      later = omega arith;
       kept = sym (append-nil old.kept);
       lines = refl;
       went = going;
       going = going;
-      lazy = inl refl;
+      lazy = inl (refl, refl);
     }
 
-module _ (old now new : Reading) (left0 left1 left2 : Option (List ℕ)) (before mid after : ℕ) (s : SoFar old now left0 left1 before mid) where
+module _ (old now new : Reading) (before mid after : SourceAt) (s : SoFar old now before mid) where
   -- the kept bytes with those of a further read
   joined : (more : List ℕ) → old.kept ++ (s.taken ++ more) ≡ now.kept ++ more
   joined more = sym (append_assoc old.kept s.taken more) ∙ ap (λ (xs : List ℕ). xs ++ more) (sym s.kept)
@@ -46,13 +51,15 @@ module _ (old now new : Reading) (left0 left1 left2 : Option (List ℕ)) (before
   counted : (more : List ℕ) → new.taken ≡ now.taken + length more → new.taken ≡ old.taken + length (s.taken ++ more)
   counted more e = omega (arith, e, s.counts, length-append s.taken more)
 
-  pub more_so_far : GoesOn now new left1 left2 mid after → SoFar old new left0 left2 before after
+  pub more_so_far : GoesOn now new mid after → SoFar old new before after
   more_so_far m =
       record {
         taken = s.taken ++ m.taken;
-        consumes = Consumes-trans left0 left1 left2 s.taken m.taken s.consumes m.consumes;
+        consumes = Consumes-trans before.left mid.left after.left s.taken m.taken s.consumes m.consumes;
+        calls = omega (arith, s.calls, m.calls, length-append s.taken m.taken);
+        faults = m.faults ∙ s.faults;
+        failed = λ e. s.failed (m.failed e);
         counts = counted m.taken m.counts;
-        later = omega (arith, s.later, m.later);
         kept = m.kept ∙ sym (joined m.taken);
         lines = m.lines ∙ s.lines;
         went = s.went;
@@ -60,34 +67,44 @@ module _ (old now new : Reading) (left0 left1 left2 : Option (List ℕ)) (before
         lazy = inr (HasNoLf-front old.kept s.taken (subst HasNoLf s.kept m.without_lf));
       }
 
-  still_lazy : (more : List ℕ) → (more ≡ []) ⊎ HasNoLf now.kept → (s.taken ++ more ≡ []) ⊎ HasNoLf old.kept
+  still_lazy : (more : List ℕ) → ((more ≡ []) × (after ≡ mid)) ⊎ HasNoLf now.kept → ((s.taken ++ more ≡ []) × (after ≡ before)) ⊎ HasNoLf old.kept
   still_lazy more h = by s.lazy h
     where
-      by : (s.taken ≡ []) ⊎ HasNoLf old.kept → (more ≡ []) ⊎ HasNoLf now.kept → (s.taken ++ more ≡ []) ⊎ HasNoLf old.kept
-      by (inl none) (inl no_more) = inl (ap (λ (xs : List ℕ). xs ++ more) none ∙ no_more)
+      by : ((s.taken ≡ []) × (mid ≡ before)) ⊎ HasNoLf old.kept → ((more ≡ []) × (after ≡ mid)) ⊎ HasNoLf now.kept
+          → ((s.taken ++ more ≡ []) × (after ≡ before)) ⊎ HasNoLf old.kept
+      by (inl none) (inl no_more) = inl (ap (λ (xs : List ℕ). xs ++ more) none.0 ∙ no_more.0, no_more.1 ∙ none.1)
       by (inl none) (inr without_lf) = inr (HasNoLf-front old.kept s.taken (subst HasNoLf s.kept without_lf))
       by (inr without_lf) h = inr without_lf
 
-  ends_so : (more text : List ℕ) → EndsInLf now new more text ⊎ EndsInput now new left2 more text → EndsInLf old new (s.taken ++ more) text ⊎ EndsInput old new left2 (s.taken ++ more) text
-  ends_so more text (inl e) = inl (record { phase = e.phase; split = joined more ∙ e.split })
-  ends_so more text (inr e) = inr (record { phase = e.phase; whole = joined more ∙ e.whole; some = e.some; kept = e.kept; at_end = e.at_end })
+  -- the count of faults stood still so far
+  still_counts : (result : Result (Option Line) ReadError) → CountsReadFault mid.faults after.faults result → CountsReadFault before.faults after.faults result
+  still_counts result h = subst (λ (n : ℕ). CountsReadFault n after.faults result) s.faults h
 
-  answers_so : (more : List ℕ) (result : Result (Option Line) ReadError) → new.taken ≡ now.taken + length more → mid ≤ after
-      → Answers now new left2 more mid after result → Answers old new left2 (s.taken ++ more) before after result
-  answers_so more (Ok (Some line)) counts later h =
+  still_fails : (result : Result (Option Line) ReadError) → FailsLast mid.failed after.failed result → FailsLast before.failed after.failed result
+  still_fails (Ok line) h = λ e. s.failed (h e)
+  still_fails (Err errors.ReadFault) h = h
+  still_fails (Err errors.TooLong) h = λ e. s.failed (h e)
+  still_fails (Err errors.Memory) h = λ e. s.failed (h e)
+
+  same_end : (more text : List ℕ) → EndsInLf now new more text ⊎ EndsInput now new after.left more text → EndsInLf old new (s.taken ++ more) text ⊎ EndsInput old new after.left (s.taken ++ more) text
+  same_end more text (inl e) = inl (record { phase = e.phase; split = joined more ∙ e.split })
+  same_end more text (inr e) = inr (record { phase = e.phase; whole = joined more ∙ e.whole; some = e.some; kept = e.kept; at_end = e.at_end })
+
+  same_answer : (more : List ℕ) (result : Result (Option Line) ReadError) → new.taken ≡ now.taken + length more
+      → Answers now new after.left more result → Answers old new after.left (s.taken ++ more) result
+  same_answer more (Ok (Some line)) counts h =
       record {
         going = s.went;
         without_lf = h.without_lf;
-        ends = ends_so more line.text h.ends;
+        ends = same_end more line.text h.ends;
         number = h.number ∙ ap (λ (n : ℕ). n + 1) s.lines;
         lines = h.lines;
         counted = h.counted;
         within = h.within;
-        lazy = still_lazy more h.lazy;
         few = h.few;
         falls = omega (arith, h.falls, h.within, counts, s.counts, ap length s.kept, length-append old.kept s.taken);
       }
-  answers_so more (Ok None) counts later h =
+  same_answer more (Ok None) counts h =
       record {
         phase = h.phase;
         nothing = joined more ∙ h.nothing;
@@ -97,35 +114,38 @@ module _ (old now new : Reading) (left0 left1 left2 : Option (List ℕ)) (before
         seen = seen h.seen;
       }
     where
-      seen : ((now.phase ≡ Going) × IsAtEnd left2) ⊎ (now.phase ≡ Ended) → ((old.phase ≡ Going) × IsAtEnd left2) ⊎ (old.phase ≡ Ended)
+      seen : ((now.phase ≡ Going) × IsAtEnd after.left) ⊎ (now.phase ≡ Ended) → ((old.phase ≡ Going) × IsAtEnd after.left) ⊎ (old.phase ≡ Ended)
       seen (inl (going, end)) = inl (s.went, end)
       seen (inr ended) = let e = sym s.going ∙ ended in absurd cc
-  answers_so more (Err errors.ReadFault) counts later h =
+  same_answer more (Err errors.ReadFault) counts h =
       record {
         going = s.went;
-        rose = omega (arith, h.rose, s.later);
         phase = h.phase;
         kept = h.kept ∙ sym (joined more);
         without_lf = h.without_lf;
         lines = h.lines ∙ s.lines;
         within = h.within;
       }
-  answers_so more (Err errors.TooLong) counts later h =
+  same_answer more (Err errors.TooLong) counts h =
       record { phase = h.phase; at = h.at; lines = h.lines ∙ s.lines; seen = seen h.seen }
     where
       seen : ((now.phase ≡ Going) × ((front : List ℕ) × (last : ℕ) × (now.kept ++ more ≡ front ++ last ∷ []) × HasNoLf front)) ⊎ (now.phase ≡ TooLong)
           → ((old.phase ≡ Going) × ((front : List ℕ) × (last : ℕ) × (old.kept ++ (s.taken ++ more) ≡ front ++ last ∷ []) × HasNoLf front)) ⊎ (old.phase ≡ TooLong)
       seen (inl (going, (front, last, split, without_lf))) = inl (s.went, (front, last, joined more ∙ split, without_lf))
       seen (inr too_long) = let e = sym s.going ∙ too_long in absurd cc
-  answers_so more (Err errors.Memory) counts later h = h
+  same_answer more (Err errors.Memory) counts h = h
 
-  pub meets_so_far : (result : Result (Option Line) ReadError) → NextMeets now new left1 left2 mid after result → NextMeets old new left0 left2 before after result
+  pub meets_so_far : (result : Result (Option Line) ReadError) → NextMeets now new mid after result → NextMeets old new before after result
   meets_so_far result m =
       record {
         taken = s.taken ++ m.taken;
-        consumes = Consumes-trans left0 left1 left2 s.taken m.taken s.consumes m.consumes;
+        consumes = Consumes-trans before.left mid.left after.left s.taken m.taken s.consumes m.consumes;
         counts = counted m.taken m.counts;
-        later = omega (arith, s.later, m.later);
-        answers = answers_so m.taken result m.counts m.later m.answers;
+        answers = same_answer m.taken result m.counts m.answers;
+        faults = still_counts result m.faults;
+        failed = still_fails result m.failed;
+        lazy = still_lazy m.taken m.lazy;
+        calls = omega (arith, m.calls, s.calls, length-append s.taken m.taken);
+        few = subst (λ (xs : List ℕ). length (past_line xs) < piece_size) (sym (joined m.taken)) m.few;
         stays = inl s.went;
       }

@@ -4,15 +4,14 @@ use Rattle.std.specs.List.{flat_map}
 use Rattle.gnb_base.specs.declared.lines.Line.{Line}
 use Rattle.gnb_base.specs.declared.lines.ReadPhase.TheVariants.{Going, Ended}
 use Rattle.gnb_base.specs.declared.lines.ReadError.{ReadError}
+use Rattle.gnb_base.specs.Outside.{SourceAt}
 use Rattle.gnb_base.specs.Lines.{lines_of}
 use Rattle.gnb_base.specs.Reading.{Reading, NextMeets}
 
--- a call: what was left of its source and the source's faults, before and after it, and what it answered
+-- a call: its source before and after it, and what it answered
 pub record Call : Type 0 where
-  pub left0 : Option (List ℕ)
-  pub left1 : Option (List ℕ)
-  pub before : ℕ
-  pub after : ℕ
+  pub before : SourceAt
+  pub after : SourceAt
   pub result : Result (Option Line) ReadError
 
 -- the line that an answer hands out
@@ -31,7 +30,7 @@ lines_handed_out calls = flat_map (λ c. line_in c.result) calls
 abbrev pub Run : Reading → List Call → List ℕ → Reading → Type 0
 Run old [] taken new = (taken ≡ []) × (new ≡ old)
 Run old (c ∷ calls) taken new =
-    (mid : Reading) × (m : NextMeets old mid c.left0 c.left1 c.before c.after c.result) × (rest : List ℕ)
+    (mid : Reading) × (m : NextMeets old mid c.before c.after c.result) × (rest : List ℕ)
     × (taken ≡ m.taken ++ rest) × Run mid calls rest new
 
 -- What a reader handed out of the bytes that it took: while it goes on, their lines are these, and then those of the

@@ -1,4 +1,4 @@
--- A line reader's fields, and what its steps do.
+-- Internal: a line reader's fields, and what its steps do.
 use Rattle.std.specs.Prelude.{◌≡◌, ◌≢◌, ◌≤◌, ◌<◌, ◌+◌, ◌-◌, ℕ, Bool, true, false, List, [], ◌∷◌, ◌++◌, length, take, drop, Option, Some, None, Result, Ok, Err}
 use Rattle.std.specs.Io.KnownBytes.{Consumes, IsAtEnd}
 use Rattle.gnb_base.specs.declared.lines.LineReader.TheInside.{Inside}
@@ -8,9 +8,9 @@ use Rattle.gnb_base.specs.declared.lines.ReadPhase.TheVariants.{Going, Ended, To
 use Rattle.gnb_base.specs.declared.lines.ReadError.{ReadError}
 use Rattle.gnb_base.specs.declared.lines.ReadError.TheVariants as errors
 use Rattle.gnb_types.specs.declared.octets.Memory.{Memory}
-use Rattle.gnb_base.specs.Causes.{Rose}
-use Rattle.gnb_base.specs.Lines.{line_feed, HasNoLf}
-use Rattle.gnb_base.specs.Reading.{Reading, NextMeets, input_limit, piece_size}
+use Rattle.gnb_base.specs.Outside.{SourceAt}
+use Rattle.gnb_base.specs.Lines.{line_feed, HasNoLf, past_line}
+use Rattle.gnb_base.specs.Reading.{Reading, NextMeets, CountsReadFault, FailsLast, input_limit, piece_size}
 
 -- the begun line, and then what wasn't looked at of the last piece
 abbrev pub reading_of : Inside → Reading
@@ -46,7 +46,7 @@ pub record TakesOff (old new : Reading) (line : Line) : Type 0 where
 abbrev pub TakesLine : Reading → Reading → Result (Option Line) Memory → Type 0
 TakesLine old new (Ok (Some line)) = TakesOff old new line
 TakesLine old new (Ok None) = HasNoLf old.kept × (new ≡ old)
-TakesLine old new (Err e) = (new.phase ≡ Failed) × (new.taken ≡ old.taken) × (new.taken ≤ input_limit)
+TakesLine old new (Err e) = (new.phase ≡ Failed) × (new.taken ≡ old.taken) × (new.taken ≤ input_limit) × (length (past_line old.kept) < piece_size)
 
 -- The last line is taken, or none is left.
 pub record TakesRest (old new : Reading) (line : Line) : Type 0 where
@@ -74,30 +74,34 @@ TakesLast old new (Ok None) = TakesNone old new
 TakesLast old new (Err e) = (new.phase ≡ Failed) × (new.taken ≡ old.taken) × (new.taken ≤ input_limit)
 
 -- how one read went: whether bytes came, or why none did
-abbrev pub Reads : Reading → Option (List ℕ) → ℕ → ℕ → List ℕ → Result Bool ReadError → Type 0
-Reads new left before after piece (Ok true) = (0 < length piece) × (new.phase ≡ Going)
-Reads new left before after piece (Ok false) = (piece ≡ []) × (new.phase ≡ Going) × IsAtEnd left
-Reads new left before after piece (Err errors.ReadFault) = (piece ≡ []) × (new.phase ≡ Going) × Rose before after
-Reads new left before after piece (Err errors.TooLong) = (length piece ≡ 1) × (new.phase ≡ TooLong)
-Reads new left before after piece (Err errors.Memory) = (piece ≡ []) × (new.phase ≡ Failed)
+abbrev pub Reads : Reading → Option (List ℕ) → List ℕ → Result Bool ReadError → Type 0
+Reads new left piece (Ok true) = (0 < length piece) × (new.phase ≡ Going)
+Reads new left piece (Ok false) = (piece ≡ []) × (new.phase ≡ Going) × IsAtEnd left
+Reads new left piece (Err errors.ReadFault) = (piece ≡ []) × (new.phase ≡ Going)
+Reads new left piece (Err errors.TooLong) = (length piece ≡ 1) × (new.phase ≡ TooLong)
+Reads new left piece (Err errors.Memory) = (piece ≡ []) × (new.phase ≡ Failed)
 
-pub record ReadsMore (old new : Reading) (left0 left1 : Option (List ℕ)) (before after : ℕ) (result : Result Bool ReadError) : Type 0 where
+pub record ReadsMore (old new : Reading) (before after : SourceAt) (result : Result Bool ReadError) : Type 0 where
   pub piece : List ℕ
-  pub consumes : Consumes left0 left1 piece
-  pub later : before ≤ after
+  pub consumes : Consumes before.left after.left piece
+  pub calls : after.calls ≤ before.calls + 1
+  pub faults : CountsReadFault before.faults after.faults result
+  pub failed : FailsLast before.failed after.failed result
   pub kept : new.kept ≡ old.kept ++ piece
   pub taken : new.taken ≡ old.taken + length piece
   pub lines : new.lines ≡ old.lines
   pub fits : PhaseFits new.phase new
-  pub reads : Reads new left1 before after piece result
+  pub reads : Reads new after.left piece result
 
 -- Bytes came, and the reader goes on.
-pub record GoesOn (old new : Reading) (left0 left1 : Option (List ℕ)) (before after : ℕ) : Type 0 where
+pub record GoesOn (old new : Reading) (before after : SourceAt) : Type 0 where
   pub taken : List ℕ
   pub some : 0 < length taken
-  pub consumes : Consumes left0 left1 taken
+  pub consumes : Consumes before.left after.left taken
+  pub calls : after.calls ≤ before.calls + length taken
+  pub faults : after.faults ≡ before.faults
+  pub failed : after.failed ≡ true → before.failed ≡ true
   pub counts : new.taken ≡ old.taken + length taken
-  pub later : before ≤ after
   pub without_lf : HasNoLf old.kept
   pub kept : new.kept ≡ old.kept ++ taken
   pub lines : new.lines ≡ old.lines
@@ -105,6 +109,6 @@ pub record GoesOn (old new : Reading) (left0 left1 : Option (List ℕ)) (before 
   pub within : new.taken ≤ input_limit
 
 -- what a turn answered, or that another follows
-abbrev pub TurnMeets : Reading → Reading → Option (List ℕ) → Option (List ℕ) → ℕ → ℕ → Option (Result (Option Line) ReadError) → Type 0
-TurnMeets old new left0 left1 before after (Some answer) = NextMeets old new left0 left1 before after answer
-TurnMeets old new left0 left1 before after None = GoesOn old new left0 left1 before after
+abbrev pub TurnMeets : Reading → Reading → SourceAt → SourceAt → Option (Result (Option Line) ReadError) → Type 0
+TurnMeets old new before after (Some answer) = NextMeets old new before after answer
+TurnMeets old new before after None = GoesOn old new before after

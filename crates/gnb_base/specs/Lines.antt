@@ -20,7 +20,12 @@ abbrev pub HasNoLf : List ℕ → Type 0
 HasNoLf [] = Unit {0}
 HasNoLf (byte ∷ bytes) = (byte ≢ line_feed) × HasNoLf bytes
 
--- The same as a relation: each line stands in the bytes up to its LF, and the last may be the rest, if that isn't empty.
+-- the bytes after the first LF
+abbrev pub past_line : List ℕ → List ℕ
+past_line [] = []
+past_line (byte ∷ bytes) = if byte == line_feed then bytes else past_line bytes
+
+-- The lines as a relation: each line stands in the bytes up to its LF, and the last may be the rest, if that isn't empty.
 abbrev pub AreLines : List ℕ → List (List ℕ) → Type 0
 AreLines bytes [] = bytes ≡ []
 AreLines bytes (line ∷ lines) =

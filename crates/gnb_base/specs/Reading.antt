@@ -1,13 +1,13 @@
 -- What a line reader is seen as, and what a call of it does.
-use Rattle.std.specs.Prelude.{◌≡◌, ◌≢◌, ◌≤◌, ◌<◌, ◌+◌, ◌-◌, ◌⊎◌, ℕ, List, [], ◌∷◌, ◌++◌, length, take, Option, Some, None, Result, Ok, Err}
-use Rattle.std.specs.Io.KnownBytes.{Consumes, IsAtEnd, Keeps}
+use Rattle.std.specs.Prelude.{◌≡◌, ◌≢◌, ◌≤◌, ◌<◌, ◌+◌, ◌-◌, ◌⊎◌, ℕ, Bool, true, List, [], ◌∷◌, ◌++◌, length, take, Option, Some, None, Result, Ok, Err}
+use Rattle.std.specs.Io.KnownBytes.{Consumes, IsAtEnd}
 use Rattle.gnb_base.specs.declared.lines.ReadPhase.{ReadPhase}
 use Rattle.gnb_base.specs.declared.lines.ReadPhase.TheVariants.{Going, Ended, TooLong, Failed}
 use Rattle.gnb_base.specs.declared.lines.ReadError.{ReadError}
 use Rattle.gnb_base.specs.declared.lines.ReadError.TheVariants as errors
 use Rattle.gnb_base.specs.declared.lines.Line.{Line}
-use Rattle.gnb_base.specs.Causes.{Rose}
-use Rattle.gnb_base.specs.Lines.{line_feed, HasNoLf}
+use Rattle.gnb_base.specs.Outside.{SourceAt, Rose}
+use Rattle.gnb_base.specs.Lines.{line_feed, HasNoLf, past_line}
 
 -- how many bytes of an input are read at most as lines, and how many one read asks for at most
 abbrev pub input_limit : ℕ
@@ -54,8 +54,7 @@ pub record HandsOut (old new : Reading) (left : Option (List ℕ)) (taken : List
   pub lines : new.lines ≡ line.number
   pub counted : line.number ≤ new.taken
   pub within : new.taken ≤ input_limit
-  -- it reads only where it keeps no whole line, and keeps less than a piece behind the line
-  pub lazy : (taken ≡ []) ⊎ HasNoLf old.kept
+  -- less than one read asks for is kept after the line
   pub few : length new.kept < piece_size
   pub falls : still_to_come new < still_to_come old
 
@@ -70,16 +69,15 @@ pub record IsDone (old new : Reading) (left : Option (List ℕ)) (taken : List �
   pub seen : ((old.phase ≡ Going) × IsAtEnd left) ⊎ (old.phase ≡ Ended)
 
 -- A read failed, and the bytes taken before it are kept.
-pub record IsFault (old new : Reading) (taken : List ℕ) (before after : ℕ) : Type 0 where
+pub record IsFault (old new : Reading) (taken : List ℕ) : Type 0 where
   pub going : old.phase ≡ Going
-  pub rose : Rose before after
   pub phase : new.phase ≡ Going
   pub kept : new.kept ≡ old.kept ++ taken
   pub without_lf : HasNoLf new.kept
   pub lines : new.lines ≡ old.lines
   pub within : new.taken ≤ input_limit
 
--- The byte behind the limit was taken, alone and where no whole line was kept, in this call or an earlier one.
+-- The byte after the limit was taken, alone and where no whole line was kept, in this call or an earlier one.
 pub record IsTooLong (old new : Reading) (taken : List ℕ) : Type 0 where
   pub phase : new.phase ≡ TooLong
   pub at : new.taken ≡ input_limit + 1
@@ -87,33 +85,46 @@ pub record IsTooLong (old new : Reading) (taken : List ℕ) : Type 0 where
   pub seen : ((old.phase ≡ Going) × ((front : List ℕ) × (last : ℕ) × (old.kept ++ taken ≡ front ++ last ∷ []) × HasNoLf front))
       ⊎ (old.phase ≡ TooLong)
 
--- what a call answered, the reader before and after it, what is left of the source, the bytes that it took,
--- and the source's faults before and after
-abbrev pub Answers : Reading → Reading → Option (List ℕ) → List ℕ → ℕ → ℕ → Result (Option Line) ReadError → Type 0
-Answers old new left taken before after (Ok (Some line)) = HandsOut old new left taken line
-Answers old new left taken before after (Ok None) = IsDone old new left taken
-Answers old new left taken before after (Err errors.ReadFault) = IsFault old new taken before after
-Answers old new left taken before after (Err errors.TooLong) = IsTooLong old new taken
-Answers old new left taken before after (Err errors.Memory) = (new.phase ≡ Failed) × (new.taken ≤ input_limit + 1)
+-- what a call answered: the reader before and after it, what is left of the source, and the bytes that it took
+abbrev pub Answers : Reading → Reading → Option (List ℕ) → List ℕ → Result (Option Line) ReadError → Type 0
+Answers old new left taken (Ok (Some line)) = HandsOut old new left taken line
+Answers old new left taken (Ok None) = IsDone old new left taken
+Answers old new left taken (Err errors.ReadFault) = IsFault old new taken
+Answers old new left taken (Err errors.TooLong) = IsTooLong old new taken
+Answers old new left taken (Err errors.Memory) = (new.phase ≡ Failed) × (new.taken ≤ input_limit + 1)
+
+-- The answer ReadFault, and no other, moves the count of faults.
+abbrev pub CountsReadFault : {T : Type 0} → ℕ → ℕ → Result T ReadError → Type 0
+CountsReadFault before after (Ok value) = after ≡ before
+CountsReadFault before after (Err errors.ReadFault) = Rose before after
+CountsReadFault before after (Err errors.TooLong) = after ≡ before
+CountsReadFault before after (Err errors.Memory) = after ≡ before
+
+-- After ReadFault the last read failed; after every other answer it did so only where it had before.
+abbrev pub FailsLast : {T : Type 0} → Bool → Bool → Result T ReadError → Type 0
+FailsLast before after (Ok value) = after ≡ true → before ≡ true
+FailsLast before after (Err errors.ReadFault) = after ≡ true
+FailsLast before after (Err errors.TooLong) = after ≡ true → before ≡ true
+FailsLast before after (Err errors.Memory) = after ≡ true → before ≡ true
 
 -- Neither the reader nor the source was touched.
-pub record IsUntouched (old new : Reading) (left0 left1 : Option (List ℕ)) (before after : ℕ) : Type 0 where
+pub record IsUntouched (old new : Reading) (before after : SourceAt) : Type 0 where
   pub reader : new ≡ old
-  pub source : left1 ≡ left0
-  pub faults : after ≡ before
+  pub source : after ≡ before
 
 -- a call of `next`: the bytes that it took from the source, and what it answered
-pub record NextMeets (old new : Reading) (left0 left1 : Option (List ℕ)) (before after : ℕ) (result : Result (Option Line) ReadError) : Type 0 where
+pub record NextMeets (old new : Reading) (before after : SourceAt) (result : Result (Option Line) ReadError) : Type 0 where
   pub taken : List ℕ
-  pub consumes : Consumes left0 left1 taken
+  pub consumes : Consumes before.left after.left taken
   pub counts : new.taken ≡ old.taken + length taken
-  pub later : before ≤ after
-  pub answers : Answers old new left1 taken before after result
-  -- from the end, from a byte too many and from want of memory on, no call reads
-  pub stays : (old.phase ≡ Going) ⊎ IsUntouched old new left0 left1 before after
-
--- A read of so many bytes into the front of a piece: it took the front that it filled, and filled none only at the end.
--- Where it failed, it took nothing.
-abbrev pub FillsFront : {E : Type 0} → Option (List ℕ) → Option (List ℕ) → ℕ → Result ℕ E → List ℕ → Type 0
-FillsFront left0 left1 wanted (Ok count) piece = Consumes left0 left1 (take count piece) × (count ≡ 0 → 0 < wanted → IsAtEnd left1)
-FillsFront left0 left1 wanted (Err e) piece = Keeps left0 left1
+  pub answers : Answers old new after.left taken result
+  pub faults : CountsReadFault before.faults after.faults result
+  pub failed : FailsLast before.failed after.failed result
+  -- it reads only where it keeps no whole line
+  pub lazy : ((taken ≡ []) × (after ≡ before)) ⊎ HasNoLf old.kept
+  -- each read takes at least one byte, or is the last
+  pub calls : after.calls ≤ before.calls + length taken + 1
+  -- of its bytes, those after the line that it looked for are less than one read asks for
+  pub few : length (past_line (old.kept ++ taken)) < piece_size
+  -- from the end, from a byte too many and from lack of memory on, no call reads
+  pub stays : (old.phase ≡ Going) ⊎ IsUntouched old new before after

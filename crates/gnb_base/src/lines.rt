@@ -1,10 +1,11 @@
 //! Lines of an input that comes in pieces.
 
-ghost use Rattle.std.specs.Prelude.{◌≡◌, ◌<◌, ◌≤◌, ◌+◌, ℕ, List, length, MatchOption, IfOk};
-ghost use Rattle.gnb_base.specs.Causes.{HasCause};
+ghost use Rattle.std.specs.Prelude.{◌≡◌, ◌<◌, ◌≤◌, ◌+◌, ℕ, List, length, MatchOption, IfOk, is_err};
 ghost use Rattle.gnb_base.specs.Handing.{Call, Run, HandedOut, texts, lines_handed_out};
 ghost use Rattle.gnb_base.specs.Lines.{lines_of, AreLines, HasNoLf, IsFirstLf};
-ghost use Rattle.gnb_base.specs.Reading.{Reading, fresh, NextMeets, FillsFront, input_limit, piece_size};
+ghost use Rattle.gnb_base.specs.Pieces.{FillsFront};
+ghost use Rattle.gnb_base.specs.Outside.{CountsFaults, one_more};
+ghost use Rattle.gnb_base.specs.Reading.{Reading, fresh, NextMeets, input_limit, piece_size};
 
 use crate::outside::{Failed, Source};
 use gnb_types::octets::{Memory, Octets};
@@ -32,9 +33,9 @@ pub struct Line {
 pub enum ReadError {
     /// A read failed.
     ReadFault,
-    /// The byte behind the limit was taken.
+    /// The byte after the limit was taken.
     TooLong,
-    /// Want of memory.
+    /// Out of memory.
     Memory,
 }
 
@@ -49,7 +50,7 @@ pub enum ReadPhase {
 
 /// Hands out the lines of an input one by one, and reads no further than it has to.
 ///
-/// It keeps the bytes of `begun`, a line whose LF hasn't come yet, and behind them those of `piece`, the last read,
+/// It keeps the bytes of `begun`, a line whose LF hasn't come yet, and after them those of `piece`, the last read,
 /// from `start` to `stop`. So each byte is looked at once, however the input comes.
 #[derive(Drop)]
 pub struct LineReader {
@@ -105,9 +106,9 @@ impl LineReader {
     /// The next line, or `None` at the end of the input where no byte is kept.
     ///
     /// It reads only where it keeps no whole line. After a failed read it keeps what it took before, and may be called
-    /// again. From the end, from a byte behind the limit and from want of memory on, it answers the same always.
+    /// again. From the end, from a byte after the limit and from lack of memory on, it answers the same always.
     pub fn next<S: Source>(&mut self, source: &mut S) -> Result<Option<Line>, ReadError>
-        ensures { NextMeets self.old self.new (S.left source.old) (S.left source.new) (S.faults source.old) (S.faults source.new) result }
+        ensures { NextMeets self.old self.new (S.at source.old) (S.at source.new) result }
     {
         match self.phase {
             ReadPhase::Going => self.go_on(source),
@@ -119,7 +120,7 @@ impl LineReader {
 
     fn go_on<S: Source>(&mut self, source: &mut S) -> Result<Option<Line>, ReadError>
         requires { self.old.phase ≡ ReadPhase.Going }
-        ensures { NextMeets self.old self.new (S.left source.old) (S.left source.new) (S.faults source.old) (S.faults source.new) result }
+        ensures { NextMeets self.old self.new (S.at source.old) (S.at source.new) result }
     {
         loop {
             if let Some(answer) = self.turn(source) {
@@ -131,7 +132,7 @@ impl LineReader {
     /// Hands out a line that is kept, or reads once.
     fn turn<S: Source>(&mut self, source: &mut S) -> Option<Result<Option<Line>, ReadError>>
         requires { self.old.phase ≡ ReadPhase.Going }
-        ensures { TurnMeets self.old self.new (S.left source.old) (S.left source.new) (S.faults source.old) (S.faults source.new) result }
+        ensures { TurnMeets self.old self.new (S.at source.old) (S.at source.new) result }
     {
         match self.take_line() {
             Ok(Some(line)) => return Some(Ok(Some(line))),
@@ -194,11 +195,11 @@ impl LineReader {
         }))
     }
 
-    /// One read, behind what is kept; answers whether bytes came.
+    /// One read, after what is kept; answers whether bytes came.
     fn read_more<S: Source>(&mut self, source: &mut S) -> Result<bool, ReadError>
         requires going { self.old.phase ≡ ReadPhase.Going }
         requires without_lf { HasNoLf self.old.kept }
-        ensures { ReadsMore self.old self.new (S.left source.old) (S.left source.new) (S.faults source.old) (S.faults source.new) result }
+        ensures { ReadsMore self.old self.new (S.at source.old) (S.at source.new) result }
     {
         let rest = &self.piece[self.start..self.stop];
         if self.begun.extend_from_slice(rest).is_err() {
@@ -243,7 +244,7 @@ fn line_end(bytes: &[u8]) -> Option<usize>
     None
 }
 
-/// How many bytes the next read asks for. The byte behind the limit is asked for alone.
+/// How many bytes the next read asks for. The byte after the limit is asked for alone.
 fn wanted(taken: u64) -> usize
     requires { taken ≤ input_limit }
     ensures some { 0 < result }
@@ -262,8 +263,10 @@ fn wanted(taken: u64) -> usize
 fn read_front<S: Source>(source: &mut S, piece: &mut [u8], wanted: usize) -> Result<usize, Failed>
     requires { wanted ≤ length piece.old }
     ensures bound { IfOk result (λ count. count ≤ wanted) }
-    ensures bytes { FillsFront (S.left source.old) (S.left source.new) wanted result piece.new }
-    ensures cause { HasCause (S.faults source.old) (S.faults source.new) result }
+    ensures bytes { FillsFront (S.at source.old).left (S.at source.new).left wanted result piece.new }
+    ensures faults { CountsFaults (S.at source.old).faults (S.at source.new).faults result }
+    ensures calls { (S.at source.new).calls ≡ one_more (S.at source.old).calls }
+    ensures failed { (S.at source.new).failed ≡ is_err result }
 {
     source.read(&mut piece[..wanted])
 }

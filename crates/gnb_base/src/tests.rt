@@ -11,7 +11,7 @@ use std::alloc::Global;
 use std::process::Abort;
 use std::test::Fail;
 
-/// The lines that a reader hands out, each behind its number and a colon and before a full stop, with `!` for each failed read.
+/// The lines that a reader hands out, each after its number and a colon and before a full stop, with `!` for each failed read.
 fn handed_out(
     rt: &impl Abort,
     alloc: Global,
@@ -27,25 +27,25 @@ fn handed_out(
         Vec::from_slice(alloc, failing)?,
     );
     let mut reader = LineReader::new(alloc)?;
-    let mut told = Octets::new(alloc);
+    let mut written = Octets::new(alloc);
     for _ in 0..20 {
         match reader.next(&mut source) {
             Ok(Some(line)) => {
-                told.push(b'0' + (line.number % 10) as u8)?;
-                told.push(b':')?;
-                told.append(line.text.as_slice())?;
-                told.push(b'.')?;
+                written.push(b'0' + (line.number % 10) as u8)?;
+                written.push(b':')?;
+                written.append(line.text.as_slice())?;
+                written.push(b'.')?;
             }
             Ok(None) => break,
             Err(error) => {
                 assert!(rt; error == ReadError::ReadFault);
-                told.push(b'!')?;
+                written.push(b'!')?;
             }
         }
     }
     assert_eq!(rt; reader.read_so_far(), input.len() as u64);
     assert!(rt; reader.next(&mut source)?.is_none());
-    Ok(told)
+    Ok(written)
 }
 
 #[test]
@@ -61,17 +61,17 @@ fn lines_in_pieces(rt: HostRuntime) -> Result<(), Fail> {
         (b"one\ntwo\nthree", 5, &[2, 3], b"1:one.!!2:two.3:three."),
         (b"one\ntwo\nthree", 4096, &[2], b"1:one.2:two.!3:three."),
     ];
-    for (input, piece, failing, told) in rows {
+    for (input, piece, failing, written) in rows {
         assert!(rt; piece > 0);
         assert_eq!(rt;
             handed_out(&rt, rt.alloc(), input, piece, failing)?.as_slice(),
-            told
+            written
         );
     }
     Ok(())
 }
 
-/// The byte behind the limit is one too many, and the lines before it were handed out.
+/// The byte after the limit is one too many, and the lines before it were handed out.
 #[test]
 fn a_byte_too_many(rt: HostRuntime) -> Result<(), Fail> {
     let mut input = vec![in rt.alloc(); b'x'; INPUT_LIMIT as usize]?;
@@ -101,22 +101,31 @@ fn a_byte_too_many(rt: HostRuntime) -> Result<(), Fail> {
 
 #[test]
 fn sinks_and_sources(rt: HostRuntime) -> Result<(), Fail> {
-    let mut sink = MemorySink::new(rt.alloc(), 2, vec![in rt.alloc(); 2]?);
+    for room in [0, 3] {
+        let failing = vec![in rt.alloc(); 2]?;
+        let mut sink = MemorySink::with_room(rt.alloc(), 2, failing, room)?;
+        assert!(rt; sink.write(b"abc") == Ok(2));
+        assert!(rt; sink.write(b"c") == Err(Failed));
+        assert!(rt; sink.write(b"c") == Ok(1));
+        assert_eq!(rt; sink.bytes_held(), b"abc".as_slice());
+        assert_eq!(rt; sink.calls(), 3);
+    }
+    let mut sink = MemorySink::new(rt.alloc(), 2, Vec::new(rt.alloc()));
     assert!(rt; sink.write(b"abc") == Ok(2));
-    assert!(rt; sink.write(b"c") == Err(Failed));
-    assert!(rt; sink.write(b"c") == Ok(1));
-    assert_eq!(rt; sink.bytes_held(), b"abc".as_slice());
-    assert_eq!(rt; sink.calls(), 3);
 
     let mut buffer = [0; 2];
     let mut source = StdSource::new(b"abc".as_slice());
     assert!(rt; source.read(&mut buffer) == Ok(2));
     assert!(rt; source.read(&mut buffer) == Ok(1));
     assert!(rt; source.read(&mut buffer) == Ok(0));
+    assert!(rt; source.faults == 0 && source.calls == 3);
     let mut room = [0; 2];
     let mut sink = StdSink::new(room.as_mut_slice());
     assert!(rt; sink.write(b"abc") == Ok(2));
+    assert!(rt; !sink.failed);
     assert!(rt; sink.write(b"c") == Err(Failed));
+    assert!(rt; sink.failed && sink.faults == 1);
     assert!(rt; sink.write(b"") == Ok(0));
+    assert!(rt; !sink.failed);
     Ok(())
 }

@@ -5,7 +5,7 @@ use Rattle.gnb_base.proofs.lines.LineReader.go_on.Given as goal
 
 abbrev pub invariant-loop-answer : goal.invariant-loop-answer
 invariant-loop-answer g l =
-    SoFar l.fn.self l.self (g.S.Source.left l.fn.source) (g.S.Source.left l.source) (g.S.Source.faults l.fn.source) (g.S.Source.faults l.source)
+    SoFar l.fn.self l.self (g.S.Source.at l.fn.source) (g.S.Source.at l.source)
 
 abbrev pub decreases-loop-answer : goal.decreases-loop-answer
 decreases-loop-answer g l = input_limit + 1 - l.self.taken
