@@ -1,3 +1,4 @@
 pub mod Hex
 pub mod Names
 pub mod Reasons
+pub mod Refusals
