@@ -5,7 +5,7 @@ use Rattle.std.proofs.lemmas.Nat.{pow-add, pow_pos, mul-add-lt, shl_whole, mod_b
 use Rattle.bits_core.specs.declared.writer.BitWriter.TheInside.{Inside}
 use Rattle.bits_core.specs.Bits.{bits_of, octet_bits, zeros, pad_of}
 use Rattle.bits_core.specs.Writing.{Written, written_of, Puts}
-use Rattle.gnb_types.specs.declared.octets.Memory.{Memory}
+use Rattle.gnb_types.specs.declared.items.Memory.{Memory}
 use Rattle.bits_core.proofs.BitLemmas.{bits_of-add, bits_of-join, bits_of-mod, bits_of-zero, length-bits_of, length-octet_bits, octet_bits-push}
 
 pub no_bits : (n : ℕ) → bits_of 0 n ≡ []

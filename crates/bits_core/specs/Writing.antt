@@ -1,7 +1,7 @@
 -- What a bit writer is seen as, and what its calls do.
 use Rattle.std.specs.Prelude.{◌≡◌, ℕ, ◌<◌, ◌^◌, Bool, true, false, List, ◌++◌, Result, Ok, Err, vec_len}
 use Rattle.std.specs.Vec.{vec_capacity}
-use Rattle.gnb_types.specs.declared.octets.Memory.{Memory}
+use Rattle.gnb_types.specs.declared.items.Memory.{Memory}
 use Rattle.bits_core.specs.declared.writer.BitWriter.TheInside.{Inside}
 use Rattle.bits_core.specs.Bits.{bits_of, octet_bits}
 

@@ -7,7 +7,7 @@ use Rattle.gnb_base.specs.declared.lines.ReadPhase.{ReadPhase}
 use Rattle.gnb_base.specs.declared.lines.ReadPhase.TheVariants.{Going, Ended, TooLong, Failed}
 use Rattle.gnb_base.specs.declared.lines.ReadError.{ReadError}
 use Rattle.gnb_base.specs.declared.lines.ReadError.TheVariants as errors
-use Rattle.gnb_types.specs.declared.octets.Memory.{Memory}
+use Rattle.gnb_types.specs.declared.items.Memory.{Memory}
 use Rattle.gnb_base.specs.Outside.{SourceAt}
 use Rattle.gnb_base.specs.Lines.{line_feed, HasNoLf, past_line}
 use Rattle.gnb_base.specs.Reading.{Reading, NextMeets, CountsReadFault, FailsLast, input_limit, piece_size}

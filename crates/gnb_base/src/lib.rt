@@ -8,4 +8,4 @@ pub mod standard;
 #[cfg(test)]
 mod tests;
 
-pub use gnb_types::{bits, hex, names, octets, plans, reasons, tags};
+pub use gnb_types::{bits, hex, inputs, items, keys, names, octets, outputs, plans, reasons};

@@ -12,7 +12,7 @@ use std::alloc::Global;
 pub enum HexError {
     /// An odd length, or a character that is no hexadecimal digit.
     NotHex,
-    /// Want of memory.
+    /// Out of memory.
     Memory,
 }
 

@@ -3,10 +3,13 @@
 
 pub mod bits;
 pub mod hex;
+pub mod inputs;
+pub mod items;
+pub mod keys;
 pub mod names;
 pub mod octets;
+pub mod outputs;
 pub mod plans;
 pub mod reasons;
-pub mod tags;
 #[cfg(test)]
 mod tests;

@@ -1,6 +1,7 @@
 //! Where a terminal is served, and what its bearers hold there.
 
 use crate::bits::Bits;
+use crate::items::Items;
 use crate::names::{BearerId, Gnb, SnBits, UeId};
 
 /// Where a terminal is to be served, and with which bearers.
@@ -42,3 +43,9 @@ pub struct SnStatus {
     pub ul_first: u32,
     pub ul_received: Option<Bits>,
 }
+
+/// A list of tunnels. Contracts see the list.
+pub type TunnelList = Items<Tunnel>;
+
+/// A list of SN statuses. Contracts see the list.
+pub type StatusList = Items<SnStatus>;
