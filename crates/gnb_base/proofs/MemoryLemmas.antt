@@ -8,10 +8,10 @@ pub gave : (bytes all copied rest : List ℕ) (given count piece room : ℕ) →
     × (count ≡ 0 → 0 < length (copied ++ rest) → drop (given + count) all ≡ [])
 gave bytes all copied rest given count piece room left copies most some whole =
     let size : length copied ≡ count = omega (arith, ap length copies, length-take count (drop given all)) in
-    let behind : drop (given + count) all ≡ drop count (drop given all) = sym (drop-drop count given all) in (
+    let after : drop (given + count) all ≡ drop count (drop given all) = sym (drop-drop count given all) in (
       left ∙ sym (take-append-drop count (drop given all))
           ∙ ap (λ (xs : List ℕ). xs ++ drop count (drop given all)) (sym copies ∙ sym (take_at copied rest count size))
-          ∙ ap (λ (xs : List ℕ). take count (copied ++ rest) ++ xs) (sym behind),
+          ∙ ap (λ (xs : List ℕ). take count (copied ++ rest) ++ xs) (sym after),
       λ none asked. drop_all (given + count) all (omega (arith, length-drop given all, length-append copied rest)),
     )
 

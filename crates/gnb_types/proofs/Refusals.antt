@@ -1,5 +1,5 @@
 -- A table of conditions: at most one reason is the first, and tests find it.
-use Rattle.std.proofs.Common.{◌≡◌, ◌⊎◌, ◌↔◌, inl, inr, Bool, true, false, List, [], ◌∷◌, Option, Some, None, refl, sym, ap, ◌∙◌, true≢false}
+use Rattle.std.proofs.Common.{◌≡◌, ◌⊎◌, ◌↔◌, inl, inr, Bool, true, false, List, [], ◌∷◌, Option, Some, None, Result, Ok, Err, IfOk, IfErr, refl, sym, ap, ◌∙◌, true≢false}
 use Rattle.gnb_types.specs.Refusals.{Condition, IsFirst, NoneHolds, first_reason, AreTests}
 
 module _ {E : Type 0} where
@@ -51,3 +51,13 @@ module _ {E : Type 0} where
       by : ((r : E) × (first_reason ts ≡ Some r)) ⊎ (first_reason ts ≡ None) → first_reason ts ≡ Some e
       by (inl (r, is)) = is ∙ ap Some (one_first cs r e (tested_first ts cs r are is) h)
       by (inr none) = absurd (none_first cs e (tested_none ts cs are none) h)
+
+  -- what a reader answers that goes by the tests
+  module _ {X : Type 0} (ts : List (Bool × E)) (cs : List (Condition E)) (are : AreTests ts cs) where
+    pub refused_first : (r : Result X E) → IfErr r (λ e. first_reason ts ≡ Some e) → IfErr r (λ e. IsFirst cs e)
+    refused_first (Ok x) h = tt
+    refused_first (Err e) h = tested_first ts cs e are h
+
+    pub first_refused : (r : Result X E) → IfOk r (λ x. first_reason ts ≡ None) → IfErr r (λ e. first_reason ts ≡ Some e) → (e : E) → IsFirst cs e → r ≡ Err e
+    first_refused (Ok x) none h e k = absurd (none_first cs e (tested_none ts cs are none) k)
+    first_refused (Err r) none h e k = ap Err (one_first cs r e (tested_first ts cs r are h) k)

@@ -3,7 +3,8 @@ use Rattle.std.proofs.Common.{◌≡◌, ℕ, ◌-◌, ◌<◌, ◌==◌, Bool, 
 use Rattle.std.specs.List.{AllByRecursion}
 use Rattle.gtpu.specs.declared.GtpuError.{GtpuError}
 use Rattle.gtpu.specs.Headers.{ExtensionHeader, IsHeader, units, may_have, is_required, header_octets, first_type, chain_octets, Begins, AreHeaders, IsChain, SplitsOff, content_of}
-use Rattle.gtpu.specs.Refusals.{IsFirst, HasWrongLength, IsRequired, Meets, faults_at, header_refusals}
+use Rattle.gnb_types.specs.Refusals.{IsFirst}
+use Rattle.gtpu.specs.Refusals.{HasWrongLength, IsRequired, Meets, faults_at, header_refusals}
 
 -- ---- one header more at the end
 

@@ -10,7 +10,8 @@ use Rattle.gtpu.specs.declared.GtpuError.{GtpuError}
 use Rattle.gtpu.specs.declared.GtpuError.TheVariants as errors
 use Rattle.gtpu.specs.Headers.{ExtensionHeader, units, may_have, is_required, chain_octets, Begins, IsChain, SplitsOff}
 use Rattle.gtpu.specs.Packets.{GtpuPacket, Gtpu, kind_code, s_flag, pn_flag, has_flag}
-use Rattle.gtpu.specs.Refusals.{IsFirst, IsRefusal, faults_at, told_of, first_of, header_refusals}
+use Rattle.gnb_types.specs.Refusals.{IsFirst}
+use Rattle.gtpu.specs.Refusals.{IsRefusal, faults_at, length_of, first_of, header_refusals}
 use Rattle.gtpu.proofs.Chains.{Passes, passes_none, passes_more, fault_then, split_shorter}
 use Rattle.gtpu.proofs.Reading.{Opens, refused_short, refused_version, refused_kind, refused_truncated, refused_longer, refused_flagged, refused_headers, found_plain, found_flagged}
 
@@ -115,7 +116,7 @@ Decided bytes = ((p : GtpuPacket) × Gtpu p bytes) ⊎ ((e : GtpuError) × IsRef
 abbrev teid_at : List ℕ → ℕ
 teid_at bytes = from_be_bytes w32 (slice_index bytes 4 ∷ slice_index bytes 5 ∷ slice_index bytes 6 ∷ slice_index bytes 7 ∷ [])
 
-by_headers : (bytes : List ℕ) (kind : Kind) → Opens bytes kind → length bytes ≡ 8 + told_of bytes → has_flag (slice_index bytes 0) ≡ true → 4 ≤ told_of bytes → Settled (first_of bytes) (drop 12 bytes) → Decided bytes
+by_headers : (bytes : List ℕ) (kind : Kind) → Opens bytes kind → length bytes ≡ 8 + length_of bytes → has_flag (slice_index bytes 0) ≡ true → 4 ≤ length_of bytes → Settled (first_of bytes) (drop 12 bytes) → Decided bytes
 by_headers bytes kind o whole flag room (inr fault) = inr (fault.0, refused_headers bytes kind fault.0 o whole room fault.1)
 by_headers bytes kind o whole flag room (inl s) =
     let flags = slice_index bytes 0 in
@@ -131,21 +132,21 @@ by_headers bytes kind o whole flag room (inl s) =
     let chain : IsChain (first_of bytes) (chain_octets s.0 0) = (s.0, record { each = s.2.each; first_is = s.2.first_is; octets_are = sym (append-nil (chain_octets s.0 0)) }) in
     inl (p, found_flagged bytes p o refl whole flag room refl refl refl chain s.2.octets_are)
 
-by_flags : (bytes : List ℕ) (kind : Kind) → Opens bytes kind → length bytes ≡ 8 + told_of bytes → (b : Bool) → has_flag (slice_index bytes 0) ≡ b → Decided bytes
+by_flags : (bytes : List ℕ) (kind : Kind) → Opens bytes kind → length bytes ≡ 8 + length_of bytes → (b : Bool) → has_flag (slice_index bytes 0) ≡ b → Decided bytes
 by_flags bytes kind o whole false none =
     let p : GtpuPacket = record { kind = kind; teid = teid_at bytes; seq = None; npdu = None; first = 0; chain = []; payload = drop 8 bytes } in
     inl (p, found_plain bytes (drop 8 bytes) kind refl o whole none)
 by_flags bytes kind o whole true flag =
-    elim (cases_lt (told_of bytes) 4) [
+    elim (cases_lt (length_of bytes) 4) [
       | inl few ↦ inr (errors.Length, refused_flagged bytes kind o whole flag few)
       | inr room ↦ by_headers bytes kind o whole flag room (settle (suc (length (drop 12 bytes))) (first_of bytes) (drop 12 bytes) (first_of bytes) (drop 12 bytes) (omega arith) (passes_none (first_of bytes) (drop 12 bytes)))
     ]
 
 by_count : (bytes : List ℕ) (kind : Kind) → Opens bytes kind → Decided bytes
 by_count bytes kind o =
-    elim (cases_lt (length bytes) (8 + told_of bytes)) [
+    elim (cases_lt (length bytes) (8 + length_of bytes)) [
       | inl few ↦ inr (errors.Truncated, refused_truncated bytes kind o few)
-      | inr enough ↦ elim (cases_lt (8 + told_of bytes) (length bytes)) [
+      | inr enough ↦ elim (cases_lt (8 + length_of bytes) (length bytes)) [
         | inl more ↦ inr (errors.Length, refused_longer bytes kind o more)
         | inr within ↦ by_flags bytes kind o (omega arith) (has_flag (slice_index bytes 0)) refl
       ]

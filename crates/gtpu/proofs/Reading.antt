@@ -9,7 +9,8 @@ use Rattle.gtpu.specs.declared.GtpuError.TheVariants as errors
 use Rattle.gtpu.specs.Headers.{IsChain}
 use Rattle.gtpu.specs.Packets.{GtpuPacket, Gtpu, kind_code, e_flag, s_flag, pn_flag, has_flag, IsFlagged, IsBody, IsPacket}
 use Rattle.gtpu.proofs.Flags.{e_test, s_test, pn_test}
-use Rattle.gtpu.specs.Refusals.{IsFirst, IsRefusal, told_of, first_of, header_refusals}
+use Rattle.gnb_types.specs.Refusals.{IsFirst}
+use Rattle.gtpu.specs.Refusals.{IsRefusal, length_of, first_of, header_refusals}
 
 -- ---- the refusals, one after the other
 
@@ -31,60 +32,60 @@ pub record Opens (bytes : List ℕ) (kind : Kind) : Type 0 where
   pub version : slice_index bytes 0 / 16 ≡ 3
   pub code : slice_index bytes 1 ≡ kind_code kind
 
-pub refused_truncated : (bytes : List ℕ) (kind : Kind) → Opens bytes kind → length bytes < 8 + told_of bytes → IsRefusal errors.Truncated bytes
+pub refused_truncated : (bytes : List ℕ) (kind : Kind) → Opens bytes kind → length bytes < 8 + length_of bytes → IsRefusal errors.Truncated bytes
 unfolding IsRefusal
 refused_truncated bytes kind o few =
     inr (λ short. omega (arith, o.long), inr (λ other. other o.version, inr (λ none. none kind o.code, inl (few, refl))))
 
-pub refused_longer : (bytes : List ℕ) (kind : Kind) → Opens bytes kind → 8 + told_of bytes < length bytes → IsRefusal errors.Length bytes
+pub refused_longer : (bytes : List ℕ) (kind : Kind) → Opens bytes kind → 8 + length_of bytes < length bytes → IsRefusal errors.Length bytes
 unfolding IsRefusal
 refused_longer bytes kind o more =
     inr (λ short. omega (arith, o.long), inr (λ other. other o.version, inr (λ none. none kind o.code, inr (λ few. omega arith, inl (inl more, refl)))))
 
-pub refused_flagged : (bytes : List ℕ) (kind : Kind) → Opens bytes kind → length bytes ≡ 8 + told_of bytes → has_flag (slice_index bytes 0) ≡ true → told_of bytes < 4 → IsRefusal errors.Length bytes
+pub refused_flagged : (bytes : List ℕ) (kind : Kind) → Opens bytes kind → length bytes ≡ 8 + length_of bytes → has_flag (slice_index bytes 0) ≡ true → length_of bytes < 4 → IsRefusal errors.Length bytes
 unfolding IsRefusal
 refused_flagged bytes kind o whole flag few =
     inr (λ short. omega (arith, o.long), inr (λ other. other o.version, inr (λ none. none kind o.code, inr (λ less. omega arith, inl (inr (flag, few), refl)))))
 
-pub refused_headers : (bytes : List ℕ) (kind : Kind) (e : GtpuError) → Opens bytes kind → length bytes ≡ 8 + told_of bytes → 4 ≤ told_of bytes → IsFirst (header_refusals (first_of bytes) (drop 12 bytes)) e → IsRefusal e bytes
+pub refused_headers : (bytes : List ℕ) (kind : Kind) (e : GtpuError) → Opens bytes kind → length bytes ≡ 8 + length_of bytes → 4 ≤ length_of bytes → IsFirst (header_refusals (first_of bytes) (drop 12 bytes)) e → IsRefusal e bytes
 unfolding IsRefusal
 refused_headers bytes kind e o whole room h =
-    let fits : ¬ ((8 + told_of bytes < length bytes) ⊎ ((has_flag (slice_index bytes 0) ≡ true) × (told_of bytes < 4))) =
+    let fits : ¬ ((8 + length_of bytes < length bytes) ⊎ ((has_flag (slice_index bytes 0) ≡ true) × (length_of bytes < 4))) =
     λ x. elim x [ inl more ↦ omega (arith, more) | inr few ↦ omega (arith, few.1) ] in
     inr (λ short. omega (arith, o.long), inr (λ other. other o.version, inr (λ none. none kind o.code, inr (λ less. omega arith, inr (fits, h)))))
 
 -- ---- parts of the octets, as code takes them
 
-abbrev pub behind : ℕ → List ℕ → List ℕ
-behind n xs = slice_range xs n (length xs)
+abbrev pub past : ℕ → List ℕ → List ℕ
+past n xs = slice_range xs n (length xs)
 
-pub behind_is : (n : ℕ) (xs : List ℕ) → behind n xs ≡ drop n xs
-behind_is n xs = between_to_end xs n (length xs) (omega arith)
+pub past_is : (n : ℕ) (xs : List ℕ) → past n xs ≡ drop n xs
+past_is n xs = between_to_end xs n (length xs) (omega arith)
 
-pub behind_twice : (bytes : List ℕ) → behind 4 (behind 8 bytes) ≡ drop 12 bytes
-behind_twice bytes = behind_is 4 (behind 8 bytes) ∙ ap (drop 4) (behind_is 8 bytes) ∙ drop-drop 4 8 bytes
+pub past_twice : (bytes : List ℕ) → past 4 (past 8 bytes) ≡ drop 12 bytes
+past_twice bytes = past_is 4 (past 8 bytes) ∙ ap (drop 4) (past_is 8 bytes) ∙ drop-drop 4 8 bytes
 
-pub behind_at : (bytes : List ℕ) (i : ℕ) → slice_index (behind 8 bytes) i ≡ slice_index bytes (8 + i)
-behind_at bytes i = ap (λ (xs : List ℕ). slice_index xs i) (behind_is 8 bytes) ∙ get_or-drop 8 bytes i 0
+pub past_at : (bytes : List ℕ) (i : ℕ) → slice_index (past 8 bytes) i ≡ slice_index bytes (8 + i)
+past_at bytes i = ap (λ (xs : List ℕ). slice_index xs i) (past_is 8 bytes) ∙ get_or-drop 8 bytes i 0
 
-pub first_told : (bytes : List ℕ) → bit_and (slice_index bytes 0) 4 ≢ 0 → slice_index (behind 8 bytes) 3 ≡ first_of bytes
-first_told bytes set =
+pub first_read : (bytes : List ℕ) → bit_and (slice_index bytes 0) 4 ≢ 0 → slice_index (past 8 bytes) 3 ≡ first_of bytes
+first_read bytes set =
     let flag : e_flag (slice_index bytes 0) ≡ true = sym (e_test (slice_index bytes 0)) ∙ ap not (ne_eqb (bit_and (slice_index bytes 0) 4) 0 set) in
-    behind_at bytes 3 ∙ sym (ap (λ (b : Bool). if b then slice_index bytes 11 else 0) flag)
+    past_at bytes 3 ∙ sym (ap (λ (b : Bool). if b then slice_index bytes 11 else 0) flag)
 
 pub first_none : (bytes : List ℕ) → bit_and (slice_index bytes 0) 4 ≡ 0 → 0 ≡ first_of bytes
 first_none bytes unset =
     let flag : e_flag (slice_index bytes 0) ≡ false = sym (e_test (slice_index bytes 0)) ∙ ap not (eq-eqb (bit_and (slice_index bytes 0) 4) 0 unset) in
     sym (ap (λ (b : Bool). if b then slice_index bytes 11 else 0) flag)
 
-pub seq_told : (bytes : List ℕ) (n : ℕ) (seq : Option ℕ) → n ≡ from_be_bytes w16 (slice_index (behind 8 bytes) 0 ∷ slice_index (behind 8 bytes) 1 ∷ []) → seq ≡ then_some (not (bit_and (slice_index bytes 0) 2 == 0)) n
+pub seq_read : (bytes : List ℕ) (n : ℕ) (seq : Option ℕ) → n ≡ from_be_bytes w16 (slice_index (past 8 bytes) 0 ∷ slice_index (past 8 bytes) 1 ∷ []) → seq ≡ then_some (not (bit_and (slice_index bytes 0) 2 == 0)) n
     → seq ≡ then_some (s_flag (slice_index bytes 0)) (from_be_bytes w16 (slice_index bytes 8 ∷ slice_index bytes 9 ∷ []))
-seq_told bytes n seq number given =
-    let at : n ≡ from_be_bytes w16 (slice_index bytes 8 ∷ slice_index bytes 9 ∷ []) = number ∙ (λ i. from_be_bytes w16 (behind_at bytes 0 i ∷ behind_at bytes 1 i ∷ [])) in
+seq_read bytes n seq number given =
+    let at : n ≡ from_be_bytes w16 (slice_index bytes 8 ∷ slice_index bytes 9 ∷ []) = number ∙ (λ i. from_be_bytes w16 (past_at bytes 0 i ∷ past_at bytes 1 i ∷ [])) in
     given ∙ (λ i. then_some (s_test (slice_index bytes 0) i) (at i))
 
-pub npdu_told : (bytes : List ℕ) (npdu : Option ℕ) → npdu ≡ then_some (not (bit_and (slice_index bytes 0) 1 == 0)) (slice_index (behind 8 bytes) 2) → npdu ≡ then_some (pn_flag (slice_index bytes 0)) (slice_index bytes 10)
-npdu_told bytes npdu given = given ∙ (λ i. then_some (pn_test (slice_index bytes 0) i) (behind_at bytes 2 i))
+pub npdu_read : (bytes : List ℕ) (npdu : Option ℕ) → npdu ≡ then_some (not (bit_and (slice_index bytes 0) 1 == 0)) (slice_index (past 8 bytes) 2) → npdu ≡ then_some (pn_flag (slice_index bytes 0)) (slice_index bytes 10)
+npdu_read bytes npdu given = given ∙ (λ i. then_some (pn_test (slice_index bytes 0) i) (past_at bytes 2 i))
 
 -- ---- the octets of a packet, by their places
 
@@ -99,7 +100,7 @@ flagged_at : (p : GtpuPacket) (flags : ℕ) (body : List ℕ) → 4 ≤ length b
 flagged_at p flags (a ∷ b ∷ c ∷ d ∷ rest) long is = is
 flagged_at p flags _ long is = absurd (omega arith)
 
-pub found_plain : (bytes body : List ℕ) (kind : Kind) → body ≡ drop 8 bytes → Opens bytes kind → length bytes ≡ 8 + told_of bytes → has_flag (slice_index bytes 0) ≡ false
+pub found_plain : (bytes body : List ℕ) (kind : Kind) → body ≡ drop 8 bytes → Opens bytes kind → length bytes ≡ 8 + length_of bytes → has_flag (slice_index bytes 0) ≡ false
     → Gtpu (record {
       kind = kind;
       teid = from_be_bytes w32 (slice_index bytes 4 ∷ slice_index bytes 5 ∷ slice_index bytes 6 ∷ slice_index bytes 7 ∷ []);
@@ -120,7 +121,7 @@ found_plain bytes body kind is o whole none =
     })
 
 pub found_flagged : (bytes : List ℕ) (p : GtpuPacket) → Opens bytes p.kind → p.teid ≡ from_be_bytes w32 (slice_index bytes 4 ∷ slice_index bytes 5 ∷ slice_index bytes 6 ∷ slice_index bytes 7 ∷ [])
-    → length bytes ≡ 8 + told_of bytes → has_flag (slice_index bytes 0) ≡ true → 4 ≤ told_of bytes
+    → length bytes ≡ 8 + length_of bytes → has_flag (slice_index bytes 0) ≡ true → 4 ≤ length_of bytes
     → p.seq ≡ then_some (s_flag (slice_index bytes 0)) (from_be_bytes w16 (slice_index bytes 8 ∷ slice_index bytes 9 ∷ []))
     → p.npdu ≡ then_some (pn_flag (slice_index bytes 0)) (slice_index bytes 10)
     → p.first ≡ first_of bytes → IsChain p.first p.chain → drop 12 bytes ≡ p.chain ++ p.payload

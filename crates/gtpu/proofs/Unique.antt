@@ -1,35 +1,22 @@
 -- The octets are those of one packet at most, and where they are a packet's they have no refusal.
 use Rattle.std.proofs.Common.{◌≡◌, ℕ, ◌+◌, ◌/◌, ◌%◌, ◌<◌, ◌≤◌, Bool, true, false, if◌then◌else◌, List, [], ◌∷◌, ◌++◌, length, None, Result, Ok, Err, IfOk, IfErr, IsOkAnd, refl, sym, ap, subst, ◌∙◌, inl, inr, ◌⊎◌, true≢false, append-nil, arith, slice_index, drop, ltb-false, ne_eqb, ◌==◌, is_some, length-append}
+use Rattle.gnb_types.specs.Refusals.{IsFirst, NoneHolds}
+use Rattle.gnb_types.proofs.Refusals.{one_first, none_first}
+use Rattle.gtpu.specs.declared.TheConstants.{LENGTH_LIMIT}
 use Rattle.gtpu.specs.declared.Kind.{Kind}
 use Rattle.gtpu.specs.declared.Kind.TheVariants.{EchoRequest, EchoResponse, ErrorIndication, EndMarker, GPdu}
 use Rattle.gtpu.specs.declared.GtpuError.{GtpuError}
 use Rattle.gtpu.specs.declared.Packet.{Packet}
 use Rattle.gtpu.specs.Headers.{ExtensionHeader, IsChain, Begins, chain_octets}
 use Rattle.gtpu.specs.Packets.{GtpuPacket, view, Gtpu, kind_code, e_flag, has_flag, IsFlagged, IsBody, flags_of, fields_of, optional_of, body_of}
-use Rattle.gtpu.specs.Refusals.{Condition, IsFirst, IsRefusal, Meets, IsRequired, HasWrongLength, told_of, refusals, header_refusals}
+use Rattle.gtpu.specs.Refusals.{IsRefusal, Meets, IsRequired, HasWrongLength, length_of, refusals, header_refusals}
 use Rattle.gtpu.proofs.Chains.{same_end, stuck_none, stuck_required, stuck_wrong, IsStuck, no_headers}
 
 -- ---- one refusal
 
-pub one_first : (cs : List Condition) (a b : GtpuError) → IsFirst cs a → IsFirst cs b → a ≡ b
-one_first [] a b p q = absurd p
-one_first (c ∷ cs) a b (inl p) (inl q) = p.1 ∙ sym q.1
-one_first (c ∷ cs) a b (inl p) (inr q) = absurd (q.0 p.0)
-one_first (c ∷ cs) a b (inr p) (inl q) = absurd (p.0 q.0)
-one_first (c ∷ cs) a b (inr p) (inr q) = one_first cs a b p.1 q.1
-
 pub one_refusal : (bytes : List ℕ) (a b : GtpuError) → IsRefusal a bytes → IsRefusal b bytes → a ≡ b
 unfolding IsRefusal
 one_refusal bytes a b p q = one_first (refusals bytes) a b p q
-
-abbrev pub NoneHolds : List Condition → Type 0
-NoneHolds [] = Unit {0}
-NoneHolds (c ∷ cs) = ¬ c.1 × NoneHolds cs
-
-none_first : (cs : List Condition) (e : GtpuError) → NoneHolds cs → IsFirst cs e → ⊥
-none_first [] e none f = f
-none_first (c ∷ cs) e none (inl x) = none.0 x.0
-none_first (c ∷ cs) e none (inr x) = none_first cs e none.1 x.1
 
 -- ---- one packet
 
@@ -41,7 +28,7 @@ one_kind EndMarker EndMarker e = refl
 one_kind GPdu GPdu e = refl
 one_kind a b e = absurd (omega arith)
 
--- a chain, and what stands behind it
+-- a chain, and what follows it
 pub chain_begins : (first : ℕ) (chain payload octets : List ℕ) (p : IsChain first chain) → octets ≡ chain ++ payload → Begins first octets p.0 0 payload
 chain_begins first chain payload octets p parts =
     record { each = p.1.each; first_is = p.1.first_is; octets_are = parts ∙ ap (λ (x : List ℕ). x ++ payload) (p.1.octets_are ∙ append-nil (chain_octets p.0 0)) }
@@ -93,7 +80,7 @@ body_long p flags true _ a set = absurd a
 no_extension : (flags : ℕ) → has_flag flags ≡ false → e_flag flags ≡ false
 no_extension flags unset = let none : flags % 8 ≤ 0 = ltb-false 0 (flags % 8) unset in ne_eqb (flags / 4 % 2) 1 (λ set. omega arith)
 
--- the headers that are told in these octets
+-- the headers that stand in these octets
 body_headers : (p : GtpuPacket) (flags : ℕ) (flagged : Bool) (body : List ℕ) → has_flag flags ≡ flagged → IsBody p flags flagged body → NoneHolds (header_refusals (if e_flag flags then slice_index body 3 else 0) (drop 4 body))
 body_headers p flags false body is a =
     subst (λ (b : Bool). NoneHolds (header_refusals (if b then slice_index body 3 else 0) (drop 4 body))) (sym (no_extension flags is))
@@ -105,7 +92,7 @@ body_headers p flags true _ is a = absurd a
 none_holds : (bytes : List ℕ) (p : GtpuPacket) → Gtpu p bytes → NoneHolds (refusals bytes)
 unfolding Gtpu
 none_holds (flags ∷ code ∷ l0 ∷ l1 ∷ t0 ∷ t1 ∷ t2 ∷ t3 ∷ body) p a =
-    let wrong : ¬ ((8 + told_of (flags ∷ code ∷ l0 ∷ l1 ∷ t0 ∷ t1 ∷ t2 ∷ t3 ∷ body) < length (flags ∷ code ∷ l0 ∷ l1 ∷ t0 ∷ t1 ∷ t2 ∷ t3 ∷ body)) ⊎ ((has_flag flags ≡ true) × (told_of (flags ∷ code ∷ l0 ∷ l1 ∷ t0 ∷ t1 ∷ t2 ∷ t3 ∷ body) < 4))) =
+    let wrong : ¬ ((8 + length_of (flags ∷ code ∷ l0 ∷ l1 ∷ t0 ∷ t1 ∷ t2 ∷ t3 ∷ body) < length (flags ∷ code ∷ l0 ∷ l1 ∷ t0 ∷ t1 ∷ t2 ∷ t3 ∷ body)) ⊎ ((has_flag flags ≡ true) × (length_of (flags ∷ code ∷ l0 ∷ l1 ∷ t0 ∷ t1 ∷ t2 ∷ t3 ∷ body) < 4))) =
     λ x. elim x [ inl more ↦ omega (arith, a.length_is, more) | inr few ↦ omega (arith, a.length_is, few.1, body_long p flags (has_flag flags) body a.body_is few.0) ] in
     (λ short. omega (arith, short), (λ other. other a.version, (λ none. none p.kind a.kind, (λ few. omega (arith, a.length_is, few), (wrong, body_headers p flags (has_flag flags) body refl a.body_is)))))
 none_holds _ p a = absurd a
@@ -157,7 +144,7 @@ body_counted p flags true (s0 ∷ s1 ∷ number ∷ next ∷ rest) a =
     omega (arith, some_fields p (has_flag (flags_of p)), ap length a.parts, length-append p.chain p.payload, length-append (optional_of p ++ p.chain) p.payload, length-append (optional_of p) p.chain)
 body_counted p flags true _ a = absurd a
 
-packet_counted : (bytes : List ℕ) (p : GtpuPacket) → ((i : ℕ) → slice_index bytes i < 256) → Gtpu p bytes → length (body_of p) ≤ 65535
+packet_counted : (bytes : List ℕ) (p : GtpuPacket) → ((i : ℕ) → slice_index bytes i < 256) → Gtpu p bytes → length (body_of p) ≤ LENGTH_LIMIT
 unfolding Gtpu
 packet_counted (flags ∷ code ∷ l0 ∷ l1 ∷ t0 ∷ t1 ∷ t2 ∷ t3 ∷ body) p fits a =
     let high : l0 < 256 = fits 2 in
@@ -165,6 +152,6 @@ packet_counted (flags ∷ code ∷ l0 ∷ l1 ∷ t0 ∷ t1 ∷ t2 ∷ t3 ∷ bod
     omega (arith, a.length_is, body_counted p flags (has_flag flags) body a.body_is)
 packet_counted _ p fits a = absurd a
 
-pub read_counted : (bytes : List ℕ) (r : Result Packet GtpuError) → ((i : ℕ) → slice_index bytes i < 256) → IfOk r (λ p. Gtpu (view p) bytes) → IfOk r (λ p. length (body_of (view p)) ≤ 65535)
+pub read_counted : (bytes : List ℕ) (r : Result Packet GtpuError) → ((i : ℕ) → slice_index bytes i < 256) → IfOk r (λ p. Gtpu (view p) bytes) → IfOk r (λ p. length (body_of (view p)) ≤ LENGTH_LIMIT)
 read_counted bytes (Ok p) fits found = packet_counted bytes (view p) fits found
 read_counted bytes (Err e) fits found = tt

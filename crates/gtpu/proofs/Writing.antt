@@ -19,9 +19,9 @@ length-body p optional is = omega (arith, ap length is, length-append (optional_
 pub in_pieces : (p : GtpuPacket) (a b c d e f g : List ℕ) (flags code count : ℕ) (optional : List ℕ) → flags ≡ flags_of p → code ≡ kind_code p.kind → count ≡ length (body_of p) → optional ≡ optional_of p
     → a ≡ [] → b ≡ a ++ (flags ∷ code ∷ []) → c ≡ b ++ to_be_bytes w16 count → d ≡ c ++ to_be_bytes w32 p.teid → e ≡ d ++ optional → f ≡ e ++ p.chain → g ≡ f ++ p.payload → g ≡ gtpu_octets p
 unfolding gtpu_octets
-in_pieces p a b c d e f g flags code count optional flags-are code-is counted is none head told tunnel fields chain payload =
+in_pieces p a b c d e f g flags code count optional flags-are code-is counted is none head stated tunnel fields chain payload =
     let start : c ≡ flags_of p ∷ kind_code p.kind ∷ to_be_bytes w16 (length (body_of p)) =
-    told ∙ (λ i. (head ∙ (λ j. none j ++ (flags-are j ∷ code-is j ∷ []))) i ++ to_be_bytes w16 (counted i)) in
+    stated ∙ (λ i. (head ∙ (λ j. none j ++ (flags-are j ∷ code-is j ∷ []))) i ++ to_be_bytes w16 (counted i)) in
     let body : g ≡ (((c ++ to_be_bytes w32 p.teid) ++ optional_of p) ++ p.chain) ++ p.payload =
     payload ∙ (λ i. (chain ∙ (λ j. (fields ∙ (λ k. tunnel k ++ is k)) j ++ p.chain)) i ++ p.payload) in
     body ∙ (λ i. (((start i ++ to_be_bytes w32 p.teid) ++ optional_of p) ++ p.chain) ++ p.payload)
@@ -54,7 +54,7 @@ chain_none first chain none p = go p.0 p.1
     go [] p = p.octets_are
     go (h ∷ hs) p = absurd (omega (arith, p.each.0.some, p.first_is, none))
 
--- the body behind the flags that the fields give
+-- the body after the flags that the fields give
 written_body : (p : GtpuPacket) (none : Bool) (seq npdu : Option ℕ) → (p.first == 0) ≡ none → p.seq ≡ seq → p.npdu ≡ npdu → IfSome seq (λ n. n < 2 ^ 16) → IsChain p.first p.chain
     → let flags = flags_by none (is_some seq) (is_some npdu) in IsBody p flags (has_flag flags) ((if has_flag flags then fields_of p else []) ++ p.chain ++ p.payload)
 written_body p true None None e seqs npdus fits chain =

@@ -2,6 +2,7 @@
 use Rattle.std.specs.Prelude.{◌≡◌, ◌==◌, ℕ, ◌+◌, ◌/◌, ◌%◌, ◌<◌, ◌≤◌, ◌^◌, Bool, true, false, if◌then◌else◌, nat_lt, List, [], ◌∷◌, ◌++◌, length, Option, None, is_some, unwrap_or, IfSome}
 use Rattle.std.specs.Bool.{then_some}
 use Rattle.std.specs.Int.{w16, w32, from_be_bytes, to_be_bytes}
+use Rattle.gtpu.specs.declared.TheConstants.{LENGTH_LIMIT}
 use Rattle.gtpu.specs.declared.Kind.{Kind}
 use Rattle.gtpu.specs.declared.Kind.TheVariants.{EchoRequest, EchoResponse, ErrorIndication, EndMarker, GPdu}
 use Rattle.gtpu.specs.declared.Packet.{Packet}
@@ -71,11 +72,11 @@ IsBody p flags false body = IsPlain p body
 IsBody p flags true (s0 ∷ s1 ∷ number ∷ next ∷ rest) = IsFlagged p flags s0 s1 number next rest
 IsBody p flags true _ = ⊥
 
--- the first octet, the kind, the number of octets behind the first eight, the TEID, and these octets
-pub record IsPacket (p : GtpuPacket) (flags code told teid : ℕ) (body : List ℕ) : Type 0 where
+-- the first octet, the kind, the number of octets after the first eight, the TEID, and these octets
+pub record IsPacket (p : GtpuPacket) (flags code stated teid : ℕ) (body : List ℕ) : Type 0 where
   pub version : flags / 16 ≡ 3
   pub kind : code ≡ kind_code p.kind
-  pub length_is : length body ≡ told
+  pub length_is : length body ≡ stated
   pub teid_is : p.teid ≡ teid
   pub body_is : IsBody p flags (has_flag flags) body
 
@@ -97,16 +98,16 @@ fields_of p = to_be_bytes w16 (unwrap_or p.seq 0) ++ unwrap_or p.npdu 0 ∷ p.fi
 abbrev pub optional_of : GtpuPacket → List ℕ
 optional_of p = if has_flag (flags_of p) then fields_of p else []
 
--- behind the first eight octets
+-- after the first eight octets
 abbrev pub body_of : GtpuPacket → List ℕ
 body_of p = optional_of p ++ p.chain ++ p.payload
 
 unfoldable pub gtpu_octets : GtpuPacket → List ℕ
 gtpu_octets p = flags_of p ∷ kind_code p.kind ∷ to_be_bytes w16 (length (body_of p)) ++ to_be_bytes w32 p.teid ++ body_of p
 
--- what can be written: the numbers fit, the chain is valid, and the octets behind the first eight can be counted
+-- what can be written: the numbers fit, the chain is valid, and the octets after the first eight can be counted
 pub record IsWritable (p : GtpuPacket) : Type 0 where
   pub teid : p.teid < 2 ^ 32
   pub seq : IfSome p.seq (λ n. n < 2 ^ 16)
   pub chain : IsChain p.first p.chain
-  pub length_fits : length (body_of p) ≤ 65535
+  pub length_fits : length (body_of p) ≤ LENGTH_LIMIT

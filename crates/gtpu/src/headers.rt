@@ -3,7 +3,8 @@
 ghost use Rattle.std.specs.Prelude.{◌≡◌, ◌++◌, ◌<◌, List, IfOk, IfErr};
 ghost use Rattle.std.specs.Option.{option_copied};
 ghost use Rattle.gtpu.specs.Headers.{ExtensionHeader, SplitsOff, IsChain, AreHeaders, content_of, is_required, may_have};
-ghost use Rattle.gtpu.specs.Refusals.{IsFirst, header_refusals, faults_at};
+ghost use Rattle.gnb_types.specs.Refusals.{IsFirst};
+ghost use Rattle.gtpu.specs.Refusals.{header_refusals, faults_at};
 
 use crate::GtpuError;
 
@@ -14,7 +15,7 @@ pub const PDCP_PDU_NUMBER: u8 = 0xC0;
 /// Long PDCP PDU Number, of three octets and three more.
 pub const LONG_PDCP_PDU_NUMBER: u8 = 0x82;
 
-/// What the header at the front of some octets tells: its content, the type of the next one, and the octets behind it.
+/// What the header at the front of some octets says: its content, the type of the next one, and the octets after it.
 #[derive(Drop)]
 struct Split<'a> {
     content: &'a [u8],
@@ -68,7 +69,7 @@ fn split_header(code: u8, octets: &[u8]) -> Result<Split<'_>, GtpuError>
     })
 }
 
-/// Splits octets into a chain of headers, of which the first has this type, and what stands behind it.
+/// Splits octets into a chain of headers, of which the first has this type, and what follows it.
 pub(crate) fn split_chain(first: u8, octets: &[u8]) -> Result<(&[u8], &[u8]), GtpuError>
     ensures found { IfOk result (λ s. IsChain first s.0.now × (octets.now ≡ s.0.now ++ s.1.now)) }
     ensures refused { IfErr result (IsFirst (header_refusals first octets.now)) }

@@ -63,6 +63,9 @@ pub struct Packet<'a> {
 /// Version 1 and protocol type 1 (GTP), in the upper half of the first octet.
 const VERSION: u8 = 0b0011;
 
+/// The most octets that the length can count.
+pub const LENGTH_LIMIT: usize = 65_535;
+
 /// The flags of the first octet: an extension header, a sequence number, an N-PDU number.
 const E: u8 = 0b100;
 
@@ -90,15 +93,15 @@ fn code_of(kind: Kind) -> u8
     kind as u8
 }
 
-/// Whether there are as many octets as told.
-fn check_length(octets: usize, told: usize) -> Result<(), GtpuError>
-    ensures ok { OnOk result (octets ≡ told) }
-    ensures err { IfErr result (λ e. ((octets < told) × (e ≡ GtpuError.Truncated)) ⊎ ((told < octets) × (e ≡ GtpuError.Length))) }
+/// Whether there are as many octets as the length says.
+fn check_length(octets: usize, stated: usize) -> Result<(), GtpuError>
+    ensures ok { OnOk result (octets ≡ stated) }
+    ensures err { IfErr result (λ e. ((octets < stated) × (e ≡ GtpuError.Truncated)) ⊎ ((stated < octets) × (e ≡ GtpuError.Length))) }
 {
-    if octets < told {
+    if octets < stated {
         return Err(GtpuError::Truncated);
     }
-    if octets > told {
+    if octets > stated {
         return Err(GtpuError::Length);
     }
     Ok(())
@@ -118,8 +121,8 @@ fn read(bytes: &[u8]) -> Result<Packet<'_>, GtpuError>
     let Some(kind) = kind_of(*code) else {
         return Err(GtpuError::Kind);
     };
-    let told = usize::from(u16::from_be_bytes([*l0, *l1]));
-    check_length(body.len(), told)?;
+    let stated = usize::from(u16::from_be_bytes([*l0, *l1]));
+    check_length(body.len(), stated)?;
     let teid = u32::from_be_bytes([*t0, *t1, *t2, *t3]);
     if flags & (E | S | PN) == 0 {
         return Ok(Packet {
@@ -150,7 +153,7 @@ fn read(bytes: &[u8]) -> Result<Packet<'_>, GtpuError>
 
 /// Reads the octets of one packet, all of them. It takes no memory.
 ///
-/// Of several reasons to refuse them the first of this order is told: fewer than 8 octets (`Truncated`), another version
+/// Of several reasons to refuse them the first of this order is reported: fewer than 8 octets (`Truncated`), another version
 /// (`Version`) or message type (`Kind`), fewer octets than the length says (`Truncated`), more of them, or a length
 /// below 4 with a flag (`Length`), and then for each extension header in turn `ExtRequired` and `ExtLength`.
 pub fn decode(bytes: &[u8]) -> Result<Packet<'_>, GtpuError>
@@ -158,7 +161,7 @@ pub fn decode(bytes: &[u8]) -> Result<Packet<'_>, GtpuError>
     ensures found { IfOk result (λ p. Gtpu (view p) bytes.now) }
     // It may be given to `extension` and `encode`.
     ensures chain { IfOk result (λ p. IsChain p.first p.chain.now) }
-    ensures counted { IfOk result (λ p. length (body_of (view p)) ≤ 65535) }
+    ensures counted { IfOk result (λ p. length (body_of (view p)) ≤ LENGTH_LIMIT) }
     // A packet of these octets is read.
     ensures only { (p : GtpuPacket) → Gtpu p bytes.now → IsOkAnd result (λ q. view q ≡ p) }
     ensures refused { IfErr result (λ e. IsRefusal e bytes.now) }
@@ -189,7 +192,7 @@ fn optional_fields(p: &Packet) -> [u8; 4]
 /// The octets of a packet, with 0 in spare bits and unused fields.
 pub fn encode(alloc: Global, p: &Packet) -> Result<Octets, Memory>
     requires chain { IsChain p.now.first p.now.chain.now }
-    requires counted { length (body_of (view p.now)) ≤ 65535 }
+    requires counted { length (body_of (view p.now)) ≤ LENGTH_LIMIT }
     ensures { IfOk result (λ octets. octets ≡ gtpu_octets (view p.now)) }
 {
     let flags = first_octet(p);

@@ -5,8 +5,8 @@ use Rattle.gtpu.specs.declared.Kind.TheVariants.{GPdu}
 use Rattle.gtpu.specs.Packets.{GtpuPacket}
 use Rattle.nr_user_plane.specs.declared.frames.Frame.TheVariants.{Data, Status}
 use Rattle.pdcp.specs.Pdus.{Content}
-use Rattle.link_layouts.specs.Decoding.{Item, f1u_downlink, f1u_uplink, forwarding_down, forwarding_up, fresh, numbered, pdu, framed, poll, status, end_of_tunnel, CarriesPdu, IsBare, SaysFresh, SaysNumbered, SaysEnd, Says}
-use Rattle.link_layouts.proofs.OneItem.{one_frame_in}
+use Rattle.link_defs.specs.Decoding.{Item, f1u_downlink, f1u_uplink, forwarding_down, forwarding_up, fresh, numbered, pdu, framed, poll, status, end_of_tunnel, CarriesPdu, IsBare, SaysFresh, SaysNumbered, SaysEnd, Says}
+use Rattle.link_defs.proofs.OneItem.{one_frame_in}
 use Rattle.link_packets.specs.Parts.{HasFrame}
 
 pub nothing_up : (sn : SnBits) (p : GtpuPacket) → (SaysEnd p → ⊥) → ((number : ℕ) (packet : List ℕ) → SaysNumbered sn number packet p → ⊥) → (item : Item) → Says forwarding_up sn item p → ⊥

@@ -2,8 +2,8 @@
 use Rattle.std.proofs.Common.{◌≡◌, ℕ, List, Option, Some, None, IfSome, IfNone, IsSomeAnd}
 use Rattle.gnb_types.specs.declared.names.SnBits.{SnBits}
 use Rattle.gtpu.specs.Packets.{GtpuPacket, Gtpu}
-use Rattle.link_layouts.specs.Decoding.{Link, Item, Says, DecodesOn}
-use Rattle.link_layouts.proofs.OneItem.{says_of, one_said}
+use Rattle.link_defs.specs.Decoding.{Link, Item, Says, DecodesOn}
+use Rattle.link_defs.proofs.OneItem.{says_of, one_said}
 
 pub found_through : {T : Type 0} → (link : Link) (sn : SnBits) (item_of : T → Item) (octets : List ℕ) (p : GtpuPacket) (r : Option T) → Gtpu p octets
     → IfSome r (λ x. Says link sn (item_of x) p) → IfSome r (λ x. DecodesOn link sn (item_of x) octets)

@@ -3,15 +3,16 @@ use Rattle.std.proofs.Common.{◌≡◌, ℕ, ◌+◌, ◌/◌, ◌%◌, ◌≤�
 use Rattle.gnb_types.specs.declared.names.SnBits.TheVariants.{Len18}
 use Rattle.std.specs.Int.{w32, to_be_bytes}
 use Rattle.std.proofs.lemmas.Nat.{and_mask}
+use Rattle.gtpu.specs.declared.headers.TheConstants.{NR_RAN_CONTAINER}
 use Rattle.gtpu.specs.Headers.{IsHeader, header_octets}
 use Rattle.gtpu.specs.Packets.{gtpu_octets}
 use Rattle.nr_user_plane.specs.declared.frames.Frame.{Frame}
 use Rattle.nr_user_plane.specs.declared.frames.Frame.TheVariants.{Data, Status}
 use Rattle.nr_user_plane.specs.Frames.{nru_octets, FitsFrame}
-use Rattle.link_layouts.specs.GPdus.{pdu_with}
-use Rattle.link_layouts.specs.Layouts.{frame_header, number_header}
-use Rattle.link_layouts.proofs.Written.{frame_header_is, length-status}
-use Rattle.link_layouts.proofs.Pdus.{length-data_frame}
+use Rattle.link_defs.specs.GPdus.{pdu_with}
+use Rattle.link_defs.specs.Layouts.{frame_header, number_header}
+use Rattle.link_defs.proofs.Written.{frame_header_is, length-status}
+use Rattle.link_defs.proofs.Pdus.{length-data_frame}
 use Rattle.pdcp.specs.Pdus.{report_octets, bitmap}
 use Rattle.link_packets.specs.Parts.{header}
 
@@ -20,16 +21,16 @@ pub chain_is : (a b c d content : List ℕ) (n : ℕ) → a ≡ [] → n ≡ (le
 chain_is a b c d content n none count first second third code =
     third ∙ (λ i. (second ∙ (λ j. (first ∙ (λ k. none k ++ count k ∷ [])) j ++ content)) i ++ 0 ∷ [])
 
-pub frame_is_header : (frame : Frame) (octets : List ℕ) → octets ≡ nru_octets frame → IsHeader (header 0x84 octets)
-frame_is_header frame octets is = subst (λ (xs : List ℕ). IsHeader (header 0x84 xs)) (sym is) (frame_header_is frame)
+pub frame_is_header : (frame : Frame) (octets : List ℕ) → octets ≡ nru_octets frame → IsHeader (header NR_RAN_CONTAINER octets)
+frame_is_header frame octets is = subst (λ (xs : List ℕ). IsHeader (header NR_RAN_CONTAINER xs)) (sym is) (frame_header_is frame)
 
 -- no frame is longer
 pub length-frame : (frame : Frame) → FitsFrame frame → length (nru_octets frame) ≤ 1000
 length-frame (Data poll restart number) fits = omega (arith, length-data_frame poll restart number)
 length-frame (Status room lost delivered) fits = length-status room lost delivered fits.0
 
-pub framed_is : (teid : ℕ) (frame : Frame) (content payload octets : List ℕ) → content ≡ nru_octets frame → octets ≡ gtpu_octets (pdu_with teid (header 0x84 content) payload) → octets ≡ gtpu_octets (pdu_with teid (frame_header frame) payload)
-framed_is teid frame content payload octets content_is is = is ∙ ap (λ (xs : List ℕ). gtpu_octets (pdu_with teid (header 0x84 xs) payload)) content_is
+pub framed_is : (teid : ℕ) (frame : Frame) (content payload octets : List ℕ) → content ≡ nru_octets frame → octets ≡ gtpu_octets (pdu_with teid (header NR_RAN_CONTAINER content) payload) → octets ≡ gtpu_octets (pdu_with teid (frame_header frame) payload)
+framed_is teid frame content payload octets content_is is = is ∙ ap (λ (xs : List ℕ). gtpu_octets (pdu_with teid (header NR_RAN_CONTAINER xs) payload)) content_is
 
 -- a number of 18 bits in three octets
 pub long_number : (count : ℕ) (bytes : List ℕ) → bytes ≡ to_be_bytes w32 count → bit_and (get_or bytes 1 0) 3 ∷ get_or bytes 2 0 ∷ get_or bytes 3 0 ∷ 0 ∷ 0 ∷ 0 ∷ [] ≡ (number_header Len18 count).content

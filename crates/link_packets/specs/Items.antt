@@ -1,5 +1,5 @@
 -- What a packet of the code says on its link.
-use Rattle.link_layouts.specs.Decoding.{Item, fresh, numbered, pdu, framed, poll, status, end_of_tunnel}
+use Rattle.link_defs.specs.Decoding.{Item, fresh, numbered, pdu, framed, poll, status, end_of_tunnel}
 use Rattle.pdcp.specs.Pdus.{content_of}
 use Rattle.link_packets.specs.declared.reading.N3.{N3}
 use Rattle.link_packets.specs.declared.reading.N3.TheVariants as on_n3

@@ -7,14 +7,14 @@ ghost use Rattle.gtpu.specs.declared.Kind.TheVariants.{GPdu};
 ghost use Rattle.nr_user_plane.specs.declared.frames.Frame.{Frame as FrameValue};
 ghost use Rattle.nr_user_plane.specs.declared.frames.Frame.TheVariants.{Data, Status};
 ghost use Rattle.pdcp.specs.Pdus.{Content, content_of};
-ghost use Rattle.link_layouts.specs.Decoding.{IsSized, CarriesPdu, IsBare, HasHeader, SaysFresh, SaysNumbered, SaysEnd};
+ghost use Rattle.link_defs.specs.Decoding.{IsSized, CarriesPdu, IsBare, HasHeader, SaysFresh, SaysNumbered, SaysEnd};
 ghost use Rattle.link_packets.specs.Parts.{HasFrame, HasNumber};
 
 use gnb_types::names::SnBits;
 use gtpu::{Kind, LONG_PDCP_PDU_NUMBER, NR_RAN_CONTAINER, PDCP_PDU_NUMBER, Packet};
 use nr_user_plane::frames::Frame;
 use nr_user_plane::ranges::Ranges;
-use pdcp::pdu::Pdu;
+use pdcp::pdu::{PACKET_LIMIT, Pdu};
 
 /// Whether the packet is of this kind and has no optional field.
 fn is_bare(packet: &Packet, kind: Kind) -> bool
@@ -27,7 +27,7 @@ fn is_bare(packet: &Packet, kind: Kind) -> bool
 fn is_sized(packet: &[u8]) -> bool
     ensures { IsTrue result ↔ IsSized packet.now }
 {
-    !packet.is_empty() && packet.len() <= 2048
+    !packet.is_empty() && packet.len() <= PACKET_LIMIT
 }
 
 /// The content of the one extension header of a G-PDU with no other optional field, where it is of this type.

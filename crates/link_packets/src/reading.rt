@@ -4,7 +4,7 @@ ghost use Rattle.std.specs.Prelude.{◌≡◌, IfSome, IfNone, IsSomeAnd};
 ghost use Rattle.gnb_types.specs.declared.names.SnBits.{SnBits as Bits};
 ghost use Rattle.gtpu.specs.Headers.{IsChain};
 ghost use Rattle.gtpu.specs.Packets.{view};
-ghost use Rattle.link_layouts.specs.Decoding.{Item, n3, f1u_downlink, f1u_uplink, forwarding_down, forwarding_up, Says, DecodesOn};
+ghost use Rattle.link_defs.specs.Decoding.{Item, n3, f1u_downlink, f1u_uplink, forwarding_down, forwarding_up, Says, DecodesOn};
 ghost use Rattle.link_packets.specs.Items.{n3_item, downlink_item, uplink_item, forwarded_item};
 
 use crate::layers::{data_of, fresh_of, is_end, numbered_of, pdu_of, read_radio, status_of};
@@ -20,7 +20,7 @@ pub enum N3<'a> {
     End,
 }
 
-/// A packet of F1-U downlink, behind its NR-U number.
+/// A packet of F1-U downlink, after its NR-U number.
 #[derive(Clone, Copy, Debug, PartialEq, Eq)]
 pub enum F1uDownlink<'a> {
     /// A PDCP PDU and its octets.

@@ -1,14 +1,15 @@
 //! What is written on the links, with zeros in spare bits and unused fields.
 
 ghost use Rattle.std.specs.Prelude.{◌≡◌, ◌+◌, ◌^◌, ◌<◌, ◌≤◌, false, length, IfOk};
+ghost use Rattle.gtpu.specs.declared.TheConstants.{LENGTH_LIMIT};
 ghost use Rattle.gtpu.specs.Headers.{IsHeader};
 ghost use Rattle.gtpu.specs.Packets.{gtpu_octets};
 ghost use Rattle.nr_user_plane.specs.declared.frames.Frame.TheVariants.{Status};
 ghost use Rattle.nr_user_plane.specs.Frames.{FitsFrame};
-ghost use Rattle.link_layouts.specs.Decoding.{IsSized};
-ghost use Rattle.link_layouts.specs.GPdus.{plain_pdu, pdu_with};
-ghost use Rattle.link_layouts.specs.Links.{n3_downlink};
-ghost use Rattle.link_layouts.specs.Layouts as layouts;
+ghost use Rattle.link_defs.specs.Decoding.{IsSized};
+ghost use Rattle.link_defs.specs.GPdus.{plain_pdu, pdu_with};
+ghost use Rattle.link_defs.specs.Links.{n3_downlink};
+ghost use Rattle.link_defs.specs.Layouts as layouts;
 ghost use Rattle.link_packets.specs.Parts.{header};
 
 use gnb_types::bits::Bits;
@@ -19,12 +20,12 @@ use nr_user_plane::frames::Frame;
 use nr_user_plane::ranges::Ranges;
 use std::alloc::Global;
 
-/// The desired buffer size that a delivery status tells, in octets.
+/// The desired buffer size that a delivery status reports, in octets.
 const DESIRED_BUFFER_SIZE: u32 = 65536;
 
 /// A G-PDU without flags.
 fn plain(alloc: Global, teid: u32, payload: &[u8]) -> Result<Octets, Memory>
-    requires { length payload.now ≤ 65535 }
+    requires { length payload.now ≤ LENGTH_LIMIT }
     ensures { IfOk result (λ octets. octets ≡ gtpu_octets (plain_pdu teid payload.now)) }
 {
     gtpu::encode(
@@ -90,8 +91,8 @@ pub fn write_n3(alloc: Global, teid: u32, packet: &[u8]) -> Result<Octets, Memor
     plain(alloc, teid, packet)
 }
 
-/// A packet on F1-U downlink: a PDCP data PDU of this COUNT behind an NR-U number.
-#[tactic(auto, unfolding(link_layouts::specs::Layouts::f1u_downlink_packet))]
+/// A packet on F1-U downlink: a PDCP data PDU of this COUNT after an NR-U number.
+#[tactic(auto, unfolding(link_defs::specs::Layouts::f1u_downlink_packet))]
 pub fn write_f1u_downlink_packet(
     alloc: Global,
     sn: SnBits,
@@ -114,8 +115,8 @@ pub fn write_f1u_downlink_packet(
     with_frame(alloc, teid, &frame, pdu.as_slice())
 }
 
-/// A status report on F1-U downlink, behind an NR-U number.
-#[tactic(auto, unfolding(link_layouts::specs::Layouts::f1u_downlink_report))]
+/// A status report on F1-U downlink, after an NR-U number.
+#[tactic(auto, unfolding(link_defs::specs::Layouts::f1u_downlink_report))]
 pub fn write_f1u_downlink_report(
     alloc: Global,
     teid: u32,
@@ -137,7 +138,7 @@ pub fn write_f1u_downlink_report(
 }
 
 /// A polling frame on F1-U downlink.
-#[tactic(auto, unfolding(link_layouts::specs::Layouts::f1u_downlink_poll))]
+#[tactic(auto, unfolding(link_defs::specs::Layouts::f1u_downlink_poll))]
 pub fn write_f1u_downlink_poll(alloc: Global, teid: u32, number: u32) -> Result<Octets, Memory>
     requires { number < 2 ^ 24 }
     ensures { IfOk result (λ octets. octets ≡ layouts.f1u_downlink_poll teid number) }
@@ -151,16 +152,16 @@ pub fn write_f1u_downlink_poll(alloc: Global, teid: u32, number: u32) -> Result<
 }
 
 /// A PDCP PDU on F1-U uplink, as it came from the radio.
-#[tactic(auto, unfolding(link_layouts::specs::Layouts::f1u_uplink_pdu))]
+#[tactic(auto, unfolding(link_defs::specs::Layouts::f1u_uplink_pdu))]
 pub fn write_f1u_uplink_pdu(alloc: Global, teid: u32, pdu: &[u8]) -> Result<Octets, Memory>
-    requires { length pdu.now ≤ 65535 }
+    requires { length pdu.now ≤ LENGTH_LIMIT }
     ensures { IfOk result (λ octets. octets ≡ layouts.f1u_uplink_pdu teid pdu.now) }
 {
     plain(alloc, teid, pdu)
 }
 
 /// A delivery status on F1-U uplink: the lost NR-U numbers, and the delivered PDCP number.
-#[tactic(auto, unfolding(link_layouts::specs::Layouts::delivery_status))]
+#[tactic(auto, unfolding(link_defs::specs::Layouts::delivery_status))]
 pub fn write_delivery_status(
     alloc: Global,
     teid: u32,
@@ -179,7 +180,7 @@ pub fn write_delivery_status(
 }
 
 /// A packet with its PDCP number on a forwarding tunnel: numbered on the way down, late on the way up.
-#[tactic(auto, unfolding(link_layouts::specs::Layouts::forwarded_numbered))]
+#[tactic(auto, unfolding(link_defs::specs::Layouts::forwarded_numbered))]
 pub fn write_forwarded_numbered(
     alloc: Global,
     sn: SnBits,
@@ -204,7 +205,7 @@ pub fn write_forwarded_numbered(
 }
 
 /// A packet without a number on a forwarding tunnel.
-#[tactic(auto, unfolding(link_layouts::specs::Layouts::forwarded_fresh))]
+#[tactic(auto, unfolding(link_defs::specs::Layouts::forwarded_fresh))]
 pub fn write_forwarded_fresh(alloc: Global, teid: u32, packet: &[u8]) -> Result<Octets, Memory>
     requires { IsSized packet.now }
     ensures { IfOk result (λ octets. octets ≡ layouts.forwarded_fresh teid packet.now) }
@@ -213,7 +214,7 @@ pub fn write_forwarded_fresh(alloc: Global, teid: u32, packet: &[u8]) -> Result<
 }
 
 /// An End Marker.
-#[tactic(auto, unfolding(link_layouts::specs::Layouts::end_marker))]
+#[tactic(auto, unfolding(link_defs::specs::Layouts::end_marker))]
 pub fn write_end_marker(alloc: Global, teid: u32) -> Result<Octets, Memory>
     ensures { IfOk result (λ octets. octets ≡ layouts.end_marker teid) }
 {

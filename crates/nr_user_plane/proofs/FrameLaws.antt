@@ -1,13 +1,36 @@
 -- The octets of a frame have no reason to be refused, and octets without one are those of the frame at their places.
-use Rattle.std.proofs.Common.{◌≡◌, ℕ, ◌+◌, ◌*◌, ◌/◌, ◌%◌, ◌<◌, ◌≤◌, ◌≢◌, ◌==◌, ◌⊎◌, inl, inr, Bool, true, false, ◌&&◌, not, if◌then◌else◌, nat_le, nat_lt, zero, suc, Option, Some, None, is_some, List, [], ◌∷◌, length, drop, slice_index, refl, sym, ◌∙◌, ap, arith, drop-drop, length-drop, get_or-drop, Result, Ok, Err, IfOk, IfErr, subst, lit<}
-use Rattle.std.proofs.lemmas.Bool.{cases_lt}
+use Rattle.std.proofs.Common.{◌≡◌, ℕ, ◌+◌, ◌*◌, ◌/◌, ◌%◌, ◌<◌, ◌≤◌, ◌≢◌, ◌==◌, ◌⊎◌, inl, inr, Bool, true, false, ◌&&◌, not, if◌then◌else◌, nat_le, nat_lt, zero, suc, Option, Some, None, is_some, List, [], ◌∷◌, length, drop, slice_index, refl, sym, ◌∙◌, ap, arith, drop-drop, length-drop, get_or-drop, Result, Ok, Err, IfOk, IfErr, subst, lit<, eqb-true, eq-eqb, ltb-true, lt-ltb}
+use Rattle.std.proofs.lemmas.Bool.{cases_lt, not-true, not_from_false}
 use Rattle.nr_user_plane.specs.declared.frames.Frame.{Frame}
 use Rattle.nr_user_plane.specs.declared.frames.Frame.TheVariants.{Data, Status}
 use Rattle.nr_user_plane.specs.declared.frames.FrameError.{FrameError}
 use Rattle.nr_user_plane.specs.declared.frames.FrameError.TheVariants as reasons
-use Rattle.nr_user_plane.specs.Frames.{Nru, IsPadding, EndsSo, HasRanges, HasLost, number24, flag, is_lost}
-use Rattle.nr_user_plane.specs.Reasons.{kind, is_clear_data, is_clear_status, number24_at, pairs_at, are_apart, is_padding, first_reason, refusals, frame_at, status_reason, lost_len, delivered_len, is_good_lost, lost_at, delivered_at, Answers}
+use Rattle.nr_user_plane.specs.Frames.{Nru, IsPadding, HasEnd, HasRanges, HasLost, number24, flag, is_lost}
+use Rattle.gnb_types.specs.Refusals.{first_reason, AreTests}
+use Rattle.gnb_types.proofs.Refusals.{tested_first, first_refused}
+use Rattle.nr_user_plane.specs.Reasons.{refusals, IsRefusal, fields_end, has_good_ranges, has_clear_spares, kind, is_clear_data, is_clear_status, number24_at, pairs_at, are_apart, is_padding, frame_at, lost_len, delivered_len, is_good_lost, lost_at, delivered_at}
+use Rattle.nr_user_plane.specs.Tests.{tests, status_reason, Answers}
 use Rattle.nr_user_plane.proofs.Statuses.{first_reason-status}
+
+-- each reason applies where its test holds
+pub are_tests : (octets : List ℕ) → AreTests (tests octets) (refusals octets)
+are_tests octets = (
+    refl,
+    (eqb-true (length octets) 0, eq-eqb (length octets) 0),
+    (
+      refl,
+      (ltb-true 1 (kind octets), lt-ltb 1 (kind octets)),
+      (
+        refl,
+        (ltb-true (length octets) (fields_end octets), lt-ltb (length octets) (fields_end octets)),
+        (
+          refl,
+          (not-true (has_good_ranges octets), not_from_false (has_good_ranges octets)),
+          (refl, (not-true (has_clear_spares octets && is_padding (drop (fields_end octets) octets)), not_from_false (has_clear_spares octets && is_padding (drop (fields_end octets) octets))), tt),
+        ),
+      ),
+    ),
+)
 
 -- padding, as a fact and as a test
 pub tested_padding : (octets : List ℕ) → IsPadding octets → is_padding octets ≡ true
@@ -25,18 +48,18 @@ padding_tested (a ∷ b ∷ c ∷ []) h =
     let x : a ≡ 0 = grind (arith, h) in let y : b ≡ 0 = grind (arith, h) in let z : c ≡ 0 = grind (arith, h) in (omega arith, rw (x, y, z) refl)
 padding_tested (a ∷ b ∷ c ∷ d ∷ octets) h = absurd (grind (arith, h))
 
--- ranges are the pairs at their places, which are apart, and the end is behind them
+-- ranges are the pairs at their places, which are apart, and the end is after them
 pub record RangesRead (least : ℕ) (ranges : List (ℕ × ℕ)) (delivered : Option ℕ) (octets : List ℕ) : Type 0 where
   pub pairs : pairs_at (length ranges) octets ≡ ranges
   pub apart : are_apart least ranges ≡ true
-  pub behind : EndsSo delivered (drop (6 * length ranges) octets)
+  pub ends : HasEnd delivered (drop (6 * length ranges) octets)
   pub whole : 6 * length ranges ≤ length octets
 
 well_placed : (least start end : ℕ) (more : Bool) → least ≤ start → start ≤ end → more ≡ true → nat_le least start && (nat_le start end && more) ≡ true
 well_placed least start end more low high rest = grind arith
 
 pub ranges_read : (least : ℕ) (ranges : List (ℕ × ℕ)) (delivered : Option ℕ) (octets : List ℕ) → HasRanges least ranges delivered octets → RangesRead least ranges delivered octets
-ranges_read least [] delivered octets h = record { pairs = refl; apart = refl; behind = h; whole = omega arith }
+ranges_read least [] delivered octets h = record { pairs = refl; apart = refl; ends = h; whole = omega arith }
 ranges_read least (range ∷ ranges) delivered [] h = absurd h
 ranges_read least (range ∷ ranges) delivered (a ∷ []) h = absurd h
 ranges_read least (range ∷ ranges) delivered (a ∷ b ∷ []) h = absurd h
@@ -49,7 +72,7 @@ ranges_read least (range ∷ ranges) delivered (a ∷ b ∷ c ∷ d ∷ e ∷ f 
     record {
       pairs = ap (λ (x : ℕ × ℕ). x ∷ pairs_at (length ranges) octets) (sym h.0) ∙ ap (λ (xs : List (ℕ × ℕ)). range ∷ xs) ih.pairs;
       apart = well_placed least range.0 range.1 (are_apart (range.1 + 1) ranges) h.1 h.2 ih.apart;
-      behind = rw sum ih.behind;
+      ends = rw sum ih.ends;
       whole = omega (arith, ih.whole);
     }
 
@@ -73,26 +96,26 @@ le_of_test : (m n : ℕ) → nat_le m n ≡ true → m ≤ n
 le_of_test m n h = grind arith
 
 pub has_ranges : (count least : ℕ) (delivered : Option ℕ) (octets : List ℕ) → are_apart least (pairs_at count octets) ≡ true → 6 * count ≤ length octets
-    → EndsSo delivered (drop (6 * count) octets) → HasRanges least (pairs_at count octets) delivered octets
-has_ranges zero least delivered octets apart whole behind = behind
-has_ranges (suc count) least delivered [] apart whole behind = absurd (omega arith)
-has_ranges (suc count) least delivered (a ∷ []) apart whole behind = absurd (omega arith)
-has_ranges (suc count) least delivered (a ∷ b ∷ []) apart whole behind = absurd (omega arith)
-has_ranges (suc count) least delivered (a ∷ b ∷ c ∷ []) apart whole behind = absurd (omega arith)
-has_ranges (suc count) least delivered (a ∷ b ∷ c ∷ d ∷ []) apart whole behind = absurd (omega arith)
-has_ranges (suc count) least delivered (a ∷ b ∷ c ∷ d ∷ e ∷ []) apart whole behind = absurd (omega arith)
-has_ranges (suc count) least delivered (a ∷ b ∷ c ∷ d ∷ e ∷ f ∷ octets) apart whole behind =
+    → HasEnd delivered (drop (6 * count) octets) → HasRanges least (pairs_at count octets) delivered octets
+has_ranges zero least delivered octets apart whole ends = ends
+has_ranges (suc count) least delivered [] apart whole ends = absurd (omega arith)
+has_ranges (suc count) least delivered (a ∷ []) apart whole ends = absurd (omega arith)
+has_ranges (suc count) least delivered (a ∷ b ∷ []) apart whole ends = absurd (omega arith)
+has_ranges (suc count) least delivered (a ∷ b ∷ c ∷ []) apart whole ends = absurd (omega arith)
+has_ranges (suc count) least delivered (a ∷ b ∷ c ∷ d ∷ []) apart whole ends = absurd (omega arith)
+has_ranges (suc count) least delivered (a ∷ b ∷ c ∷ d ∷ e ∷ []) apart whole ends = absurd (omega arith)
+has_ranges (suc count) least delivered (a ∷ b ∷ c ∷ d ∷ e ∷ f ∷ octets) apart whole ends =
     let start = number24 a b c in
     let end = number24 d e f in
     let more = are_apart (end + 1) (pairs_at count octets) in
     let rest = right_of_and (nat_le least start) (nat_le start end && more) apart in
     let sum : 6 * suc count ≡ suc (suc (suc (suc (suc (suc (6 * count)))))) = omega arith in
     let enough : 6 * count ≤ length octets = omega arith in
-    let behind' : EndsSo delivered (drop (6 * count) octets) = rw sum at behind in (
+    let ends' : HasEnd delivered (drop (6 * count) octets) = rw sum at ends in (
       refl,
       le_of_test least start (left_of_and (nat_le least start) (nat_le start end && more) apart),
       le_of_test start end (left_of_and (nat_le start end) more rest),
-      has_ranges count (end + 1) delivered octets (right_of_and (nat_le start end) more rest) enough behind',
+      has_ranges count (end + 1) delivered octets (right_of_and (nat_le start end) more rest) enough ends',
     )
 
 -- the end of a status, by its places
@@ -101,20 +124,20 @@ pub record EndRead (delivered : Option ℕ) (octets : List ℕ) : Type 0 where
   pub number : (if is_some delivered then Some (number24_at octets 0) else None) ≡ delivered
   pub padding : is_padding (drop (if is_some delivered then 3 else 0) octets) ≡ true
 
-pub end_read : (delivered : Option ℕ) (octets : List ℕ) → EndsSo delivered octets → EndRead delivered octets
+pub end_read : (delivered : Option ℕ) (octets : List ℕ) → HasEnd delivered octets → EndRead delivered octets
 end_read None octets h = record { whole = omega arith; number = refl; padding = tested_padding octets h }
 end_read (Some number) [] h = absurd h
 end_read (Some number) (a ∷ []) h = absurd h
 end_read (Some number) (a ∷ b ∷ []) h = absurd h
 end_read (Some number) (a ∷ b ∷ c ∷ octets) h = record { whole = omega arith; number = ap Some (sym h.0); padding = tested_padding octets h.1 }
 
-pub ends_so : (is_there : Bool) (octets : List ℕ) → (if is_there then 3 else 0) ≤ length octets
-    → is_padding (drop (if is_there then 3 else 0) octets) ≡ true → EndsSo (if is_there then Some (number24_at octets 0) else None) octets
-ends_so false octets whole padding = padding_tested octets padding
-ends_so true [] whole padding = absurd (omega arith)
-ends_so true (a ∷ []) whole padding = absurd (omega arith)
-ends_so true (a ∷ b ∷ []) whole padding = absurd (omega arith)
-ends_so true (a ∷ b ∷ c ∷ octets) whole padding = (refl, padding_tested octets padding)
+pub has_end : (is_there : Bool) (octets : List ℕ) → (if is_there then 3 else 0) ≤ length octets
+    → is_padding (drop (if is_there then 3 else 0) octets) ≡ true → HasEnd (if is_there then Some (number24_at octets 0) else None) octets
+has_end false octets whole padding = padding_tested octets padding
+has_end true [] whole padding = absurd (omega arith)
+has_end true (a ∷ []) whole padding = absurd (omega arith)
+has_end true (a ∷ b ∷ []) whole padding = absurd (omega arith)
+has_end true (a ∷ b ∷ c ∷ octets) whole padding = (refl, padding_tested octets padding)
 
 -- a first octet of a status says by its bits whether there are lost ranges, and whether there is a delivered number
 first_octet : (delivered lost : Bool) (first : ℕ) → first ≡ 16 + 4 * flag delivered + flag lost
@@ -170,7 +193,7 @@ none_passes first second fields h =
       padding = right_of_and (is_clear_status first second) (is_padding (drop n fields)) both;
     }
 
--- a number behind others
+-- a number after others
 behind_one : (octet : ℕ) (octets : List ℕ) (n : ℕ) → number24_at (octet ∷ octets) (suc n) ≡ number24_at octets n
 behind_one octet octets n =
     let one : suc n + 1 ≡ suc (n + 1) = omega arith in
@@ -211,7 +234,7 @@ status_read (range ∷ ranges) delivered first second [] first_is second_is h = 
 status_read (range ∷ ranges) delivered first second (count ∷ octets) first_is second_is h =
     let bits = first_octet (is_some delivered) true first first_is in
     let read = ranges_read 0 (range ∷ ranges) delivered octets h.2 in
-    let end = end_read delivered (drop (6 * length (range ∷ ranges)) octets) read.behind in
+    let end = end_read delivered (drop (6 * length (range ∷ ranges)) octets) read.ends in
     let three : ℕ = if is_some delivered then 3 else 0 in
     let skip : 1 + 6 * count + three ≡ suc (6 * length (range ∷ ranges) + three) = omega (arith, h.0) in
     let skip' : 1 + 6 * count ≡ suc (6 * length (range ∷ ranges)) = omega (arith, h.0) in
@@ -230,7 +253,7 @@ status_read (range ∷ ranges) delivered first second (count ∷ octets) first_i
 
 -- A frame's octets: no reason applies, and the frame is the one at their places.
 pub record IsRead (frame : Frame) (octets : List ℕ) : Type 0 where
-  pub none : first_reason (refusals octets) ≡ None
+  pub none : first_reason (tests octets) ≡ None
   pub is : frame_at octets ≡ frame
 
 flag_data : (poll restart : Bool) (first second : ℕ) → first ≡ flag poll → second ≡ flag restart
@@ -295,7 +318,7 @@ no_lost first second fields d kind lost_bit delivered_bit s t p =
     let padding : is_padding (drop (if d then 3 else 0) fields) ≡ true = rw (lost_bit, delivered_bit, skip) at p.padding in
     rw (lost_bit, delivered_bit) (record {
       first_is = rw (is_some-if d (number24_at fields 0)) (octet_of_bits first d false kind lost_bit delivered_bit s t);
-      fields_are = ends_so d fields enough padding;
+      fields_are = has_end d fields enough padding;
     })
 
 some_lost : (first second : ℕ) (fields : List ℕ) (d : Bool) → first / 16 ≡ 1 → (first % 2 == 1) ≡ true → (first / 4 % 2 == 1) ≡ d → first / 2 % 2 ≡ 0 → first / 8 % 2 ≡ 0
@@ -314,13 +337,13 @@ some_lost first second (suc k ∷ octets) d kind lost_bit delivered_bit s t p =
     let padding : is_padding (drop (6 * suc k + three) octets) ≡ true = rw (lost_bit, delivered_bit, skip) at p.padding in
     let padding' : is_padding (drop three (drop (6 * suc k) octets)) ≡ true = rw (drop-drop three (6 * suc k) octets) padding in
     let enough' : three ≤ length (drop (6 * suc k) octets) = rw (length-drop (6 * suc k) octets) (omega arith) in
-    let behind = ends_so d (drop (6 * suc k) octets) enough' padding' in
+    let ends = has_end d (drop (6 * suc k) octets) enough' padding' in
     rw (lost_bit, delivered_bit, skip', behind_one (suc k) octets (6 * suc k), ← behind_some (6 * suc k) octets) (record {
       first_is = rw (is_some-if d (number24_at (drop (6 * suc k) octets) 0)) (octet_of_bits first d true kind lost_bit delivered_bit s t);
       fields_are = (
         sym (length-pairs_at (suc k) octets),
         le_of_test (suc k) 7 (right_of_and (nat_le 1 (suc k)) (nat_le (suc k) 7) few),
-        has_ranges (suc k) 0 _ octets apart whole behind,
+        has_ranges (suc k) 0 _ octets apart whole ends,
       );
     })
 
@@ -339,7 +362,7 @@ second_clear first second clear = eq_of_test second 0 (right_of_and ((first / 2 
 below_six : (m n : ℕ) → m < 6 → nat_lt m (6 + n) ≡ true
 below_six m n h = grind arith
 
-short_status : (octets : List ℕ) → kind octets ≡ 1 → length octets < 6 → first_reason (refusals octets) ≡ None → ⊥
+short_status : (octets : List ℕ) → kind octets ≡ 1 → length octets < 6 → first_reason (tests octets) ≡ None → ⊥
 short_status octets kind_is short h =
     let end : nat_lt (length octets) (6 + (lost_len (slice_index octets 0) (drop 6 octets) + delivered_len (slice_index octets 0))) ≡ true = below_six (length octets) _ short in
     elim (true_or_false (length octets == 0)) [
@@ -347,7 +370,7 @@ short_status octets kind_is short h =
       | inr some ↦ (let h' = rw (some, kind_is, end) at h in cc)
     ]
 
-status_frame : (octets : List ℕ) → kind octets ≡ 1 → first_reason (refusals octets) ≡ None → Nru (frame_at octets) octets
+status_frame : (octets : List ℕ) → kind octets ≡ 1 → first_reason (tests octets) ≡ None → Nru (frame_at octets) octets
 status_frame [] kind_is h = absurd (short_status [] kind_is (lit< tt) h)
 status_frame (first ∷ []) kind_is h = absurd (short_status (first ∷ []) kind_is (omega arith) h)
 status_frame (first ∷ second ∷ []) kind_is h = absurd (short_status (first ∷ second ∷ []) kind_is (omega arith) h)
@@ -366,7 +389,7 @@ flag_of zero h = refl
 flag_of (suc zero) h = refl
 flag_of (suc (suc n)) h = absurd (omega arith)
 
-data_frame : (octets : List ℕ) → kind octets ≡ 0 → first_reason (refusals octets) ≡ None → Nru (frame_at octets) octets
+data_frame : (octets : List ℕ) → kind octets ≡ 0 → first_reason (tests octets) ≡ None → Nru (frame_at octets) octets
 data_frame [] kind_is h = absurd (cc)
 data_frame (first ∷ []) kind_is h = let h' = rw kind_is at h in absurd (cc)
 data_frame (first ∷ second ∷ []) kind_is h = let h' = rw kind_is at h in absurd (cc)
@@ -387,20 +410,20 @@ data_frame (first ∷ second ∷ a ∷ b ∷ c ∷ padding) kind_is h =
       padding_tested padding (right_of_and (is_clear_data first second) (is_padding padding) both),
     )
 
-other_kind : (octets : List ℕ) → 1 < kind octets → first_reason (refusals octets) ≡ None → ⊥
+other_kind : (octets : List ℕ) → 1 < kind octets → first_reason (tests octets) ≡ None → ⊥
 other_kind [] other h = cc
 other_kind (first ∷ octets) other h =
     let other' : nat_lt 1 (kind (first ∷ octets)) ≡ true = grind arith in
     let some : (length (first ∷ octets) == 0) ≡ false = grind arith in
     let h' = rw (some, other') at h in cc
 
-pub frame_without_reason : (octets : List ℕ) → first_reason (refusals octets) ≡ None → Nru (frame_at octets) octets
+pub frame_without_reason : (octets : List ℕ) → first_reason (tests octets) ≡ None → Nru (frame_at octets) octets
 frame_without_reason octets h = elim (cases_lt 1 (kind octets)) [
   | inl other ↦ absurd (other_kind octets other h)
   | inr known ↦ elim (cases_lt (kind octets) 1) [ inl data_kind ↦ data_frame octets (omega arith) h | inr status ↦ status_frame octets (omega arith) h ]
 ]
 
--- what a caller of the reader is told
+-- what a caller of the reader learns
 pub answers_found : (octets : List ℕ) (result : Result Frame FrameError) → Answers octets result → IfOk result (λ frame. Nru frame octets)
 answers_found octets (Ok frame) h = let N : Frame → Type 0 = λ f. Nru f octets in subst N (sym h.1) (frame_without_reason octets h.0)
 answers_found octets (Err reason) h = tt
@@ -409,6 +432,10 @@ pub answers_only : (octets : List ℕ) (result : Result Frame FrameError) → An
 answers_only octets (Ok found) h frame is = ap Ok (h.1 ∙ (frame_read frame octets is).is)
 answers_only octets (Err reason) h frame is = let none = (frame_read frame octets is).none in absurd (cc)
 
-pub answers_refused : (octets : List ℕ) (result : Result Frame FrameError) → Answers octets result → IfErr result (λ reason. first_reason (refusals octets) ≡ Some reason)
+pub answers_refused : (octets : List ℕ) (result : Result Frame FrameError) → Answers octets result → IfErr result (λ reason. IsRefusal reason octets)
 answers_refused octets (Ok found) h = tt
-answers_refused octets (Err reason) h = h
+answers_refused octets (Err reason) h = tested_first (tests octets) (refusals octets) reason (are_tests octets) h
+
+pub answers_all : (octets : List ℕ) (result : Result Frame FrameError) → Answers octets result → (reason : FrameError) → IsRefusal reason octets → result ≡ Err reason
+answers_all octets (Ok found) h reason k = first_refused (tests octets) (refusals octets) (are_tests octets) (Ok found) h.0 tt reason k
+answers_all octets (Err first) h reason k = first_refused {X = Frame} (tests octets) (refusals octets) (are_tests octets) (Err first) tt h reason k

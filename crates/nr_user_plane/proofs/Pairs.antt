@@ -24,13 +24,13 @@ pub pairs_are : (count : ℕ) (ranges new : List (ℕ × ℕ)) (rest after : Lis
     → pairs_at (count - length ranges) rest ≡ (start, end) ∷ pairs_at (count - length new) after
 pairs_are count ranges new rest after start end t = rw (left_is count ranges new rest after start end t, t.start_is, t.end_is, t.after_is) refl
 
-pub told_more : (count : ℕ) (ranges new all : List (ℕ × ℕ)) (rest after : List ℕ) (start end : ℕ) → Turn count ranges new rest after start end
+pub pairs_more : (count : ℕ) (ranges new all : List (ℕ × ℕ)) (rest after : List ℕ) (start end : ℕ) → Turn count ranges new rest after start end
     → ranges ++ pairs_at (count - length ranges) rest ≡ all → new ++ pairs_at (count - length new) after ≡ all
-told_more count ranges new all rest after start end t told =
+pairs_more count ranges new all rest after start end t pairs =
     ap (λ (xs : List (ℕ × ℕ)). xs ++ pairs_at (count - length new) after) t.pushed
     ∙ append_assoc ranges ((start, end) ∷ []) (pairs_at (count - length new) after)
     ∙ ap (λ (xs : List (ℕ × ℕ)). ranges ++ xs) (sym (pairs_are count ranges new rest after start end t))
-    ∙ told
+    ∙ pairs
 
 -- the first of more ranges is well placed
 passes : (least start end : ℕ) (more : Bool) → least ≤ start → start ≤ end → nat_le least start && (nat_le start end && more) ≡ more
@@ -56,9 +56,9 @@ apart_stops count left rest start end least whole one_more start_is end_is is ba
     is ∙ ap (λ n. are_apart least (pairs_at n rest)) one_more
     ∙ fails least (number24_at rest 0) (number24_at rest 3) (are_apart (number24_at rest 3 + 1) (pairs_at count (drop 6 rest))) (rw (start_is, end_is) at bad)
 
-pub behind_more : (count : ℕ) (ranges new : List (ℕ × ℕ)) (rest after behind : List ℕ) (start end : ℕ) → Turn count ranges new rest after start end
-    → drop (6 * (count - length ranges)) rest ≡ behind → drop (6 * (count - length new)) after ≡ behind
-behind_more count ranges new rest after behind start end t is =
+pub rest_more : (count : ℕ) (ranges new : List (ℕ × ℕ)) (rest after ends : List ℕ) (start end : ℕ) → Turn count ranges new rest after start end
+    → drop (6 * (count - length ranges)) rest ≡ ends → drop (6 * (count - length new)) after ≡ ends
+rest_more count ranges new rest after ends start end t is =
     let left = left_is count ranges new rest after start end t in
     let sum : 6 * (count - length ranges) ≡ 6 + 6 * (count - length new) = omega arith in
     ap (drop (6 * (count - length new))) t.after_is ∙ drop-drop (6 * (count - length new)) 6 rest ∙ ap (λ n. drop n rest) (sym sum) ∙ is

@@ -4,7 +4,7 @@ use Rattle.std.specs.List.{flat_map}
 use Rattle.std.proofs.lemmas.List.{length-replicate}
 use Rattle.nr_user_plane.specs.declared.frames.Frame.{Frame}
 use Rattle.nr_user_plane.specs.declared.frames.Frame.TheVariants.{Data, Status}
-use Rattle.nr_user_plane.specs.Frames.{Nru, IsPadding, EndsSo, HasRanges, HasLost, AreOctets, AreApart, FitsFrame, HasRoom, number24, number32, flag, is_lost, be24, be32, range_octets, lost_octets, delivered_octets, field_octets, filled, nru_octets}
+use Rattle.nr_user_plane.specs.Frames.{Nru, IsPadding, HasEnd, HasRanges, HasLost, AreOctets, AreApart, FitsFrame, HasRoom, number24, number32, flag, is_lost, be24, be32, range_octets, lost_octets, delivered_octets, field_octets, filled, nru_octets}
 
 -- three octets and their number
 pub be24-number24 : (a b c : ℕ) → a < 256 → b < 256 → c < 256 → be24 (number24 a b c) ≡ a ∷ b ∷ c ∷ []
@@ -22,13 +22,13 @@ be32-number32 a b c d x y z w =
     let low : number32 a b c d % 256 ≡ d = omega arith in
     rw (highest, high, middle, low) refl
 
--- octets are those of the fields, and padding behind them
+-- octets are those of the fields, and padding after them
 pub record IsSpelled (fields octets : List ℕ) : Type 0 where
   pub padding : List ℕ
   pub parts : octets ≡ fields ++ padding
   pub is_padding : IsPadding padding
 
-pub end_spelled : (delivered : Option ℕ) (octets : List ℕ) → AreOctets octets → EndsSo delivered octets → IsSpelled (delivered_octets delivered) octets
+pub end_spelled : (delivered : Option ℕ) (octets : List ℕ) → AreOctets octets → HasEnd delivered octets → IsSpelled (delivered_octets delivered) octets
 end_spelled None octets small h = record { padding = octets; parts = refl; is_padding = h }
 end_spelled (Some number) [] small h = absurd h
 end_spelled (Some number) (a ∷ []) small h = absurd h
@@ -124,11 +124,11 @@ number24-be24 n small = omega arith
 number32-be32 : (n : ℕ) → n < 2 ^ 32 → n ≡ number32 (n / 16777216 % 256) (n / 65536 % 256) (n / 256 % 256) (n % 256)
 number32-be32 n small = omega arith
 
-pub end_written : (delivered : Option ℕ) (padding : List ℕ) → IfSome delivered (λ number. number < 2 ^ 24) → IsPadding padding → EndsSo delivered (delivered_octets delivered ++ padding)
+pub end_written : (delivered : Option ℕ) (padding : List ℕ) → IfSome delivered (λ number. number < 2 ^ 24) → IsPadding padding → HasEnd delivered (delivered_octets delivered ++ padding)
 end_written None padding fits h = h
 end_written (Some number) padding fits h = (number24-be24 number fits, h)
 
-pub ranges_written : (least : ℕ) (ranges : List (ℕ × ℕ)) (delivered : Option ℕ) (octets : List ℕ) → AreApart least ranges → EndsSo delivered octets
+pub ranges_written : (least : ℕ) (ranges : List (ℕ × ℕ)) (delivered : Option ℕ) (octets : List ℕ) → AreApart least ranges → HasEnd delivered octets
     → HasRanges least ranges delivered (flat_map range_octets ranges ++ octets)
 ranges_written least [] delivered octets apart h = h
 ranges_written least (range ∷ ranges) delivered octets apart h =
@@ -141,7 +141,7 @@ ranges_written least (range ∷ ranges) delivered octets apart h =
       ranges_written (range.1 + 1) ranges delivered octets apart.3 h,
     )
 
-pub lost_written : (lost : List (ℕ × ℕ)) (delivered : Option ℕ) (octets : List ℕ) → length lost ≤ 7 → AreApart 0 lost → EndsSo delivered octets
+pub lost_written : (lost : List (ℕ × ℕ)) (delivered : Option ℕ) (octets : List ℕ) → length lost ≤ 7 → AreApart 0 lost → HasEnd delivered octets
     → HasLost lost delivered (lost_octets lost ++ octets)
 lost_written [] delivered octets few apart h = h
 lost_written (range ∷ ranges) delivered octets few apart h = (refl, few, ranges_written 0 (range ∷ ranges) delivered octets apart h)

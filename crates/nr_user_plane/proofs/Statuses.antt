@@ -4,14 +4,16 @@ use Rattle.nr_user_plane.specs.declared.frames.Frame.{Frame}
 use Rattle.nr_user_plane.specs.declared.frames.Frame.TheVariants.{Status}
 use Rattle.std.proofs.lemmas.Bool.{cases_lt}
 use Rattle.nr_user_plane.specs.declared.frames.FrameError.{FrameError}
-use Rattle.nr_user_plane.specs.Reasons.{kind, first_reason, refusals, lost_len, delivered_len, status_reason, lost_at, delivered_at, number32_at, Answers, AnswersStatus}
+use Rattle.gnb_types.specs.Refusals.{first_reason}
+use Rattle.nr_user_plane.specs.Reasons.{kind, lost_len, delivered_len, lost_at, delivered_at, number32_at}
+use Rattle.nr_user_plane.specs.Tests.{tests, status_reason, Answers, AnswersStatus}
 
 -- the tests on all octets are those on the fields
 shorter : (m n : ℕ) → nat_lt (6 + m) (6 + n) ≡ nat_lt m n
 shorter m n = elim (cases_lt m n) [ inl less ↦ grind arith | inr more ↦ grind arith ]
 
 pub first_reason-status : (octets : List ℕ) → kind octets ≡ 1 → 6 ≤ length octets
-    → first_reason (refusals octets) ≡ status_reason (slice_index octets 0) (slice_index octets 1) (drop 6 octets)
+    → first_reason (tests octets) ≡ status_reason (slice_index octets 0) (slice_index octets 1) (drop 6 octets)
 first_reason-status [] status long = absurd (omega arith)
 first_reason-status (a ∷ []) status long = absurd (omega arith)
 first_reason-status (a ∷ b ∷ []) status long = absurd (omega arith)

@@ -27,21 +27,21 @@ abbrev pub IsPadding : List ℕ → Type 0
 IsPadding octets = (length octets ≤ 3) × (octets ≡ replicate (length octets) 0)
 
 -- the highest delivered number where there is one, and then padding
-abbrev pub EndsSo : Option ℕ → List ℕ → Type 0
-EndsSo None octets = IsPadding octets
-EndsSo (Some delivered) (a ∷ b ∷ c ∷ octets) = (delivered ≡ number24 a b c) × IsPadding octets
-EndsSo (Some delivered) octets = ⊥
+abbrev pub HasEnd : Option ℕ → List ℕ → Type 0
+HasEnd None octets = IsPadding octets
+HasEnd (Some delivered) (a ∷ b ∷ c ∷ octets) = (delivered ≡ number24 a b c) × IsPadding octets
+HasEnd (Some delivered) octets = ⊥
 
 -- ranges, none of which begins below the least, and then the end
 abbrev pub HasRanges : ℕ → List (ℕ × ℕ) → Option ℕ → List ℕ → Type 0
-HasRanges least [] delivered octets = EndsSo delivered octets
+HasRanges least [] delivered octets = HasEnd delivered octets
 HasRanges least (range ∷ ranges) delivered (a ∷ b ∷ c ∷ d ∷ e ∷ f ∷ octets) =
     (range ≡ (number24 a b c, number24 d e f)) × (least ≤ range.0) × (range.0 ≤ range.1) × HasRanges (range.1 + 1) ranges delivered octets
 HasRanges least (range ∷ ranges) delivered octets = ⊥
 
--- the lost ranges where there are any, behind their count of one to seven, and then the end
+-- the lost ranges where there are any, after their count of one to seven, and then the end
 abbrev pub HasLost : List (ℕ × ℕ) → Option ℕ → List ℕ → Type 0
-HasLost [] delivered octets = EndsSo delivered octets
+HasLost [] delivered octets = HasEnd delivered octets
 HasLost (range ∷ ranges) delivered (count ∷ octets) =
     (count ≡ length (range ∷ ranges)) × (count ≤ 7) × HasRanges 0 (range ∷ ranges) delivered octets
 HasLost (range ∷ ranges) delivered [] = ⊥
@@ -84,7 +84,7 @@ be32 n = n / 16777216 % 256 ∷ be24 n
 abbrev pub range_octets : ℕ × ℕ → List ℕ
 range_octets range = be24 range.0 ++ be24 range.1
 
--- the lost ranges behind their count, or nothing
+-- the lost ranges after their count, or nothing
 abbrev pub lost_octets : List (ℕ × ℕ) → List ℕ
 lost_octets [] = []
 lost_octets (range ∷ ranges) = length (range ∷ ranges) ∷ flat_map range_octets (range ∷ ranges)

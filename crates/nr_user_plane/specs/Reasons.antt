@@ -1,7 +1,7 @@
 -- Why octets are no frame, and the frame that they are where no reason applies, by the places of the fields.
-use Rattle.std.specs.Prelude.{◌≡◌, ℕ, ◌+◌, ◌*◌, ◌/◌, ◌%◌, ◌==◌, Result, Ok, Err, Bool, true, false, ◌&&◌, ◌||◌, not, if◌then◌else◌, nat_lt, nat_le, zero, suc, Option, Some, None, List, [], ◌∷◌, length, drop, slice_index}
+use Rattle.std.specs.Prelude.{◌≡◌, ℕ, ◌+◌, ◌*◌, ◌/◌, ◌%◌, ◌==◌, Bool, true, false, ◌&&◌, ◌||◌, not, if◌then◌else◌, nat_le, ◌<◌, zero, suc, Option, Some, None, List, [], ◌∷◌, length, drop, slice_index}
 use Rattle.std.specs.List.{list_all}
-use Rattle.std.specs.Borrow.{Bor}
+use Rattle.gnb_types.specs.Refusals.{Condition, IsFirst}
 use Rattle.nr_user_plane.specs.declared.frames.Frame.{Frame}
 use Rattle.nr_user_plane.specs.declared.frames.Frame.TheVariants.{Data, Status}
 use Rattle.nr_user_plane.specs.declared.frames.FrameError.{FrameError}
@@ -26,7 +26,7 @@ number24_at octets place = number24 (slice_index octets place) (slice_index octe
 abbrev pub number32_at : List ℕ → ℕ → ℕ
 number32_at octets place = number24_at octets place * 256 + slice_index octets (place + 3)
 
--- Of a status, with its first octet and the fields behind the desired buffer size: how many octets the lost ranges take
+-- Of a status, with its first octet and the fields after the desired buffer size: how many octets the lost ranges take
 -- with their count, and the delivered number.
 abbrev pub lost_len : ℕ → List ℕ → ℕ
 lost_len first fields = if has_lost first then 1 + 6 * slice_index fields 0 else 0
@@ -53,7 +53,7 @@ abbrev pub is_good_lost : ℕ → List ℕ → Bool
 is_good_lost first fields = not (has_lost first)
     || ((nat_le 1 (slice_index fields 0) && nat_le (slice_index fields 0) 7) && are_apart 0 (lost_at first fields))
 
--- the delivered number, behind the lost ranges
+-- the delivered number, after the lost ranges
 abbrev pub delivered_at : ℕ → List ℕ → Option ℕ
 delivered_at first fields = if has_delivered first then Some (number24_at fields (lost_len first fields)) else None
 
@@ -81,51 +81,22 @@ has_clear_spares octets = if kind octets == 0
     then is_clear_data (slice_index octets 0) (slice_index octets 1)
     else is_clear_status (slice_index octets 0) (slice_index octets 1)
 
--- Tests with the reason of each, in the order in which they are made.
-abbrev pub refusals : List ℕ → List (Bool × FrameError)
+-- The reasons, in the order in which they are looked at.
+abbrev pub refusals : List ℕ → List (Condition FrameError)
 refusals octets =
-    (length octets == 0, reasons.Truncated)
-    ∷ (nat_lt 1 (kind octets), reasons.Kind)
-    ∷ (nat_lt (length octets) (fields_end octets), reasons.Truncated)
-    ∷ (not (has_good_ranges octets), reasons.Ranges)
-    ∷ (not (has_clear_spares octets && is_padding (drop (fields_end octets) octets)), reasons.Spare)
+    (reasons.Truncated, length octets ≡ 0)
+    ∷ (reasons.Kind, 1 < kind octets)
+    ∷ (reasons.Truncated, length octets < fields_end octets)
+    ∷ (reasons.Ranges, has_good_ranges octets ≡ false)
+    ∷ (reasons.Spare, (has_clear_spares octets && is_padding (drop (fields_end octets) octets)) ≡ false)
     ∷ []
 
--- the first reason whose test holds
-abbrev pub first_reason : {E : Type 0} → List (Bool × E) → Option E
-first_reason [] = None
-first_reason (refusal ∷ refusals) = if refusal.0 then Some refusal.1 else first_reason refusals
+-- the reason for which the octets are refused
+abbrev pub IsRefusal : FrameError → List ℕ → Type 0
+IsRefusal reason octets = IsFirst (refusals octets) reason
 
 -- the frame at the places of its fields
 abbrev pub frame_at : List ℕ → Frame
 frame_at octets = if kind octets == 0
     then Data (slice_index octets 0 % 2 == 1) (slice_index octets 1 % 2 == 1) (number24_at octets 2)
     else Status (number32_at octets 2) (lost_at (slice_index octets 0) (drop 6 octets)) (delivered_at (slice_index octets 0) (drop 6 octets))
-
--- an answer of a reader: the frame where no reason applies, else the first reason
-abbrev pub Answers : List ℕ → Result Frame FrameError → Type 0
-Answers octets (Ok frame) = (first_reason (refusals octets) ≡ None) × (frame ≡ frame_at octets)
-Answers octets (Err reason) = first_reason (refusals octets) ≡ Some reason
-
--- The ranges and the octets behind them, where they are apart, else the reason.
-abbrev pub AnswersPairs : ℕ → List ℕ → Result (List (ℕ × ℕ) × Bor (List ℕ)) FrameError → Type 0
-AnswersPairs count octets (Ok read) = (are_apart 0 (pairs_at count octets) ≡ true) × (read.0 ≡ pairs_at count octets) × (read.1.now ≡ drop (6 * count) octets)
-AnswersPairs count octets (Err reason) = (are_apart 0 (pairs_at count octets) ≡ false) × (reason ≡ reasons.Ranges)
-
--- The same of the lost ranges of a status.
-abbrev pub AnswersLost : ℕ → List ℕ → Result (List (ℕ × ℕ) × Bor (List ℕ)) FrameError → Type 0
-AnswersLost first fields (Ok read) = (is_good_lost first fields ≡ true) × (read.0 ≡ lost_at first fields) × (read.1.now ≡ drop (lost_len first fields) fields)
-AnswersLost first fields (Err reason) = (is_good_lost first fields ≡ false) × (reason ≡ reasons.Ranges)
-
--- Which reason applies first to a status with all of its first six octets, and the answer of a reader of its fields.
-abbrev pub status_reason : ℕ → ℕ → List ℕ → Option FrameError
-status_reason first second fields =
-    if nat_lt (length fields) (lost_len first fields + delivered_len first) then Some reasons.Truncated
-    else if not (is_good_lost first fields) then Some reasons.Ranges
-    else if not (is_clear_status first second && is_padding (drop (lost_len first fields + delivered_len first) fields)) then Some reasons.Spare
-    else None
-
-abbrev pub AnswersStatus : ℕ → ℕ → ℕ → List ℕ → Result Frame FrameError → Type 0
-AnswersStatus first second room fields (Ok frame) =
-    (status_reason first second fields ≡ None) × (frame ≡ Status room (lost_at first fields) (delivered_at first fields))
-AnswersStatus first second room fields (Err reason) = status_reason first second fields ≡ Some reason

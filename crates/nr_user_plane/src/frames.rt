@@ -4,7 +4,9 @@ ghost use Rattle.std.specs.Prelude.{◌≡◌, ◌+◌, ◌*◌, ◌^◌, ◌<�
 ghost use Rattle.std.specs.List.{flat_map};
 ghost use Rattle.nr_user_plane.specs.Frames.{Nru, FitsFrame, number24, be24, range_octets, lost_octets, field_octets, filled, nru_octets};
 ghost use Rattle.nr_user_plane.specs.declared.frames.Frame.{Frame};
-ghost use Rattle.nr_user_plane.specs.Reasons.{refusals, first_reason, kind, lost_len, delivered_len, has_lost, has_delivered, number24_at, is_clear_status, is_padding, Answers, AnswersStatus, AnswersLost, AnswersPairs};
+ghost use Rattle.nr_user_plane.specs.Reasons.{IsRefusal, kind, lost_len, delivered_len, has_lost, has_delivered, number24_at, is_clear_status, is_padding};
+ghost use Rattle.nr_user_plane.specs.Tests.{Answers, AnswersStatus, AnswersLost, AnswersPairs};
+ghost use Rattle.nr_user_plane.specs.declared.frames.FrameError.{FrameError};
 
 use crate::ranges::Ranges;
 use gnb_types::octets::{Memory, Octets};
@@ -42,22 +44,22 @@ pub enum FrameError {
     Ranges,
 }
 
-/// Set in the first octet of a status that tells lost ranges.
+/// Set in the first octet of a status that reports lost ranges.
 const LOST: u8 = 0x01;
 
-/// Set in the first octet of a status that tells a delivered number.
+/// Set in the first octet of a status that reports a delivered number.
 const DELIVERED: u8 = 0x04;
 
 /// The spare bits of the first octet of a status.
 const SPARE: u8 = 0x0a;
 
-fn tells_lost(first: u8) -> bool
+fn reports_lost(first: u8) -> bool
     ensures { result ≡ has_lost first }
 {
     first & LOST != 0
 }
 
-fn tells_delivered(first: u8) -> bool
+fn reports_delivered(first: u8) -> bool
     ensures { result ≡ has_delivered first }
 {
     first & DELIVERED != 0
@@ -87,7 +89,9 @@ fn is_padding(octets: &[u8]) -> bool
 pub fn decode(content: &[u8]) -> Result<Frame, FrameError>
     ensures found { IfOk result (λ frame. Nru frame content.now) }
     ensures only { (frame : Frame) → Nru frame content.now → result ≡ Ok frame }
-    ensures refused { IfErr result (λ reason. first_reason (refusals content.now) ≡ Some reason) }
+    ensures refused { IfErr result (λ reason. IsRefusal reason content.now) }
+    // It is refused for each reason for which it should be.
+    ensures all { (reason : FrameError) → IsRefusal reason content.now → result ≡ Err reason }
 {
     read_frame(content)
 }
@@ -134,7 +138,7 @@ fn decode_status(content: &[u8]) -> Result<Frame, FrameError>
     decode_fields(*first, *second, room, fields)
 }
 
-/// Reads the fields of a status that are behind the desired buffer size.
+/// Reads the fields of a status that are after the desired buffer size.
 fn decode_fields(first: u8, second: u8, room: u32, fields: &[u8]) -> Result<Frame, FrameError>
     ensures { AnswersStatus first second room fields.now result }
 {
@@ -153,25 +157,25 @@ fn decode_fields(first: u8, second: u8, room: u32, fields: &[u8]) -> Result<Fram
     })
 }
 
-/// How many octets the fields behind the desired buffer size need.
+/// How many octets the fields after the desired buffer size need.
 fn octets_needed(first: u8, fields: &[u8]) -> usize
     ensures { result ≡ lost_len first fields.now + delivered_len first }
 {
-    let lost = if tells_lost(first) {
+    let lost = if reports_lost(first) {
         1 + 6 * usize::from(fields.first().copied().unwrap_or(0))
     } else {
         0
     };
-    let delivered = if tells_delivered(first) { 3 } else { 0 };
+    let delivered = if reports_delivered(first) { 3 } else { 0 };
     lost + delivered
 }
 
-/// The lost ranges of a status, and what is behind them.
+/// The lost ranges of a status, and what follows them.
 fn lost_ranges(first: u8, fields: &[u8]) -> Result<(Ranges, &[u8]), FrameError>
     requires { lost_len first fields.now ≤ length fields.now }
     ensures { AnswersLost first fields.now result }
 {
-    if !tells_lost(first) {
+    if !reports_lost(first) {
         return Ok((Ranges::new(), fields));
     }
     let [count, octets @ ..] = fields else {
@@ -183,7 +187,7 @@ fn lost_ranges(first: u8, fields: &[u8]) -> Result<(Ranges, &[u8]), FrameError>
     read_ranges(*count, octets)
 }
 
-/// That many ranges, and what is behind them.
+/// That many ranges, and what follows them.
 fn read_ranges(count: u8, octets: &[u8]) -> Result<(Ranges, &[u8]), FrameError>
     requires few { count ≤ 7 }
     requires whole { 6 * count ≤ length octets.now }
@@ -204,7 +208,7 @@ fn read_ranges(count: u8, octets: &[u8]) -> Result<(Ranges, &[u8]), FrameError>
     Ok((ranges, rest))
 }
 
-/// The start and the end of a range, and what is behind them.
+/// The start and the end of a range, and what follows them.
 fn read_pair(octets: &[u8]) -> ((u32, u32), &[u8])
     requires { 6 ≤ length octets.now }
     ensures start { result.0.0 ≡ number24_at octets.now 0 }
@@ -218,13 +222,13 @@ fn read_pair(octets: &[u8]) -> ((u32, u32), &[u8])
     ((number24(*a, *b, *c), number24(*d, *e, *f)), after)
 }
 
-/// The delivered number of a status, and what is behind it.
+/// The delivered number of a status, and what follows it.
 fn delivered_number(first: u8, fields: &[u8]) -> (Option<u32>, &[u8])
     requires { delivered_len first ≤ length fields.now }
     ensures number { result.0 ≡ (if has_delivered first then Some (number24_at fields.now 0) else None) }
     ensures rest { result.1.now ≡ drop (delivered_len first) fields.now }
 {
-    if !tells_delivered(first) {
+    if !reports_delivered(first) {
         return (None, fields);
     }
     let [a, b, c, padding @ ..] = fields else {
@@ -274,7 +278,7 @@ fn status_octets(
     Ok(octets)
 }
 
-/// Puts the lost ranges behind their count, or nothing where there are none.
+/// Puts the lost ranges after their count, or nothing where there are none.
 fn push_ranges(octets: &mut Octets, lost: &Ranges) -> Result<(), Memory>
     requires { length lost.now ≤ 7 }
     ensures { OnOk result (octets.new ≡ octets.old ++ lost_octets lost.now) }

@@ -22,7 +22,7 @@ impl Model for Ranges {
 }
 
 impl Ranges {
-    /// The most that a frame can tell.
+    /// The most that a frame can report.
     pub const MAX: usize = 7;
 
     /// No ranges.

@@ -3,6 +3,7 @@
 ghost use Rattle.std.specs.Prelude.{◌≡◌, ◌≤◌, length, IsTrue};
 ghost use Rattle.nr_user_plane.specs.Frames.{AreApart, FitsFrame};
 
+use gnb_types::hex::hex_bytes;
 use crate::{Frame, FrameError, Ranges, decode, encode};
 use std::test::Fail;
 
@@ -43,7 +44,7 @@ fn fits(frame: &Frame) -> bool
     }
 }
 
-/// Whether these are no ranges, or one or two that a frame can tell.
+/// Whether these are no ranges, or one or two that a frame can report.
 fn is_short(lost: &[(u32, u32)]) -> bool
     ensures { IsTrue result → (length lost.now ≤ 7) × AreApart 0 lost.now }
 {
@@ -108,7 +109,7 @@ fn frames_in_packets(rt: HostRuntime) -> Result<(), Fail> {
         ),
     ];
     for (packet, frame) in &table {
-        let packet = hex::decode(rt.alloc(), *packet)?;
+        let packet = hex_bytes(rt.alloc(), packet.as_bytes())?.into_vec();
         let units = packet.get(12).copied().ok_or("a short row")?;
         let end = 12 + 4 * usize::from(units) - 1;
         let content = packet.get(13..end).ok_or("a short row")?;
@@ -151,7 +152,7 @@ fn refused_frames(rt: HostRuntime) -> Result<(), Fail> {
         ("100000010000000001", FrameError::Spare),
     ];
     for (content, reason) in &table {
-        let content = hex::decode(rt.alloc(), *content)?;
+        let content = hex_bytes(rt.alloc(), content.as_bytes())?.into_vec();
         assert!(rt; decode(&content) == Err(*reason), "{reason}");
     }
     Ok(())

@@ -28,14 +28,14 @@ bitmap-append (a ∷ b ∷ c ∷ d ∷ e ∷ f ∷ g ∷ h ∷ i ∷ front) rest
 pub bitmap_more : (octets new whole : List ℕ) (all front rest : List Bool) (size octet : ℕ) → octets ++ bitmap all ≡ whole
     → all ≡ front ++ rest → length front ≡ min size (length all) → 0 < length all → size ≡ 8
     → octet ≡ octet_of front → new ≡ octets ++ octet ∷ [] → new ++ bitmap rest ≡ whole
-bitmap_more octets new whole all front rest size octet told split enough some eight is pushed =
+bitmap_more octets new whole all front rest size octet report split enough some eight is pushed =
     let enough' : length front ≡ min 8 (length (front ++ rest)) = rw (← split, ← eight) enough in
     let some' : 0 < length (front ++ rest) = rw (← split) some in
-    let whole_is : octets ++ (octet_of front ∷ bitmap rest) ≡ whole = rw (← bitmap-append front rest enough' some', ← split) told in
+    let whole_is : octets ++ (octet_of front ∷ bitmap rest) ≡ whole = rw (← bitmap-append front rest enough' some', ← split) report in
     rw (pushed, is, append_assoc) whole_is
 
 -- nothing is left
 pub bitmap_done : (octets whole : List ℕ) (rest : List Bool) → octets ++ bitmap rest ≡ whole → length rest ≡ 0 → octets ≡ whole
 unfolding bitmap
-bitmap_done octets whole [] told none = rw (← append-nil octets) told
-bitmap_done octets whole (bit ∷ rest) told none = absurd (omega arith)
+bitmap_done octets whole [] report none = rw (← append-nil octets) report
+bitmap_done octets whole (bit ∷ rest) report none = absurd (omega arith)

@@ -1,3 +1,4 @@
 pub mod Numbers
 pub mod Near
 pub mod Pdus
+pub mod Tests

@@ -14,7 +14,7 @@ pub record IsNear (sn : SnBits) (deliv number count : ℕ) : Type 0 where
   pub high : count < deliv + half sn
   pub given : count ≤ last_count
 
--- The same told of the COUNT raised by one space, which is never below 0, whether the COUNT itself is one that is given or
+-- The same of the COUNT raised by one space, which is never below 0, whether the COUNT itself is one that is given or
 -- not: there is one such number for each RX_DELIV and number.
 pub record IsRaised (sn : SnBits) (deliv number raised : ℕ) : Type 0 where
   pub same : raised % space sn ≡ number % space sn

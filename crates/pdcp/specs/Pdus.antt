@@ -1,6 +1,7 @@
 -- PDCP PDUs as octets: data PDUs with numbers of 12 and 18 bits (TS 38.323, 6.2.2.2, 6.2.2.3), and the status report
 -- (6.2.3.1).
-use Rattle.std.specs.Prelude.{◌≡◌, ◌==◌, ℕ, ◌+◌, ◌*◌, ◌-◌, ◌/◌, ◌%◌, ◌^◌, ◌<◌, ◌≤◌, Bool, true, false, ◌&&◌, not, if◌then◌else◌, nat_lt, nat_le, Option, Some, None, List, [], ◌∷◌, ◌++◌, length, slice_index}
+use Rattle.std.specs.Prelude.{◌≡◌, ◌≢◌, ◌==◌, ℕ, ◌+◌, ◌*◌, ◌-◌, ◌/◌, ◌%◌, ◌^◌, ◌<◌, ◌≤◌, Bool, true, false, if◌then◌else◌, nat_le, List, [], ◌∷◌, ◌++◌, length, slice_index}
+use Rattle.gnb_types.specs.Refusals.{Condition, IsFirst}
 use Rattle.gnb_types.specs.declared.names.SnBits.{SnBits}
 use Rattle.gnb_types.specs.declared.names.SnBits.TheVariants.{Len12, Len18}
 use Rattle.pdcp.specs.declared.pdu.Pdu.{Pdu}
@@ -41,17 +42,16 @@ fewest Len12 true = 3
 fewest Len18 true = 4
 fewest sn false = 5
 
--- Why octets are no PDU: tests with the reason of each, in the order in which they are made.
-abbrev pub refusals : SnBits → List ℕ → List (Bool × PduError)
+-- Why octets are no PDU: the reasons, in the order in which they are looked at.
+abbrev pub refusals : SnBits → List ℕ → List (Condition PduError)
 refusals sn octets =
-    (nat_lt (length octets) (fewest sn (is_data octets)), Truncated)
-    ∷ (not (is_data octets) && not (slice_index octets 0 / 16 % 8 == 0), ControlKind)
+    (Truncated, length octets < fewest sn (is_data octets))
+    ∷ (ControlKind, (is_data octets ≡ false) × (slice_index octets 0 / 16 % 8 ≢ 0))
     ∷ []
 
--- the first reason whose test holds
-abbrev pub first_reason : {E : Type 0} → List (Bool × E) → Option E
-first_reason [] = None
-first_reason (refusal ∷ refusals) = if refusal.0 then Some refusal.1 else first_reason refusals
+-- the reason for which the octets are refused
+abbrev pub IsRefusal : SnBits → PduError → List ℕ → Type 0
+IsRefusal sn reason octets = IsFirst (refusals sn octets) reason
 
 -- a data PDU as it is written, with zeros as reserved bits: the low bits of the COUNT are the number
 unfoldable pub radio_data : SnBits → ℕ → List ℕ → List ℕ
@@ -63,7 +63,7 @@ abbrev pub bits_from : ℕ → List Bool → ℕ
 bits_from worth [] = 0
 bits_from worth (bit ∷ bits) = (if bit then worth else 0) + bits_from (worth / 2) bits
 
--- up to eight of them as an octet, the first in its highest bit, with zeros behind the last
+-- up to eight of them as an octet, the first in its highest bit, with zeros after the last
 abbrev pub octet_of : List Bool → ℕ
 octet_of bits = bits_from 128 bits
 
@@ -77,6 +77,6 @@ bitmap bits = octet_of bits ∷ []
 abbrev pub report_octets : ℕ → List Bool → List ℕ
 report_octets fmc bits = 0 ∷ be32 fmc ++ bitmap bits
 
--- bit k of a bitmap, counted from 1 at the highest bit of the first octet; none is set behind the last octet
+-- bit k of a bitmap, counted from 1 at the highest bit of the first octet; none is set after the last octet
 abbrev pub bitmap_bit : List ℕ → ℕ → Bool
 bitmap_bit octets k = slice_index octets ((k - 1) / 8) / 2 ^ (7 - (k - 1) % 8) % 2 == 1

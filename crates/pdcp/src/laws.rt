@@ -1,10 +1,11 @@
 //! Laws of PDUs and of the COUNT of a number. Each function does nothing: its contract is the law.
 
-ghost use Rattle.std.specs.Prelude.{◌≡◌, ℕ, ◌+◌, ◌%◌, ◌^◌, ◌<◌, ◌≤◌, Bool, false, List, length, slice_index_or, None};
+ghost use Rattle.std.specs.Prelude.{◌≡◌, ℕ, ◌+◌, ◌%◌, ◌^◌, ◌<◌, ◌≤◌, Bool, false, List, length, slice_index_or};
+ghost use Rattle.gnb_types.specs.Refusals.{NoneHolds};
 ghost use Rattle.gnb_types.specs.declared.names.SnBits.{SnBits};
 ghost use Rattle.pdcp.specs.Numbers.{space, half};
 ghost use Rattle.pdcp.specs.Near.{IsNear, last_count};
-ghost use Rattle.pdcp.specs.Pdus.{Content, data_pdu, status_report, Pdcp, refusals, first_reason, radio_data, report_octets, bitmap, bitmap_bit};
+ghost use Rattle.pdcp.specs.Pdus.{Content, data_pdu, status_report, Pdcp, refusals, radio_data, report_octets, bitmap, bitmap_bit};
 
 /// The number of a COUNT stands for that COUNT, where both it and RX_DELIV are in one window: the COUNT less than half a
 /// space above the window's low end, RX_DELIV at most half a space above it.
@@ -21,12 +22,12 @@ pub fn near_is_one()
 /// A PDU says one thing, and no reason to refuse it applies; what is no PDU has a reason, the first that applies.
 pub fn pdu_or_reason()
     ensures one { (sn : SnBits) (octets : List ℕ) (content other : Content) → Pdcp sn content octets → Pdcp sn other octets → content ≡ other }
-    ensures no_reason { (sn : SnBits) (octets : List ℕ) (content : Content) → Pdcp sn content octets → first_reason (refusals sn octets) ≡ None }
-    ensures reason { (sn : SnBits) (octets : List ℕ) → first_reason (refusals sn octets) ≡ None → (content : Content) × Pdcp sn content octets }
+    ensures no_reason { (sn : SnBits) (octets : List ℕ) (content : Content) → Pdcp sn content octets → NoneHolds (refusals sn octets) }
+    ensures reason { (sn : SnBits) (octets : List ℕ) → NoneHolds (refusals sn octets) → (content : Content) × Pdcp sn content octets }
 {}
 
 /// What is written is read again: a data PDU as the number of its COUNT and its packet, a status report as FMC and the
-/// bitmap, and each bit of the bitmap as the truth value that was written there, with zeros behind the last.
+/// bitmap, and each bit of the bitmap as the truth value that was written there, with zeros after the last.
 #[tactic(auto, unfolding(crate::specs::Pdus::radio_data))]
 pub fn written_is_read()
     ensures packet { (sn : SnBits) (count : ℕ) (packet : List ℕ) → 0 < length packet

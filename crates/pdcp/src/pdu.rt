@@ -1,13 +1,19 @@
 //! PDCP PDUs as octets (TS 38.323, 6.2).
 
 ghost use Rattle.std.specs.Prelude.{◌≡◌, ◌<◌, ◌≤◌, length, false, IsTrue, IfOk, IfErr, IsOkAnd};
-ghost use Rattle.pdcp.specs.Pdus.{Content, content_of, Pdcp, is_data, refusals, first_reason, radio_data, octet_of, report_octets};
+ghost use Rattle.pdcp.specs.Pdus.{Content, content_of, Pdcp, IsRefusal, is_data, radio_data, octet_of, report_octets};
+ghost use Rattle.gnb_types.specs.Refusals.{first_reason};
+ghost use Rattle.pdcp.specs.Tests.{tests};
+ghost use Rattle.pdcp.specs.declared.pdu.PduError.{PduError};
 
 use gnb_types::bits::Bits;
 use gnb_types::names::SnBits;
 use gnb_types::octets::{Memory, Octets};
 use std::alloc::Global;
 use thiserror::Error;
+
+/// The most octets of a packet on a bearer.
+pub const PACKET_LIMIT: usize = 2_048;
 
 /// What a PDU says, over the octets that it was read from.
 #[derive(Clone, Copy, Debug, PartialEq, Eq)]
@@ -31,7 +37,17 @@ pub enum PduError {
 pub fn read_pdu(sn: SnBits, bytes: &[u8]) -> Result<Pdu<'_>, PduError>
     ensures found { IfOk result (λ pdu. Pdcp sn (content_of pdu) bytes.now) }
     ensures only { (content : Content) → Pdcp sn content bytes.now → IsOkAnd result (λ pdu. content_of pdu ≡ content) }
-    ensures refused { IfErr result (λ reason. first_reason (refusals sn bytes.now) ≡ Some reason) }
+    ensures refused { IfErr result (λ reason. IsRefusal sn reason bytes.now) }
+    // It is refused for each reason for which it should be.
+    ensures all { (reason : PduError) → IsRefusal sn reason bytes.now → result ≡ Err reason }
+{
+    read(sn, bytes)
+}
+
+fn read(sn: SnBits, bytes: &[u8]) -> Result<Pdu<'_>, PduError>
+    ensures found { IfOk result (λ pdu. Pdcp sn (content_of pdu) bytes.now) }
+    ensures only { (content : Content) → Pdcp sn content bytes.now → IsOkAnd result (λ pdu. content_of pdu ≡ content) }
+    ensures refused { IfErr result (λ reason. first_reason (tests sn bytes.now) ≡ Some reason) }
 {
     match bytes {
         [first, ..] if first & 0x80 != 0 => read_data(sn, bytes),
@@ -44,7 +60,7 @@ fn read_data(sn: SnBits, bytes: &[u8]) -> Result<Pdu<'_>, PduError>
     requires { IsTrue (is_data bytes.now) }
     ensures found { IfOk result (λ pdu. Pdcp sn (content_of pdu) bytes.now) }
     ensures only { (content : Content) → Pdcp sn content bytes.now → IsOkAnd result (λ pdu. content_of pdu ≡ content) }
-    ensures refused { IfErr result (λ reason. first_reason (refusals sn bytes.now) ≡ Some reason) }
+    ensures refused { IfErr result (λ reason. first_reason (tests sn bytes.now) ≡ Some reason) }
 {
     match (sn, bytes) {
         (SnBits::Len12, [high, low, packet @ ..]) if !packet.is_empty() => Ok(Pdu::Packet {
@@ -66,7 +82,7 @@ fn read_report(sn: SnBits, bytes: &[u8]) -> Result<Pdu<'_>, PduError>
     requires { is_data bytes.now ≡ false }
     ensures found { IfOk result (λ pdu. Pdcp sn (content_of pdu) bytes.now) }
     ensures only { (content : Content) → Pdcp sn content bytes.now → IsOkAnd result (λ pdu. content_of pdu ≡ content) }
-    ensures refused { IfErr result (λ reason. first_reason (refusals sn bytes.now) ≡ Some reason) }
+    ensures refused { IfErr result (λ reason. first_reason (tests sn bytes.now) ≡ Some reason) }
 {
     match bytes {
         [first, a, b, c, d, bits @ ..] if first & 0x70 == 0 => Ok(Pdu::Report {
@@ -82,7 +98,7 @@ fn read_report(sn: SnBits, bytes: &[u8]) -> Result<Pdu<'_>, PduError>
 #[tactic(auto, unfolding(crate::specs::Pdus::radio_data))]
 pub fn write_pdu(alloc: Global, sn: SnBits, count: u32, packet: &[u8]) -> Result<Octets, Memory>
     requires least { 1 ≤ length packet.now }
-    requires most { length packet.now ≤ 2048 }
+    requires most { length packet.now ≤ PACKET_LIMIT }
     ensures { IfOk result (λ octets. octets ≡ radio_data sn count packet.now) }
 {
     let [_, high, middle, low] = count.to_be_bytes();

@@ -1,6 +1,7 @@
 //! Octets of packets on the links of a worked network, and refusals written by hand.
 
-use crate::{Pdu, PduError, near, read_pdu, write_pdu, write_report};
+use gnb_types::hex::hex_bytes;
+use crate::{PACKET_LIMIT, Pdu, PduError, near, read_pdu, write_pdu, write_report};
 use gnb_types::bits::Bits;
 use gnb_types::names::SnBits;
 use std::test::Fail;
@@ -78,15 +79,15 @@ fn data_pdus(rt: HostRuntime) -> Result<(), Fail> {
         },
     ];
     for row in &table {
-        let octets = hex::decode(rt.alloc(), row.link)?;
+        let octets = hex_bytes(rt.alloc(), row.link.as_bytes())?.into_vec();
         let pdu = octets.get(row.before..).ok_or("a short row")?;
-        let packet = hex::decode(rt.alloc(), row.packet)?;
+        let packet = hex_bytes(rt.alloc(), row.packet.as_bytes())?.into_vec();
         let read = Pdu::Packet {
             sn: row.number,
             packet: packet.as_slice(),
         };
         assert_eq!(rt; read_pdu(row.sn, pdu), Ok(read), "{}", row.link);
-        assert!(rt; 1 <= packet.len() && packet.len() <= 2048);
+        assert!(rt; 1 <= packet.len() && packet.len() <= PACKET_LIMIT);
         let written = write_pdu(rt.alloc(), row.sn, row.count, &packet)?;
         assert_eq!(rt; written.as_slice(), pdu, "{}", row.link);
     }
@@ -101,8 +102,8 @@ fn status_reports(rt: HostRuntime) -> Result<(), Fail> {
         ("0000000000", 0, &[], ""),
     ];
     for (pdu, fmc, bits, bitmap) in &table {
-        let pdu = hex::decode(rt.alloc(), *pdu)?;
-        let bitmap = hex::decode(rt.alloc(), *bitmap)?;
+        let pdu = hex_bytes(rt.alloc(), pdu.as_bytes())?.into_vec();
+        let bitmap = hex_bytes(rt.alloc(), bitmap.as_bytes())?.into_vec();
         let read = Pdu::Report {
             fmc: *fmc,
             bits: bitmap.as_slice(),

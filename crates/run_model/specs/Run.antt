@@ -21,7 +21,7 @@ use Rattle.scenario_text.specs.declared.line.RefuseReason.TheVariants.{Attached,
 use Rattle.scenario_text.specs.declared.line.HeldReason.TheVariants.{Quota}
 use Rattle.scenario_text.specs.declared.line.OutLine.{OutLine}
 use Rattle.scenario_text.specs.declared.line.OutLine.TheVariants as lines
-use Rattle.link_layouts.specs.Links.{n3_downlink, f1u_downlink_data, radio_data}
+use Rattle.link_defs.specs.Links.{n3_downlink, f1u_downlink_data, radio_data}
 use Rattle.run_model.specs.Keys.{Place, Bearer, Seat, Radio}
 use Rattle.run_model.specs.State.{Numbered, Load, Fresh, Framed, TunnelItem, Sender, Receiver, State, at, start, half_space}
 

@@ -11,7 +11,7 @@ use Rattle.scenario_text.specs.declared.line.Link.TheVariants as links
 use Rattle.scenario_text.specs.declared.line.Item.{Item}
 use Rattle.scenario_text.specs.declared.line.OutLine.{OutLine}
 use Rattle.scenario_text.specs.declared.line.OutLine.TheVariants as lines
-use Rattle.link_layouts.specs.Links.{n3_downlink, f1u_downlink_data, radio_data}
+use Rattle.link_defs.specs.Links.{n3_downlink, f1u_downlink_data, radio_data}
 use Rattle.run_model.specs.Keys.{Bearer, same_place, same_bearer, same_radio}
 use Rattle.run_model.specs.Run.{Step, lines_of, downlink_of, place_at, static_bits}
 

@@ -9,8 +9,8 @@ use Rattle.scenario_text.specs.declared.line.OutLine.{OutLine}
 use Rattle.scenario_text.specs.declared.line.OutLine.TheVariants as lines
 use Rattle.scenario_text.specs.declared.line.RefuseReason.TheVariants.{Empty}
 use Rattle.scenario_text.specs.declared.line.HeldReason.TheVariants.{Quota}
-use Rattle.link_layouts.specs.Decoding.{IsSized}
-use Rattle.link_layouts.specs.Links.{radio_data, n3_downlink, f1u_downlink_data}
+use Rattle.link_defs.specs.Decoding.{IsSized}
+use Rattle.link_defs.specs.Links.{radio_data, n3_downlink, f1u_downlink_data}
 use Rattle.run_model.specs.State.{Numbered}
 use Rattle.run_model.specs.Run.{static_bearer, static_n3, static_downlink, static_radio, tunnel_link, radio_link, shown, shown_in, shown_on_air}
 use Rattle.run_model.specs.OneBearer.{OneBearer, Frame, Next, fresh_item, framed_item, next_frame, numbers_one, gets_n3, gets_f1u, airs_one, delivers_one, IsSound}

@@ -18,12 +18,12 @@ use Rattle.link_packets.specs.declared.reading.N3.TheVariants as on_n3
 use Rattle.link_packets.specs.declared.reading.F1uDownlink.{F1uDownlink}
 use Rattle.link_packets.specs.declared.reading.F1uDownlink.TheVariants as downlink
 use Rattle.link_packets.specs.Items.{n3_item, downlink_item}
-use Rattle.link_layouts.specs.Decoding.{IsSized, DecodesOn, n3, f1u_downlink, fresh, framed}
-use Rattle.link_layouts.specs.GPdus.{plain_pdu}
-use Rattle.link_layouts.specs.Links.{radio_data, n3_downlink, f1u_downlink_data}
-use Rattle.link_layouts.proofs.Pdus.{data_carried}
-use Rattle.link_layouts.proofs.Shells.{n3_downlink_is, data_header, data_header_is, f1u_downlink_data_is}
-use Rattle.link_layouts.proofs.Written.{n3_downlink_decodes, f1u_downlink_data_decodes}
+use Rattle.link_defs.specs.Decoding.{IsSized, DecodesOn, n3, f1u_downlink, fresh, framed}
+use Rattle.link_defs.specs.GPdus.{plain_pdu}
+use Rattle.link_defs.specs.Links.{radio_data, n3_downlink, f1u_downlink_data}
+use Rattle.link_defs.proofs.Pdus.{data_carried}
+use Rattle.link_defs.proofs.Shells.{n3_downlink_is, data_header, data_header_is, f1u_downlink_data_is}
+use Rattle.link_defs.proofs.Written.{n3_downlink_decodes, f1u_downlink_data_decodes}
 use Rattle.static_runner.specs.Header.{frame_header}
 
 -- a COUNT is near itself

@@ -3,7 +3,7 @@ use Rattle.std.specs.Prelude.{◌≡◌, ◌^◌, ◌<◌, ℕ, List, map, Optio
 use Rattle.std.specs.List.{AllByRecursion}
 use Rattle.scenario_text.specs.declared.line.Item.{Item}
 use Rattle.scenario_text.specs.declared.line.OutLine.{OutLine}
-use Rattle.link_layouts.specs.Decoding.{IsSized}
+use Rattle.link_defs.specs.Decoding.{IsSized}
 use Rattle.run_model.specs.State.{Numbered}
 use Rattle.run_model.specs.Run.{static_n3, static_downlink, static_radio, shown_in, shown_on_air}
 use Rattle.run_model.specs.OneBearer.{OneBearer, Frame, Next, fresh_item, framed_item, IsSound}

@@ -2,8 +2,8 @@
 use Rattle.std.specs.Prelude.{◌≡◌, ◌+◌, ℕ, true, false, List, [], ◌∷◌, ◌++◌}
 use Rattle.std.specs.Prelude.{Bool}
 use Rattle.pdcp.specs.Pdus.{Content}
-use Rattle.link_layouts.specs.Decoding.{DecodesOn, n3, f1u_downlink, fresh, framed}
-use Rattle.link_layouts.specs.Links.{f1u_downlink_data}
+use Rattle.link_defs.specs.Decoding.{DecodesOn, n3, f1u_downlink, fresh, framed}
+use Rattle.link_defs.specs.Links.{f1u_downlink_data}
 use Rattle.run_model.specs.Run.{static_bits}
 use Rattle.static_runner.specs.declared.cu_up.FromN3.{FromN3}
 use Rattle.static_runner.specs.declared.cu_up.FromN3.TheVariants.{Ignored, Waits, Numbered}

@@ -2,8 +2,8 @@
 //! (TS 38.401, 8.9; TS 38.323, 5.2.1; TS 38.425, 5.2).
 
 ghost use Rattle.std.specs.Prelude.{◌≡◌, ◌<◌, ◌≤◌, ◌^◌, [], List, ℕ, length, IfOk, IfSome, IfNone, IsSomeAnd, true, false};
-ghost use Rattle.link_layouts.specs.Decoding.{IsSized, DecodesOn, n3, fresh};
-ghost use Rattle.link_layouts.specs.Links.{n3_downlink, f1u_downlink_data};
+ghost use Rattle.link_defs.specs.Decoding.{IsSized, DecodesOn, n3, fresh};
+ghost use Rattle.link_defs.specs.Links.{n3_downlink, f1u_downlink_data};
 ghost use Rattle.run_model.specs.Run.{static_bits};
 ghost use Rattle.static_runner.specs.Header.{frame_header};
 

@@ -1,8 +1,8 @@
 //! The DU of the static downlink bearer: it takes frames from F1-U, and puts their PDUs on the radio (TS 38.401, 8.9).
 
 ghost use Rattle.std.specs.Prelude.{◌≡◌, ◌<◌, ◌^◌, List, ℕ, IfSome, IfNone, IsSomeAnd};
-ghost use Rattle.link_layouts.specs.Decoding.{IsSized};
-ghost use Rattle.link_layouts.specs.Links.{f1u_downlink_data, radio_data};
+ghost use Rattle.link_defs.specs.Decoding.{IsSized};
+ghost use Rattle.link_defs.specs.Links.{f1u_downlink_data, radio_data};
 ghost use Rattle.run_model.specs.Run.{static_bits};
 ghost use Rattle.static_runner.specs.Units.{IsFramed};
 

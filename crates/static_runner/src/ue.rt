@@ -2,8 +2,8 @@
 //! (TS 38.323, 5.2.2).
 
 ghost use Rattle.std.specs.Prelude.{◌≡◌, ◌+◌, ◌-◌, ◌^◌, ◌<◌, List, ℕ, ◌%◌, IsSome, IfSome, IfNone, IsSomeAnd, OnSome};
-ghost use Rattle.link_layouts.specs.Decoding.{IsSized};
-ghost use Rattle.link_layouts.specs.Links.{radio_data};
+ghost use Rattle.link_defs.specs.Decoding.{IsSized};
+ghost use Rattle.link_defs.specs.Links.{radio_data};
 ghost use Rattle.run_model.specs.Run.{static_bits};
 ghost use Rattle.gnb_types.specs.declared.names.SnBits.TheVariants.{Len12};
 ghost use Rattle.pdcp.specs.Near.{IsNear};

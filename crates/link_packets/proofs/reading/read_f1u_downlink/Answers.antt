@@ -1,5 +1,5 @@
 use Rattle.gtpu.specs.Packets.{view}
-use Rattle.link_layouts.specs.Decoding.{f1u_downlink}
+use Rattle.link_defs.specs.Decoding.{f1u_downlink}
 use Rattle.link_packets.specs.Items.{downlink_item}
 use Rattle.link_packets.proofs.Through.{only_through}
 use Rattle.link_packets.proofs.reading.read_f1u_downlink.Goals as goal

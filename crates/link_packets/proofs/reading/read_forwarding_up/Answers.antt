@@ -1,5 +1,5 @@
 use Rattle.gtpu.specs.Packets.{view}
-use Rattle.link_layouts.specs.Decoding.{forwarding_up}
+use Rattle.link_defs.specs.Decoding.{forwarding_up}
 use Rattle.link_packets.specs.Items.{forwarded_item}
 use Rattle.link_packets.proofs.Through.{only_through}
 use Rattle.link_packets.proofs.reading.read_forwarding_up.Goals as goal

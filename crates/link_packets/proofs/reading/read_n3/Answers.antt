@@ -1,5 +1,5 @@
 use Rattle.gtpu.specs.Packets.{view}
-use Rattle.link_layouts.specs.Decoding.{n3}
+use Rattle.link_defs.specs.Decoding.{n3}
 use Rattle.link_packets.specs.Items.{n3_item}
 use Rattle.link_packets.proofs.Through.{found_through, only_through}
 use Rattle.link_packets.proofs.reading.read_n3.Goals as goal

@@ -1,6 +1,6 @@
 use Rattle.std.proofs.Common.{◌≡◌, ◌∙◌, ap, length, arith}
 use Rattle.pdcp.specs.Pdus.{radio_data}
-use Rattle.link_layouts.proofs.Pdus.{length-radio_data}
+use Rattle.link_defs.proofs.Pdus.{length-radio_data}
 use Rattle.link_packets.proofs.writing.write_f1u_downlink_packet.Goals as goal
 
 pub with_frame-requires-clause-counted : goal.with_frame-requires-clause-counted

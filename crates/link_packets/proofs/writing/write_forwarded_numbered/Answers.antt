@@ -1,8 +1,8 @@
 use Rattle.std.proofs.Common.{List, ℕ, ◌∙◌, ap}
 use Rattle.std.proofs.lemmas.Result.{IfOk-weaker}
 use Rattle.gtpu.specs.Packets.{gtpu_octets}
-use Rattle.link_layouts.specs.GPdus.{pdu_with}
-use Rattle.link_layouts.specs.Layouts.{forwarded_numbered}
+use Rattle.link_defs.specs.GPdus.{pdu_with}
+use Rattle.link_defs.specs.Layouts.{forwarded_numbered}
 use Rattle.link_packets.specs.Parts.{header}
 use Rattle.link_packets.proofs.Written.{long_number}
 use Rattle.link_packets.proofs.writing.write_forwarded_numbered.Goals as goal

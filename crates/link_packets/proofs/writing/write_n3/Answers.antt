@@ -1,9 +1,9 @@
 use Rattle.std.proofs.Common.{◌≡◌, List, ℕ, sym, ◌∙◌}
 use Rattle.std.proofs.lemmas.Result.{IfOk-weaker}
 use Rattle.gtpu.specs.Packets.{gtpu_octets}
-use Rattle.link_layouts.specs.GPdus.{plain_pdu}
-use Rattle.link_layouts.specs.Links.{n3_downlink}
-use Rattle.link_layouts.proofs.Shells.{n3_downlink_is}
+use Rattle.link_defs.specs.GPdus.{plain_pdu}
+use Rattle.link_defs.specs.Links.{n3_downlink}
+use Rattle.link_defs.proofs.Shells.{n3_downlink_is}
 use Rattle.link_packets.proofs.writing.write_n3.Goals as goal
 
 pub returns : goal.returns

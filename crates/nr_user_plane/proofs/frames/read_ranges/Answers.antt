@@ -1,5 +1,5 @@
 use Rattle.std.proofs.Common.{◌≡◌, ◌-◌, ◌<◌, ◌⊎◌, inl, inr, length, refl, suc, arith, length-drop}
-use Rattle.nr_user_plane.proofs.Pairs.{Turn, told_more, apart_more, apart_stops, behind_more, left_is, grown}
+use Rattle.nr_user_plane.proofs.Pairs.{Turn, pairs_more, apart_more, apart_stops, rest_more, left_is, grown}
 use Rattle.nr_user_plane.proofs.frames.read_ranges.Goals as goal
 use Rattle.nr_user_plane.proofs.frames.read_ranges.Goals.{then-start-least-via-then-start-least, then-start-least-via-else-start-least+then-end-start}
 
@@ -25,9 +25,9 @@ loop-rest-preserved c =
     let left = left_is _ _ _ _ _ _ _ turn in
     let one_more = grown _ _ _ _ _ _ _ turn in
     record {
-      told = told_more _ _ _ _ _ _ _ _ turn c.loop-rest.invariant.told;
+      pairs = pairs_more _ _ _ _ _ _ _ _ turn c.loop-rest.invariant.pairs;
       apart = apart_more _ _ _ _ _ _ _ _ _ turn c.loop-rest.invariant.apart c.if-start-least.false c.if-end-start.false;
-      behind = behind_more _ _ _ _ _ _ _ _ turn c.loop-rest.invariant.behind;
+      ends = rest_more _ _ _ _ _ _ _ _ turn c.loop-rest.invariant.ends;
       whole = rw (c.read_pair-start.ensures.rest, length-drop) (omega arith);
       room = omega arith;
       bound = omega arith;

@@ -5,9 +5,9 @@ use Rattle.nr_user_plane.proofs.frames.read_ranges.Given as goal
 
 abbrev pub invariant-loop-rest : goal.invariant-loop-rest
 invariant-loop-rest l = record {
-  told : l.ranges ++ pairs_at (l.count - length l.ranges) l.rest ≡ pairs_at l.count l.fn.octets;
+  pairs : l.ranges ++ pairs_at (l.count - length l.ranges) l.rest ≡ pairs_at l.count l.fn.octets;
   apart : are_apart 0 (pairs_at l.count l.fn.octets) ≡ are_apart l.least (pairs_at (l.count - length l.ranges) l.rest);
-  behind : drop (6 * (l.count - length l.ranges)) l.rest ≡ drop (6 * l.count) l.fn.octets;
+  ends : drop (6 * (l.count - length l.ranges)) l.rest ≡ drop (6 * l.count) l.fn.octets;
   whole : 6 * (l.count - length l.ranges) ≤ length l.rest;
   room : length l.ranges ≤ l.count;
   bound : l.least ≤ 2 ^ 24;

@@ -5,6 +5,6 @@ use Rattle.pdcp.proofs.pdu.packed.Given as goal
 
 abbrev pub invariant-loop-bit : goal.invariant-loop-bit
 invariant-loop-bit l = record {
-  told : l.octet + bits_from l.worth (drop l.bit-index l.bits) ≡ octet_of l.bits;
+  whole : l.octet + bits_from l.worth (drop l.bit-index l.bits) ≡ octet_of l.bits;
   free : l.octet + 2 * l.worth ≤ 256;
 }

@@ -6,9 +6,9 @@ pub loop-eight-preserved : goal.loop-eight-preserved
 loop-eight-preserved c =
     let steps = c.in-Some.ensures.steps in
     record {
-      told = bitmap_more _ _ _ _ _ _ _ _ c.loop-eight.invariant.told steps.1.0 steps.1.1 steps.1.2 c.loop-eight.invariant.size c.packed.ensures c.in_ok-push.ensures.ok;
+      report = bitmap_more _ _ _ _ _ _ _ _ c.loop-eight.invariant.report steps.1.0 steps.1.1 steps.1.2 c.loop-eight.invariant.size c.packed.ensures c.in_ok-push.ensures.ok;
       size = steps.0 ∙ c.loop-eight.invariant.size;
     }
 
 pub returns : goal.returns
-returns c = bitmap_done _ _ _ c.loop-eight.invariant.told c.in-None.ensures.steps.1.0
+returns c = bitmap_done _ _ _ c.loop-eight.invariant.report c.in-None.ensures.steps.1.0

@@ -6,6 +6,6 @@ use Rattle.pdcp.proofs.pdu.write_report.Given as goal
 
 abbrev pub invariant-loop-eight : goal.invariant-loop-eight
 invariant-loop-eight l = record {
-  told : l.octets ++ bitmap (chunks_rest l.eight-iterator) ≡ report_octets l.fn.fmc l.fn.bits;
+  report : l.octets ++ bitmap (chunks_rest l.eight-iterator) ≡ report_octets l.fn.fmc l.fn.bits;
   size : chunks_size l.eight-iterator ≡ 8;
 }

@@ -1,5 +1,5 @@
 use Rattle.std.proofs.Common.{subst}
-use Rattle.link_layouts.specs.Decoding.{DecodesOn, n3}
+use Rattle.link_defs.specs.Decoding.{DecodesOn, n3}
 use Rattle.link_packets.specs.Items.{n3_item}
 use Rattle.gnb_types.specs.declared.names.SnBits.TheVariants.{Len12}
 use Rattle.static_runner.proofs.Octets.{n3_read, fresh_read, fresh_sized}
