@@ -27,7 +27,8 @@ taken_more old taken more rest lines h going =
     ap lines_of (append_assoc taken more rest) ∙ h.going going (more ++ rest)
     ∙ ap (λ (xs : List ℕ). lines ++ lines_of xs) (sym (append_assoc old.kept more rest))
 
-line_goes : (old new : Reading) (left : Option (List ℕ)) (taken more rest text : List ℕ) (lines : List (List ℕ)) → HandedOut old taken lines → old.phase ≡ Going → HasNoLf text
+line_goes : (old new : Reading) (left : Option (List ℕ)) (taken more rest text : List ℕ) (lines : List (List ℕ)) → HandedOut old taken lines
+    → old.phase ≡ Going → HasNoLf text
     → EndsInLf old new more text ⊎ EndsInput old new left more text → new.phase ≡ Going
     → lines_of ((taken ++ more) ++ rest) ≡ (lines ++ text ∷ []) ++ lines_of (new.kept ++ rest)
 line_goes old new left taken more rest text lines h going without_lf (inl e) on =
@@ -38,7 +39,8 @@ line_goes old new left taken more rest text lines h going without_lf (inl e) on 
     ∙ sym (append_assoc lines (text ∷ []) (lines_of (new.kept ++ rest)))
 line_goes old new left taken more rest text lines h going without_lf (inr e) on = not_both new _ e.phase on
 
-line_ends : (old new : Reading) (left : Option (List ℕ)) (taken more text : List ℕ) (lines : List (List ℕ)) → HandedOut old taken lines → old.phase ≡ Going → HasNoLf text
+line_ends : (old new : Reading) (left : Option (List ℕ)) (taken more text : List ℕ) (lines : List (List ℕ)) → HandedOut old taken lines
+    → old.phase ≡ Going → HasNoLf text
     → EndsInLf old new more text ⊎ EndsInput old new left more text → new.phase ≡ Ended → lines_of (taken ++ more) ≡ lines ++ text ∷ []
 line_ends old new left taken more text lines h going without_lf (inl e) at_end = not_both new _ at_end e.phase
 line_ends old new left taken more text lines h going without_lf (inr e) at_end =
@@ -46,7 +48,8 @@ line_ends old new left taken more text lines h going without_lf (inr e) at_end =
     ∙ ap (λ (xs : List ℕ). lines ++ lines_of xs) (append-nil (old.kept ++ more) ∙ e.whole)
     ∙ ap (λ (ls : List (List ℕ)). lines ++ ls) (lines_of-last text without_lf e.some)
 
-done_ends : (old : Reading) (left : Option (List ℕ)) (taken more : List ℕ) (lines : List (List ℕ)) → HandedOut old taken lines → old.kept ++ more ≡ []
+done_ends : (old : Reading) (left : Option (List ℕ)) (taken more : List ℕ) (lines : List (List ℕ)) → HandedOut old taken lines
+    → old.kept ++ more ≡ []
     → ((old.phase ≡ Going) × IsAtEnd left) ⊎ (old.phase ≡ Ended) → lines_of (taken ++ more) ≡ lines
 done_ends old left taken more lines h nothing (inl (going, end)) =
     ap lines_of (sym (append-nil (taken ++ more))) ∙ taken_more old taken more [] lines h going
@@ -60,7 +63,8 @@ module _ (old new : Reading) (before after : SourceAt) (taken : List ℕ) (lines
   bytes_taken : (more : List ℕ) → new.taken ≡ old.taken + length more → length (taken ++ more) ≡ new.taken
   bytes_taken more counts = omega (arith, length-append taken more, h.bytes, counts)
 
-  pub handed_line : (line : Line) (m : NextMeets old new before after (Ok (Some line))) → HandedOut new (taken ++ m.taken) (lines ++ line.text ∷ [])
+  pub handed_line : (line : Line) (m : NextMeets old new before after (Ok (Some line)))
+      → HandedOut new (taken ++ m.taken) (lines ++ line.text ∷ [])
   handed_line line m =
       record {
         going = λ on rest. line_goes old new after.left taken m.taken rest line.text lines h m.answers.going m.answers.without_lf m.answers.ends on;
@@ -81,14 +85,16 @@ module _ (old new : Reading) (before after : SourceAt) (taken : List ℕ) (lines
   pub handed_fault : (m : NextMeets old new before after (Err errors.ReadFault)) → HandedOut new (taken ++ m.taken) lines
   handed_fault m =
       record {
-        going = λ _ rest. taken_more old taken m.taken rest lines h m.answers.going ∙ ap (λ (xs : List ℕ). lines ++ lines_of (xs ++ rest)) (sym m.answers.kept);
+        going = λ _ rest. taken_more old taken m.taken rest lines h m.answers.going
+            ∙ ap (λ (xs : List ℕ). lines ++ lines_of (xs ++ rest)) (sym m.answers.kept);
         ended = λ at_end. not_both new _ at_end m.answers.phase;
         bytes = bytes_taken m.taken m.counts;
         count = λ _. h.count m.answers.going ∙ sym m.answers.lines;
       }
 
   -- a reader that neither goes on nor is at the end
-  stopped : (more : List ℕ) (phase : ReadPhase) → new.phase ≡ phase → (phase ≡ Going → ⊥) → (phase ≡ Ended → ⊥) → new.taken ≡ old.taken + length more → HandedOut new (taken ++ more) lines
+  stopped : (more : List ℕ) (phase : ReadPhase) → new.phase ≡ phase → (phase ≡ Going → ⊥) → (phase ≡ Ended → ⊥)
+      → new.taken ≡ old.taken + length more → HandedOut new (taken ++ more) lines
   stopped more phase is not_going not_ended counts =
       record {
         going = λ on rest. absurd (not_going (sym is ∙ on));
@@ -97,7 +103,8 @@ module _ (old new : Reading) (before after : SourceAt) (taken : List ℕ) (lines
         count = λ on. absurd (not_going (sym is ∙ on));
       }
 
-  pub handed_call : (result : Result (Option Line) ReadError) (m : NextMeets old new before after result) → HandedOut new (taken ++ m.taken) (lines ++ texts (line_in result))
+  pub handed_call : (result : Result (Option Line) ReadError) (m : NextMeets old new before after result)
+      → HandedOut new (taken ++ m.taken) (lines ++ texts (line_in result))
   handed_call (Ok (Some line)) m = handed_line line m
   handed_call (Ok None) m = subst (HandedOut new (taken ++ m.taken)) (sym (append-nil lines)) (handed_done m)
   handed_call (Err errors.ReadFault) m = subst (HandedOut new (taken ++ m.taken)) (sym (append-nil lines)) (handed_fault m)
@@ -111,13 +118,15 @@ pub done_at_end : (old new : Reading) (before after : SourceAt) (m : NextMeets o
     → (old.phase ≡ Ended → IsAtEnd before.left) → IsAtEnd after.left
 done_at_end old new before after m earlier = by m.answers.seen m.stays
   where
-    by : ((old.phase ≡ Going) × IsAtEnd after.left) ⊎ (old.phase ≡ Ended) → (old.phase ≡ Going) ⊎ IsUntouched old new before after → IsAtEnd after.left
+    by : ((old.phase ≡ Going) × IsAtEnd after.left) ⊎ (old.phase ≡ Ended) → (old.phase ≡ Going) ⊎ IsUntouched old new before after
+        → IsAtEnd after.left
     by (inl (going, end)) s = end
     by (inr ended) (inl going) = not_both old _ ended going
     by (inr ended) (inr same) = subst (λ (s : SourceAt). IsAtEnd s.left) (sym same.source) (earlier ended)
 
 -- all calls
-pub handed_run : (old new : Reading) (calls : List Call) (taken first : List ℕ) (lines : List (List ℕ)) → HandedOut old first lines → Run old calls taken new
+pub handed_run : (old new : Reading) (calls : List Call) (taken first : List ℕ) (lines : List (List ℕ)) → HandedOut old first lines
+    → Run old calls taken new
     → HandedOut new (first ++ taken) (lines ++ texts (lines_handed_out calls))
 handed_run old new [] taken first lines h (none, same) =
     let bytes : first ≡ first ++ taken = sym (append-nil first) ∙ ap (λ (xs : List ℕ). first ++ xs) (sym none) in
@@ -126,7 +135,8 @@ handed_run old new [] taken first lines h (none, same) =
 handed_run old new (c ∷ calls) taken first lines h (mid, m, rest, split, more) =
     let further = handed_run mid new calls rest (first ++ m.taken) (lines ++ texts (line_in c.result))
     (handed_call old mid c.before c.after first lines h c.result m) more in
-    let bytes : (first ++ m.taken) ++ rest ≡ first ++ taken = append_assoc first m.taken rest ∙ ap (λ (xs : List ℕ). first ++ xs) (sym split) in
+    let bytes : (first ++ m.taken) ++ rest ≡ first ++ taken = append_assoc first m.taken rest
+    ∙ ap (λ (xs : List ℕ). first ++ xs) (sym split) in
     let all : (lines ++ texts (line_in c.result)) ++ texts (lines_handed_out calls) ≡ lines ++ texts (lines_handed_out (c ∷ calls)) =
     append_assoc lines (texts (line_in c.result)) (texts (lines_handed_out calls))
     ∙ ap (λ (ls : List (List ℕ)). lines ++ ls) (sym (map-append (λ (l : Line). l.text) (line_in c.result) (lines_handed_out calls))) in

@@ -1,5 +1,5 @@
 -- Bytes without LF, and the front of a piece that a read filled.
-use Rattle.std.proofs.Common.{◌≡◌, ◌≢◌, ◌==◌, ℕ, ◌+◌, ◌-◌, ◌<◌, ◌≤◌, Bool, true, false, if◌then◌else◌, List, [], ◌∷◌, ◌++◌, length, get_or, take, Option, Result, Ok, Err, refl, sym, ap, ◌∙◌, subst, arith, append-nil, nat_eq, eqb-true}
+use Rattle.std.proofs.Common.{◌≡◌, ◌≢◌, ◌==◌, ℕ, ◌+◌, ◌-◌, ◌<◌, ◌≤◌, Bool, true, false, if◌then◌else◌, List, [], ◌∷◌, ◌++◌, length, get_or, take, Option, Result, Ok, Err, refl, sym, ap, ◌∙◌, subst, arith, eqb-true}
 use Rattle.std.proofs.lemmas.List.{take_more, take_all, take-append-le}
 use Rattle.std.specs.Io.{ReadsAtMost}
 use Rattle.std.specs.Io.KnownBytes.{ReadConsumes, Consumes}
@@ -51,5 +51,6 @@ pub few_after : (xs ys : List ℕ) → HasNoLf xs → length ys ≤ piece_size �
 few_after xs ys h short = omega (arith, ap (λ (zs : List ℕ). length zs) (past_line-skips xs ys h), past_line-length ys)
 
 -- after a line
-pub few_past : (all text rest : List ℕ) → all ≡ text ++ line_feed ∷ rest → HasNoLf text → length rest < piece_size → length (past_line all) < piece_size
+pub few_past : (all text rest : List ℕ) → all ≡ text ++ line_feed ∷ rest → HasNoLf text → length rest < piece_size
+    → length (past_line all) < piece_size
 few_past all text rest e h short = omega (arith, ap (λ (xs : List ℕ). length (past_line xs)) e, ap length (past_line-skips text (line_feed ∷ rest) h))

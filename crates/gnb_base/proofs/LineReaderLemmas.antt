@@ -63,7 +63,8 @@ parted : (xs : List ℕ) (i : ℕ) → i < length xs → xs ≡ take i xs ++ get
 parted xs i h = sym (take-append-drop i xs) ∙ ap (λ (ys : List ℕ). take i xs ++ ys) (drop_more xs i 0 h)
 
 -- the rest after a place of it
-rest_after : (r : Inside) (i : ℕ) → i < r.stop - r.start → drop (i + 1) (rest_of r) ≡ take (r.stop - (r.start + (i + 1))) (drop (r.start + (i + 1)) r.piece.items)
+rest_after : (r : Inside) (i : ℕ) → i < r.stop - r.start
+    → drop (i + 1) (rest_of r) ≡ take (r.stop - (r.start + (i + 1))) (drop (r.start + (i + 1)) r.piece.items)
 rest_after r i h =
     let m = r.stop - (r.start + (i + 1)) in
     let size : r.stop - r.start ≡ (i + 1) + m = omega arith in
@@ -110,7 +111,8 @@ kept_without_lf r old piece is sound same rest =
     subst (λ (o : Reading). HasNoLf o.kept) is
     (HasNoLf-append r.begun.items (rest_of r) sound.begun (subst (λ (p : List ℕ). HasNoLf (take (r.stop - r.start) (drop r.start p))) same rest))
 
-pub same_first : (r : Inside) (piece : List ℕ) (i : ℕ) → piece ≡ r.piece.items → IsFirstLf (take (r.stop - r.start) (drop r.start piece)) i → IsFirstLf (rest_of r) i
+pub same_first : (r : Inside) (piece : List ℕ) (i : ℕ) → piece ≡ r.piece.items → IsFirstLf (take (r.stop - r.start) (drop r.start piece)) i
+    → IsFirstLf (rest_of r) i
 same_first r piece i same lf = subst (λ (p : List ℕ). IsFirstLf (take (r.stop - r.start) (drop r.start p)) i) same lf
 
 pub phase_is : (r : Inside) (old : Reading) → reading_of r ≡ old → old.phase ≡ Going → r.phase ≡ Going
@@ -131,7 +133,8 @@ gathered r old items piece is same e =
     e ∙ ap (λ (p : List ℕ). r.begun.items ++ take (r.stop - r.start) (drop r.start p)) same ∙ ap (λ (o : Reading). o.kept) is
 
 -- and a front of a piece after them
-pub more_kept : (items kept whole piece : List ℕ) (count : ℕ) → items ≡ kept → whole ≡ piece → items ++ take (count - 0) whole ≡ kept ++ take count piece
+pub more_kept : (items kept whole piece : List ℕ) (count : ℕ) → items ≡ kept → whole ≡ piece
+    → items ++ take (count - 0) whole ≡ kept ++ take count piece
 more_kept items kept whole piece count e same =
     let all : count - 0 ≡ count = omega arith in
     ap (λ (xs : List ℕ). xs ++ take (count - 0) whole) e
@@ -159,7 +162,8 @@ module _ (r : Inside) (old new : Reading) (before after : SourceAt) (is : readin
   -- a read that succeeded
   module _ (piece : List ℕ) (count : ℕ) (kept : new.kept ≡ old.kept ++ take count piece) (taken : new.taken ≡ r.taken + count) (lines : new.lines ≡ r.lines)
       (most : count ≤ length piece) (consumes : Consumes before.left after.left (take count piece)) (calls : after.calls ≡ one_more before.calls) where
-    read_done : (result : Result Bool ReadError) → CountsReadFault before.faults after.faults result → FailsLast before.failed after.failed result
+    read_done : (result : Result Bool ReadError) → CountsReadFault before.faults after.faults result
+        → FailsLast before.failed after.failed result
         → PhaseFits new.phase new → Reads new after.left (take count piece) result → ReadsMore old new before after result
     read_done result faults failed phased reads =
         record {
@@ -179,7 +183,8 @@ module _ (r : Inside) (old new : Reading) (before after : SourceAt) (is : readin
     not_failed ok failed = let e : false ≡ true = sym ok ∙ failed in absurd (cc)
 
     -- whether bytes came
-    came : (wanted : ℕ) (test : Bool) → new.phase ≡ Going → 0 < wanted → (count ≡ 0 → 0 < wanted → IsAtEnd after.left) → test ≡ nat_lt 0 count
+    came : (wanted : ℕ) (test : Bool) → new.phase ≡ Going → 0 < wanted → (count ≡ 0 → 0 < wanted → IsAtEnd after.left)
+        → test ≡ nat_lt 0 count
         → Reads new after.left (take count piece) (Ok test)
     came wanted true phase asked end tested =
         let some : 0 < count = omega (arith, ltb-true 0 count (sym tested)) in

@@ -19,7 +19,8 @@ lines_of-last (byte ∷ more ∷ text) h some =
     front_byte byte (more ∷ text) h.0 ∙ ap (onto_line byte) (lines_of-last (more ∷ text) h.1 (λ e. cc))
 
 -- the lines of bytes are their lines
-front_line : (byte : ℕ) (bytes : List ℕ) (lines : List (List ℕ)) → byte ≢ line_feed → AreLines bytes lines → AreLines (byte ∷ bytes) (onto_line byte lines)
+front_line : (byte : ℕ) (bytes : List ℕ) (lines : List (List ℕ)) → byte ≢ line_feed → AreLines bytes lines
+    → AreLines (byte ∷ bytes) (onto_line byte lines)
 front_line byte bytes [] h e =
     ((h, tt), inr (ap (λ (xs : List ℕ). byte ∷ xs) e, λ (none : byte ∷ [] ≡ []). cc, refl))
 front_line byte bytes (line ∷ lines) h (without_lf, inl (rest, split, more)) =

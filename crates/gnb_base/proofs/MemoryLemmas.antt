@@ -18,7 +18,8 @@ gave bytes all copied rest given count piece room left copies most some whole =
 -- the bytes may be read through another name, up to their end
 pub gave_from : (bytes all read copied rest : List ℕ) (given count least piece room : ℕ) → bytes ≡ drop given all → read ≡ all
     → copied ≡ take count (take (length read - given) (drop given read))
-    → count ≡ min (length (take (length read - given) (drop given read))) least → least ≡ min piece room → 0 < piece → length rest + count ≡ room
+    → count ≡ min (length (take (length read - given) (drop given read))) least → least ≡ min piece room → 0 < piece
+    → length rest + count ≡ room
     → (bytes ≡ take count (copied ++ rest) ++ drop (given + count) all)
     × (count ≡ 0 → 0 < length (copied ++ rest) → drop (given + count) all ≡ [])
 gave_from bytes all read copied rest given count least piece room left same copies most fewest some whole =

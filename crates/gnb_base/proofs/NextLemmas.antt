@@ -47,7 +47,8 @@ kept_line_meets old new source line going t =
       stays = inl going;
     }
 
-pub no_memory_meets : (old new : Reading) (source : SourceAt) → old.phase ≡ Going → new.phase ≡ Failed → new.taken ≡ old.taken → new.taken ≤ input_limit
+pub no_memory_meets : (old new : Reading) (source : SourceAt) → old.phase ≡ Going → new.phase ≡ Failed → new.taken ≡ old.taken
+    → new.taken ≤ input_limit
     → length (past_line old.kept) < piece_size → NextMeets old new source source (Err errors.Memory)
 no_memory_meets old new source going failed same within few =
     record {
@@ -141,7 +142,8 @@ last_meets old mid new before after None going without_lf r t =
     }
 
 pub no_memory_last : (old mid new : Reading) (before after : SourceAt) → old.phase ≡ Going → HasNoLf old.kept
-    → ReadsMore old mid before after (Ok false) → new.phase ≡ Failed → new.taken ≡ mid.taken → new.taken ≤ input_limit → NextMeets old new before after (Err errors.Memory)
+    → ReadsMore old mid before after (Ok false) → new.phase ≡ Failed → new.taken ≡ mid.taken → new.taken ≤ input_limit
+    → NextMeets old new before after (Err errors.Memory)
 no_memory_last old mid new before after going without_lf r failed same within =
     record {
       taken = r.piece;
@@ -164,7 +166,8 @@ one_byte (b ∷ c ∷ xs) e = absurd (omega (arith, e))
 
 -- the read refused
 module _ (old new : Reading) (before after : SourceAt) (going : old.phase ≡ Going) (without_lf : HasNoLf old.kept) where
-  refused_by : (e : ReadError) (r : ReadsMore old new before after (Err e)) → length r.piece ≤ 1 → Answers old new after.left r.piece (Err e)
+  refused_by : (e : ReadError) (r : ReadsMore old new before after (Err e)) → length r.piece ≤ 1
+      → Answers old new after.left r.piece (Err e)
       → NextMeets old new before after (Err e)
   refused_by e r short answers =
       record {
@@ -206,7 +209,8 @@ module _ (old new : Reading) (before after : SourceAt) (going : old.phase ≡ Go
 
 -- a reader that stopped before answers again
 module _ (r : Inside) (old : Reading) (source : SourceAt) (is : reading_of r ≡ old) (sound : IsSound r) where
-  again : (result : Result (Option Line) ReadError) → Answers old old source.left [] result → CountsReadFault source.faults source.faults result
+  again : (result : Result (Option Line) ReadError) → Answers old old source.left [] result
+      → CountsReadFault source.faults source.faults result
       → FailsLast source.failed source.failed result → NextMeets old old source source result
   again result answers faults failed =
       record {
@@ -223,11 +227,10 @@ module _ (r : Inside) (old : Reading) (source : SourceAt) (is : reading_of r ≡
       }
 
   phase_of : (p : ReadPhase) → r.phase ≡ p → (old.phase ≡ p) × PhaseFits p old
-  phase_of p phase =
-      (
-        sym (ap (λ (o : Reading). o.phase) is) ∙ phase,
-        subst (λ (o : Reading). PhaseFits p o) is (subst (λ (q : ReadPhase). PhaseFits q (reading_of r)) phase sound.phased),
-      )
+  phase_of p phase = (
+    sym (ap (λ (o : Reading). o.phase) is) ∙ phase,
+    subst (λ (o : Reading). PhaseFits p o) is (subst (λ (q : ReadPhase). PhaseFits q (reading_of r)) phase sound.phased),
+  )
 
   pub too_long_again : r.phase ≡ TooLong → NextMeets old old source source (Err errors.TooLong)
   too_long_again phase =
@@ -244,7 +247,8 @@ module _ (r : Inside) (old : Reading) (source : SourceAt) (is : reading_of r ≡
       (record { phase = p.0; nothing = append-nil old.kept ∙ p.1.1; kept = p.1.1; lines = refl; within = p.1.0; seen = inr p.0 }) refl (λ e. e)
 
 -- what looking for a kept line answered
-pub found_line : (old new : Reading) (found : Option Line) (line : Line) → found ≡ Some line → TakesLine old new (Ok found) → TakesOff old new line
+pub found_line : (old new : Reading) (found : Option Line) (line : Line) → found ≡ Some line → TakesLine old new (Ok found)
+    → TakesOff old new line
 found_line old new found line e t = subst (λ (f : Option Line). TakesLine old new (Ok f)) e t
 
 pub found_none : (old new : Reading) (found : Option Line) → found ≡ None → TakesLine old new (Ok found) → HasNoLf old.kept × (new ≡ old)

@@ -67,7 +67,8 @@ module _ (old now new : Reading) (before mid after : SourceAt) (s : SoFar old no
         lazy = inr (HasNoLf-front old.kept s.taken (subst HasNoLf s.kept m.without_lf));
       }
 
-  still_lazy : (more : List ℕ) → ((more ≡ []) × (after ≡ mid)) ⊎ HasNoLf now.kept → ((s.taken ++ more ≡ []) × (after ≡ before)) ⊎ HasNoLf old.kept
+  still_lazy : (more : List ℕ) → ((more ≡ []) × (after ≡ mid)) ⊎ HasNoLf now.kept → ((s.taken ++ more ≡ []) × (after ≡ before))
+      ⊎ HasNoLf old.kept
   still_lazy more h = by s.lazy h
     where
       by : ((s.taken ≡ []) × (mid ≡ before)) ⊎ HasNoLf old.kept → ((more ≡ []) × (after ≡ mid)) ⊎ HasNoLf now.kept
@@ -77,16 +78,19 @@ module _ (old now new : Reading) (before mid after : SourceAt) (s : SoFar old no
       by (inr without_lf) h = inr without_lf
 
   -- the count of faults stood still so far
-  still_counts : (result : Result (Option Line) ReadError) → CountsReadFault mid.faults after.faults result → CountsReadFault before.faults after.faults result
+  still_counts : (result : Result (Option Line) ReadError) → CountsReadFault mid.faults after.faults result
+      → CountsReadFault before.faults after.faults result
   still_counts result h = subst (λ (n : ℕ). CountsReadFault n after.faults result) s.faults h
 
-  still_fails : (result : Result (Option Line) ReadError) → FailsLast mid.failed after.failed result → FailsLast before.failed after.failed result
+  still_fails : (result : Result (Option Line) ReadError) → FailsLast mid.failed after.failed result
+      → FailsLast before.failed after.failed result
   still_fails (Ok line) h = λ e. s.failed (h e)
   still_fails (Err errors.ReadFault) h = h
   still_fails (Err errors.TooLong) h = λ e. s.failed (h e)
   still_fails (Err errors.Memory) h = λ e. s.failed (h e)
 
-  same_end : (more text : List ℕ) → EndsInLf now new more text ⊎ EndsInput now new after.left more text → EndsInLf old new (s.taken ++ more) text ⊎ EndsInput old new after.left (s.taken ++ more) text
+  same_end : (more text : List ℕ) → EndsInLf now new more text ⊎ EndsInput now new after.left more text
+      → EndsInLf old new (s.taken ++ more) text ⊎ EndsInput old new after.left (s.taken ++ more) text
   same_end more text (inl e) = inl (record { phase = e.phase; split = joined more ∙ e.split })
   same_end more text (inr e) = inr (record { phase = e.phase; whole = joined more ∙ e.whole; some = e.some; kept = e.kept; at_end = e.at_end })
 
@@ -114,7 +118,8 @@ module _ (old now new : Reading) (before mid after : SourceAt) (s : SoFar old no
         seen = seen h.seen;
       }
     where
-      seen : ((now.phase ≡ Going) × IsAtEnd after.left) ⊎ (now.phase ≡ Ended) → ((old.phase ≡ Going) × IsAtEnd after.left) ⊎ (old.phase ≡ Ended)
+      seen : ((now.phase ≡ Going) × IsAtEnd after.left) ⊎ (now.phase ≡ Ended) → ((old.phase ≡ Going) × IsAtEnd after.left)
+          ⊎ (old.phase ≡ Ended)
       seen (inl (going, end)) = inl (s.went, end)
       seen (inr ended) = let e = sym s.going ∙ ended in absurd cc
   same_answer more (Err errors.ReadFault) counts h =
@@ -129,8 +134,10 @@ module _ (old now new : Reading) (before mid after : SourceAt) (s : SoFar old no
   same_answer more (Err errors.TooLong) counts h =
       record { phase = h.phase; at = h.at; lines = h.lines ∙ s.lines; seen = seen h.seen }
     where
-      seen : ((now.phase ≡ Going) × ((front : List ℕ) × (last : ℕ) × (now.kept ++ more ≡ front ++ last ∷ []) × HasNoLf front)) ⊎ (now.phase ≡ TooLong)
-          → ((old.phase ≡ Going) × ((front : List ℕ) × (last : ℕ) × (old.kept ++ (s.taken ++ more) ≡ front ++ last ∷ []) × HasNoLf front)) ⊎ (old.phase ≡ TooLong)
+      seen : ((now.phase ≡ Going) × ((front : List ℕ) × (last : ℕ) × (now.kept ++ more ≡ front ++ last ∷ []) × HasNoLf front))
+          ⊎ (now.phase ≡ TooLong)
+          → ((old.phase ≡ Going) × ((front : List ℕ) × (last : ℕ) × (old.kept ++ (s.taken ++ more) ≡ front ++ last ∷ []) × HasNoLf front))
+          ⊎ (old.phase ≡ TooLong)
       seen (inl (going, (front, last, split, without_lf))) = inl (s.went, (front, last, joined more ∙ split, without_lf))
       seen (inr too_long) = let e = sym s.going ∙ too_long in absurd cc
   same_answer more (Err errors.Memory) counts h = h

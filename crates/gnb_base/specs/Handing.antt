@@ -36,7 +36,8 @@ Run old (c ∷ calls) taken new =
 -- What a reader handed out of the bytes that it took: while it goes on, their lines are these, and then those of the
 -- kept bytes, whatever may follow them; at the end they are these.
 pub record HandedOut (r : Reading) (taken : List ℕ) (lines : List (List ℕ)) : Type 0 where
-  pub going : r.phase ≡ Going → (more : List ℕ) → lines_of (taken ++ more) ≡ lines ++ lines_of (r.kept ++ more)
+  pub going : r.phase ≡ Going → (more : List ℕ)
+      → lines_of (taken ++ more) ≡ lines ++ lines_of (r.kept ++ more)
   pub ended : r.phase ≡ Ended → lines_of taken ≡ lines
   pub bytes : length taken ≡ r.taken
   pub count : r.phase ≡ Going → length lines ≡ r.lines

@@ -1,5 +1,5 @@
 -- A source or a sink in memory.
-use Rattle.std.specs.Prelude.{◌+◌, ◌-◌, ◌^◌, min, ℕ, Bool, true, false, List, [], drop}
+use Rattle.std.specs.Prelude.{min, ℕ, Bool, true, false, List, [], drop}
 use Rattle.gnb_base.specs.declared.memory.MemorySource.TheInside.{Inside as SourceInside}
 use Rattle.gnb_base.specs.declared.memory.MemorySink.TheInside.{Inside as SinkInside}
 use Rattle.gnb_base.specs.Outside.{one_more}
@@ -20,27 +20,62 @@ pub record SinkInMemory : Type 0 where
   pub room : ℕ
 
 abbrev pub source_of : SourceInside → InMemory
-source_of s = record { bytes = drop s.given s.bytes.items; piece = s.piece; calls = s.calls; failing = s.failing.items; faults = s.faults; failed = s.failed }
+source_of s = record {
+  bytes = drop s.given s.bytes.items;
+  piece = s.piece;
+  calls = s.calls;
+  failing = s.failing.items;
+  faults = s.faults;
+  failed = s.failed;
+}
 
 abbrev pub sink_of : SinkInside → SinkInMemory
 sink_of s = record {
-  memory = record { bytes = s.bytes.items; piece = s.piece; calls = s.calls; failing = s.failing.items; faults = s.faults; failed = s.failed };
+  memory = record {
+    bytes = s.bytes.items;
+    piece = s.piece;
+    calls = s.calls;
+    failing = s.failing.items;
+    faults = s.faults;
+    failed = s.failed;
+  };
   room = s.room;
 }
 
 -- a new one
 abbrev pub starts : List ℕ → ℕ → List ℕ → InMemory
-starts bytes piece failing = record { bytes = bytes; piece = piece; calls = 0; failing = failing; faults = 0; failed = false }
+starts bytes piece failing = record {
+  bytes = bytes;
+  piece = piece;
+  calls = 0;
+  failing = failing;
+  faults = 0;
+  failed = false;
+}
 
 abbrev pub empty_sink : ℕ → List ℕ → ℕ → SinkInMemory
 empty_sink piece failing room = record { memory = starts [] piece failing; room = room }
 
 -- a call that failed, and one that left these bytes
 abbrev pub failed_from : InMemory → InMemory
-failed_from s = record { bytes = s.bytes; piece = s.piece; calls = one_more s.calls; failing = s.failing; faults = one_more s.faults; failed = true }
+failed_from s = record {
+  bytes = s.bytes;
+  piece = s.piece;
+  calls = one_more s.calls;
+  failing = s.failing;
+  faults = one_more s.faults;
+  failed = true;
+}
 
 abbrev pub moved_from : InMemory → List ℕ → InMemory
-moved_from s bytes = record { bytes = bytes; piece = s.piece; calls = one_more s.calls; failing = s.failing; faults = s.faults; failed = false }
+moved_from s bytes = record {
+  bytes = bytes;
+  piece = s.piece;
+  calls = one_more s.calls;
+  failing = s.failing;
+  faults = s.faults;
+  failed = false;
+}
 
 -- the same of a sink
 abbrev pub sink_failed : SinkInMemory → SinkInMemory

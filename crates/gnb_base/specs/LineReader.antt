@@ -14,7 +14,12 @@ use Rattle.gnb_base.specs.Reading.{Reading, NextMeets, CountsReadFault, FailsLas
 
 -- the begun line, and then what wasn't looked at of the last piece
 abbrev pub reading_of : Inside → Reading
-reading_of r = record { kept = r.begun.items ++ take (r.stop - r.start) (drop r.start r.piece.items); taken = r.taken; lines = r.lines; phase = r.phase }
+reading_of r = record {
+  kept = r.begun.items ++ take (r.stop - r.start) (drop r.start r.piece.items);
+  taken = r.taken;
+  lines = r.lines;
+  phase = r.phase;
+}
 
 -- what each phase says of the bytes
 abbrev pub PhaseFits : ReadPhase → Reading → Type 0
@@ -46,7 +51,8 @@ pub record TakesOff (old new : Reading) (line : Line) : Type 0 where
 abbrev pub TakesLine : Reading → Reading → Result (Option Line) Memory → Type 0
 TakesLine old new (Ok (Some line)) = TakesOff old new line
 TakesLine old new (Ok None) = HasNoLf old.kept × (new ≡ old)
-TakesLine old new (Err e) = (new.phase ≡ Failed) × (new.taken ≡ old.taken) × (new.taken ≤ input_limit) × (length (past_line old.kept) < piece_size)
+TakesLine old new (Err e) = (new.phase ≡ Failed) × (new.taken ≡ old.taken)
+    × (new.taken ≤ input_limit) × (length (past_line old.kept) < piece_size)
 
 -- The last line is taken, or none is left.
 pub record TakesRest (old new : Reading) (line : Line) : Type 0 where
@@ -71,7 +77,8 @@ pub record TakesNone (old new : Reading) : Type 0 where
 abbrev pub TakesLast : Reading → Reading → Result (Option Line) Memory → Type 0
 TakesLast old new (Ok (Some line)) = TakesRest old new line
 TakesLast old new (Ok None) = TakesNone old new
-TakesLast old new (Err e) = (new.phase ≡ Failed) × (new.taken ≡ old.taken) × (new.taken ≤ input_limit)
+TakesLast old new (Err e) = (new.phase ≡ Failed) × (new.taken ≡ old.taken)
+    × (new.taken ≤ input_limit)
 
 -- how one read went: whether bytes came, or why none did
 abbrev pub Reads : Reading → Option (List ℕ) → List ℕ → Result Bool ReadError → Type 0
@@ -109,6 +116,7 @@ pub record GoesOn (old new : Reading) (before after : SourceAt) : Type 0 where
   pub within : new.taken ≤ input_limit
 
 -- what a turn answered, or that another follows
-abbrev pub TurnMeets : Reading → Reading → SourceAt → SourceAt → Option (Result (Option Line) ReadError) → Type 0
+abbrev pub TurnMeets : Reading → Reading → SourceAt → SourceAt
+    → Option (Result (Option Line) ReadError) → Type 0
 TurnMeets old new before after (Some answer) = NextMeets old new before after answer
 TurnMeets old new before after None = GoesOn old new before after

@@ -1,5 +1,5 @@
 -- What a line reader is seen as, and what a call of it does.
-use Rattle.std.specs.Prelude.{◌≡◌, ◌≢◌, ◌≤◌, ◌<◌, ◌+◌, ◌-◌, ◌⊎◌, ℕ, Bool, true, List, [], ◌∷◌, ◌++◌, length, take, Option, Some, None, Result, Ok, Err}
+use Rattle.std.specs.Prelude.{◌≡◌, ◌≢◌, ◌≤◌, ◌<◌, ◌+◌, ◌-◌, ◌⊎◌, ℕ, Bool, true, List, [], ◌∷◌, ◌++◌, length, Option, Some, None, Result, Ok, Err}
 use Rattle.std.specs.Io.KnownBytes.{Consumes, IsAtEnd}
 use Rattle.gnb_base.specs.declared.lines.ReadPhase.{ReadPhase}
 use Rattle.gnb_base.specs.declared.lines.ReadPhase.TheVariants.{Going, Ended, TooLong, Failed}
@@ -82,16 +82,19 @@ pub record IsTooLong (old new : Reading) (taken : List ℕ) : Type 0 where
   pub phase : new.phase ≡ TooLong
   pub at : new.taken ≡ input_limit + 1
   pub lines : new.lines ≡ old.lines
-  pub seen : ((old.phase ≡ Going) × ((front : List ℕ) × (last : ℕ) × (old.kept ++ taken ≡ front ++ last ∷ []) × HasNoLf front))
+  pub seen : ((old.phase ≡ Going)
+      × ((front : List ℕ) × (last : ℕ) × (old.kept ++ taken ≡ front ++ last ∷ []) × HasNoLf front))
       ⊎ (old.phase ≡ TooLong)
 
 -- what a call answered: the reader before and after it, what is left of the source, and the bytes that it took
-abbrev pub Answers : Reading → Reading → Option (List ℕ) → List ℕ → Result (Option Line) ReadError → Type 0
+abbrev pub Answers : Reading → Reading → Option (List ℕ) → List ℕ → Result (Option Line) ReadError
+    → Type 0
 Answers old new left taken (Ok (Some line)) = HandsOut old new left taken line
 Answers old new left taken (Ok None) = IsDone old new left taken
 Answers old new left taken (Err errors.ReadFault) = IsFault old new taken
 Answers old new left taken (Err errors.TooLong) = IsTooLong old new taken
-Answers old new left taken (Err errors.Memory) = (new.phase ≡ Failed) × (new.taken ≤ input_limit + 1)
+Answers old new left taken (Err errors.Memory) = (new.phase ≡ Failed)
+    × (new.taken ≤ input_limit + 1)
 
 -- The answer ReadFault, and no other, moves the count of faults.
 abbrev pub CountsReadFault : {T : Type 0} → ℕ → ℕ → Result T ReadError → Type 0

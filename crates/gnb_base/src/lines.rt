@@ -224,12 +224,14 @@ impl LineReader {
 /// The lines of bytes, as a function of the bytes and as a relation, are the same.
 pub fn lines_are_exact()
     ensures found { (bytes : List ℕ) → AreLines bytes (lines_of bytes) }
-    ensures only { (bytes : List ℕ) (lines : List (List ℕ)) → AreLines bytes lines → lines ≡ lines_of bytes }
+    ensures only { (bytes : List ℕ) (lines : List (List ℕ)) → AreLines bytes lines
+        → lines ≡ lines_of bytes }
 {}
 
 /// Over any calls of `next`, the lines that a new reader hands out are the lines of the bytes that it took.
 pub fn lines_handed_out_are_the_lines()
-    ensures { (calls : List Call) (taken : List ℕ) (reader : Reading) → Run fresh calls taken reader → HandedOut reader taken (texts (lines_handed_out calls)) }
+    ensures { (calls : List Call) (taken : List ℕ) (reader : Reading) → Run fresh calls taken reader
+        → HandedOut reader taken (texts (lines_handed_out calls)) }
 {}
 
 /// Where the first LF stands.

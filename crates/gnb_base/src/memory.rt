@@ -84,7 +84,8 @@ impl Source for MemorySource {
 
         // It fails exactly at the calls that its list names, and else gives as many bytes as it can.
         ensures fails { IsErr result ↔ Contains self.old.failing self.new.calls }
-        ensures gives { IfOk result (λ n. (n ≡ moved self.old (length self.old.bytes) (length buf.old)) × (self.new ≡ moved_from self.old (drop n self.old.bytes))) }
+        ensures many { IfOk result (λ n. n ≡ moved self.old (length self.old.bytes) (length buf.old)) }
+        ensures gives { IfOk result (λ n. self.new ≡ moved_from self.old (drop n self.old.bytes)) }
         ensures fault { OnErr result (self.new ≡ failed_from self.old) }
     {
         self.calls = self.calls.saturating_add(1);
@@ -196,10 +197,12 @@ impl Sink for MemorySink {
 
         // It fails at the calls that its list names, and at no other while the bytes find room.
         ensures named { Contains self.old.memory.failing self.new.memory.calls → IsErr result }
-        ensures only { length self.old.memory.bytes + length piece.now ≤ self.old.room → IsErr result → Contains self.old.memory.failing self.new.memory.calls }
+        ensures only { length self.old.memory.bytes + length piece.now ≤ self.old.room
+            → IsErr result → Contains self.old.memory.failing self.new.memory.calls }
 
         // Else it takes as many bytes as it can.
-        ensures takes { IfOk result (λ n. (n ≡ moved self.old.memory (length piece.now) (length piece.now)) × (self.new ≡ sink_moved self.old (self.old.memory.bytes ++ take n piece.now))) }
+        ensures many { IfOk result (λ n. n ≡ moved self.old.memory (length piece.now) (length piece.now)) }
+        ensures takes { IfOk result (λ n. self.new ≡ sink_moved self.old (self.old.memory.bytes ++ take n piece.now)) }
         ensures fault { OnErr result (self.new ≡ sink_failed self.old) }
     {
         self.calls = self.calls.saturating_add(1);

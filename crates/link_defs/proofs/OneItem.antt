@@ -19,10 +19,12 @@ use Rattle.link_defs.specs.Decoding.{Link, Item, n3, f1u_downlink, f1u_uplink, f
 
 -- ---- the packet is the one that a reader finds
 
-pub says_of : (link : Link) (sn : SnBits) (item : Item) (octets : List ℕ) (p : GtpuPacket) → Gtpu p octets → DecodesOn link sn item octets → Says link sn item p
+pub says_of : (link : Link) (sn : SnBits) (item : Item) (octets : List ℕ) (p : GtpuPacket) → Gtpu p octets → DecodesOn link sn item octets
+    → Says link sn item p
 says_of link sn item octets p read d = subst (λ (q : GtpuPacket). Says link sn item q) (one_packet octets d.0 p d.1 read) d.2
 
-pub refused_not : (link : Link) (sn : SnBits) (item : Item) (octets : List ℕ) (e : GtpuError) → IsRefusal e octets → DecodesOn link sn item octets → ⊥
+pub refused_not : (link : Link) (sn : SnBits) (item : Item) (octets : List ℕ) (e : GtpuError) → IsRefusal e octets
+    → DecodesOn link sn item octets → ⊥
 refused_not link sn item octets e refused d = not_both octets d.0 e d.1 refused
 
 -- ---- parts
@@ -30,19 +32,22 @@ refused_not link sn item octets e refused d = not_both octets d.0 e d.1 refused
 one_frame : (octets : List ℕ) (f g : Frame) → Nru f octets → Nru g octets → f ≡ g
 one_frame octets f g p q = sym (frame_read f octets p).is ∙ (frame_read g octets q).is
 
-one_data : (sn : SnBits) (octets : List ℕ) (n m : ℕ) (s t : List ℕ) → Pdcp sn (data_pdu n s) octets → Pdcp sn (data_pdu m t) octets → data_pdu n s ≡ data_pdu m t
+one_data : (sn : SnBits) (octets : List ℕ) (n m : ℕ) (s t : List ℕ) → Pdcp sn (data_pdu n s) octets → Pdcp sn (data_pdu m t) octets
+    → data_pdu n s ≡ data_pdu m t
 one_data Len12 (x ∷ y ∷ z ∷ octets) n m s t p q = λ i. data_pdu ((p.1 ∙ sym q.1) i) ((p.2 ∙ sym q.2) i)
 one_data Len12 octets n m s t p q = absurd p
 one_data Len18 (w ∷ x ∷ y ∷ z ∷ octets) n m s t p q = λ i. data_pdu ((p.1 ∙ sym q.1) i) ((p.2 ∙ sym q.2) i)
 one_data Len18 octets n m s t p q = absurd p
 
-one_report : (sn : SnBits) (octets : List ℕ) (n m : ℕ) (s t : List ℕ) → Pdcp sn (status_report n s) octets → Pdcp sn (status_report m t) octets → status_report n s ≡ status_report m t
+one_report : (sn : SnBits) (octets : List ℕ) (n m : ℕ) (s t : List ℕ) → Pdcp sn (status_report n s) octets
+    → Pdcp sn (status_report m t) octets → status_report n s ≡ status_report m t
 one_report Len12 (x ∷ a ∷ b ∷ c ∷ d ∷ octets) n m s t p q = λ i. status_report ((p.1 ∙ sym q.1) i) ((p.2 ∙ sym q.2) i)
 one_report Len12 octets n m s t p q = absurd p
 one_report Len18 (x ∷ a ∷ b ∷ c ∷ d ∷ octets) n m s t p q = λ i. status_report ((p.1 ∙ sym q.1) i) ((p.2 ∙ sym q.2) i)
 one_report Len18 octets n m s t p q = absurd p
 
-not_mixed : (sn : SnBits) (octets : List ℕ) (n m : ℕ) (s t : List ℕ) → Pdcp sn (data_pdu n s) octets → Pdcp sn (status_report m t) octets → ⊥
+not_mixed : (sn : SnBits) (octets : List ℕ) (n m : ℕ) (s t : List ℕ) → Pdcp sn (data_pdu n s) octets → Pdcp sn (status_report m t) octets
+    → ⊥
 not_mixed Len12 (x ∷ a ∷ b ∷ c ∷ d ∷ octets) n m s t p q = omega (arith, p.0, q.0)
 not_mixed Len12 octets n m s t p q = absurd q
 not_mixed Len18 (x ∷ a ∷ b ∷ c ∷ d ∷ octets) n m s t p q = omega (arith, p.0, q.0)
@@ -71,7 +76,8 @@ not_both_kinds p x y = let e : GPdu ≡ EndMarker = sym x ∙ y in cc
 one_fresh : (a b : List ℕ) (p : GtpuPacket) → SaysFresh a p → SaysFresh b p → fresh a ≡ fresh b
 one_fresh a b p x y = ap fresh (sym x.1 ∙ y.1)
 
-one_numbered : (sn : SnBits) (n m : ℕ) (a b : List ℕ) (p : GtpuPacket) → SaysNumbered sn n a p → SaysNumbered sn m b p → numbered n a ≡ numbered m b
+one_numbered : (sn : SnBits) (n m : ℕ) (a b : List ℕ) (p : GtpuPacket) → SaysNumbered sn n a p → SaysNumbered sn m b p
+    → numbered n a ≡ numbered m b
 one_numbered sn n m a b p x y =
     let content : x.0 ≡ y.0 = one_header_content (number_code sn) x.0 y.0 p x.1 y.1 in
     let number : n ≡ m = x.2 ∙ ap (number_in sn) content ∙ sym y.2 in
@@ -80,7 +86,8 @@ one_numbered sn n m a b p x y =
 -- ---- one item
 
 -- the frames in one header are one
-pub one_frame_in : (f g : Frame) (a b : List ℕ) (p : GtpuPacket) → HasHeader NR_RAN_CONTAINER a p → HasHeader NR_RAN_CONTAINER b p → Nru f a → Nru g b → f ≡ g
+pub one_frame_in : (f g : Frame) (a b : List ℕ) (p : GtpuPacket) → HasHeader NR_RAN_CONTAINER a p → HasHeader NR_RAN_CONTAINER b p → Nru f a
+    → Nru g b → f ≡ g
 one_frame_in f g a b p x y u v = one_frame a f g u (subst (λ (o : List ℕ). Nru g o) (sym (one_header_content NR_RAN_CONTAINER a b p x y)) v)
 
 pub one_said : (link : Link) (sn : SnBits) (a b : Item) (p : GtpuPacket) → Says link sn a p → Says link sn b p → a ≡ b

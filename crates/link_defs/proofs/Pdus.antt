@@ -14,18 +14,21 @@ unfolding radio_data
 length-radio_data Len12 count packet = omega arith
 length-radio_data Len18 count packet = omega arith
 
-pub data_carried : (sn : SnBits) (count : ℕ) (packet : List ℕ) → IsSized packet → CarriesPdu sn (data_pdu (count % space sn) packet) (radio_data sn count packet)
+pub data_carried : (sn : SnBits) (count : ℕ) (packet : List ℕ) → IsSized packet
+    → CarriesPdu sn (data_pdu (count % space sn) packet) (radio_data sn count packet)
 unfolding radio_data
 data_carried Len12 count [] sized = absurd (omega (arith, sized.0))
 data_carried Len12 count (x ∷ xs) sized = ((omega arith, omega arith, refl), sized)
 data_carried Len18 count [] sized = absurd (omega (arith, sized.0))
 data_carried Len18 count (x ∷ xs) sized = ((omega arith, omega arith, refl), sized)
 
-pub report_carried : (sn : SnBits) (fmc : ℕ) (bits : List Bool) → fmc < 2 ^ 32 → length (report_octets fmc bits) ≤ PACKET_LIMIT → CarriesPdu sn (status_report fmc (bitmap bits)) (report_octets fmc bits)
+pub report_carried : (sn : SnBits) (fmc : ℕ) (bits : List Bool) → fmc < 2 ^ 32 → length (report_octets fmc bits) ≤ PACKET_LIMIT
+    → CarriesPdu sn (status_report fmc (bitmap bits)) (report_octets fmc bits)
 report_carried Len12 fmc bits fits sized = ((omega arith, omega (arith, fits), refl), (omega arith, sized))
 report_carried Len18 fmc bits fits sized = ((omega arith, omega (arith, fits), refl), (omega arith, sized))
 
-pub data_frame_read : (poll restart : Bool) (number : ℕ) → number < 2 ^ 24 → Nru (Data poll restart number) (nru_octets (Data poll restart number))
+pub data_frame_read : (poll restart : Bool) (number : ℕ) → number < 2 ^ 24
+    → Nru (Data poll restart number) (nru_octets (Data poll restart number))
 unfolding filled
 data_frame_read poll restart number fits = (refl, refl, omega (arith, fits), (omega arith, refl))
 

@@ -43,8 +43,10 @@ IsSized packet = (0 < length packet) × (length packet ≤ PACKET_LIMIT)
 
 -- A PDCP PDU that says this, with a packet of that size; a status report counts whole. This is what decodes on a radio.
 abbrev pub CarriesPdu : SnBits → Content → List ℕ → Type 0
-CarriesPdu sn (data_pdu number packet) octets = Pdcp sn (data_pdu number packet) octets × IsSized packet
-CarriesPdu sn (status_report fmc bitmap) octets = Pdcp sn (status_report fmc bitmap) octets × IsSized octets
+CarriesPdu sn (data_pdu number packet) octets = Pdcp sn (data_pdu number packet) octets
+    × IsSized packet
+CarriesPdu sn (status_report fmc bitmap) octets = Pdcp sn (status_report fmc bitmap) octets
+    × IsSized octets
 
 -- no optional field is used
 pub record IsBare (kind : Kind) (p : GtpuPacket) : Type 0 where
@@ -89,10 +91,13 @@ Says f1u_downlink sn (framed restart number content octets) p =
     (frame : List ℕ) × HasHeader NR_RAN_CONTAINER frame p × Nru (Data false restart number) frame
     × (p.payload ≡ octets) × CarriesPdu sn content octets
 Says f1u_downlink sn (poll restart number) p =
-    (frame : List ℕ) × HasHeader NR_RAN_CONTAINER frame p × Nru (Data true restart number) frame × (p.payload ≡ [])
-Says f1u_uplink sn (pdu content octets) p = IsBare GPdu p × (p.payload ≡ octets) × CarriesPdu sn content octets
+    (frame : List ℕ) × HasHeader NR_RAN_CONTAINER frame p × Nru (Data true restart number) frame
+    × (p.payload ≡ [])
+Says f1u_uplink sn (pdu content octets) p = IsBare GPdu p × (p.payload ≡ octets)
+    × CarriesPdu sn content octets
 Says f1u_uplink sn (status room lost delivered) p =
-    (frame : List ℕ) × HasHeader NR_RAN_CONTAINER frame p × Nru (Status room lost delivered) frame × (p.payload ≡ [])
+    (frame : List ℕ) × HasHeader NR_RAN_CONTAINER frame p × Nru (Status room lost delivered) frame
+    × (p.payload ≡ [])
 Says f1u_uplink sn end_of_tunnel p = SaysEnd p
 Says forwarding_down sn (fresh packet) p = SaysFresh packet p
 Says forwarding_down sn (numbered number packet) p = SaysNumbered sn number packet p

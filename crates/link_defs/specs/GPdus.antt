@@ -6,7 +6,8 @@ use Rattle.gtpu.specs.Packets.{GtpuPacket}
 
 -- a G-PDU without flags
 abbrev pub plain_pdu : ℕ → List ℕ → GtpuPacket
-plain_pdu teid payload = record { kind = GPdu; teid = teid; seq = None; npdu = None; first = 0; chain = []; payload = payload }
+plain_pdu teid payload =
+    record { kind = GPdu; teid = teid; seq = None; npdu = None; first = 0; chain = []; payload = payload }
 
 -- a G-PDU with one header of this type and content
 abbrev pub pdu_with : ℕ → ExtensionHeader → List ℕ → GtpuPacket
@@ -15,4 +16,5 @@ pdu_with teid header payload =
 
 -- an End Marker without flags
 abbrev pub end_packet : ℕ → GtpuPacket
-end_packet teid = record { kind = EndMarker; teid = teid; seq = None; npdu = None; first = 0; chain = []; payload = [] }
+end_packet teid =
+    record { kind = EndMarker; teid = teid; seq = None; npdu = None; first = 0; chain = []; payload = [] }

@@ -17,7 +17,8 @@ use Rattle.pdcp.specs.Pdus.{report_octets, bitmap}
 use Rattle.link_packets.specs.Parts.{header}
 
 -- the chain of one header, as it is put together
-pub chain_is : (a b c d content : List ℕ) (n : ℕ) → a ≡ [] → n ≡ (length content + 2) / 4 → b ≡ a ++ n ∷ [] → c ≡ b ++ content → d ≡ c ++ 0 ∷ [] → (code : ℕ) → d ≡ header_octets (header code content) 0
+pub chain_is : (a b c d content : List ℕ) (n : ℕ) → a ≡ [] → n ≡ (length content + 2) / 4 → b ≡ a ++ n ∷ [] → c ≡ b ++ content
+    → d ≡ c ++ 0 ∷ [] → (code : ℕ) → d ≡ header_octets (header code content) 0
 chain_is a b c d content n none count first second third code =
     third ∙ (λ i. (second ∙ (λ j. (first ∙ (λ k. none k ++ count k ∷ [])) j ++ content)) i ++ 0 ∷ [])
 
@@ -29,16 +30,21 @@ pub length-frame : (frame : Frame) → FitsFrame frame → length (nru_octets fr
 length-frame (Data poll restart number) fits = omega (arith, length-data_frame poll restart number)
 length-frame (Status room lost delivered) fits = length-status room lost delivered fits.0
 
-pub framed_is : (teid : ℕ) (frame : Frame) (content payload octets : List ℕ) → content ≡ nru_octets frame → octets ≡ gtpu_octets (pdu_with teid (header NR_RAN_CONTAINER content) payload) → octets ≡ gtpu_octets (pdu_with teid (frame_header frame) payload)
-framed_is teid frame content payload octets content_is is = is ∙ ap (λ (xs : List ℕ). gtpu_octets (pdu_with teid (header NR_RAN_CONTAINER xs) payload)) content_is
+pub framed_is : (teid : ℕ) (frame : Frame) (content payload octets : List ℕ) → content ≡ nru_octets frame
+    → octets ≡ gtpu_octets (pdu_with teid (header NR_RAN_CONTAINER content) payload)
+    → octets ≡ gtpu_octets (pdu_with teid (frame_header frame) payload)
+framed_is teid frame content payload octets content_is is = is
+    ∙ ap (λ (xs : List ℕ). gtpu_octets (pdu_with teid (header NR_RAN_CONTAINER xs) payload)) content_is
 
 -- a number of 18 bits in three octets
-pub long_number : (count : ℕ) (bytes : List ℕ) → bytes ≡ to_be_bytes w32 count → bit_and (get_or bytes 1 0) 3 ∷ get_or bytes 2 0 ∷ get_or bytes 3 0 ∷ 0 ∷ 0 ∷ 0 ∷ [] ≡ (number_header Len18 count).content
+pub long_number : (count : ℕ) (bytes : List ℕ) → bytes ≡ to_be_bytes w32 count
+    → bit_and (get_or bytes 1 0) 3 ∷ get_or bytes 2 0 ∷ get_or bytes 3 0 ∷ 0 ∷ 0 ∷ 0 ∷ [] ≡ (number_header Len18 count).content
 long_number count bytes is =
     let high : bit_and (count / 65536 % 256) 3 ≡ count % 262144 / 65536 % 256 = omega (arith, and_mask (count / 65536 % 256) 2) in
     let middle : count / 256 % 256 ≡ count % 262144 / 256 % 256 = omega arith in
     let low : count % 256 ≡ count % 262144 % 256 = omega arith in
-    ap (λ (xs : List ℕ). bit_and (get_or xs 1 0) 3 ∷ get_or xs 2 0 ∷ get_or xs 3 0 ∷ 0 ∷ 0 ∷ 0 ∷ []) is ∙ (λ i. high i ∷ middle i ∷ low i ∷ 0 ∷ 0 ∷ 0 ∷ [])
+    ap (λ (xs : List ℕ). bit_and (get_or xs 1 0) 3 ∷ get_or xs 2 0 ∷ get_or xs 3 0 ∷ 0 ∷ 0 ∷ 0 ∷ []) is
+        ∙ (λ i. high i ∷ middle i ∷ low i ∷ 0 ∷ 0 ∷ 0 ∷ [])
 
 length-bitmap : (bits : List Bool) → length (bitmap bits) ≤ length bits
 unfolding bitmap

@@ -14,7 +14,8 @@ HasFrame frame p = (content : List ℕ) × HasHeader NR_RAN_CONTAINER content p 
 
 -- a PDCP sequence number
 abbrev pub HasNumber : SnBits → ℕ → GtpuPacket → Type 0
-HasNumber sn number p = (content : List ℕ) × HasHeader (number_code sn) content p × (number ≡ number_in sn content)
+HasNumber sn number p = (content : List ℕ) × HasHeader (number_code sn) content p
+    × (number ≡ number_in sn content)
 
 -- a header of this type and content
 abbrev pub header : ℕ → List ℕ → ExtensionHeader

@@ -34,7 +34,8 @@ fn is_sized(packet: &[u8]) -> bool
 fn sole_content<'a>(packet: &Packet<'a>, code: u8) -> Option<&'a [u8]>
     requires { IsChain packet.now.first packet.now.chain.now }
     ensures found { IfSome result (λ content. HasHeader code content.now (view packet.now)) }
-    ensures none { IfNone result ((content : List ℕ) → HasHeader code content (view packet.now) → ⊥) }
+    ensures none { IfNone result ((content : List ℕ) → HasHeader code content (view packet.now)
+        → ⊥) }
 {
     if packet.kind != Kind::GPdu || packet.seq.is_some() || packet.npdu.is_some() {
         return None;
@@ -85,8 +86,10 @@ pub fn read_radio(sn: SnBits, octets: &[u8]) -> Option<Pdu<'_>>
 
 /// The PDCP PDU in a G-PDU without flags.
 pub(crate) fn pdu_of<'a>(sn: SnBits, packet: &Packet<'a>) -> Option<Pdu<'a>>
-    ensures found { IfSome result (λ pdu. IsBare GPdu (view packet.now) × CarriesPdu sn (content_of pdu) packet.now.payload.now) }
-    ensures none { IfNone result ((content : Content) → IsBare GPdu (view packet.now) → CarriesPdu sn content packet.now.payload.now → ⊥) }
+    ensures found { IfSome result (λ pdu. IsBare GPdu (view packet.now)
+        × CarriesPdu sn (content_of pdu) packet.now.payload.now) }
+    ensures none { IfNone result ((content : Content) → IsBare GPdu (view packet.now)
+        → CarriesPdu sn content packet.now.payload.now → ⊥) }
 {
     if !is_bare(packet, Kind::GPdu) {
         return None;
@@ -108,7 +111,8 @@ fn frame_of(packet: &Packet) -> Option<Frame>
 pub(crate) fn numbered_of<'a>(sn: SnBits, packet: &Packet<'a>) -> Option<(u32, &'a [u8])>
     requires { IsChain packet.now.first packet.now.chain.now }
     ensures found { IfSome result (λ x. SaysNumbered sn x.0 x.1.now (view packet.now)) }
-    ensures none { IfNone result ((number : ℕ) (x : List ℕ) → SaysNumbered sn number x (view packet.now) → ⊥) }
+    ensures none { IfNone result ((number : ℕ) (x : List ℕ)
+        → SaysNumbered sn number x (view packet.now) → ⊥) }
 {
     let Some(number) = number_of(sn, packet) else {
         return None;
@@ -142,7 +146,8 @@ fn number_of(sn: SnBits, packet: &Packet) -> Option<u32>
 pub(crate) fn data_of(packet: &Packet) -> Option<(bool, bool, u32)>
     requires { IsChain packet.now.first packet.now.chain.now }
     ensures found { IfSome result (λ x. HasFrame (Data x.0 x.1 x.2) (view packet.now)) }
-    ensures none { IfNone result ((poll restart : Bool) (number : ℕ) → HasFrame (Data poll restart number) (view packet.now) → ⊥) }
+    ensures none { IfNone result ((poll restart : Bool) (number : ℕ)
+        → HasFrame (Data poll restart number) (view packet.now) → ⊥) }
 {
     match frame_of(packet) {
         Some(Frame::Data { poll, restart, sn }) => Some((poll, restart, sn)),
@@ -154,9 +159,11 @@ pub(crate) fn data_of(packet: &Packet) -> Option<(bool, bool, u32)>
 /// The delivery status of a packet without payload: the desired buffer size, the lost ranges and the delivered number.
 pub(crate) fn status_of(packet: &Packet) -> Option<(u32, Ranges, Option<u32>)>
     requires { IsChain packet.now.first packet.now.chain.now }
-    ensures found { IfSome result (λ x. HasFrame (Status x.0 x.1 x.2) (view packet.now) × (packet.now.payload.now ≡ [])) }
+    ensures found { IfSome result (λ x. HasFrame (Status x.0 x.1 x.2) (view packet.now)
+        × (packet.now.payload.now ≡ [])) }
     ensures none { IfNone result ((room : ℕ) (lost : List (ℕ × ℕ)) (delivered : Option ℕ)
-        → HasFrame (Status room lost delivered) (view packet.now) → packet.now.payload.now ≡ [] → ⊥) }
+        → HasFrame (Status room lost delivered) (view packet.now) → packet.now.payload.now ≡ []
+        → ⊥) }
 {
     if !packet.payload.is_empty() {
         return None;

@@ -66,7 +66,8 @@ pub enum Forwarded<'a> {
 /// Reads a packet of N3 downlink; None where the octets decode to none.
 pub fn read_n3(octets: &[u8]) -> Option<N3<'_>>
     ensures found { (sn : Bits) → IfSome result (λ x. DecodesOn n3 sn (n3_item x) octets.now) }
-    ensures only { (sn : Bits) (item : Item) → DecodesOn n3 sn item octets.now → IsSomeAnd result (λ x. n3_item x ≡ item) }
+    ensures only { (sn : Bits) (item : Item) → DecodesOn n3 sn item octets.now
+        → IsSomeAnd result (λ x. n3_item x ≡ item) }
 {
     match gtpu::decode(octets) {
         Ok(packet) => n3_of(&packet),
@@ -76,7 +77,8 @@ pub fn read_n3(octets: &[u8]) -> Option<N3<'_>>
 
 fn n3_of<'a>(packet: &Packet<'a>) -> Option<N3<'a>>
     ensures found { (sn : Bits) → IfSome result (λ x. Says n3 sn (n3_item x) (view packet.now)) }
-    ensures none { (sn : Bits) (item : Item) → IfNone result (Says n3 sn item (view packet.now) → ⊥) }
+    ensures none { (sn : Bits) (item : Item) → IfNone result (Says n3 sn item (view packet.now)
+        → ⊥) }
 {
     if is_end(packet) {
         return Some(N3::End);
@@ -90,7 +92,8 @@ fn n3_of<'a>(packet: &Packet<'a>) -> Option<N3<'a>>
 /// Reads a packet of F1-U downlink; None where the octets decode to none.
 pub fn read_f1u_downlink(sn: SnBits, octets: &[u8]) -> Option<F1uDownlink<'_>>
     ensures found { IfSome result (λ x. DecodesOn f1u_downlink sn (downlink_item x) octets.now) }
-    ensures only { (item : Item) → DecodesOn f1u_downlink sn item octets.now → IsSomeAnd result (λ x. downlink_item x ≡ item) }
+    ensures only { (item : Item) → DecodesOn f1u_downlink sn item octets.now
+        → IsSomeAnd result (λ x. downlink_item x ≡ item) }
 {
     match gtpu::decode(octets) {
         Ok(packet) => f1u_downlink_of(sn, &packet),
@@ -125,7 +128,8 @@ fn f1u_downlink_of<'a>(sn: SnBits, packet: &Packet<'a>) -> Option<F1uDownlink<'a
 /// Reads a packet of F1-U uplink; None where the octets decode to none.
 pub fn read_f1u_uplink(sn: SnBits, octets: &[u8]) -> Option<F1uUplink<'_>>
     ensures found { IfSome result (λ x. DecodesOn f1u_uplink sn (uplink_item x) octets.now) }
-    ensures only { (item : Item) → DecodesOn f1u_uplink sn item octets.now → IsSomeAnd result (λ x. uplink_item x ≡ item) }
+    ensures only { (item : Item) → DecodesOn f1u_uplink sn item octets.now
+        → IsSomeAnd result (λ x. uplink_item x ≡ item) }
 {
     match gtpu::decode(octets) {
         Ok(packet) => f1u_uplink_of(sn, &packet),
@@ -160,7 +164,8 @@ fn f1u_uplink_of<'a>(sn: SnBits, packet: &Packet<'a>) -> Option<F1uUplink<'a>>
 /// Reads a packet of a forwarding tunnel for downlink; None where the octets decode to none.
 pub fn read_forwarding_down(sn: SnBits, octets: &[u8]) -> Option<Forwarded<'_>>
     ensures found { IfSome result (λ x. DecodesOn forwarding_down sn (forwarded_item x) octets.now) }
-    ensures only { (item : Item) → DecodesOn forwarding_down sn item octets.now → IsSomeAnd result (λ x. forwarded_item x ≡ item) }
+    ensures only { (item : Item) → DecodesOn forwarding_down sn item octets.now
+        → IsSomeAnd result (λ x. forwarded_item x ≡ item) }
 {
     match gtpu::decode(octets) {
         Ok(packet) => forwarding_down_of(sn, &packet),
@@ -171,7 +176,8 @@ pub fn read_forwarding_down(sn: SnBits, octets: &[u8]) -> Option<Forwarded<'_>>
 fn forwarding_down_of<'a>(sn: SnBits, packet: &Packet<'a>) -> Option<Forwarded<'a>>
     requires { IsChain packet.now.first packet.now.chain.now }
     ensures found { IfSome result (λ x. Says forwarding_down sn (forwarded_item x) (view packet.now)) }
-    ensures none { (item : Item) → IfNone result (Says forwarding_down sn item (view packet.now) → ⊥) }
+    ensures none { (item : Item) → IfNone result (Says forwarding_down sn item (view packet.now)
+        → ⊥) }
 {
     match fresh_of(packet) {
         Some(payload) => Some(Forwarded::Fresh(payload)),
@@ -182,7 +188,8 @@ fn forwarding_down_of<'a>(sn: SnBits, packet: &Packet<'a>) -> Option<Forwarded<'
 /// Reads a packet of a forwarding tunnel for uplink; None where the octets decode to none.
 pub fn read_forwarding_up(sn: SnBits, octets: &[u8]) -> Option<Forwarded<'_>>
     ensures found { IfSome result (λ x. DecodesOn forwarding_up sn (forwarded_item x) octets.now) }
-    ensures only { (item : Item) → DecodesOn forwarding_up sn item octets.now → IsSomeAnd result (λ x. forwarded_item x ≡ item) }
+    ensures only { (item : Item) → DecodesOn forwarding_up sn item octets.now
+        → IsSomeAnd result (λ x. forwarded_item x ≡ item) }
 {
     match gtpu::decode(octets) {
         Ok(packet) => forwarding_up_of(sn, &packet),
@@ -193,7 +200,8 @@ pub fn read_forwarding_up(sn: SnBits, octets: &[u8]) -> Option<Forwarded<'_>>
 fn forwarding_up_of<'a>(sn: SnBits, packet: &Packet<'a>) -> Option<Forwarded<'a>>
     requires { IsChain packet.now.first packet.now.chain.now }
     ensures found { IfSome result (λ x. Says forwarding_up sn (forwarded_item x) (view packet.now)) }
-    ensures none { (item : Item) → IfNone result (Says forwarding_up sn item (view packet.now) → ⊥) }
+    ensures none { (item : Item) → IfNone result (Says forwarding_up sn item (view packet.now)
+        → ⊥) }
 {
     if is_end(packet) {
         return Some(Forwarded::End);

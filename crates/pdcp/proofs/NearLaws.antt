@@ -5,7 +5,8 @@ use Rattle.gnb_types.specs.declared.names.SnBits.TheVariants.{Len12, Len18}
 use Rattle.pdcp.specs.Numbers.{space, half}
 use Rattle.pdcp.specs.Near.{IsNear, last_count}
 
-pub near_inverts : (sn : SnBits) (low deliv count : ℕ) → low ≤ count → count < low + half sn → low ≤ deliv → deliv ≤ low + half sn → count ≤ last_count
+pub near_inverts : (sn : SnBits) (low deliv count : ℕ) → low ≤ count → count < low + half sn → low ≤ deliv → deliv ≤ low + half sn
+    → count ≤ last_count
     → IsNear sn deliv (count % space sn) count
 near_inverts Len12 low deliv count a b c d given = record { same = omega arith; low = omega arith; high = omega arith; given = given }
 near_inverts Len18 low deliv count a b c d given = record { same = omega arith; low = omega arith; high = omega arith; given = given }

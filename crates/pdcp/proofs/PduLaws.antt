@@ -16,15 +16,16 @@ control_kind false n = (λ h. (refl, λ e. true≢false (sym (eq-eqb n 0 e) ∙ 
 
 pub are_tests : (sn : SnBits) (octets : List ℕ) → AreTests (tests sn octets) (refusals sn octets)
 are_tests sn octets = (
-    refl,
-    (ltb-true (length octets) (fewest sn (is_data octets)), lt-ltb (length octets) (fewest sn (is_data octets))),
-    (refl, control_kind (is_data octets) (slice_index octets 0 / 16 % 8), tt),
+  refl,
+  (ltb-true (length octets) (fewest sn (is_data octets)), lt-ltb (length octets) (fewest sn (is_data octets))),
+  (refl, control_kind (is_data octets) (slice_index octets 0 / 16 % 8), tt),
 )
 
 pub no_test : (sn : SnBits) (octets : List ℕ) (content : Content) → Pdcp sn content octets → first_reason (tests sn octets) ≡ None
 no_test sn octets content h = grind (arith, h)
 
-pub none_where_found : {E : Type 0} (sn : SnBits) (octets : List ℕ) (r : Result Pdu E) → IfOk r (λ pdu. Pdcp sn (content_of pdu) octets) → IfOk r (λ pdu. first_reason (tests sn octets) ≡ None)
+pub none_where_found : {E : Type 0} (sn : SnBits) (octets : List ℕ) (r : Result Pdu E) → IfOk r (λ pdu. Pdcp sn (content_of pdu) octets)
+    → IfOk r (λ pdu. first_reason (tests sn octets) ≡ None)
 none_where_found sn octets (Ok pdu) h = no_test sn octets (content_of pdu) h
 none_where_found sn octets (Err e) h = tt
 
@@ -36,7 +37,8 @@ report Len12 first a b c d octets low = (status_report (((a * 256 + b) * 256 + c
 report Len18 first a b c d octets low = (status_report (((a * 256 + b) * 256 + c) * 256 + d) octets, (low, refl, refl))
 
 -- a control PDU
-control : (sn : SnBits) (first : ℕ) (octets : List ℕ) → first < 128 → first_reason (tests sn (first ∷ octets)) ≡ None → IsPdu sn (first ∷ octets)
+control : (sn : SnBits) (first : ℕ) (octets : List ℕ) → first < 128 → first_reason (tests sn (first ∷ octets)) ≡ None
+    → IsPdu sn (first ∷ octets)
 control Len12 first [] low h = absurd (grind (arith, h))
 control Len12 first (a ∷ []) low h = absurd (grind (arith, h))
 control Len12 first (a ∷ b ∷ []) low h = absurd (grind (arith, h))
@@ -49,7 +51,8 @@ control Len18 first (a ∷ b ∷ c ∷ []) low h = absurd (grind (arith, h))
 control Len18 first (a ∷ b ∷ c ∷ d ∷ octets) low h = report Len18 first a b c d octets (grind (arith, h))
 
 -- a data PDU
-data_of : (sn : SnBits) (first : ℕ) (octets : List ℕ) → 128 ≤ first → first_reason (tests sn (first ∷ octets)) ≡ None → IsPdu sn (first ∷ octets)
+data_of : (sn : SnBits) (first : ℕ) (octets : List ℕ) → 128 ≤ first → first_reason (tests sn (first ∷ octets)) ≡ None
+    → IsPdu sn (first ∷ octets)
 data_of Len12 first [] high h = absurd (grind (arith, h))
 data_of Len12 first (a ∷ []) high h = absurd (grind (arith, h))
 data_of Len12 first (a ∷ b ∷ octets) high h = (data_pdu (first % 16 * 256 + a) (b ∷ octets), (high, refl, refl))
@@ -64,19 +67,22 @@ pdu_without_reason Len18 [] h = absurd (grind (arith, h))
 pdu_without_reason sn (first ∷ octets) h = elim (cases_lt first 128) [ inl low ↦ control sn first octets low h | inr high ↦ data_of sn first octets high h ]
 
 -- what is written is read again
-pub data_written : (sn : SnBits) (count : ℕ) (packet : List ℕ) → 0 < length packet → Pdcp sn (data_pdu (count % space sn) packet) (radio_data sn count packet)
+pub data_written : (sn : SnBits) (count : ℕ) (packet : List ℕ) → 0 < length packet
+    → Pdcp sn (data_pdu (count % space sn) packet) (radio_data sn count packet)
 unfolding radio_data
 data_written Len12 count [] some = absurd (omega arith)
 data_written Len12 count (octet ∷ packet) some = (omega arith, omega arith, refl)
 data_written Len18 count [] some = absurd (omega arith)
 data_written Len18 count (octet ∷ packet) some = (omega arith, omega arith, refl)
 
-pub report_written : (sn : SnBits) (fmc : ℕ) (bits : List Bool) → fmc < 2 ^ 32 → Pdcp sn (status_report fmc (bitmap bits)) (report_octets fmc bits)
+pub report_written : (sn : SnBits) (fmc : ℕ) (bits : List Bool) → fmc < 2 ^ 32
+    → Pdcp sn (status_report fmc (bitmap bits)) (report_octets fmc bits)
 report_written Len12 fmc bits small = (lit< tt, omega arith, refl)
 report_written Len18 fmc bits small = (lit< tt, omega arith, refl)
 
 -- how long a written data PDU is
-pub length-radio_data : (sn : SnBits) (count : ℕ) (packet : List ℕ) → length (radio_data sn count packet) ≡ fewest sn true - 1 + length packet
+pub length-radio_data : (sn : SnBits) (count : ℕ) (packet : List ℕ)
+    → length (radio_data sn count packet) ≡ fewest sn true - 1 + length packet
 unfolding radio_data
 length-radio_data Len12 count packet = omega arith
 length-radio_data Len18 count packet = omega arith

@@ -36,7 +36,8 @@ pub enum PduError {
 /// Reads a PDU. Reserved bits are not evaluated.
 pub fn read_pdu(sn: SnBits, bytes: &[u8]) -> Result<Pdu<'_>, PduError>
     ensures found { IfOk result (λ pdu. Pdcp sn (content_of pdu) bytes.now) }
-    ensures only { (content : Content) → Pdcp sn content bytes.now → IsOkAnd result (λ pdu. content_of pdu ≡ content) }
+    ensures only { (content : Content) → Pdcp sn content bytes.now
+        → IsOkAnd result (λ pdu. content_of pdu ≡ content) }
     ensures refused { IfErr result (λ reason. IsRefusal sn reason bytes.now) }
     // It is refused for each reason for which it should be.
     ensures all { (reason : PduError) → IsRefusal sn reason bytes.now → result ≡ Err reason }
@@ -46,7 +47,8 @@ pub fn read_pdu(sn: SnBits, bytes: &[u8]) -> Result<Pdu<'_>, PduError>
 
 fn read(sn: SnBits, bytes: &[u8]) -> Result<Pdu<'_>, PduError>
     ensures found { IfOk result (λ pdu. Pdcp sn (content_of pdu) bytes.now) }
-    ensures only { (content : Content) → Pdcp sn content bytes.now → IsOkAnd result (λ pdu. content_of pdu ≡ content) }
+    ensures only { (content : Content) → Pdcp sn content bytes.now
+        → IsOkAnd result (λ pdu. content_of pdu ≡ content) }
     ensures refused { IfErr result (λ reason. first_reason (tests sn bytes.now) ≡ Some reason) }
 {
     match bytes {
@@ -59,7 +61,8 @@ fn read(sn: SnBits, bytes: &[u8]) -> Result<Pdu<'_>, PduError>
 fn read_data(sn: SnBits, bytes: &[u8]) -> Result<Pdu<'_>, PduError>
     requires { IsTrue (is_data bytes.now) }
     ensures found { IfOk result (λ pdu. Pdcp sn (content_of pdu) bytes.now) }
-    ensures only { (content : Content) → Pdcp sn content bytes.now → IsOkAnd result (λ pdu. content_of pdu ≡ content) }
+    ensures only { (content : Content) → Pdcp sn content bytes.now
+        → IsOkAnd result (λ pdu. content_of pdu ≡ content) }
     ensures refused { IfErr result (λ reason. first_reason (tests sn bytes.now) ≡ Some reason) }
 {
     match (sn, bytes) {
@@ -81,7 +84,8 @@ fn read_data(sn: SnBits, bytes: &[u8]) -> Result<Pdu<'_>, PduError>
 fn read_report(sn: SnBits, bytes: &[u8]) -> Result<Pdu<'_>, PduError>
     requires { is_data bytes.now ≡ false }
     ensures found { IfOk result (λ pdu. Pdcp sn (content_of pdu) bytes.now) }
-    ensures only { (content : Content) → Pdcp sn content bytes.now → IsOkAnd result (λ pdu. content_of pdu ≡ content) }
+    ensures only { (content : Content) → Pdcp sn content bytes.now
+        → IsOkAnd result (λ pdu. content_of pdu ≡ content) }
     ensures refused { IfErr result (λ reason. first_reason (tests sn bytes.now) ≡ Some reason) }
 {
     match bytes {

@@ -1,8 +1,8 @@
 //! Octets of packets on the links of a worked network, and refusals written by hand.
 
-use gnb_types::hex::hex_bytes;
 use crate::{PACKET_LIMIT, Pdu, PduError, near, read_pdu, write_pdu, write_report};
 use gnb_types::bits::Bits;
+use gnb_types::hex::hex_bytes;
 use gnb_types::names::SnBits;
 use std::test::Fail;
 

@@ -14,10 +14,9 @@ returns c =
     (grind (arith, common_steps)) refl refl (after_nothing _ _ (grind (arith, common_steps))) refl (phase_is c.self.inside _ c.self.view_is c.requires)
 
 pub returns-then-is_err : goal.returns-then-is_err
-returns-then-is_err c =
-    (
-      refl,
-      ap (λ (o : Reading). o.taken) c.self.view_is,
-      going_within c.self.inside _ c.self.view_is c.self.invariant c.requires,
-      kept_few c.self.inside _ c.self.view_is c.self.invariant,
-    )
+returns-then-is_err c = (
+  refl,
+  ap (λ (o : Reading). o.taken) c.self.view_is,
+  going_within c.self.inside _ c.self.view_is c.self.invariant c.requires,
+  kept_few c.self.inside _ c.self.view_is c.self.invariant,
+)
