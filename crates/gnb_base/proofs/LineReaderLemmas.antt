@@ -24,7 +24,7 @@ rest_length r sound = omega (arith, length-take (r.stop - r.start) (drop r.start
 pub kept_length : (r : Inside) → IsSound r → length (reading_of r).kept ≡ length r.begun.items + (r.stop - r.start)
 kept_length r sound = omega (arith, length-append r.begun.items (rest_of r), rest_length r sound)
 
-some_length : (xs : List ℕ) → xs ≢ [] → 0 < length xs
+pub some_length : (xs : List ℕ) → xs ≢ [] → 0 < length xs
 some_length [] h = absurd (h refl)
 some_length (x ∷ xs) h = omega arith
 

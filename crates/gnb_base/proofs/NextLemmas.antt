@@ -11,7 +11,7 @@ use Rattle.gnb_base.specs.Outside.{SourceAt}
 use Rattle.gnb_base.specs.Lines.{line_feed, HasNoLf, past_line}
 use Rattle.gnb_base.specs.Reading.{Reading, input_limit, piece_size, Answers, CountsReadFault, FailsLast, NextMeets}
 use Rattle.gnb_base.proofs.LineLemmas.{few_after, few_past}
-use Rattle.gnb_base.proofs.LineReaderLemmas.{kept_few}
+use Rattle.gnb_base.proofs.LineReaderLemmas.{kept_few, some_length}
 use Rattle.gnb_base.specs.declared.lines.LineReader.TheInside.{Inside}
 use Rattle.gnb_base.specs.LineReader.{reading_of, IsSound, TakesOff, TakesLine, TakesLast, ReadsMore, GoesOn, PhaseFits}
 
@@ -83,10 +83,6 @@ goes_on old new before after without_lf r =
       within = subst (λ (p : ReadPhase). PhaseFits p new) r.reads.1 r.fits;
     }
 
-some_long : (xs : List ℕ) → xs ≢ [] → 0 < length xs
-some_long [] h = absurd (h refl)
-some_long (x ∷ xs) h = omega arith
-
 -- at most one byte after bytes without LF
 few_read : (kept piece : List ℕ) → HasNoLf kept → length piece ≤ 1 → length (past_line (kept ++ piece)) < piece_size
 few_read kept piece without_lf short = few_after kept piece without_lf (omega arith)
@@ -116,7 +112,7 @@ last_meets old mid new before after (Some line) going without_lf r t =
         counted = t.counted;
         within = t.within;
         few = omega (arith, ap length t.kept);
-        falls = omega (arith, t.taken, r.taken, none, ap length t.kept, ap length same, ap length t.text, some_long line.text t.some);
+        falls = omega (arith, t.taken, r.taken, none, ap length t.kept, ap length same, ap length t.text, some_length line.text t.some);
       };
       stays = inl going;
     }

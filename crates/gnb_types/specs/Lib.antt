@@ -5,3 +5,4 @@ pub mod Nodes
 pub mod Orders
 pub mod Reasons
 pub mod Refusals
+pub mod Numbers

@@ -12,14 +12,16 @@ first_type-push : (hs : List ExtensionHeader) (h : ExtensionHeader) (next : ℕ)
 first_type-push [] h next = refl
 first_type-push (k ∷ hs) h next = refl
 
-chain_octets-push : (hs : List ExtensionHeader) (h : ExtensionHeader) (next : ℕ) → chain_octets (hs ++ h ∷ []) next ≡ chain_octets hs h.code ++ header_octets h next
+chain_octets-push : (hs : List ExtensionHeader) (h : ExtensionHeader) (next : ℕ)
+    → chain_octets (hs ++ h ∷ []) next ≡ chain_octets hs h.code ++ header_octets h next
 chain_octets-push [] h next = append-nil (header_octets h next)
 chain_octets-push (k ∷ hs) h next =
     ap (λ (x : ℕ). header_octets k x ++ chain_octets (hs ++ h ∷ []) next) (first_type-push hs h next)
     ∙ ap (λ (x : List ℕ). header_octets k (first_type hs h.code) ++ x) (chain_octets-push hs h next)
     ∙ sym (append_assoc (header_octets k (first_type hs h.code)) (chain_octets hs h.code) (header_octets h next))
 
-each-push : (hs : List ExtensionHeader) (h : ExtensionHeader) → AllByRecursion IsHeader hs → IsHeader h → AllByRecursion IsHeader (hs ++ h ∷ [])
+each-push : (hs : List ExtensionHeader) (h : ExtensionHeader) → AllByRecursion IsHeader hs → IsHeader h
+    → AllByRecursion IsHeader (hs ++ h ∷ [])
 each-push [] h each one = (one, tt)
 each-push (k ∷ hs) h each one = (each.0, each-push hs h each.1 one)
 
@@ -31,7 +33,8 @@ pub record Passes (first : ℕ) (octets : List ℕ) (code : ℕ) (rest : List �
 pub passes_none : (first : ℕ) (octets : List ℕ) → Passes first octets first octets
 passes_none first octets = record { hs = []; begins = record { each = tt; first_is = refl; octets_are = refl } }
 
-pub passes_more : (first : ℕ) (octets : List ℕ) (code : ℕ) (rest content : List ℕ) (next : ℕ) (after : List ℕ) → Passes first octets code rest → SplitsOff code rest content next after → Passes first octets next after
+pub passes_more : (first : ℕ) (octets : List ℕ) (code : ℕ) (rest content : List ℕ) (next : ℕ) (after : List ℕ)
+    → Passes first octets code rest → SplitsOff code rest content next after → Passes first octets next after
 passes_more first octets code rest content next after p s =
     let h : ExtensionHeader = record { code = code; content = content } in
     let b = p.begins in
@@ -40,19 +43,24 @@ passes_more first octets code rest content next after p s =
       begins = record {
         each = each-push p.hs h b.each s.0;
         first_is = b.first_is ∙ sym (first_type-push p.hs h next);
-        octets_are = b.octets_are ∙ ap (λ (x : List ℕ). chain_octets p.hs code ++ x) s.1 ∙ sym (append_assoc (chain_octets p.hs code) (header_octets h next) after) ∙ ap (λ (x : List ℕ). x ++ after) (sym (chain_octets-push p.hs h next));
+        octets_are = b.octets_are ∙ ap (λ (x : List ℕ). chain_octets p.hs code ++ x) s.1
+            ∙ sym (append_assoc (chain_octets p.hs code) (header_octets h next) after)
+            ∙ ap (λ (x : List ℕ). x ++ after) (sym (chain_octets-push p.hs h next));
       };
     }
 
-pub split_shorter : (code : ℕ) (rest content : List ℕ) (next : ℕ) (after : List ℕ) → SplitsOff code rest content next after → length after < length rest
+pub split_shorter : (code : ℕ) (rest content : List ℕ) (next : ℕ) (after : List ℕ) → SplitsOff code rest content next after
+    → length after < length rest
 split_shorter code rest content next after s = omega (arith, ap length s.1, length-append (content ++ next ∷ []) after)
 
 -- at the end the octets passed are a chain
-pub passes_all : (first : ℕ) (octets : List ℕ) (code : ℕ) (rest : List ℕ) → code ≡ 0 → Passes first octets code rest → IsChain first (take (length octets - length rest) octets)
+pub passes_all : (first : ℕ) (octets : List ℕ) (code : ℕ) (rest : List ℕ) → code ≡ 0 → Passes first octets code rest
+    → IsChain first (take (length octets - length rest) octets)
 passes_all first octets code rest none p =
     let e : octets ≡ chain_octets p.hs 0 ++ rest = subst (λ (c : ℕ). octets ≡ chain_octets p.hs c ++ rest) none p.begins.octets_are in
     let count : length (chain_octets p.hs 0) ≡ length octets - length rest = omega (arith, ap length e, length-append (chain_octets p.hs 0) rest) in
-    let front : take (length octets - length rest) octets ≡ chain_octets p.hs 0 = ap (take (length octets - length rest)) e ∙ take_at (chain_octets p.hs 0) rest (length octets - length rest) count in
+    let front : take (length octets - length rest) octets ≡ chain_octets p.hs 0 = ap (take (length octets - length rest)) e
+    ∙ take_at (chain_octets p.hs 0) rest (length octets - length rest) count in
     (p.hs, record { each = p.begins.each; first_is = subst (λ (c : ℕ). first ≡ first_type p.hs c) none p.begins.first_is; octets_are = front ∙ sym (append-nil (chain_octets p.hs 0)) })
 
 -- ---- octets begin with one header and no other
@@ -67,7 +75,8 @@ same_parts (n ∷ a) (m ∷ b) x y l e =
     let more = same_parts a b x y (omega arith) tails in
     (λ i. heads i ∷ more.0 i, more.1)
 
-pub same_header : (h k : ExtensionHeader) (n m : ℕ) (x y : List ℕ) → IsHeader h → IsHeader k → h.code ≡ k.code → header_octets h n ++ x ≡ header_octets k m ++ y → (h ≡ k) × (n ≡ m) × (x ≡ y)
+pub same_header : (h k : ExtensionHeader) (n m : ℕ) (x y : List ℕ) → IsHeader h → IsHeader k → h.code ≡ k.code
+    → header_octets h n ++ x ≡ header_octets k m ++ y → (h ≡ k) × (n ≡ m) × (x ≡ y)
 same_header h k n m x y p q codes e =
     let counts : units h ≡ units k = cc in
     let lengths : length h.content ≡ length k.content = omega (arith, p.whole, q.whole) in
@@ -80,7 +89,8 @@ same_header h k n m x y p q codes e =
 
 -- no header of this type stands at the front
 abbrev pub IsStuck : ℕ → List ℕ → Type 0
-IsStuck code rest = (h : ExtensionHeader) (next : ℕ) (after : List ℕ) → IsHeader h → code ≡ h.code → rest ≡ header_octets h next ++ after → ⊥
+IsStuck code rest = (h : ExtensionHeader) (next : ℕ) (after : List ℕ) → IsHeader h → code ≡ h.code → rest ≡ header_octets h next ++ after
+    → ⊥
 
 pub stuck_none : (rest : List ℕ) → IsStuck 0 rest
 stuck_none rest h next after p code e = omega (arith, p.some, code)
@@ -99,14 +109,16 @@ stuck_wrong code (n ∷ rest) (inr long) h next after p is e =
     omega (arith, p.whole, long, ap length tail, length-append (h.content ++ next ∷ []) after, length-append h.content (next ∷ []))
 
 -- Where two readings of the same octets both end, they are one.
-pub same_end : (first : ℕ) (octets : List ℕ) (hs ks : List ExtensionHeader) (c d : ℕ) (r s : List ℕ) → Begins first octets hs c r → IsStuck c r → Begins first octets ks d s → IsStuck d s → (hs ≡ ks) × (c ≡ d) × (r ≡ s)
+pub same_end : (first : ℕ) (octets : List ℕ) (hs ks : List ExtensionHeader) (c d : ℕ) (r s : List ℕ) → Begins first octets hs c r
+    → IsStuck c r → Begins first octets ks d s → IsStuck d s → (hs ≡ ks) × (c ≡ d) × (r ≡ s)
 same_end first octets [] [] c d r s p stop q halt = (refl, sym p.first_is ∙ q.first_is, sym p.octets_are ∙ q.octets_are)
 same_end first octets [] (k ∷ ks) c d r s p stop q halt =
     absurd (stop k (first_type ks d) (chain_octets ks d ++ s) q.each.0 (sym p.first_is ∙ q.first_is) (sym p.octets_are ∙ q.octets_are ∙ append_assoc (header_octets k (first_type ks d)) (chain_octets ks d) s))
 same_end first octets (h ∷ hs) [] c d r s p stop q halt =
     absurd (halt h (first_type hs c) (chain_octets hs c ++ r) p.each.0 (sym q.first_is ∙ p.first_is) (sym q.octets_are ∙ p.octets_are ∙ append_assoc (header_octets h (first_type hs c)) (chain_octets hs c) r))
 same_end first octets (h ∷ hs) (k ∷ ks) c d r s p stop q halt =
-    let e = sym (append_assoc (header_octets h (first_type hs c)) (chain_octets hs c) r) ∙ sym p.octets_are ∙ q.octets_are ∙ append_assoc (header_octets k (first_type ks d)) (chain_octets ks d) s in
+    let e = sym (append_assoc (header_octets h (first_type hs c)) (chain_octets hs c) r) ∙ sym p.octets_are ∙ q.octets_are
+    ∙ append_assoc (header_octets k (first_type ks d)) (chain_octets ks d) s in
     let one = same_header h k (first_type hs c) (first_type ks d) (chain_octets hs c ++ r) (chain_octets ks d ++ s) p.each.0 q.each.0 (sym p.first_is ∙ q.first_is) e in
     let more = same_end (first_type hs c) (chain_octets hs c ++ r) hs ks c d r s
     (record { each = p.each.1; first_is = refl; octets_are = refl }) stop
@@ -114,13 +126,15 @@ same_end first octets (h ∷ hs) (k ∷ ks) c d r s p stop q halt =
     (λ i. one.0 i ∷ more.0 i, more.1, more.2)
 
 -- the headers of a chain are determined
-pub one_chain : (first : ℕ) (octets : List ℕ) (hs ks : List ExtensionHeader) → AreHeaders hs first octets → AreHeaders ks first octets → hs ≡ ks
+pub one_chain : (first : ℕ) (octets : List ℕ) (hs ks : List ExtensionHeader) → AreHeaders hs first octets → AreHeaders ks first octets
+    → hs ≡ ks
 one_chain first octets hs ks p q = (same_end first octets hs ks 0 0 [] [] p (stuck_none []) q (stuck_none [])).0
 
 -- ---- faults
 
 -- the fault of a header is the one of all octets
-pub fault_then : (first : ℕ) (octets : List ℕ) (code : ℕ) (rest : List ℕ) (e : GtpuError) → 0 < code → Passes first octets code rest → IsFirst (faults_at code rest) e → IsFirst (header_refusals first octets) e
+pub fault_then : (first : ℕ) (octets : List ℕ) (code : ℕ) (rest : List ℕ) (e : GtpuError) → 0 < code → Passes first octets code rest
+    → IsFirst (faults_at code rest) e → IsFirst (header_refusals first octets) e
 fault_then first octets code rest e some p (inl x) = inl (record { before = p.hs; code = code; rest = rest; begins = p.begins; some = some; wrong = x.0 }, x.1)
 fault_then first octets code rest e some p (inr (not_required, inl x)) =
     let none : Meets IsRequired first octets → ⊥ = λ m.
@@ -147,7 +161,8 @@ pub leaves_all : (code first : ℕ) (octets : List ℕ) → IsChain first octets
 leaves_all code first octets chain = record { left = chain.0; are = chain.1; same = λ hs p. ap (content_of code) (one_chain first octets hs chain.0 p chain.1) }
 
 -- the header that was split off is the first that is left
-first_left : (left : List ExtensionHeader) (next : ℕ) (rest content : List ℕ) (after_type : ℕ) (after : List ℕ) → AreHeaders left next rest → SplitsOff next rest content after_type after
+first_left : (left : List ExtensionHeader) (next : ℕ) (rest content : List ℕ) (after_type : ℕ) (after : List ℕ) → AreHeaders left next rest
+    → SplitsOff next rest content after_type after
     → (more : List ExtensionHeader) × (left ≡ record { code = next; content = content } ∷ more) × AreHeaders more after_type after
 first_left [] next rest content after_type after p s = absurd (omega (arith, s.0.some, p.first_is))
 first_left (k ∷ more) next rest content after_type after p s =
@@ -157,7 +172,8 @@ first_left (k ∷ more) next rest content after_type after p s =
     let same = same_header k h (first_type more 0) after_type (chain_octets more 0 ++ []) after p.each.0 s.0 (sym p.first_is) whole in
     (more, ap (λ (x : ExtensionHeader). x ∷ more) same.0, record { each = p.each.1; first_is = sym same.1; octets_are = sym same.2 })
 
-pub leaves_found : (code first : ℕ) (octets : List ℕ) (next : ℕ) (rest content : List ℕ) (after_type : ℕ) (after : List ℕ) → Leaves code first octets next rest → SplitsOff next rest content after_type after → next ≡ code
+pub leaves_found : (code first : ℕ) (octets : List ℕ) (next : ℕ) (rest content : List ℕ) (after_type : ℕ) (after : List ℕ)
+    → Leaves code first octets next rest → SplitsOff next rest content after_type after → next ≡ code
     → (hs : List ExtensionHeader) → AreHeaders hs first octets → Some content ≡ content_of code hs
 leaves_found code first octets next rest content after_type after l s is hs p =
     let f = first_left l.left next rest content after_type after l.are s in
@@ -165,7 +181,8 @@ leaves_found code first octets next rest content after_type after l s is hs p =
     let here : content_of code (h ∷ f.0) ≡ Some content = ap (λ (b : Bool). option_map (λ (x : ExtensionHeader). x.content) (cond b (Some h) (find (λ (x : ExtensionHeader). x.code == code) f.0))) (eq-eqb next code is) in
     sym here ∙ sym (ap (content_of code) f.1) ∙ sym (l.same hs p)
 
-pub leaves_more : (code first : ℕ) (octets : List ℕ) (next : ℕ) (rest content : List ℕ) (after_type : ℕ) (after : List ℕ) → Leaves code first octets next rest → SplitsOff next rest content after_type after → (next == code) ≡ false
+pub leaves_more : (code first : ℕ) (octets : List ℕ) (next : ℕ) (rest content : List ℕ) (after_type : ℕ) (after : List ℕ)
+    → Leaves code first octets next rest → SplitsOff next rest content after_type after → (next == code) ≡ false
     → Leaves code first octets after_type after
 leaves_more code first octets next rest content after_type after l s other =
     let f = first_left l.left next rest content after_type after l.are s in
@@ -177,7 +194,8 @@ no_header : (left : List ExtensionHeader) (code : ℕ) (rest : List ℕ) → Are
 no_header [] code rest p = refl
 no_header (k ∷ left) code rest p = absurd (omega (arith, p.each.0.some, p.first_is))
 
-pub leaves_none : (code first : ℕ) (octets : List ℕ) (next : ℕ) (rest : List ℕ) → Leaves code first octets next rest → next ≡ 0 → (hs : List ExtensionHeader) → AreHeaders hs first octets → None ≡ content_of code hs
+pub leaves_none : (code first : ℕ) (octets : List ℕ) (next : ℕ) (rest : List ℕ) → Leaves code first octets next rest → next ≡ 0
+    → (hs : List ExtensionHeader) → AreHeaders hs first octets → None ≡ content_of code hs
 leaves_none code first octets next rest l none hs p = sym (l.same hs p ∙ no_header l.left code rest (subst (λ (c : ℕ). AreHeaders l.left c rest) none l.are))
 
 -- a header that is left has no fault
@@ -185,7 +203,8 @@ stuck_ends : (left : List ExtensionHeader) (next : ℕ) (rest : List ℕ) → 0 
 stuck_ends [] next rest some p stuck = omega (arith, p.first_is, some)
 stuck_ends (k ∷ left) next rest some p stuck = stuck k (first_type left 0) (chain_octets left 0 ++ []) p.each.0 p.first_is (p.octets_are ∙ append_assoc (header_octets k (first_type left 0)) (chain_octets left 0) [])
 
-pub leaves_no_fault : (code first : ℕ) (octets : List ℕ) (next : ℕ) (rest : List ℕ) (e : GtpuError) → 0 < next → Leaves code first octets next rest → IsFirst (faults_at next rest) e → ⊥
+pub leaves_no_fault : (code first : ℕ) (octets : List ℕ) (next : ℕ) (rest : List ℕ) (e : GtpuError) → 0 < next
+    → Leaves code first octets next rest → IsFirst (faults_at next rest) e → ⊥
 leaves_no_fault code first octets next rest e some l fault = stuck_ends l.left next rest some l.are (stuck_fault next rest e fault)
 
 -- ---- chains that are written: none, and one header

@@ -18,7 +18,8 @@ use Rattle.gtpu.proofs.Reading.{Opens, refused_short, refused_version, refused_k
 -- ---- one header
 
 -- a length that fits
-fitting : (code n : ℕ) (rest : List ℕ) → 0 < code → is_required code ≡ false → may_have code n ≡ true → 0 < n → 4 * n ≤ 1 + length rest → (content : List ℕ) × (next : ℕ) × (after : List ℕ) × SplitsOff code (n ∷ rest) content next after
+fitting : (code n : ℕ) (rest : List ℕ) → 0 < code → is_required code ≡ false → may_have code n ≡ true → 0 < n → 4 * n ≤ 1 + length rest
+    → (content : List ℕ) × (next : ℕ) × (after : List ℕ) × SplitsOff code (n ∷ rest) content next after
 fitting code n rest some passed size more room =
     let k = 4 * n - 2 in
     let content = take k rest in
@@ -29,7 +30,8 @@ fitting code n rest some passed size more room =
     let count : units h ≡ n = omega (arith, long) in
     let inside : k < length rest = omega arith in
     let parts : rest ≡ (content ++ next ∷ []) ++ after =
-    sym (take-append-drop k rest) ∙ ap (λ (xs : List ℕ). content ++ xs) (drop_more rest k 0 inside) ∙ sym (append_assoc content (next ∷ []) after) in
+    sym (take-append-drop k rest) ∙ ap (λ (xs : List ℕ). content ++ xs) (drop_more rest k 0 inside)
+    ∙ sym (append_assoc content (next ∷ []) after) in
     (content, next, after, (record { some = some; passed = passed; whole = omega (arith, long, count); size = ap (may_have code) count ∙ size }, λ i. sym count i ∷ parts i))
 
 no_units : (a b : Bool) → (if a then false else (if b then false else false)) ≡ true → ⊥
@@ -48,7 +50,8 @@ Splits code rest = (content : List ℕ) × (next : ℕ) × (after : List ℕ) ×
 abbrev Fails : ℕ → List ℕ → Type 0
 Fails code rest = (e : GtpuError) × IsFirst (faults_at code rest) e
 
-by_length : (code n : ℕ) (rest : List ℕ) → 0 < code → is_required code ≡ false → (b : Bool) → may_have code n ≡ b → Fails code (n ∷ rest) ⊎ Splits code (n ∷ rest)
+by_length : (code n : ℕ) (rest : List ℕ) → 0 < code → is_required code ≡ false → (b : Bool) → may_have code n ≡ b → Fails code (n ∷ rest)
+    ⊎ Splits code (n ∷ rest)
 by_length code n rest some passed false size = inl (errors.ExtLength, inr (λ required. true≢false (sym required ∙ passed), inl (inl size, refl)))
 by_length code n rest some passed true size =
     elim (cases_lt (1 + length rest) (4 * n)) [
@@ -67,7 +70,8 @@ by_type code rest some false passed = by_octets code rest some passed
 -- ---- all headers
 
 abbrev Settled : ℕ → List ℕ → Type 0
-Settled first octets = ((hs : List ExtensionHeader) × (rest : List ℕ) × Begins first octets hs 0 rest) ⊎ ((e : GtpuError) × IsFirst (header_refusals first octets) e)
+Settled first octets = ((hs : List ExtensionHeader) × (rest : List ℕ) × Begins first octets hs 0 rest)
+    ⊎ ((e : GtpuError) × IsFirst (header_refusals first octets) e)
 
 at_end : (first : ℕ) (octets : List ℕ) (code : ℕ) (rest : List ℕ) → code ≤ 0 → Passes first octets code rest → Settled first octets
 at_end first octets code rest none p =
@@ -116,7 +120,8 @@ Decided bytes = ((p : GtpuPacket) × Gtpu p bytes) ⊎ ((e : GtpuError) × IsRef
 abbrev teid_at : List ℕ → ℕ
 teid_at bytes = from_be_bytes w32 (slice_index bytes 4 ∷ slice_index bytes 5 ∷ slice_index bytes 6 ∷ slice_index bytes 7 ∷ [])
 
-by_headers : (bytes : List ℕ) (kind : Kind) → Opens bytes kind → length bytes ≡ 8 + length_of bytes → has_flag (slice_index bytes 0) ≡ true → 4 ≤ length_of bytes → Settled (first_of bytes) (drop 12 bytes) → Decided bytes
+by_headers : (bytes : List ℕ) (kind : Kind) → Opens bytes kind → length bytes ≡ 8 + length_of bytes → has_flag (slice_index bytes 0) ≡ true
+    → 4 ≤ length_of bytes → Settled (first_of bytes) (drop 12 bytes) → Decided bytes
 by_headers bytes kind o whole flag room (inr fault) = inr (fault.0, refused_headers bytes kind fault.0 o whole room fault.1)
 by_headers bytes kind o whole flag room (inl s) =
     let flags = slice_index bytes 0 in
@@ -132,7 +137,8 @@ by_headers bytes kind o whole flag room (inl s) =
     let chain : IsChain (first_of bytes) (chain_octets s.0 0) = (s.0, record { each = s.2.each; first_is = s.2.first_is; octets_are = sym (append-nil (chain_octets s.0 0)) }) in
     inl (p, found_flagged bytes p o refl whole flag room refl refl refl chain s.2.octets_are)
 
-by_flags : (bytes : List ℕ) (kind : Kind) → Opens bytes kind → length bytes ≡ 8 + length_of bytes → (b : Bool) → has_flag (slice_index bytes 0) ≡ b → Decided bytes
+by_flags : (bytes : List ℕ) (kind : Kind) → Opens bytes kind → length bytes ≡ 8 + length_of bytes → (b : Bool)
+    → has_flag (slice_index bytes 0) ≡ b → Decided bytes
 by_flags bytes kind o whole false none =
     let p : GtpuPacket = record { kind = kind; teid = teid_at bytes; seq = None; npdu = None; first = 0; chain = []; payload = drop 8 bytes } in
     inl (p, found_plain bytes (drop 8 bytes) kind refl o whole none)

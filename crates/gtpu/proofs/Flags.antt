@@ -16,7 +16,8 @@ pub s_test : (flags : ℕ) → not (bit_and flags 2 == 0) ≡ s_flag flags
 s_test flags = ap (λ (x : ℕ). not (x == 0)) (and_pow flags 1) ∙ one_bit (flags / 2 % 2) 2 (omega arith) (omega arith)
 
 pub pn_test : (flags : ℕ) → not (bit_and flags 1 == 0) ≡ pn_flag flags
-pn_test flags = ap (λ (x : ℕ). not (x == 0)) (and_pow flags 0) ∙ one_bit (flags / 1 % 2) 1 (omega arith) (omega arith) ∙ ap (λ (x : ℕ). x == 1) (omega arith)
+pn_test flags = ap (λ (x : ℕ). not (x == 0)) (and_pow flags 0) ∙ one_bit (flags / 1 % 2) 1 (omega arith) (omega arith)
+    ∙ ap (λ (x : ℕ). x == 1) (omega arith)
 
 pub no_flag : (flags : ℕ) → bit_and flags 7 ≡ 0 → has_flag flags ≡ false
 no_flag flags h = le-ltb 0 (flags % 8) (omega (arith, h, and_mask flags 3))

@@ -29,21 +29,25 @@ one_kind GPdu GPdu e = refl
 one_kind a b e = absurd (omega arith)
 
 -- a chain, and what follows it
-pub chain_begins : (first : ℕ) (chain payload octets : List ℕ) (p : IsChain first chain) → octets ≡ chain ++ payload → Begins first octets p.0 0 payload
+pub chain_begins : (first : ℕ) (chain payload octets : List ℕ) (p : IsChain first chain) → octets ≡ chain ++ payload
+    → Begins first octets p.0 0 payload
 chain_begins first chain payload octets p parts =
     record { each = p.1.each; first_is = p.1.first_is; octets_are = parts ∙ ap (λ (x : List ℕ). x ++ payload) (p.1.octets_are ∙ append-nil (chain_octets p.0 0)) }
 
-one_flagged : (p q : GtpuPacket) (flags s0 s1 number next : ℕ) (rest : List ℕ) → p.kind ≡ q.kind → p.teid ≡ q.teid → IsFlagged p flags s0 s1 number next rest → IsFlagged q flags s0 s1 number next rest → p ≡ q
+one_flagged : (p q : GtpuPacket) (flags s0 s1 number next : ℕ) (rest : List ℕ) → p.kind ≡ q.kind → p.teid ≡ q.teid
+    → IsFlagged p flags s0 s1 number next rest → IsFlagged q flags s0 s1 number next rest → p ≡ q
 one_flagged p q flags s0 s1 number next rest kinds teids a b =
     let firsts : p.first ≡ q.first = a.first ∙ sym b.first in
     let other : IsChain p.first q.chain = subst (λ (n : ℕ). IsChain n q.chain) (sym firsts) b.chain in
     let ends = same_end p.first rest a.chain.0 other.0 0 0 p.payload q.payload (chain_begins p.first p.chain p.payload rest a.chain a.parts) (stuck_none p.payload) (chain_begins p.first q.chain q.payload rest other b.parts) (stuck_none q.payload) in
-    let chains : p.chain ≡ q.chain = a.chain.1.octets_are ∙ ap (λ (hs : List ExtensionHeader). chain_octets hs 0 ++ []) ends.0 ∙ sym other.1.octets_are in
+    let chains : p.chain ≡ q.chain = a.chain.1.octets_are ∙ ap (λ (hs : List ExtensionHeader). chain_octets hs 0 ++ []) ends.0
+    ∙ sym other.1.octets_are in
     let seqs : p.seq ≡ q.seq = a.seq ∙ sym b.seq in
     let npdus : p.npdu ≡ q.npdu = a.npdu ∙ sym b.npdu in
     λ i. record { kind = kinds i; teid = teids i; seq = seqs i; npdu = npdus i; first = firsts i; chain = chains i; payload = ends.2 i }
 
-one_body : (p q : GtpuPacket) (flags : ℕ) (flagged : Bool) (body : List ℕ) → p.kind ≡ q.kind → p.teid ≡ q.teid → IsBody p flags flagged body → IsBody q flags flagged body → p ≡ q
+one_body : (p q : GtpuPacket) (flags : ℕ) (flagged : Bool) (body : List ℕ) → p.kind ≡ q.kind → p.teid ≡ q.teid → IsBody p flags flagged body
+    → IsBody q flags flagged body → p ≡ q
 one_body p q flags false body kinds teids a b =
     let seqs : p.seq ≡ q.seq = a.seq ∙ sym b.seq in
     let npdus : p.npdu ≡ q.npdu = a.npdu ∙ sym b.npdu in
@@ -64,12 +68,14 @@ one_packet _ p q a b = absurd a
 
 -- no header with a fault is met in a chain
 no_fault : (fault : ℕ → List ℕ → Type 0) → ((code : ℕ) (rest : List ℕ) → fault code rest → IsStuck code rest)
-    → (first : ℕ) (octets : List ℕ) (hs : List ExtensionHeader) (rest : List ℕ) → Begins first octets hs 0 rest → Meets fault first octets → ⊥
+    → (first : ℕ) (octets : List ℕ) (hs : List ExtensionHeader) (rest : List ℕ) → Begins first octets hs 0 rest → Meets fault first octets
+    → ⊥
 no_fault fault stuck first octets hs rest p m =
     let ends = same_end first octets hs m.before 0 m.code rest m.rest p (stuck_none rest) m.begins (stuck m.code m.rest m.wrong) in
     omega (arith, ends.1, m.some)
 
-no_faults : (first : ℕ) (octets : List ℕ) (hs : List ExtensionHeader) (rest : List ℕ) → Begins first octets hs 0 rest → NoneHolds (header_refusals first octets)
+no_faults : (first : ℕ) (octets : List ℕ) (hs : List ExtensionHeader) (rest : List ℕ) → Begins first octets hs 0 rest
+    → NoneHolds (header_refusals first octets)
 no_faults first octets hs rest p = (no_fault IsRequired stuck_required first octets hs rest p, (no_fault HasWrongLength stuck_wrong first octets hs rest p, tt))
 
 body_long : (p : GtpuPacket) (flags : ℕ) (flagged : Bool) (body : List ℕ) → IsBody p flags flagged body → flagged ≡ true → 4 ≤ length body
@@ -81,7 +87,8 @@ no_extension : (flags : ℕ) → has_flag flags ≡ false → e_flag flags ≡ f
 no_extension flags unset = let none : flags % 8 ≤ 0 = ltb-false 0 (flags % 8) unset in ne_eqb (flags / 4 % 2) 1 (λ set. omega arith)
 
 -- the headers that stand in these octets
-body_headers : (p : GtpuPacket) (flags : ℕ) (flagged : Bool) (body : List ℕ) → has_flag flags ≡ flagged → IsBody p flags flagged body → NoneHolds (header_refusals (if e_flag flags then slice_index body 3 else 0) (drop 4 body))
+body_headers : (p : GtpuPacket) (flags : ℕ) (flagged : Bool) (body : List ℕ) → has_flag flags ≡ flagged → IsBody p flags flagged body
+    → NoneHolds (header_refusals (if e_flag flags then slice_index body 3 else 0) (drop 4 body))
 body_headers p flags false body is a =
     subst (λ (b : Bool). NoneHolds (header_refusals (if b then slice_index body 3 else 0) (drop 4 body))) (sym (no_extension flags is))
     (no_faults 0 (drop 4 body) [] (drop 4 body) (record { each = tt; first_is = refl; octets_are = refl }))
@@ -114,15 +121,18 @@ unfolding Gtpu
 packet_chain (flags ∷ code ∷ l0 ∷ l1 ∷ t0 ∷ t1 ∷ t2 ∷ t3 ∷ body) p a = body_chain p flags (has_flag flags) body a.body_is
 packet_chain _ p a = absurd a
 
-pub read_chain : (bytes : List ℕ) (r : Result Packet GtpuError) → IfOk r (λ p. Gtpu (view p) bytes) → IfOk r (λ p. IsChain p.first p.chain.now)
+pub read_chain : (bytes : List ℕ) (r : Result Packet GtpuError) → IfOk r (λ p. Gtpu (view p) bytes)
+    → IfOk r (λ p. IsChain p.first p.chain.now)
 read_chain bytes (Ok p) found = packet_chain bytes (view p) found
 read_chain bytes (Err e) found = tt
 
-pub read_only : (bytes : List ℕ) (r : Result Packet GtpuError) → IfOk r (λ p. Gtpu (view p) bytes) → IfErr r (λ e. IsRefusal e bytes) → (p : GtpuPacket) → Gtpu p bytes → IsOkAnd r (λ q. view q ≡ p)
+pub read_only : (bytes : List ℕ) (r : Result Packet GtpuError) → IfOk r (λ p. Gtpu (view p) bytes) → IfErr r (λ e. IsRefusal e bytes)
+    → (p : GtpuPacket) → Gtpu p bytes → IsOkAnd r (λ q. view q ≡ p)
 read_only bytes (Ok q) found refused p a = one_packet bytes (view q) p found a
 read_only bytes (Err e) found refused p a = absurd (not_both bytes p e a refused)
 
-pub read_all : (bytes : List ℕ) (r : Result Packet GtpuError) → IfOk r (λ p. Gtpu (view p) bytes) → IfErr r (λ e. IsRefusal e bytes) → (e : GtpuError) → IsRefusal e bytes → r ≡ Err e
+pub read_all : (bytes : List ℕ) (r : Result Packet GtpuError) → IfOk r (λ p. Gtpu (view p) bytes) → IfErr r (λ e. IsRefusal e bytes)
+    → (e : GtpuError) → IsRefusal e bytes → r ≡ Err e
 read_all bytes (Ok q) found refused e h = absurd (not_both bytes (view q) e found h)
 read_all bytes (Err a) found refused e h = ap (λ (x : GtpuError). Err x) (one_refusal bytes a e refused h)
 
@@ -137,14 +147,16 @@ plain_fields p seqs npdus firsts =
     let flags : flags_of p ≡ 48 = λ i. 48 + (if firsts i == 0 then 0 else 4) + (if is_some (seqs i) then 2 else 0) + (if is_some (npdus i) then 1 else 0) in
     ap (λ (n : ℕ). if has_flag n then fields_of p else []) flags
 
-body_counted : (p : GtpuPacket) (flags : ℕ) (flagged : Bool) (body : List ℕ) → IsBody p flags flagged body → length (body_of p) ≤ length body
+body_counted : (p : GtpuPacket) (flags : ℕ) (flagged : Bool) (body : List ℕ) → IsBody p flags flagged body
+    → length (body_of p) ≤ length body
 body_counted p flags false body a =
     omega (arith, ap length (plain_fields p a.seq a.npdu a.first), ap length a.chain, ap length a.payload, length-append (optional_of p ++ p.chain) p.payload, length-append (optional_of p) p.chain)
 body_counted p flags true (s0 ∷ s1 ∷ number ∷ next ∷ rest) a =
     omega (arith, some_fields p (has_flag (flags_of p)), ap length a.parts, length-append p.chain p.payload, length-append (optional_of p ++ p.chain) p.payload, length-append (optional_of p) p.chain)
 body_counted p flags true _ a = absurd a
 
-packet_counted : (bytes : List ℕ) (p : GtpuPacket) → ((i : ℕ) → slice_index bytes i < 256) → Gtpu p bytes → length (body_of p) ≤ LENGTH_LIMIT
+packet_counted : (bytes : List ℕ) (p : GtpuPacket) → ((i : ℕ) → slice_index bytes i < 256) → Gtpu p bytes
+    → length (body_of p) ≤ LENGTH_LIMIT
 unfolding Gtpu
 packet_counted (flags ∷ code ∷ l0 ∷ l1 ∷ t0 ∷ t1 ∷ t2 ∷ t3 ∷ body) p fits a =
     let high : l0 < 256 = fits 2 in
@@ -152,6 +164,7 @@ packet_counted (flags ∷ code ∷ l0 ∷ l1 ∷ t0 ∷ t1 ∷ t2 ∷ t3 ∷ bod
     omega (arith, a.length_is, body_counted p flags (has_flag flags) body a.body_is)
 packet_counted _ p fits a = absurd a
 
-pub read_counted : (bytes : List ℕ) (r : Result Packet GtpuError) → ((i : ℕ) → slice_index bytes i < 256) → IfOk r (λ p. Gtpu (view p) bytes) → IfOk r (λ p. length (body_of (view p)) ≤ LENGTH_LIMIT)
+pub read_counted : (bytes : List ℕ) (r : Result Packet GtpuError) → ((i : ℕ) → slice_index bytes i < 256)
+    → IfOk r (λ p. Gtpu (view p) bytes) → IfOk r (λ p. length (body_of (view p)) ≤ LENGTH_LIMIT)
 read_counted bytes (Ok p) fits found = packet_counted bytes (view p) fits found
 read_counted bytes (Err e) fits found = tt

@@ -12,12 +12,15 @@ no_fields p flags are none = sym (ap (λ (b : Bool). if b then fields_of p else 
 pub all_fields : (p : GtpuPacket) (flags : ℕ) → flags ≡ flags_of p → (bit_and flags 7 ≡ 0 → ⊥) → fields_of p ≡ optional_of p
 all_fields p flags are some = sym (ap (λ (b : Bool). if b then fields_of p else []) (some_flag (flags_of p) (λ none. some (ap (λ (n : ℕ). bit_and n 7) are ∙ none))))
 
-pub length-body : (p : GtpuPacket) (optional : List ℕ) → optional ≡ optional_of p → length optional + length p.chain + length p.payload ≡ length (body_of p)
+pub length-body : (p : GtpuPacket) (optional : List ℕ) → optional ≡ optional_of p
+    → length optional + length p.chain + length p.payload ≡ length (body_of p)
 length-body p optional is = omega (arith, ap length is, length-append (optional_of p ++ p.chain) p.payload, length-append (optional_of p) p.chain)
 
 -- one piece after the other
-pub in_pieces : (p : GtpuPacket) (a b c d e f g : List ℕ) (flags code count : ℕ) (optional : List ℕ) → flags ≡ flags_of p → code ≡ kind_code p.kind → count ≡ length (body_of p) → optional ≡ optional_of p
-    → a ≡ [] → b ≡ a ++ (flags ∷ code ∷ []) → c ≡ b ++ to_be_bytes w16 count → d ≡ c ++ to_be_bytes w32 p.teid → e ≡ d ++ optional → f ≡ e ++ p.chain → g ≡ f ++ p.payload → g ≡ gtpu_octets p
+pub in_pieces : (p : GtpuPacket) (a b c d e f g : List ℕ) (flags code count : ℕ) (optional : List ℕ) → flags ≡ flags_of p
+    → code ≡ kind_code p.kind → count ≡ length (body_of p) → optional ≡ optional_of p
+    → a ≡ [] → b ≡ a ++ (flags ∷ code ∷ []) → c ≡ b ++ to_be_bytes w16 count → d ≡ c ++ to_be_bytes w32 p.teid → e ≡ d ++ optional
+    → f ≡ e ++ p.chain → g ≡ f ++ p.payload → g ≡ gtpu_octets p
 unfolding gtpu_octets
 in_pieces p a b c d e f g flags code count optional flags-are code-is counted is none head stated tunnel fields chain payload =
     let start : c ≡ flags_of p ∷ kind_code p.kind ∷ to_be_bytes w16 (length (body_of p)) =
@@ -42,7 +45,8 @@ version_by false false true = refl
 version_by false false false = refl
 
 seq_back : (seq : Option ℕ) (n : ℕ) → seq ≡ Some n → n < 2 ^ 16 → seq ≡ Some (from_be_bytes w16 (to_be_bytes w16 (unwrap_or seq 0)))
-seq_back seq n is fits = is ∙ ap (λ (m : ℕ). Some m) (sym (from_be_bytes-to_be_bytes_2 n fits)) ∙ ap (λ (o : Option ℕ). Some (from_be_bytes w16 (to_be_bytes w16 (unwrap_or o 0)))) (sym is)
+seq_back seq n is fits = is ∙ ap (λ (m : ℕ). Some m) (sym (from_be_bytes-to_be_bytes_2 n fits))
+    ∙ ap (λ (o : Option ℕ). Some (from_be_bytes w16 (to_be_bytes w16 (unwrap_or o 0)))) (sym is)
 
 npdu_back : (npdu : Option ℕ) (n : ℕ) → npdu ≡ Some n → npdu ≡ Some (unwrap_or npdu 0)
 npdu_back npdu n is = is ∙ ap (λ (o : Option ℕ). Some (unwrap_or o 0)) (sym is)
@@ -55,7 +59,8 @@ chain_none first chain none p = go p.0 p.1
     go (h ∷ hs) p = absurd (omega (arith, p.each.0.some, p.first_is, none))
 
 -- the body after the flags that the fields give
-written_body : (p : GtpuPacket) (none : Bool) (seq npdu : Option ℕ) → (p.first == 0) ≡ none → p.seq ≡ seq → p.npdu ≡ npdu → IfSome seq (λ n. n < 2 ^ 16) → IsChain p.first p.chain
+written_body : (p : GtpuPacket) (none : Bool) (seq npdu : Option ℕ) → (p.first == 0) ≡ none → p.seq ≡ seq → p.npdu ≡ npdu
+    → IfSome seq (λ n. n < 2 ^ 16) → IsChain p.first p.chain
     → let flags = flags_by none (is_some seq) (is_some npdu) in IsBody p flags (has_flag flags) ((if has_flag flags then fields_of p else []) ++ p.chain ++ p.payload)
 written_body p true None None e seqs npdus fits chain =
     let none : p.first ≡ 0 = eqb-true p.first 0 e in

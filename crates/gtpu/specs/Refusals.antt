@@ -48,7 +48,11 @@ refusals bytes =
     ∷ (errors.Version, slice_index bytes 0 / 16 ≢ 3)
     ∷ (errors.Kind, (kind : Kind) → slice_index bytes 1 ≢ kind_code kind)
     ∷ (errors.Truncated, length bytes < 8 + length_of bytes)
-    ∷ (errors.Length, (8 + length_of bytes < length bytes) ⊎ ((has_flag (slice_index bytes 0) ≡ true) × (length_of bytes < 4)))
+    ∷ (
+      errors.Length,
+      (8 + length_of bytes < length bytes)
+          ⊎ ((has_flag (slice_index bytes 0) ≡ true) × (length_of bytes < 4)),
+    )
     ∷ header_refusals (first_of bytes) (drop 12 bytes)
 
 -- the reason for which the octets are refused

@@ -87,7 +87,8 @@ pub(crate) fn split_chain(first: u8, octets: &[u8]) -> Result<(&[u8], &[u8]), Gt
 /// The content of the first header of a type in a valid chain.
 pub(crate) fn find_content(first: u8, chain: &[u8], code: u8) -> Option<&[u8]>
     requires { IsChain first chain.now }
-    ensures { (hs : List ExtensionHeader) → AreHeaders hs first chain.now → option_copied result ≡ content_of code hs }
+    ensures { (hs : List ExtensionHeader) → AreHeaders hs first chain.now
+        → option_copied result ≡ content_of code hs }
 {
     let mut next = first;
     let mut rest = chain;

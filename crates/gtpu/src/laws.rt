@@ -8,10 +8,13 @@ ghost use Rattle.gtpu.specs.Refusals.{IsRefusal};
 
 /// Octets are those of one packet, or they are refused for one reason.
 pub fn octets_have_one_reading()
-    ensures some { (bytes : List ℕ) → ((p : GtpuPacket) × Gtpu p bytes) ⊎ ((e : GtpuError) × IsRefusal e bytes) }
-    ensures not_both { (bytes : List ℕ) (p : GtpuPacket) (e : GtpuError) → Gtpu p bytes → IsRefusal e bytes → ⊥ }
+    ensures some { (bytes : List ℕ) → ((p : GtpuPacket) × Gtpu p bytes)
+        ⊎ ((e : GtpuError) × IsRefusal e bytes) }
+    ensures not_both { (bytes : List ℕ) (p : GtpuPacket) (e : GtpuError) → Gtpu p bytes
+        → IsRefusal e bytes → ⊥ }
     ensures one_packet { (bytes : List ℕ) (p q : GtpuPacket) → Gtpu p bytes → Gtpu q bytes → p ≡ q }
-    ensures one_reason { (bytes : List ℕ) (a b : GtpuError) → IsRefusal a bytes → IsRefusal b bytes → a ≡ b }
+    ensures one_reason { (bytes : List ℕ) (a b : GtpuError) → IsRefusal a bytes → IsRefusal b bytes
+        → a ≡ b }
 {}
 
 /// What is written is read again as the same packet.
@@ -21,5 +24,6 @@ pub fn what_is_written_is_read()
 
 /// The headers of a chain are determined.
 pub fn chains_have_one_reading()
-    ensures { (first : ℕ) (octets : List ℕ) (hs ks : List ExtensionHeader) → AreHeaders hs first octets → AreHeaders ks first octets → hs ≡ ks }
+    ensures { (first : ℕ) (octets : List ℕ) (hs ks : List ExtensionHeader)
+        → AreHeaders hs first octets → AreHeaders ks first octets → hs ≡ ks }
 {}

@@ -96,7 +96,8 @@ fn code_of(kind: Kind) -> u8
 /// Whether there are as many octets as the length says.
 fn check_length(octets: usize, stated: usize) -> Result<(), GtpuError>
     ensures ok { OnOk result (octets ≡ stated) }
-    ensures err { IfErr result (λ e. ((octets < stated) × (e ≡ GtpuError.Truncated)) ⊎ ((stated < octets) × (e ≡ GtpuError.Length))) }
+    ensures err { IfErr result (λ e. ((octets < stated) × (e ≡ GtpuError.Truncated))
+        ⊎ ((stated < octets) × (e ≡ GtpuError.Length))) }
 {
     if octets < stated {
         return Err(GtpuError::Truncated);
@@ -217,7 +218,8 @@ pub fn encode(alloc: Global, p: &Packet) -> Result<Octets, Memory>
 pub fn extension<'a>(p: &Packet<'a>, code: u8) -> Option<&'a [u8]>
     requires { IsChain p.now.first p.now.chain.now }
     // The headers of a chain are determined, so these are they.
-    ensures { (hs : List ExtensionHeader) → AreHeaders hs p.now.first p.now.chain.now → option_copied result ≡ content_of code hs }
+    ensures { (hs : List ExtensionHeader) → AreHeaders hs p.now.first p.now.chain.now
+        → option_copied result ≡ content_of code hs }
 {
     headers::find_content(p.first, p.chain, code)
 }

@@ -11,7 +11,8 @@ use Rattle.gtpu.proofs.Chains.{no_headers, are_one_header}
 use Rattle.gtpu.proofs.Writing.{written_is_read}
 use Rattle.nr_user_plane.specs.declared.frames.Frame.{Frame}
 use Rattle.nr_user_plane.specs.declared.frames.Frame.TheVariants.{Data, Status}
-use Rattle.nr_user_plane.specs.Frames.{nru_octets, filled, field_octets, lost_octets, delivered_octets, FitsFrame, be24}
+use Rattle.gnb_types.specs.Numbers.{be24}
+use Rattle.nr_user_plane.specs.Frames.{nru_octets, filled, field_octets, lost_octets, delivered_octets, FitsFrame}
 use Rattle.nr_user_plane.proofs.Spellings.{frame_written}
 use Rattle.pdcp.specs.Numbers.{space}
 use Rattle.pdcp.specs.Pdus.{Content, data_pdu, status_report, radio_data, report_octets, bitmap}

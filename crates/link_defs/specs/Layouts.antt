@@ -8,7 +8,8 @@ use Rattle.gtpu.specs.Packets.{gtpu_octets}
 use Rattle.nr_user_plane.specs.declared.frames.Frame.{Frame}
 use Rattle.nr_user_plane.specs.declared.frames.Frame.TheVariants.{Data, Status}
 use Rattle.nr_user_plane.specs.Frames.{nru_octets}
-use Rattle.pdcp.specs.Numbers.{be16, be24, space}
+use Rattle.gnb_types.specs.Numbers.{be16, be24}
+use Rattle.pdcp.specs.Numbers.{space}
 use Rattle.pdcp.specs.Pdus.{radio_data, report_octets}
 use Rattle.link_defs.specs.GPdus.{plain_pdu, pdu_with, end_packet}
 

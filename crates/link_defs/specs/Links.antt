@@ -4,7 +4,7 @@ use Rattle.std.specs.Prelude.{ℕ, ◌+◌, List, [], ◌∷◌, ◌++◌, lengt
 use Rattle.gnb_types.specs.declared.names.SnBits.{SnBits}
 use Rattle.gtpu.specs.declared.headers.TheConstants.{NR_RAN_CONTAINER}
 -- numbers of two, three and four octets, the highest first
-pub use Rattle.pdcp.specs.Numbers.{be16, be24, be32}
+pub use Rattle.gnb_types.specs.Numbers.{be16, be24, be32}
 -- a PDCP data PDU: the bit for data, the low bits of the COUNT, and the packet
 unfoldable pub use Rattle.pdcp.specs.Pdus.{radio_data}
 

@@ -44,7 +44,7 @@ long_number count bytes is =
     let middle : count / 256 % 256 ≡ count % 262144 / 256 % 256 = omega arith in
     let low : count % 256 ≡ count % 262144 % 256 = omega arith in
     ap (λ (xs : List ℕ). bit_and (get_or xs 1 0) 3 ∷ get_or xs 2 0 ∷ get_or xs 3 0 ∷ 0 ∷ 0 ∷ 0 ∷ []) is
-        ∙ (λ i. high i ∷ middle i ∷ low i ∷ 0 ∷ 0 ∷ 0 ∷ [])
+    ∙ (λ i. high i ∷ middle i ∷ low i ∷ 0 ∷ 0 ∷ 0 ∷ [])
 
 length-bitmap : (bits : List Bool) → length (bitmap bits) ≤ length bits
 unfolding bitmap

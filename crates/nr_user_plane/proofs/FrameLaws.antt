@@ -15,21 +15,21 @@ use Rattle.nr_user_plane.proofs.Statuses.{first_reason-status}
 -- each reason applies where its test holds
 pub are_tests : (octets : List ℕ) → AreTests (tests octets) (refusals octets)
 are_tests octets = (
+  refl,
+  (eqb-true (length octets) 0, eq-eqb (length octets) 0),
+  (
     refl,
-    (eqb-true (length octets) 0, eq-eqb (length octets) 0),
+    (ltb-true 1 (kind octets), lt-ltb 1 (kind octets)),
     (
       refl,
-      (ltb-true 1 (kind octets), lt-ltb 1 (kind octets)),
+      (ltb-true (length octets) (fields_end octets), lt-ltb (length octets) (fields_end octets)),
       (
         refl,
-        (ltb-true (length octets) (fields_end octets), lt-ltb (length octets) (fields_end octets)),
-        (
-          refl,
-          (not-true (has_good_ranges octets), not_from_false (has_good_ranges octets)),
-          (refl, (not-true (has_clear_spares octets && is_padding (drop (fields_end octets) octets)), not_from_false (has_clear_spares octets && is_padding (drop (fields_end octets) octets))), tt),
-        ),
+        (not-true (has_good_ranges octets), not_from_false (has_good_ranges octets)),
+        (refl, (not-true (has_clear_spares octets && is_padding (drop (fields_end octets) octets)), not_from_false (has_clear_spares octets && is_padding (drop (fields_end octets) octets))), tt),
       ),
     ),
+  ),
 )
 
 -- padding, as a fact and as a test
@@ -55,10 +55,12 @@ pub record RangesRead (least : ℕ) (ranges : List (ℕ × ℕ)) (delivered : Op
   pub ends : HasEnd delivered (drop (6 * length ranges) octets)
   pub whole : 6 * length ranges ≤ length octets
 
-well_placed : (least start end : ℕ) (more : Bool) → least ≤ start → start ≤ end → more ≡ true → nat_le least start && (nat_le start end && more) ≡ true
+well_placed : (least start end : ℕ) (more : Bool) → least ≤ start → start ≤ end → more ≡ true
+    → nat_le least start && (nat_le start end && more) ≡ true
 well_placed least start end more low high rest = grind arith
 
-pub ranges_read : (least : ℕ) (ranges : List (ℕ × ℕ)) (delivered : Option ℕ) (octets : List ℕ) → HasRanges least ranges delivered octets → RangesRead least ranges delivered octets
+pub ranges_read : (least : ℕ) (ranges : List (ℕ × ℕ)) (delivered : Option ℕ) (octets : List ℕ) → HasRanges least ranges delivered octets
+    → RangesRead least ranges delivered octets
 ranges_read least [] delivered octets h = record { pairs = refl; apart = refl; ends = h; whole = omega arith }
 ranges_read least (range ∷ ranges) delivered [] h = absurd h
 ranges_read least (range ∷ ranges) delivered (a ∷ []) h = absurd h
@@ -95,7 +97,8 @@ true_or_false false = inr refl
 le_of_test : (m n : ℕ) → nat_le m n ≡ true → m ≤ n
 le_of_test m n h = grind arith
 
-pub has_ranges : (count least : ℕ) (delivered : Option ℕ) (octets : List ℕ) → are_apart least (pairs_at count octets) ≡ true → 6 * count ≤ length octets
+pub has_ranges : (count least : ℕ) (delivered : Option ℕ) (octets : List ℕ) → are_apart least (pairs_at count octets) ≡ true
+    → 6 * count ≤ length octets
     → HasEnd delivered (drop (6 * count) octets) → HasRanges least (pairs_at count octets) delivered octets
 has_ranges zero least delivered octets apart whole ends = ends
 has_ranges (suc count) least delivered [] apart whole ends = absurd (omega arith)
@@ -168,7 +171,8 @@ pub passes_none : (first second : ℕ) (fields : List ℕ) → Passes first seco
 passes_none first second fields p =
     rw (no_less (length fields) (lost_len first fields + delivered_len first) p.enough, p.good, p.clear, p.padding) refl
 
-first_test : {E : Type 0} (test : Bool) (reason : E) (more : Option E) → (if test then Some reason else more) ≡ None → (test ≡ false) × (more ≡ None)
+first_test : {E : Type 0} (test : Bool) (reason : E) (more : Option E) → (if test then Some reason else more) ≡ None → (test ≡ false)
+    × (more ≡ None)
 first_test true reason more h = absurd (cc)
 first_test false reason more h = (refl, h)
 
@@ -209,12 +213,14 @@ pub record StatusRead (lost : List (ℕ × ℕ)) (delivered : Option ℕ) (first
   pub lost_is : lost_at first fields ≡ lost
   pub delivered_is : delivered_at first fields ≡ delivered
 
-small_count : (count : ℕ) (ranges : List (ℕ × ℕ)) (range : ℕ × ℕ) (apart : Bool) → count ≡ length (range ∷ ranges) → count ≤ 7 → apart ≡ true
+small_count : (count : ℕ) (ranges : List (ℕ × ℕ)) (range : ℕ × ℕ) (apart : Bool) → count ≡ length (range ∷ ranges) → count ≤ 7
+    → apart ≡ true
     → (nat_le 1 count && nat_le count 7) && apart ≡ true
 small_count count ranges range apart is small good =
     let some : nat_le 1 count ≡ true = grind arith in let few : nat_le count 7 ≡ true = grind arith in rw (some, few, good) refl
 
-pub status_read : (lost : List (ℕ × ℕ)) (delivered : Option ℕ) (first second : ℕ) (fields : List ℕ) → first ≡ 16 + 4 * flag (is_some delivered) + flag (is_lost lost)
+pub status_read : (lost : List (ℕ × ℕ)) (delivered : Option ℕ) (first second : ℕ) (fields : List ℕ)
+    → first ≡ 16 + 4 * flag (is_some delivered) + flag (is_lost lost)
     → second ≡ 0 → HasLost lost delivered fields → StatusRead lost delivered first second fields
 status_read [] delivered first second fields first_is second_is h =
     let bits = first_octet (is_some delivered) false first first_is in
@@ -310,7 +316,8 @@ is_some-if : (b : Bool) (n : ℕ) → is_some (if b then Some n else None) ≡ b
 is_some-if true n = refl
 is_some-if false n = refl
 
-no_lost : (first second : ℕ) (fields : List ℕ) (d : Bool) → first / 16 ≡ 1 → (first % 2 == 1) ≡ false → (first / 4 % 2 == 1) ≡ d → first / 2 % 2 ≡ 0 → first / 8 % 2 ≡ 0
+no_lost : (first second : ℕ) (fields : List ℕ) (d : Bool) → first / 16 ≡ 1 → (first % 2 == 1) ≡ false → (first / 4 % 2 == 1) ≡ d
+    → first / 2 % 2 ≡ 0 → first / 8 % 2 ≡ 0
     → Passes first second fields → StatusIs first fields (lost_at first fields) (delivered_at first fields)
 no_lost first second fields d kind lost_bit delivered_bit s t p =
     let skip : 0 + (if d then 3 else 0) ≡ (if d then 3 else 0) = omega arith in
@@ -321,7 +328,8 @@ no_lost first second fields d kind lost_bit delivered_bit s t p =
       fields_are = has_end d fields enough padding;
     })
 
-some_lost : (first second : ℕ) (fields : List ℕ) (d : Bool) → first / 16 ≡ 1 → (first % 2 == 1) ≡ true → (first / 4 % 2 == 1) ≡ d → first / 2 % 2 ≡ 0 → first / 8 % 2 ≡ 0
+some_lost : (first second : ℕ) (fields : List ℕ) (d : Bool) → first / 16 ≡ 1 → (first % 2 == 1) ≡ true → (first / 4 % 2 == 1) ≡ d
+    → first / 2 % 2 ≡ 0 → first / 8 % 2 ≡ 0
     → Passes first second fields → StatusIs first fields (lost_at first fields) (delivered_at first fields)
 some_lost first second [] d kind lost_bit delivered_bit s t p = let enough = rw lost_bit at p.enough in absurd (omega arith)
 some_lost first second (zero ∷ octets) d kind lost_bit delivered_bit s t p = let good = rw lost_bit at p.good in absurd (cc)
@@ -347,7 +355,8 @@ some_lost first second (suc k ∷ octets) d kind lost_bit delivered_bit s t p =
       );
     })
 
-status_is : (first second : ℕ) (fields : List ℕ) → first / 16 ≡ 1 → Passes first second fields → StatusIs first fields (lost_at first fields) (delivered_at first fields)
+status_is : (first second : ℕ) (fields : List ℕ) → first / 16 ≡ 1 → Passes first second fields
+    → StatusIs first fields (lost_at first fields) (delivered_at first fields)
 status_is first second fields kind p =
     let s : first / 2 % 2 ≡ 0 = eq_of_test (first / 2 % 2) 0 (left_of_and _ _ (left_of_and _ _ p.clear)) in
     let t : first / 8 % 2 ≡ 0 = eq_of_test (first / 8 % 2) 0 (right_of_and _ _ (left_of_and _ _ p.clear)) in
@@ -428,14 +437,17 @@ pub answers_found : (octets : List ℕ) (result : Result Frame FrameError) → A
 answers_found octets (Ok frame) h = let N : Frame → Type 0 = λ f. Nru f octets in subst N (sym h.1) (frame_without_reason octets h.0)
 answers_found octets (Err reason) h = tt
 
-pub answers_only : (octets : List ℕ) (result : Result Frame FrameError) → Answers octets result → (frame : Frame) → Nru frame octets → result ≡ Ok frame
+pub answers_only : (octets : List ℕ) (result : Result Frame FrameError) → Answers octets result → (frame : Frame) → Nru frame octets
+    → result ≡ Ok frame
 answers_only octets (Ok found) h frame is = ap Ok (h.1 ∙ (frame_read frame octets is).is)
 answers_only octets (Err reason) h frame is = let none = (frame_read frame octets is).none in absurd (cc)
 
-pub answers_refused : (octets : List ℕ) (result : Result Frame FrameError) → Answers octets result → IfErr result (λ reason. IsRefusal reason octets)
+pub answers_refused : (octets : List ℕ) (result : Result Frame FrameError) → Answers octets result
+    → IfErr result (λ reason. IsRefusal reason octets)
 answers_refused octets (Ok found) h = tt
 answers_refused octets (Err reason) h = tested_first (tests octets) (refusals octets) reason (are_tests octets) h
 
-pub answers_all : (octets : List ℕ) (result : Result Frame FrameError) → Answers octets result → (reason : FrameError) → IsRefusal reason octets → result ≡ Err reason
+pub answers_all : (octets : List ℕ) (result : Result Frame FrameError) → Answers octets result → (reason : FrameError)
+    → IsRefusal reason octets → result ≡ Err reason
 answers_all octets (Ok found) h reason k = first_refused (tests octets) (refusals octets) (are_tests octets) (Ok found) h.0 tt reason k
 answers_all octets (Err first) h reason k = first_refused {X = Frame} (tests octets) (refusals octets) (are_tests octets) (Err first) tt h reason k

@@ -24,7 +24,8 @@ pub pairs_are : (count : ℕ) (ranges new : List (ℕ × ℕ)) (rest after : Lis
     → pairs_at (count - length ranges) rest ≡ (start, end) ∷ pairs_at (count - length new) after
 pairs_are count ranges new rest after start end t = rw (left_is count ranges new rest after start end t, t.start_is, t.end_is, t.after_is) refl
 
-pub pairs_more : (count : ℕ) (ranges new all : List (ℕ × ℕ)) (rest after : List ℕ) (start end : ℕ) → Turn count ranges new rest after start end
+pub pairs_more : (count : ℕ) (ranges new all : List (ℕ × ℕ)) (rest after : List ℕ) (start end : ℕ)
+    → Turn count ranges new rest after start end
     → ranges ++ pairs_at (count - length ranges) rest ≡ all → new ++ pairs_at (count - length new) after ≡ all
 pairs_more count ranges new all rest after start end t pairs =
     ap (λ (xs : List (ℕ × ℕ)). xs ++ pairs_at (count - length new) after) t.pushed
@@ -42,7 +43,8 @@ fails least start end false (inl low) = grind arith
 fails least start end true (inr high) = grind arith
 fails least start end false (inr high) = grind arith
 
-pub apart_more : (count : ℕ) (ranges new : List (ℕ × ℕ)) (rest after : List ℕ) (start end least : ℕ) (whole : Bool) → Turn count ranges new rest after start end
+pub apart_more : (count : ℕ) (ranges new : List (ℕ × ℕ)) (rest after : List ℕ) (start end least : ℕ) (whole : Bool)
+    → Turn count ranges new rest after start end
     → whole ≡ are_apart least (pairs_at (count - length ranges) rest) → least ≤ start → start ≤ end
     → whole ≡ are_apart (end + 1) (pairs_at (count - length new) after)
 apart_more count ranges new rest after start end least whole t is low high =
@@ -51,12 +53,14 @@ apart_more count ranges new rest after start end least whole t is low high =
 
 -- the next range is badly placed
 pub apart_stops : (count left : ℕ) (rest : List ℕ) (start end least : ℕ) (whole : Bool) → left ≡ suc count
-    → start ≡ number24_at rest 0 → end ≡ number24_at rest 3 → whole ≡ are_apart least (pairs_at left rest) → (start < least) ⊎ (end < start) → whole ≡ false
+    → start ≡ number24_at rest 0 → end ≡ number24_at rest 3 → whole ≡ are_apart least (pairs_at left rest) → (start < least) ⊎ (end < start)
+    → whole ≡ false
 apart_stops count left rest start end least whole one_more start_is end_is is bad =
     is ∙ ap (λ n. are_apart least (pairs_at n rest)) one_more
     ∙ fails least (number24_at rest 0) (number24_at rest 3) (are_apart (number24_at rest 3 + 1) (pairs_at count (drop 6 rest))) (rw (start_is, end_is) at bad)
 
-pub rest_more : (count : ℕ) (ranges new : List (ℕ × ℕ)) (rest after ends : List ℕ) (start end : ℕ) → Turn count ranges new rest after start end
+pub rest_more : (count : ℕ) (ranges new : List (ℕ × ℕ)) (rest after ends : List ℕ) (start end : ℕ)
+    → Turn count ranges new rest after start end
     → drop (6 * (count - length ranges)) rest ≡ ends → drop (6 * (count - length new)) after ≡ ends
 rest_more count ranges new rest after ends start end t is =
     let left = left_is count ranges new rest after start end t in

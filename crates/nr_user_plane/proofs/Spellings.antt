@@ -2,9 +2,10 @@
 use Rattle.std.proofs.Common.{◌≡◌, ℕ, ◌+◌, ◌-◌, ◌*◌, ◌/◌, ◌%◌, ◌^◌, ◌<◌, ◌≤◌, Option, Some, None, is_some, IfSome, Bool, List, [], ◌∷◌, ◌++◌, length, replicate, refl, sym, ◌∙◌, ap, arith, append_assoc, length-append, subst, lit≤}
 use Rattle.std.specs.List.{flat_map}
 use Rattle.std.proofs.lemmas.List.{length-replicate}
+use Rattle.gnb_types.specs.Numbers.{be24, be32}
 use Rattle.nr_user_plane.specs.declared.frames.Frame.{Frame}
 use Rattle.nr_user_plane.specs.declared.frames.Frame.TheVariants.{Data, Status}
-use Rattle.nr_user_plane.specs.Frames.{Nru, IsPadding, HasEnd, HasRanges, HasLost, AreOctets, AreApart, FitsFrame, HasRoom, number24, number32, flag, is_lost, be24, be32, range_octets, lost_octets, delivered_octets, field_octets, filled, nru_octets}
+use Rattle.nr_user_plane.specs.Frames.{Nru, IsPadding, HasEnd, HasRanges, HasLost, AreOctets, AreApart, FitsFrame, HasRoom, number24, number32, flag, is_lost, range_octets, lost_octets, delivered_octets, field_octets, filled, nru_octets}
 
 -- three octets and their number
 pub be24-number24 : (a b c : ℕ) → a < 256 → b < 256 → c < 256 → be24 (number24 a b c) ≡ a ∷ b ∷ c ∷ []
@@ -28,7 +29,8 @@ pub record IsSpelled (fields octets : List ℕ) : Type 0 where
   pub parts : octets ≡ fields ++ padding
   pub is_padding : IsPadding padding
 
-pub end_spelled : (delivered : Option ℕ) (octets : List ℕ) → AreOctets octets → HasEnd delivered octets → IsSpelled (delivered_octets delivered) octets
+pub end_spelled : (delivered : Option ℕ) (octets : List ℕ) → AreOctets octets → HasEnd delivered octets
+    → IsSpelled (delivered_octets delivered) octets
 end_spelled None octets small h = record { padding = octets; parts = refl; is_padding = h }
 end_spelled (Some number) [] small h = absurd h
 end_spelled (Some number) (a ∷ []) small h = absurd h
@@ -39,7 +41,8 @@ end_spelled (Some number) (a ∷ b ∷ c ∷ octets) small h = record {
   is_padding = h.1;
 }
 
-pub ranges_spelled : (least : ℕ) (ranges : List (ℕ × ℕ)) (delivered : Option ℕ) (octets : List ℕ) → AreOctets octets → HasRanges least ranges delivered octets
+pub ranges_spelled : (least : ℕ) (ranges : List (ℕ × ℕ)) (delivered : Option ℕ) (octets : List ℕ) → AreOctets octets
+    → HasRanges least ranges delivered octets
     → IsSpelled (flat_map range_octets ranges ++ delivered_octets delivered) octets
 ranges_spelled least [] delivered octets small h = end_spelled delivered octets small h
 ranges_spelled least (range ∷ ranges) delivered [] small h = absurd h
@@ -124,24 +127,28 @@ number24-be24 n small = omega arith
 number32-be32 : (n : ℕ) → n < 2 ^ 32 → n ≡ number32 (n / 16777216 % 256) (n / 65536 % 256) (n / 256 % 256) (n % 256)
 number32-be32 n small = omega arith
 
-pub end_written : (delivered : Option ℕ) (padding : List ℕ) → IfSome delivered (λ number. number < 2 ^ 24) → IsPadding padding → HasEnd delivered (delivered_octets delivered ++ padding)
+pub end_written : (delivered : Option ℕ) (padding : List ℕ) → IfSome delivered (λ number. number < 2 ^ 24) → IsPadding padding
+    → HasEnd delivered (delivered_octets delivered ++ padding)
 end_written None padding fits h = h
 end_written (Some number) padding fits h = (number24-be24 number fits, h)
 
-pub ranges_written : (least : ℕ) (ranges : List (ℕ × ℕ)) (delivered : Option ℕ) (octets : List ℕ) → AreApart least ranges → HasEnd delivered octets
+pub ranges_written : (least : ℕ) (ranges : List (ℕ × ℕ)) (delivered : Option ℕ) (octets : List ℕ) → AreApart least ranges
+    → HasEnd delivered octets
     → HasRanges least ranges delivered (flat_map range_octets ranges ++ octets)
 ranges_written least [] delivered octets apart h = h
 ranges_written least (range ∷ ranges) delivered octets apart h =
     let end : range.1 < 2 ^ 24 = apart.2 in
     let order : range.0 ≤ range.1 = apart.1 in
     let start : range.0 < 2 ^ 24 = omega arith in (
-      ap (λ n. (n, range.1)) (number24-be24 range.0 start) ∙ ap (λ n. (number24 (range.0 / 65536 % 256) (range.0 / 256 % 256) (range.0 % 256), n)) (number24-be24 range.1 end),
+      ap (λ n. (n, range.1)) (number24-be24 range.0 start)
+          ∙ ap (λ n. (number24 (range.0 / 65536 % 256) (range.0 / 256 % 256) (range.0 % 256), n)) (number24-be24 range.1 end),
       apart.0,
       order,
       ranges_written (range.1 + 1) ranges delivered octets apart.3 h,
     )
 
-pub lost_written : (lost : List (ℕ × ℕ)) (delivered : Option ℕ) (octets : List ℕ) → length lost ≤ 7 → AreApart 0 lost → HasEnd delivered octets
+pub lost_written : (lost : List (ℕ × ℕ)) (delivered : Option ℕ) (octets : List ℕ) → length lost ≤ 7 → AreApart 0 lost
+    → HasEnd delivered octets
     → HasLost lost delivered (lost_octets lost ++ octets)
 lost_written [] delivered octets few apart h = h
 lost_written (range ∷ ranges) delivered octets few apart h = (refl, few, ranges_written 0 (range ∷ ranges) delivered octets apart h)
@@ -180,6 +187,7 @@ pub nru_octets-nothing : (room : ℕ) → nru_octets (Status room [] None) ≡ 1
 unfolding filled
 nru_octets-nothing room = refl
 
-pub nru_octets-lost : (room start end : ℕ) → nru_octets (Status room ((start, end) ∷ []) None) ≡ 17 ∷ 0 ∷ be32 room ++ 1 ∷ be24 start ++ be24 end ++ 0 ∷ []
+pub nru_octets-lost : (room start end : ℕ)
+    → nru_octets (Status room ((start, end) ∷ []) None) ≡ 17 ∷ 0 ∷ be32 room ++ 1 ∷ be24 start ++ be24 end ++ 0 ∷ []
 unfolding filled
 nru_octets-lost room start end = refl

@@ -2,6 +2,7 @@
 -- widths and the order of the fields are this project's own.
 use Rattle.std.specs.Prelude.{◌≡◌, ℕ, ◌+◌, ◌-◌, ◌*◌, ◌/◌, ◌%◌, ◌^◌, ◌<◌, ◌≤◌, Bool, true, false, Option, Some, None, is_some, IfSome, List, [], ◌∷◌, ◌++◌, length, replicate}
 use Rattle.std.specs.List.{flat_map}
+use Rattle.gnb_types.specs.Numbers.{be24, be32}
 use Rattle.nr_user_plane.specs.declared.frames.Frame.{Frame}
 use Rattle.nr_user_plane.specs.declared.frames.Frame.TheVariants.{Data, Status}
 
@@ -36,7 +37,8 @@ HasEnd (Some delivered) octets = ⊥
 abbrev pub HasRanges : ℕ → List (ℕ × ℕ) → Option ℕ → List ℕ → Type 0
 HasRanges least [] delivered octets = HasEnd delivered octets
 HasRanges least (range ∷ ranges) delivered (a ∷ b ∷ c ∷ d ∷ e ∷ f ∷ octets) =
-    (range ≡ (number24 a b c, number24 d e f)) × (least ≤ range.0) × (range.0 ≤ range.1) × HasRanges (range.1 + 1) ranges delivered octets
+    (range ≡ (number24 a b c, number24 d e f)) × (least ≤ range.0) × (range.0 ≤ range.1)
+    × HasRanges (range.1 + 1) ranges delivered octets
 HasRanges least (range ∷ ranges) delivered octets = ⊥
 
 -- the lost ranges where there are any, after their count of one to seven, and then the end
@@ -52,7 +54,8 @@ abbrev pub Nru : Frame → List ℕ → Type 0
 Nru (Data poll restart sn) (first ∷ second ∷ a ∷ b ∷ c ∷ padding) =
     (first ≡ flag poll) × (second ≡ flag restart) × (sn ≡ number24 a b c) × IsPadding padding
 Nru (Status room lost delivered) (first ∷ second ∷ a ∷ b ∷ c ∷ d ∷ octets) =
-    (first ≡ 16 + 4 * flag (is_some delivered) + flag (is_lost lost)) × (second ≡ 0) × (room ≡ number32 a b c d) × HasLost lost delivered octets
+    (first ≡ 16 + 4 * flag (is_some delivered) + flag (is_lost lost)) × (second ≡ 0)
+    × (room ≡ number32 a b c d) × HasLost lost delivered octets
 Nru frame octets = ⊥
 
 -- numbers that an octet can hold
@@ -63,23 +66,18 @@ AreOctets (octet ∷ octets) = (octet < 256) × AreOctets octets
 -- what a frame can hold: numbers of 24 bits, and at most seven ranges, each above the one before it
 abbrev pub AreApart : ℕ → List (ℕ × ℕ) → Type 0
 AreApart least [] = Unit {0}
-AreApart least (range ∷ ranges) = (least ≤ range.0) × (range.0 ≤ range.1) × (range.1 < 2 ^ 24) × AreApart (range.1 + 1) ranges
+AreApart least (range ∷ ranges) = (least ≤ range.0) × (range.0 ≤ range.1) × (range.1 < 2 ^ 24)
+    × AreApart (range.1 + 1) ranges
 
 abbrev pub FitsFrame : Frame → Type 0
 FitsFrame (Data poll restart sn) = sn < 2 ^ 24
-FitsFrame (Status room lost delivered) = (length lost ≤ 7) × AreApart 0 lost × IfSome delivered (λ number. number < 2 ^ 24)
+FitsFrame (Status room lost delivered) = (length lost ≤ 7) × AreApart 0 lost
+    × IfSome delivered (λ number. number < 2 ^ 24)
 
 -- a desired buffer size of 32 bits
 abbrev pub HasRoom : Frame → Type 0
 HasRoom (Data poll restart sn) = Unit {0}
 HasRoom (Status room lost delivered) = room < 2 ^ 32
-
--- a number as three or four octets
-abbrev pub be24 : ℕ → List ℕ
-be24 n = n / 65536 % 256 ∷ n / 256 % 256 ∷ n % 256 ∷ []
-
-abbrev pub be32 : ℕ → List ℕ
-be32 n = n / 16777216 % 256 ∷ be24 n
 
 abbrev pub range_octets : ℕ × ℕ → List ℕ
 range_octets range = be24 range.0 ++ be24 range.1

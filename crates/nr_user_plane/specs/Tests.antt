@@ -24,13 +24,17 @@ Answers octets (Err reason) = first_reason (tests octets) ≡ Some reason
 
 -- The ranges and the octets behind them, where they are apart, else the reason.
 abbrev pub AnswersPairs : ℕ → List ℕ → Result (List (ℕ × ℕ) × Bor (List ℕ)) FrameError → Type 0
-AnswersPairs count octets (Ok read) = (are_apart 0 (pairs_at count octets) ≡ true) × (read.0 ≡ pairs_at count octets) × (read.1.now ≡ drop (6 * count) octets)
-AnswersPairs count octets (Err reason) = (are_apart 0 (pairs_at count octets) ≡ false) × (reason ≡ reasons.Ranges)
+AnswersPairs count octets (Ok read) = (are_apart 0 (pairs_at count octets) ≡ true)
+    × (read.0 ≡ pairs_at count octets) × (read.1.now ≡ drop (6 * count) octets)
+AnswersPairs count octets (Err reason) = (are_apart 0 (pairs_at count octets) ≡ false)
+    × (reason ≡ reasons.Ranges)
 
 -- The same of the lost ranges of a status.
 abbrev pub AnswersLost : ℕ → List ℕ → Result (List (ℕ × ℕ) × Bor (List ℕ)) FrameError → Type 0
-AnswersLost first fields (Ok read) = (is_good_lost first fields ≡ true) × (read.0 ≡ lost_at first fields) × (read.1.now ≡ drop (lost_len first fields) fields)
-AnswersLost first fields (Err reason) = (is_good_lost first fields ≡ false) × (reason ≡ reasons.Ranges)
+AnswersLost first fields (Ok read) = (is_good_lost first fields ≡ true)
+    × (read.0 ≡ lost_at first fields) × (read.1.now ≡ drop (lost_len first fields) fields)
+AnswersLost first fields (Err reason) = (is_good_lost first fields ≡ false)
+    × (reason ≡ reasons.Ranges)
 
 -- Which reason applies first to a status with all of its first six octets, and the answer of a reader of its fields.
 abbrev pub status_reason : ℕ → ℕ → List ℕ → Option FrameError
@@ -42,5 +46,6 @@ status_reason first second fields =
 
 abbrev pub AnswersStatus : ℕ → ℕ → ℕ → List ℕ → Result Frame FrameError → Type 0
 AnswersStatus first second room fields (Ok frame) =
-    (status_reason first second fields ≡ None) × (frame ≡ Status room (lost_at first fields) (delivered_at first fields))
+    (status_reason first second fields ≡ None)
+    × (frame ≡ Status room (lost_at first fields) (delivered_at first fields))
 AnswersStatus first second room fields (Err reason) = status_reason first second fields ≡ Some reason

@@ -2,7 +2,8 @@
 
 ghost use Rattle.std.specs.Prelude.{◌≡◌, ◌+◌, ◌*◌, ◌^◌, ◌<◌, ◌≤◌, length, drop, ◌++◌, if◌then◌else◌, Ok, IfOk, IfErr, OnOk};
 ghost use Rattle.std.specs.List.{flat_map};
-ghost use Rattle.nr_user_plane.specs.Frames.{Nru, FitsFrame, number24, be24, range_octets, lost_octets, field_octets, filled, nru_octets};
+ghost use Rattle.gnb_types.specs.Numbers.{be24};
+ghost use Rattle.nr_user_plane.specs.Frames.{Nru, FitsFrame, number24, range_octets, lost_octets, field_octets, filled, nru_octets};
 ghost use Rattle.nr_user_plane.specs.declared.frames.Frame.{Frame};
 ghost use Rattle.nr_user_plane.specs.Reasons.{IsRefusal, kind, lost_len, delivered_len, has_lost, has_delivered, number24_at, is_clear_status, is_padding};
 ghost use Rattle.nr_user_plane.specs.Tests.{Answers, AnswersStatus, AnswersLost, AnswersPairs};

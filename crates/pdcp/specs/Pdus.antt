@@ -1,6 +1,7 @@
 -- PDCP PDUs as octets: data PDUs with numbers of 12 and 18 bits (TS 38.323, 6.2.2.2, 6.2.2.3), and the status report
 -- (6.2.3.1).
 use Rattle.std.specs.Prelude.{◌≡◌, ◌≢◌, ◌==◌, ℕ, ◌+◌, ◌*◌, ◌-◌, ◌/◌, ◌%◌, ◌^◌, ◌<◌, ◌≤◌, Bool, true, false, if◌then◌else◌, nat_le, List, [], ◌∷◌, ◌++◌, length, slice_index}
+use Rattle.gnb_types.specs.Numbers.{be16, be32}
 use Rattle.gnb_types.specs.Refusals.{Condition, IsFirst}
 use Rattle.gnb_types.specs.declared.names.SnBits.{SnBits}
 use Rattle.gnb_types.specs.declared.names.SnBits.TheVariants.{Len12, Len18}
@@ -8,7 +9,6 @@ use Rattle.pdcp.specs.declared.pdu.Pdu.{Pdu}
 use Rattle.pdcp.specs.declared.pdu.Pdu.TheVariants as pdus
 use Rattle.pdcp.specs.declared.pdu.PduError.{PduError}
 use Rattle.pdcp.specs.declared.pdu.PduError.TheVariants.{Truncated, ControlKind}
-use Rattle.pdcp.specs.Numbers.{be16, be32}
 
 -- what a PDU says
 pub data Content : Type 0 where

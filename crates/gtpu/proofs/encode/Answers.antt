@@ -11,7 +11,8 @@ returns c =
     let is : c.if-flags-eq0.optional.now ≡ optional_of p =
     elim c.if-flags-eq0.branch [
       | then-flags-eq0 w ↦ ap (λ (x : Bor (List ℕ)). x.now) w.optional-is ∙ no_fields p c.first_octet-flags.result flags w.if-flags-eq0.true
-      | else-flags-eq0 w ↦ ap (λ (x : Bor (List ℕ)). x.now) w.optional-is ∙ c.optional_fields-fields.ensures ∙ all_fields p c.first_octet-flags.result flags w.if-flags-eq0.false
+      | else-flags-eq0 w ↦ ap (λ (x : Bor (List ℕ)). x.now) w.optional-is ∙ c.optional_fields-fields.ensures
+          ∙ all_fields p c.first_octet-flags.result flags w.if-flags-eq0.false
     ] in
     in_pieces p c.new-octets.result c.append.new.self c.append-2.new.self c.append-3.new.self c.append-4.new.self c.append-5.new.self c.append-6.new.self
     c.first_octet-flags.result c.code_of.result (length c.if-flags-eq0.optional.now + length p.chain + length p.payload) c.if-flags-eq0.optional.now

@@ -9,7 +9,8 @@ zeros (suc (suc zero)) h = refl
 zeros (suc (suc (suc zero))) h = refl
 zeros (suc (suc (suc (suc n)))) h = absurd (omega arith)
 
-filled_is : (old new : List ℕ) (len : ℕ) → len ≡ length old → new ≡ old ++ take {A = ℕ} ((6 - len % 4) % 4) (0 ∷ 0 ∷ 0 ∷ []) → new ≡ filled old
+filled_is : (old new : List ℕ) (len : ℕ) → len ≡ length old → new ≡ old ++ take {A = ℕ} ((6 - len % 4) % 4) (0 ∷ 0 ∷ 0 ∷ [])
+    → new ≡ filled old
 unfolding filled
 filled_is old new len len_is pushed = rw (pushed, len_is, zeros ((6 - length old % 4) % 4) (omega arith)) refl
 
