@@ -33,9 +33,9 @@ Run old (c ∷ calls) taken new =
     (mid : Reading) × (m : NextMeets old mid c.before c.after c.result) × (rest : List ℕ)
     × (taken ≡ m.taken ++ rest) × Run mid calls rest new
 
--- What a reader handed out of the bytes that it took: while it goes on, their lines are these, and then those of the
--- kept bytes, whatever may follow them; at the end they are these.
-pub record HandedOut (r : Reading) (taken : List ℕ) (lines : List (List ℕ)) : Type 0 where
+-- How far a reader is, which handed out these lines of the bytes that it took: while it goes on, the lines of these bytes
+-- are those, and then the lines of the kept bytes, whatever may follow them; at the end they are those.
+pub record Progress (r : Reading) (taken : List ℕ) (lines : List (List ℕ)) : Type 0 where
   pub going : r.phase ≡ Going → (more : List ℕ)
       → lines_of (taken ++ more) ≡ lines ++ lines_of (r.kept ++ more)
   pub ended : r.phase ≡ Ended → lines_of taken ≡ lines

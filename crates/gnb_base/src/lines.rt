@@ -1,7 +1,7 @@
 //! Lines of an input that comes in pieces.
 
 ghost use Rattle.std.specs.Prelude.{◌≡◌, ◌<◌, ◌≤◌, ◌+◌, ℕ, List, length, MatchOption, IfOk, is_err};
-ghost use Rattle.gnb_base.specs.Handing.{Call, Run, HandedOut, texts, lines_handed_out};
+ghost use Rattle.gnb_base.specs.Handing.{Call, Run, Progress, texts, lines_handed_out};
 ghost use Rattle.gnb_base.specs.Lines.{lines_of, AreLines, HasNoLf, IsFirstLf};
 ghost use Rattle.gnb_base.specs.Pieces.{FillsFront};
 ghost use Rattle.gnb_base.specs.Outside.{CountsFaults, one_more};
@@ -231,7 +231,7 @@ pub fn lines_are_exact()
 /// Over any calls of `next`, the lines that a new reader hands out are the lines of the bytes that it took.
 pub fn lines_handed_out_are_the_lines()
     ensures { (calls : List Call) (taken : List ℕ) (reader : Reading) → Run fresh calls taken reader
-        → HandedOut reader taken (texts (lines_handed_out calls)) }
+        → Progress reader taken (texts (lines_handed_out calls)) }
 {}
 
 /// Where the first LF stands.
