@@ -1,2 +1,3 @@
+mod ShelfLemmas
 pub mod TableLaws
-pub mod TableLemmas
+mod TableLemmas

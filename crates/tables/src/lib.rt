@@ -2,6 +2,7 @@
 #![tactic(auto)]
 
 pub mod queue;
+pub mod shelf;
 pub mod table;
 #[cfg(test)]
 mod tests;

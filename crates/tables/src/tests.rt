@@ -1,6 +1,7 @@
 //! Each public call once, at keys and values with heap inside.
 
 use crate::queue::Queue;
+use crate::shelf::Shelf;
 use crate::table::Table;
 use gnb_types::octets::Octets;
 use std::test::Fail;
@@ -52,5 +53,29 @@ fn a_queue_from_end_to_end(rt: HostRuntime) -> Result<(), Fail> {
         assert!(rt; queue.take() == Some(Octets::one(alloc, octet)?));
     }
     assert!(rt; queue.take().is_none());
+    Ok(())
+}
+
+#[test]
+fn a_shelf_from_end_to_end(rt: HostRuntime) -> Result<(), Fail> {
+    let alloc = rt.alloc();
+    let mut shelf: Shelf<u8, Octets> = Shelf::new(alloc);
+    for key in [5u8, 1, 9] {
+        assert!(rt; shelf.put(key, Octets::one(alloc, key)?)?.is_none());
+    }
+    assert!(rt; shelf.put(5, Octets::one(alloc, 50)?)? == Some(Octets::one(alloc, 5)?));
+    assert!(rt; shelf.has(&9));
+    assert!(rt; !shelf.has(&2));
+    assert!(rt; shelf.get(&2).is_none());
+    if let Some(value) = shelf.get_mut(&1) {
+        value.push(11)?;
+    }
+    assert!(rt; shelf.get(&1) == Some(&Octets::from_slice(alloc, &[1, 11])?));
+    assert!(rt; shelf.take(&5) == Some(Octets::one(alloc, 50)?));
+    assert!(rt; shelf.take(&5).is_none());
+    // The slot of the key that was taken is used again.
+    assert!(rt; shelf.put(2, Octets::one(alloc, 2)?)?.is_none());
+    assert!(rt; shelf.get(&2) == Some(&Octets::one(alloc, 2)?));
+    assert!(rt; shelf.get(&9) == Some(&Octets::one(alloc, 9)?));
     Ok(())
 }
