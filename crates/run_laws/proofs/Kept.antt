@@ -3,10 +3,10 @@ use Rattle.std.proofs.Common.{◌≡◌, ℕ, ◌+◌, false, List, [], ◌∷�
 use Rattle.std.proofs.lemmas.List.{append-nil}
 use Rattle.std.proofs.lemmas.Grind.{flat_map-append}
 use Rattle.std.specs.List.{enumerate_from, AllByRecursion}
-use Rattle.scenario_text.specs.declared.event.Event.{Event}
+use Rattle.run_model.specs.declared.event.StaticEvent.{StaticEvent}
 use Rattle.scenario_text.specs.declared.line.Link.{Link}
 use Rattle.scenario_text.specs.declared.line.Item.{Item}
-use Rattle.scenario_text.specs.declared.line.RefuseReason.{RefuseReason}
+use Rattle.gnb_types.specs.declared.reasons.RefuseReason.{RefuseReason}
 use Rattle.scenario_text.specs.declared.line.OutLine.{OutLine}
 use Rattle.scenario_text.specs.declared.line.OutLine.TheVariants as lines
 use Rattle.run_model.specs.Keys.{Bearer, same_bearer}
@@ -124,10 +124,10 @@ keeps_quiet one steps step k q = record {
   means = means_more steps step k.means q.means;
 }
 
-abbrev pub step_of : Event → List OutLine → Step
+abbrev pub step_of : StaticEvent → List OutLine → Step
 step_of event printed = record { event = event; lines = printed }
 
-pub quiet_refused : (steps : List Step) (e : Event) (reason : RefuseReason) → Quiet steps (step_of e (lines.Refused reason ∷ []))
+pub quiet_refused : (steps : List Step) (e : StaticEvent) (reason : RefuseReason) → Quiet steps (step_of e (lines.Refused reason ∷ []))
 unfolding offered_in
 quiet_refused steps e reason = record {
   offered = λ b. refl;

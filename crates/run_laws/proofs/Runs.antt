@@ -3,10 +3,10 @@ use Rattle.std.proofs.Common.{◌≡◌, ℕ, Bool, true, false, cond, eqb, eq-e
 use Rattle.std.proofs.lemmas.List.{append-nil}
 use Rattle.std.proofs.lemmas.Bool.{false≢true}
 use Rattle.std.specs.List.{fold, range_with_len}
-use Rattle.scenario_text.specs.declared.event.Event.{Event}
-use Rattle.scenario_text.specs.declared.event.Event.TheVariants as events
-use Rattle.scenario_text.specs.declared.line.RefuseReason.TheVariants.{Attached, NoBearer, Size, NoSuch, Empty}
-use Rattle.scenario_text.specs.declared.line.HeldReason.TheVariants.{Quota}
+use Rattle.run_model.specs.declared.event.StaticEvent.{StaticEvent}
+use Rattle.run_model.specs.declared.event.StaticEvent.TheVariants as events
+use Rattle.gnb_types.specs.declared.reasons.RefuseReason.TheVariants.{Attached, NoBearer, Size, NoSuch, Empty}
+use Rattle.gnb_types.specs.declared.reasons.HeldReason.TheVariants.{Quota}
 use Rattle.scenario_text.specs.declared.line.OutLine.TheVariants as lines
 use Rattle.run_model.specs.Keys.{Bearer, place_cmp, radio_cmp, same_bearer, same_place, same_radio}
 use Rattle.run_model.specs.State.{Numbered}
@@ -25,7 +25,7 @@ abbrev pub KeptFor : Option OneBearer → List Step → Type 0
 KeptFor None steps = Kept (new_bearer 0) steps
 KeptFor (Some one) steps = Kept one steps
 
-abbrev pub KeptNext : Next → Event → List Step → Type 0
+abbrev pub KeptNext : Next → StaticEvent → List Step → Type 0
 KeptNext next e steps = KeptFor next.bearer (steps ++ step_of e next.lines ∷ [])
 
 nothing_yet : KeptFor None []
@@ -47,12 +47,12 @@ nothing_yet = record {
 }
 
 -- an event that is refused
-refusal : (one : Option OneBearer) (e : Event) (steps : List Step) (reason : _) → KeptFor one steps → KeptNext (stays one reason) e steps
+refusal : (one : Option OneBearer) (e : StaticEvent) (steps : List Step) (reason : _) → KeptFor one steps → KeptNext (stays one reason) e steps
 refusal None e steps reason k = keeps_quiet _ steps _ k (quiet_refused steps e reason)
 refusal (Some one) e steps reason k = keeps_quiet one steps _ k (quiet_refused steps e reason)
 
 -- by a test, with what it says
-by_test : (a b : Next) (e : Event) (steps : List Step) (test : Bool) → (test ≡ true → KeptNext a e steps) → (test ≡ false → KeptNext b e steps) → KeptNext (cond test a b) e steps
+by_test : (a b : Next) (e : StaticEvent) (steps : List Step) (test : Bool) → (test ≡ true → KeptNext a e steps) → (test ≡ false → KeptNext b e steps) → KeptNext (cond test a b) e steps
 by_test a b e steps true x y = x refl
 by_test a b e steps false x y = y refl
 
@@ -121,7 +121,7 @@ aired one (numbered ∷ rest) ue bearer steps e k =
     (λ other. absurd (false≢true (sym other ∙ eq-eqb numbered.count one.deliv (head_of_flight one numbered rest e k.sound).0)))
 
 -- each event keeps what holds
-kept_event : (one : Option OneBearer) (e : Event) (steps : List Step) → KeptFor one steps → KeptNext (one_happens one e) e steps
+kept_event : (one : Option OneBearer) (e : StaticEvent) (steps : List Step) → KeptFor one steps → KeptNext (one_happens one e) e steps
 unfolding one_happens
 kept_event None (events.Static quota) steps k = keeps_quiet (new_bearer quota) steps _ (set_up quota steps k) (quiet_set_up steps quota)
 kept_event None (events.Offer ue bearer packet) steps k = refusal None _ steps NoBearer k
@@ -136,12 +136,12 @@ kept_event (Some one) (events.Get end teid) steps k = got one end teid steps k
 kept_event (Some one) (events.Air ue bearer) steps k =
     by_test _ _ _ steps (same_radio (radio_of (downlink_of ue bearer)) static_radio) (λ _. aired one one.on_air ue bearer steps refl k) (λ _. refusal (Some one) _ steps NoBearer k)
 
-kept_fold : (events : List Event) (ran : OneRan) → KeptFor ran.bearer ran.steps → let end = fold one_goes_on ran events in KeptFor end.bearer end.steps
+kept_fold : (events : List StaticEvent) (ran : OneRan) → KeptFor ran.bearer ran.steps → let end = fold one_goes_on ran events in KeptFor end.bearer end.steps
 kept_fold [] ran k = k
 kept_fold (e ∷ events) ran k = kept_fold events (one_goes_on ran e) (kept_event ran.bearer e ran.steps k)
 
 -- every run
-kept_run : (events : List Event) → KeptFor (one_run events).bearer (one_run events).steps
+kept_run : (events : List StaticEvent) → KeptFor (one_run events).bearer (one_run events).steps
 unfolding one_run
 kept_run events = kept_fold events one_begins nothing_yet
 
@@ -172,5 +172,5 @@ holds_for : (one : Option OneBearer) (steps : List Step) → KeptFor one steps �
 holds_for None steps k = holds_of _ steps k
 holds_for (Some one) steps k = holds_of one steps k
 
-pub every_run : (events : List Event) → Holds (run events).steps
+pub every_run : (events : List StaticEvent) → Holds (run events).steps
 every_run events = subst Holds (sym (run_agrees events).steps) (holds_for _ _ (kept_run events))

@@ -6,14 +6,15 @@ use Rattle.std.specs.List.{enumerate_from}
 use Rattle.gnb_types.specs.declared.names.UeId.{UeId}
 use Rattle.gnb_types.specs.declared.names.BearerId.{BearerId}
 use Rattle.gnb_types.specs.declared.names.NodeId.{NodeId}
-use Rattle.scenario_text.specs.declared.event.Event.{Event}
-use Rattle.scenario_text.specs.declared.event.Event.TheVariants as events
+use Rattle.run_model.specs.declared.event.StaticEvent.{StaticEvent}
+use Rattle.run_model.specs.declared.event.StaticEvent.TheVariants as events
 use Rattle.scenario_text.specs.declared.line.Link.{Link}
 use Rattle.scenario_text.specs.declared.line.Item.{Item}
 use Rattle.scenario_text.specs.declared.line.OutLine.{OutLine}
 use Rattle.scenario_text.specs.declared.line.OutLine.TheVariants as lines
 use Rattle.run_model.specs.Keys.{Bearer, bearer_cmp, place_cmp, radio_cmp, same_bearer}
 use Rattle.run_model.specs.State.{Numbered}
+use Rattle.run_model.specs.Runnable.{whole_event}
 use Rattle.run_model.specs.Run.{Step, lines_of, static_bearer, static_n3, static_downlink, static_radio, downlink_of, shown_in, shown_on_air}
 use Rattle.run_model.specs.OneBearer.{OneBearer, Frame, IsSound, fresh_item, framed_item, in_flight, numbered_from, has_room, next_frame, numbers_one, delivers_one}
 use Rattle.run_model.specs.Transcript.{put_on, taken_from, offered, offered_in, deliveries, puts, taken, Offered, Taken, Somewhere}
@@ -115,11 +116,11 @@ next_place : (one : OneBearer) (steps : List Step) → (k : Kept one steps) → 
 next_place one steps k = omega (arith, k.sound.next, k.all_done, length-flight one, ap length k.sound.flight, length-numbered_from one.deliv k.sound.packets)
 
 -- the oldest item of a link is the one that is got
-oldest : (link : Link) (item : Item) (items : List Item) (printed : List OutLine) (e : Event) → Standing link (item ∷ items) printed
-    → slice_get (puts link (printed ++ lines.Happens e ∷ [])) (taken link (printed ++ lines.Happens e ∷ [])) ≡ Some item
+oldest : (link : Link) (item : Item) (items : List Item) (printed : List OutLine) (e : StaticEvent) → Standing link (item ∷ items) printed
+    → slice_get (puts link (printed ++ lines.Happens (whole_event e) ∷ [])) (taken link (printed ++ lines.Happens (whole_event e) ∷ [])) ≡ Some item
 oldest link item items printed e k =
-    get-seam_at _ _ k.gone item items (flat_map-append (put_on link) printed (lines.Happens e ∷ []) ∙ append-nil _ ∙ k.put)
-    (ap length (flat_map-append (taken_from link) printed (lines.Happens e ∷ []) ∙ append-nil _) ∙ k.took)
+    get-seam_at _ _ k.gone item items (flat_map-append (put_on link) printed (lines.Happens (whole_event e) ∷ []) ∙ append-nil _ ∙ k.put)
+    (ap length (flat_map-append (taken_from link) printed (lines.Happens (whole_event e) ∷ []) ∙ append-nil _) ∙ k.took)
 
 get_seam_none : {X : Type 0} (xs waiting rest : List X) (x : X) → waiting ≡ [] → slice_get (xs ++ (waiting ++ x ∷ rest)) (length xs) ≡ Some x
 get_seam_none xs waiting rest x none = ap (λ w. slice_get (xs ++ (w ++ x ∷ rest)) (length xs)) none ∙ get-seam xs x rest
@@ -213,8 +214,8 @@ keeps_frame one steps end teid frame rest e k =
       means = means_more steps step k.means ((frame.numbered.packet, (frame.number, refl), place), ((frame.numbered.packet, refl, place), tt));
     }
 
-none_elsewhere : (b : Bearer) (e : Event) (got : Item) (count : ℕ) (packet : List ℕ) → same_bearer b static_bearer ≡ false
-    → deliveries b (lines.Happens e ∷ lines.Got air_link got ∷ lines.Deliver static_bearer.ue static_bearer.bearer static_bearer.dir count packet ∷ []) ≡ []
+none_elsewhere : (b : Bearer) (e : StaticEvent) (got : Item) (count : ℕ) (packet : List ℕ) → same_bearer b static_bearer ≡ false
+    → deliveries b (lines.Happens (whole_event e) ∷ lines.Got air_link got ∷ lines.Deliver static_bearer.ue static_bearer.bearer static_bearer.dir count packet ∷ []) ≡ []
 none_elsewhere b e got count packet f = ap (λ (t : Bool). cond t ((count, packet) ∷ []) [] ++ []) f
 
 -- the terminal delivers the oldest packet of the radio

@@ -1,3 +1,4 @@
 pub mod Tables
 pub mod OneRun
 pub mod Sound
+pub mod Runnables

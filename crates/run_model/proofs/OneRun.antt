@@ -3,10 +3,10 @@ use Rattle.std.proofs.Common.{◌≡◌, ℕ, ◌+◌, Bool, true, false, cond, 
 use Rattle.std.specs.FinMap.{FinMap, get, insert, get-insert, empty, get-empty}
 use Rattle.std.specs.List.{list_any, fold}
 use Rattle.gnb_types.specs.declared.names.UeId.{UeId}
-use Rattle.scenario_text.specs.declared.event.Event.{Event}
-use Rattle.scenario_text.specs.declared.event.Event.TheVariants as events
-use Rattle.scenario_text.specs.declared.line.RefuseReason.{RefuseReason}
-use Rattle.scenario_text.specs.declared.line.RefuseReason.TheVariants.{Attached, NoBearer, Size, NoSuch, Empty}
+use Rattle.run_model.specs.declared.event.StaticEvent.{StaticEvent}
+use Rattle.run_model.specs.declared.event.StaticEvent.TheVariants as events
+use Rattle.gnb_types.specs.declared.reasons.RefuseReason.{RefuseReason}
+use Rattle.gnb_types.specs.declared.reasons.RefuseReason.TheVariants.{Attached, NoBearer, Size, NoSuch, Empty}
 use Rattle.scenario_text.specs.declared.line.OutLine.{OutLine}
 use Rattle.run_model.specs.Keys.{Place, Bearer, Radio, place_cmp, bearer_cmp, seat_cmp, radio_cmp, same_place, same_bearer, same_radio}
 use Rattle.run_model.specs.State.{Numbered, TunnelItem, Sender, Receiver, State, at, start}
@@ -273,7 +273,7 @@ set_up quota = record {
 }
 
 -- one event, where the bearer stands
-event_on : (s : State) (one : OneBearer) (e : Event) → Stands s one → Agrees (happens s e) (one_happens (Some one) e)
+event_on : (s : State) (one : OneBearer) (e : StaticEvent) → Stands s one → Agrees (happens s e) (one_happens (Some one) e)
 unfolding happens one_happens static_on
 event_on s one (events.Static quota) k =
     subst (λ (ues : List UeId). Agrees (static_on s quota (list_any (λ ue. ue.0 == static_ue.0) ues)) (stays (Some one) Attached)) (sym k.attached) (stays_refused s (Some one) Attached k)
@@ -301,7 +301,7 @@ nobody : (quota : ℕ) → Agrees (static_on start quota (list_any (λ ue. ue.0 
 unfolding start static_on
 nobody quota = record { stands = set_up quota; lines = refl }
 
-event_at_start : (e : Event) → Agrees (happens start e) (one_happens None e)
+event_at_start : (e : StaticEvent) → Agrees (happens start e) (one_happens None e)
 unfolding happens one_happens offer_on get_on air_on
 event_at_start (events.Static quota) = nobody quota
 event_at_start (events.Offer ue bearer packet) =
@@ -315,7 +315,7 @@ event_at_start (events.Air ue bearer) =
     subst (λ (items : Option (List Numbered)). Agrees (air_on start (radio_of (downlink_of ue bearer)) items) (stays None NoBearer)) (sym (no_radio _)) here
 
 -- one event
-pub one_event : (s : State) (one : Option OneBearer) (e : Event) → StandsFor s one → Agrees (happens s e) (one_happens one e)
+pub one_event : (s : State) (one : Option OneBearer) (e : StaticEvent) → StandsFor s one → Agrees (happens s e) (one_happens one e)
 one_event s None e stands = subst (λ (it : State). Agrees (happens it e) (one_happens None e)) (sym stands) (event_at_start e)
 one_event s (Some one) e stands = event_on s one e stands
 
@@ -324,7 +324,7 @@ pub record RunAgrees (ran : Ran) (one : OneRan) : Type 0 where
   pub stands : StandsFor ran.state one.bearer
   pub steps : ran.steps ≡ one.steps
 
-both_go_on : (ran : Ran) (one : OneRan) (e : Event) → RunAgrees ran one → RunAgrees (goes_on ran e) (one_goes_on one e)
+both_go_on : (ran : Ran) (one : OneRan) (e : StaticEvent) → RunAgrees ran one → RunAgrees (goes_on ran e) (one_goes_on one e)
 both_go_on ran one e k =
     let next = one_event ran.state one.bearer e k.stands in
     record {
@@ -333,11 +333,11 @@ both_go_on ran one e k =
           ∙ ap (λ (lines : List OutLine). let step : Step = record { event = e; lines = lines } in one.steps ++ step ∷ []) next.lines;
     }
 
-both_fold : (events : List Event) (ran : Ran) (one : OneRan) → RunAgrees ran one → RunAgrees (fold goes_on ran events) (fold one_goes_on one events)
+both_fold : (events : List StaticEvent) (ran : Ran) (one : OneRan) → RunAgrees ran one → RunAgrees (fold goes_on ran events) (fold one_goes_on one events)
 both_fold [] ran one k = k
 both_fold (e ∷ events) ran one k = both_fold events _ _ (both_go_on ran one e k)
 
 -- whole runs
-pub run_agrees : (events : List Event) → RunAgrees (run events) (one_run events)
+pub run_agrees : (events : List StaticEvent) → RunAgrees (run events) (one_run events)
 unfolding run one_run
 run_agrees events = both_fold events _ _ (record { stands = refl; steps = refl })

@@ -2,9 +2,9 @@
 use Rattle.std.proofs.Common.{◌≡◌, ℕ, ◌+◌, Bool, true, false, cond, eqb, eq-eqb, List, [], ◌∷◌, ◌++◌, map, length, Option, Some, None, refl, sym, ap, ◌∙◌, nat_lt, arith, append_assoc, length-append}
 use borrow.Author.Tests.{ltb-true}
 use Rattle.std.proofs.lemmas.Bool.{false≢true}
-use Rattle.scenario_text.specs.declared.event.Event.{Event}
-use Rattle.scenario_text.specs.declared.event.Event.TheVariants as events
-use Rattle.scenario_text.specs.declared.line.RefuseReason.TheVariants.{Empty, NoSuch}
+use Rattle.run_model.specs.declared.event.StaticEvent.{StaticEvent}
+use Rattle.run_model.specs.declared.event.StaticEvent.TheVariants as events
+use Rattle.gnb_types.specs.declared.reasons.RefuseReason.TheVariants.{Empty, NoSuch}
 use Rattle.run_model.specs.Keys.{same_place, same_bearer, same_radio}
 use Rattle.run_model.specs.State.{Numbered}
 use Rattle.run_model.specs.Run.{static_bearer, static_n3, static_uplink, static_downlink, static_radio, downlink_of, radio_of, place_at}
@@ -129,7 +129,7 @@ sound_get one false false true k = sound_n3 one one.on_n3 k
 sound_get one false false false k = k
 
 -- each event keeps it
-pub sound_event : (one : Option OneBearer) (e : Event) → SoundFor one → SoundFor (one_happens one e).bearer
+pub sound_event : (one : Option OneBearer) (e : StaticEvent) → SoundFor one → SoundFor (one_happens one e).bearer
 unfolding one_happens
 sound_event None (events.Static quota) k = sound_new quota
 sound_event None (events.Offer ue bearer packet) k = tt

@@ -1,3 +1,4 @@
+pub mod Runnable
 pub mod Keys
 pub mod State
 pub mod Run

@@ -1,11 +1,11 @@
 -- The run of the one static bearer once more, as plain lists: its packets in their order, wherever they are. A law says
 -- that it prints what the run over tables prints.
 use Rattle.std.specs.Prelude.{fold, map, ◌≡◌, true, ◌-◌, ◌≤◌, ℕ, ◌+◌, ◌-◌, Bool, List, [], ◌∷◌, ◌++◌, length, min, Option, Some, None, nat_lt, nat_le, ◌==◌, if◌then◌else◌}
-use Rattle.scenario_text.specs.declared.event.Event.{Event}
-use Rattle.scenario_text.specs.declared.event.Event.TheVariants as events
-use Rattle.scenario_text.specs.declared.line.RefuseReason.{RefuseReason}
-use Rattle.scenario_text.specs.declared.line.RefuseReason.TheVariants.{Attached, NoBearer, Size, NoSuch, Empty}
-use Rattle.scenario_text.specs.declared.line.HeldReason.TheVariants.{Quota}
+use Rattle.run_model.specs.declared.event.StaticEvent.{StaticEvent}
+use Rattle.run_model.specs.declared.event.StaticEvent.TheVariants as events
+use Rattle.gnb_types.specs.declared.reasons.RefuseReason.{RefuseReason}
+use Rattle.gnb_types.specs.declared.reasons.RefuseReason.TheVariants.{Attached, NoBearer, Size, NoSuch, Empty}
+use Rattle.gnb_types.specs.declared.reasons.HeldReason.TheVariants.{Quota}
 use Rattle.scenario_text.specs.declared.line.OutLine.{OutLine}
 use Rattle.scenario_text.specs.declared.line.OutLine.TheVariants as lines
 use Rattle.run_model.specs.Keys.{Place, same_place, same_bearer, same_radio}
@@ -118,7 +118,7 @@ airs_one one (numbered ∷ rest) =
       lines = lines.Got (radio_link static_radio) (shown_on_air static_radio numbered) ∷ [];
     }
 
-unfoldable pub one_happens : Option OneBearer → Event → Next
+unfoldable pub one_happens : Option OneBearer → StaticEvent → Next
 one_happens None (events.Static quota) = record { bearer = Some (new_bearer quota); lines = [] }
 one_happens None (events.Offer ue bearer packet) = stays None NoBearer
 one_happens None (events.Get end teid) = stays None NoSuch
@@ -135,7 +135,7 @@ pub record OneRan : Type 0 where
   pub bearer : Option OneBearer
   pub steps : List Step
 
-abbrev pub one_goes_on : OneRan → Event → OneRan
+abbrev pub one_goes_on : OneRan → StaticEvent → OneRan
 one_goes_on ran event =
     let next = one_happens ran.bearer event in
     record { bearer = next.bearer; steps = ran.steps ++ record { event = event; lines = next.lines } ∷ [] }
@@ -143,7 +143,7 @@ one_goes_on ran event =
 abbrev pub one_begins : OneRan
 one_begins = record { bearer = None; steps = [] }
 
-unfoldable pub one_run : List Event → OneRan
+unfoldable pub one_run : List StaticEvent → OneRan
 one_run events = fold one_goes_on one_begins events
 
 -- the numbered packets that are on their way to the terminal, the oldest first

@@ -11,18 +11,19 @@ use Rattle.gnb_types.specs.declared.names.NodeId.TheVariants.{CuUp, Du, Ue}
 use Rattle.gnb_types.specs.declared.names.Dir.TheVariants.{Dl}
 use Rattle.gnb_types.specs.declared.names.SnBits.{SnBits}
 use Rattle.gnb_types.specs.declared.names.SnBits.TheVariants.{Len12}
-use Rattle.scenario_text.specs.declared.event.Event.{Event}
-use Rattle.scenario_text.specs.declared.event.Event.TheVariants as events
+use Rattle.run_model.specs.declared.event.StaticEvent.{StaticEvent}
+use Rattle.run_model.specs.declared.event.StaticEvent.TheVariants as events
 use Rattle.scenario_text.specs.declared.line.Link.{Link}
 use Rattle.scenario_text.specs.declared.line.Link.TheVariants as links
 use Rattle.scenario_text.specs.declared.line.Item.{Item}
-use Rattle.scenario_text.specs.declared.line.RefuseReason.{RefuseReason}
-use Rattle.scenario_text.specs.declared.line.RefuseReason.TheVariants.{Attached, NoBearer, Size, NoSuch, Empty}
-use Rattle.scenario_text.specs.declared.line.HeldReason.TheVariants.{Quota}
+use Rattle.gnb_types.specs.declared.reasons.RefuseReason.{RefuseReason}
+use Rattle.gnb_types.specs.declared.reasons.RefuseReason.TheVariants.{Attached, NoBearer, Size, NoSuch, Empty}
+use Rattle.gnb_types.specs.declared.reasons.HeldReason.TheVariants.{Quota}
 use Rattle.scenario_text.specs.declared.line.OutLine.{OutLine}
 use Rattle.scenario_text.specs.declared.line.OutLine.TheVariants as lines
 use Rattle.link_defs.specs.Links.{n3_downlink, f1u_downlink_data, radio_data}
 use Rattle.run_model.specs.Keys.{Place, Bearer, Seat, Radio}
+use Rattle.run_model.specs.Runnable.{whole_event}
 use Rattle.run_model.specs.State.{Numbered, Load, Fresh, Framed, TunnelItem, Sender, Receiver, State, at, start, half_space}
 
 -- the one static bearer: terminal 1, its bearer 1, numbers of 12 bits, epoch 1; its N3, uplink and downlink tunnels
@@ -216,7 +217,7 @@ air_on s r (Some []) = refused s Empty
 air_on s r (Some (numbered ∷ rest)) = received s r numbered rest (at no_receiver s.receivers (receiver_seat r.bearer))
 
 -- one event
-unfoldable pub happens : State → Event → Made
+unfoldable pub happens : State → StaticEvent → Made
 happens s (events.Static quota) = static_on s quota (list_any (λ ue. ue.0 == static_ue.0) s.attached)
 happens s (events.Offer ue bearer packet) = offer_on s (downlink_of ue bearer) packet (get s.paths (downlink_of ue bearer))
 happens s (events.Get end teid) = get_on s (place_at end teid) (get s.tunnels (place_at end teid))
@@ -224,11 +225,11 @@ happens s (events.Air ue bearer) = air_on s (radio_of (downlink_of ue bearer)) (
 
 -- a step of a transcript: its event, and the lines behind the event's own
 pub record Step : Type 0 where
-  pub event : Event
+  pub event : StaticEvent
   pub lines : List OutLine
 
 abbrev pub step_lines : Step → List OutLine
-step_lines step = lines.Happens step.event ∷ step.lines
+step_lines step = lines.Happens (whole_event step.event) ∷ step.lines
 
 -- the lines of a transcript
 abbrev pub lines_of : List Step → List OutLine
@@ -239,11 +240,11 @@ pub record Ran : Type 0 where
   pub state : State
   pub steps : List Step
 
-abbrev pub goes_on : Ran → Event → Ran
+abbrev pub goes_on : Ran → StaticEvent → Ran
 goes_on ran event =
     let made = happens ran.state event in
     record { state = made.state; steps = ran.steps ++ record { event = event; lines = made.lines } ∷ [] }
 
 -- the run of a script
-unfoldable pub run : List Event → Ran
+unfoldable pub run : List StaticEvent → Ran
 run events = fold goes_on (record { state = start; steps = [] }) events

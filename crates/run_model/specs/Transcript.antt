@@ -4,8 +4,8 @@ use Rattle.std.specs.List.{flat_map, range_with_len, list_any, AllByRecursion}
 use Rattle.std.specs.Prelude.{◌⊎◌}
 use Rattle.gnb_types.specs.declared.names.NodeId.{NodeId}
 use Rattle.gnb_types.specs.declared.names.NodeId.TheVariants.{Core, Ue}
-use Rattle.scenario_text.specs.declared.event.Event.{Event}
-use Rattle.scenario_text.specs.declared.event.Event.TheVariants as events
+use Rattle.run_model.specs.declared.event.StaticEvent.{StaticEvent}
+use Rattle.run_model.specs.declared.event.StaticEvent.TheVariants as events
 use Rattle.scenario_text.specs.declared.line.Link.{Link}
 use Rattle.scenario_text.specs.declared.line.Link.TheVariants as links
 use Rattle.scenario_text.specs.declared.line.Item.{Item}
@@ -25,7 +25,7 @@ is_refusal (lines.Refused reason) = true
 is_refusal line = false
 
 -- the packets offered on a bearer: those of the offers that were not refused
-abbrev pub offered_unless : Bool → Bearer → Event → List (List ℕ)
+abbrev pub offered_unless : Bool → Bearer → StaticEvent → List (List ℕ)
 offered_unless false b (events.Offer ue bearer packet) = only (same_bearer b (downlink_of ue bearer)) packet
 offered_unless refused b event = []
 
@@ -100,7 +100,7 @@ abbrev pub Wires : List Step → Type 0
 Wires steps = EachAfter IsOldest [] (lines_of steps)
 
 -- the node that acts at an event
-abbrev pub actor : Event → Option NodeId
+abbrev pub actor : StaticEvent → Option NodeId
 actor (events.Static quota) = None
 actor (events.Offer ue bearer packet) = Some Core
 actor (events.Get end teid) = Some end

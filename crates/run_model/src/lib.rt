@@ -1,2 +1,4 @@
-//! Definitions alone: what a script does. No code stands here; the contract of the top call cites these.
+//! What a script does: the definitions that the contract of the top call cites, and which events run today.
 #![tactic(auto)]
+
+pub mod event;

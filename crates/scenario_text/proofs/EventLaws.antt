@@ -1,193 +1,215 @@
 -- What is read is a text of the event, and a text of an event in its ranges is read.
-use Rattle.std.proofs.Common.{◌≡◌, ℕ, ◌+◌, ◌*◌, ◌-◌, ◌<◌, ◌^◌, ◌⊎◌, Bool, true, false, not, cond, List, Result, Ok, Err, [], ◌∷◌, ◌++◌, length, take, drop, refl, ap, ◌∙◌, sym, subst, inl, inr, arith, nat_eq, nat_lt, codes, All, get_or, append_assoc, length-drop}
-use Rattle.std.specs.Char.{is_ascii_digit}
-use Rattle.std.specs.Fmt.{decimal}
+use Rattle.std.proofs.Common.{◌≡◌, ℕ, ◌-◌, ◌<◌, ◌≤◌, ◌^◌, ◌⊎◌, ◌&&◌, ◌||◌, Bool, true, false, cond, not, List, Option, Some, None, Result, Ok, Err, [], ◌∷◌, ◌++◌, length, take, refl, ap, ◌∙◌, sym, subst, inl, inr, arith, nat_eq, codes, append_assoc}
+use Rattle.std.specs.Prelude.{IfOk}
 use Rattle.std.specs.Option.{ok_or}
-use Rattle.std.specs.List.{list_all, onto_first, join_with_byte, before_first, after_first, position_or_len}
-use Rattle.std.proofs.lemmas.Bool.{ltb-true, lt-ltb, eqb-true}
-use Rattle.std.proofs.lemmas.Bool.Decides.{nat_tests}
-use Rattle.std.proofs.Math.Seq.{take-append_seam, drop-append-add}
+use Rattle.std.specs.List.{find, join_with_byte, list_any, list_all}
+use Rattle.std.proofs.lemmas.List.Splits.{join_with_byte-slice_split}
 use Rattle.std.proofs.lemmas.List.Folds.{list_all-append}
-use Rattle.std.proofs.lemmas.List.Sums.{split_at_first, passes_at_first}
-use Rattle.std.proofs.lemmas.List.Elements.{All-nil, All-cons}
-use Rattle.std.proofs.lemmas.List.Splits.{slice_split-cons_no, join_with_byte-slice_split}
-use Rattle.std.proofs.lemmas.Fmt.{decimal_is_IsNumeral, decimal_nonempty}
-use Rattle.gnb_types.specs.Hex.{hex_of, read_hex, IsDigitOf, IsHexOf}
-use Rattle.gnb_types.proofs.HexLemmas.{read_is_hex, hex_is_read, hex_of_is_hex}
-use Rattle.gnb_types.specs.Names.{node_text, ue_text, bearer_text}
+use Rattle.gnb_types.specs.Names.{node_text}
 use Rattle.gnb_types.specs.declared.names.Gnb.TheVariants.{A, B}
 use Rattle.gnb_types.specs.declared.names.NodeId.{NodeId}
 use Rattle.gnb_types.specs.declared.names.NodeId.TheVariants.{CuCp, CuUp, Du, Core, Ue}
-use Rattle.gnb_types.specs.declared.names.UeId.{UeId}
-use Rattle.gnb_types.specs.declared.names.BearerId.{BearerId}
+use Rattle.std.specs.Fmt.{decimal}
+use Rattle.script_words.specs.declared.reason.TextReason.{TextReason}
+use Rattle.script_words.specs.declared.reason.TextReason.TheVariants.{Word}
+use Rattle.script_words.specs.declared.reason.TextError.{TextError}
+use Rattle.script_words.specs.Answers.{GivesOrMemory}
+use Rattle.script_words.specs.Forms.{words, ◌is◌, ◌begins◌, fixed}
+use Rattle.script_words.specs.Ranges.{IsNode}
+use Rattle.script_words.specs.Places.{Place, Values, InPlaces, AreWordsOf, value_words, next_word, result_then, place, line_end, read_places}
+use Rattle.script_words.proofs.FormLaws.{chosen, and_true, ok_or_ok, is_text}
+use Rattle.script_words.proofs.PlaceLaws.{Lacks, Lacks-node, AllLack, AreEventPlaces, places_sound, places_again, value_words-AreWordsOf, words-joined, words_lack_blanks}
 use Rattle.scenario_text.specs.declared.event.Event.{Event}
 use Rattle.scenario_text.specs.declared.event.Event.TheVariants as events
-use Rattle.scenario_text.specs.declared.event.TextReason.{TextReason}
-use Rattle.scenario_text.specs.declared.event.TextReason.TheVariants.{Word, Number, Hex, Name}
-use Rattle.std.specs.Prelude.{IfOk}
-use Rattle.scenario_text.specs.declared.read.TextError.{TextError}
-use Rattle.scenario_text.specs.Grammar.{GivesOrMemory, words, ◌is◌, Form, fixed, number, ue, bearer, node, hex, both, tunnel, Places, next_word, result_then, ◌>>=◌, ended, static_event, offer_event, get_event, air_event, places_of, event_of, header_of, ue_of, bearer_of, number_of}
-use Rattle.scenario_text.specs.Print.{event_text, ◌then◌}
-use Rattle.scenario_text.specs.Texts.{IsWithin, IsUe, IsBearer, IsNode, IsPacket, InRange, IsTextOf}
-use Rattle.scenario_text.proofs.NumberLemmas.{own}
-use Rattle.scenario_text.proofs.FormLaws.{chosen, and_true, ok_or_ok, is_text, number_sound, number_again, ue_sound, ue_again, bearer_sound, bearer_again, node_sound, node_again}
+use Rattle.scenario_text.specs.declared.event.Keyword.{Keyword}
+use Rattle.scenario_text.specs.declared.event.Keyword.TheVariants as keywords
+use Rattle.scenario_text.specs.Grammar.{EventForm, keyword_text, all_keywords, keyword_of, plan_places, plan_of, bare_form, static_form, attach_form, offer_form, get_form, air_form, ack_form, give_form, lose_message_form, lose_item_form, poll_form, ue_form, handover_form, ask_form, inject_message_form, inject_item_form, names_message, names_tunnel, read_form, keyword_event, words_event, event_of, header, header_of}
+use Rattle.scenario_text.specs.Texts.{plan_values, by_form, form_text, event_text, InRange, IsWritten, IsTextOf}
+
+-- ---- keywords
+
+find_some : {X : Type 0} (p : X → Bool) (xs : List X) (x : X) → find p xs ≡ Some x → p x ≡ true
+find_some p [] x h = absurd (cc)
+find_some p (y ∷ ys) x h = elim (chosen (p y) (Some y) (find p ys) (Some x) h) [
+  | inl w ↦ let same : y ≡ x = cc in ap p (sym same) ∙ w.0
+  | inr w ↦ find_some p ys x w.1
+]
+
+pub keyword_sound : (word : List ℕ) (k : Keyword) → keyword_of word ≡ Some k → word ≡ keyword_text k
+unfolding keyword_of
+keyword_sound word k h = is_text word (keyword_text k) (find_some (λ k. word is keyword_text k) all_keywords k h)
+
+pub keyword_again : (k : Keyword) → keyword_of (keyword_text k) ≡ Some k
+unfolding keyword_of
+keyword_again keywords.Static = refl
+keyword_again keywords.Start = refl
+keyword_again keywords.Attach = refl
+keyword_again keywords.Offer = refl
+keyword_again keywords.Get = refl
+keyword_again keywords.Air = refl
+keyword_again keywords.Ack = refl
+keyword_again keywords.Give = refl
+keyword_again keywords.Lose = refl
+keyword_again keywords.Poll = refl
+keyword_again keywords.Pump = refl
+keyword_again keywords.Tick = refl
+keyword_again keywords.Fail = refl
+keyword_again keywords.Arrive = refl
+keyword_again keywords.Return = refl
+keyword_again keywords.Handover = refl
+keyword_again keywords.Cancel = refl
+keyword_again keywords.Release = refl
+keyword_again keywords.Ask = refl
+keyword_again keywords.Settle = refl
+keyword_again keywords.Inject = refl
+
+pub keyword_lacks_blank : (k : Keyword) → Lacks 32 (keyword_text k)
+keyword_lacks_blank keywords.Static = refl
+keyword_lacks_blank keywords.Start = refl
+keyword_lacks_blank keywords.Attach = refl
+keyword_lacks_blank keywords.Offer = refl
+keyword_lacks_blank keywords.Get = refl
+keyword_lacks_blank keywords.Air = refl
+keyword_lacks_blank keywords.Ack = refl
+keyword_lacks_blank keywords.Give = refl
+keyword_lacks_blank keywords.Lose = refl
+keyword_lacks_blank keywords.Poll = refl
+keyword_lacks_blank keywords.Pump = refl
+keyword_lacks_blank keywords.Tick = refl
+keyword_lacks_blank keywords.Fail = refl
+keyword_lacks_blank keywords.Arrive = refl
+keyword_lacks_blank keywords.Return = refl
+keyword_lacks_blank keywords.Handover = refl
+keyword_lacks_blank keywords.Cancel = refl
+keyword_lacks_blank keywords.Release = refl
+keyword_lacks_blank keywords.Ask = refl
+keyword_lacks_blank keywords.Settle = refl
+keyword_lacks_blank keywords.Inject = refl
 
 -- ---- what is read
 
--- a place that was read, and the places behind it
-record Step {X Y : Type 0} (form : Form X) (more : X → Places Y) (left : List (List ℕ)) (y : Y) : Type 0 where
-  word : List ℕ
-  value : X
-  rest : List (List ℕ)
-  stands : left ≡ word ∷ rest
-  means : form word ≡ Ok value
-  goes : more value rest ≡ Ok y
+-- a form whose places are those of events, and whose event is seen as this form
+pub record IsForm (form : EventForm) : Type 0 where
+  pub places : AreEventPlaces form.places
+  pub shown : (line : List ℕ) (values : Values form.places) → IsWritten line form values → IsTextOf line (form.event values)
 
-step : {X Y : Type 0} (form : Form X) (more : X → Places Y) (left : List (List ℕ)) (y : Y) → (form >>= more) left ≡ Ok y → Step form more left y
-step form more [] y h = absurd (cc)
-step {X} {Y} form more (word ∷ rest) y h = by_form (form word) refl h
+read_sound : (form : EventForm) → IsForm form → (left : List (List ℕ)) (e : Event) → read_form form left ≡ Ok e
+    → IsTextOf (join_with_byte 32 (keyword_text form.keyword ∷ left)) e
+read_sound form k left e h =
+    by_values (read_places form.places left) refl h
   where
-    by_form : (r : Result X TextReason) → form word ≡ r
-        → result_then {X = X × List (List ℕ)} (result_then r (λ x. Ok (x, rest))) (λ read. more read.0 read.1) ≡ Ok y → Step form more (word ∷ rest) y
-    by_form (Ok x) e k = record { word = word; value = x; rest = rest; stands = refl; means = e; goes = k }
-    by_form (Err reason) e k = absurd (cc)
+    by_values : (r : Result (Values form.places) TextReason) → read_places form.places left ≡ r → result_then r (λ values. Ok (form.event values)) ≡ Ok e
+        → IsTextOf (join_with_byte 32 (keyword_text form.keyword ∷ left)) e
+    by_values (Ok values) are g =
+        let found = places_sound form.places k.places (λ vs. vs) left values are in
+        let P : Event → Type 0 = λ x. IsTextOf (join_with_byte 32 (keyword_text form.keyword ∷ left)) x in
+        let same : form.event values ≡ e = cc in
+        let stand : AreWordsOf form.places left values = subst (AreWordsOf form.places left) found.makes found.stand in
+        let range : InPlaces form.places values = subst (InPlaces form.places) found.makes found.range in
+        subst P same (k.shown _ values (record { words = left; text = refl; stand = stand; range = range }))
+    by_values (Err reason) are g = absurd (cc)
 
--- the end of a line that was read
-at_end : {X : Type 0} (x y : X) (left : List (List ℕ)) → ended x left ≡ Ok y → (left ≡ []) × (x ≡ y)
-at_end x y [] h = (refl, cc)
-at_end x y (word ∷ rest) h = absurd (cc)
+pub is_static : IsForm static_form
+is_static = record { places = (tt, (tt, ((omega arith, omega arith), ((omega arith, omega arith), (tt, ((omega arith, omega arith), ((omega arith, omega arith), tt))))))); shown = λ line values h. h }
 
-fixed_sound : (text : List ℕ) (reason : TextReason) (word : List ℕ) (u : Unit {0}) → fixed text reason word ≡ Ok u → word ≡ text
-fixed_sound text reason word u h = elim (chosen (word is text) (Ok tt) (Err reason) (Ok u) h) [
-  | inl w ↦ is_text word text w.0
-  | inr w ↦ absurd (let no : Err reason ≡ Ok u = w.1 in cc)
+pub is_start : IsForm (bare_form keywords.Start events.Start)
+is_start = record { places = tt; shown = λ line values h. h }
+
+pub is_attach : IsForm attach_form
+is_attach = record { places = (tt, (tt, ((omega arith, omega arith), ((omega arith, omega arith), (tt, ((omega arith, omega arith), ((omega arith, omega arith), tt))))))); shown = λ line values h. h }
+
+pub is_offer : IsForm offer_form
+is_offer = record { places = (tt, (tt, (tt, (tt, tt)))); shown = λ line values h. h }
+
+pub is_get : IsForm get_form
+is_get = record { places = (tt, tt); shown = λ line values h. h }
+
+pub is_air : IsForm air_form
+is_air = record { places = (tt, (tt, (tt, tt))); shown = λ line values h. h }
+
+pub is_ack : IsForm ack_form
+is_ack = record { places = (tt, (tt, (tt, tt))); shown = λ line values h. h }
+
+pub is_give : IsForm give_form
+is_give = record { places = (tt, tt); shown = λ line values h. h }
+
+pub is_lose_message : IsForm lose_message_form
+is_lose_message = record { places = (tt, tt); shown = λ line values h. h }
+
+pub is_lose_item : IsForm lose_item_form
+is_lose_item = record { places = (tt, tt); shown = λ line values h. h }
+
+pub is_poll : IsForm poll_form
+is_poll = record { places = (tt, (tt, tt)); shown = λ line values h. h }
+
+pub is_pump : IsForm (bare_form keywords.Pump events.Pump)
+is_pump = record { places = tt; shown = λ line values h. h }
+
+pub is_tick : IsForm (bare_form keywords.Tick events.Tick)
+is_tick = record { places = tt; shown = λ line values h. h }
+
+pub is_fail : IsForm (ue_form keywords.Fail events.Fail)
+is_fail = record { places = (tt, tt); shown = λ line values h. h }
+
+pub is_arrive : IsForm (ue_form keywords.Arrive events.Arrive)
+is_arrive = record { places = (tt, tt); shown = λ line values h. h }
+
+pub is_return : IsForm (ue_form keywords.Return events.Return)
+is_return = record { places = (tt, tt); shown = λ line values h. h }
+
+pub is_handover : IsForm handover_form
+is_handover = record { places = (tt, (tt, ((omega arith, omega arith), ((omega arith, omega arith), tt)))); shown = λ line values h. h }
+
+pub is_cancel : IsForm (ue_form keywords.Cancel events.Cancel)
+is_cancel = record { places = (tt, tt); shown = λ line values h. h }
+
+pub is_release : IsForm (ue_form keywords.Release events.Release)
+is_release = record { places = (tt, tt); shown = λ line values h. h }
+
+pub is_ask : IsForm ask_form
+is_ask = record { places = (tt, (tt, tt)); shown = λ line values h. h }
+
+pub is_settle : IsForm (bare_form keywords.Settle events.Settle)
+is_settle = record { places = tt; shown = λ line values h. h }
+
+pub is_inject_message : IsForm inject_message_form
+is_inject_message = record { places = (tt, (tt, (tt, tt))); shown = λ line values h. h }
+
+pub is_inject_item : IsForm inject_item_form
+is_inject_item = record { places = (tt, (tt, tt)); shown = λ line values h. h }
+
+keyword_event_sound : (k : Keyword) (left : List (List ℕ)) (e : Event) → keyword_event k left ≡ Ok e → IsTextOf (join_with_byte 32 (keyword_text k ∷ left)) e
+unfolding keyword_event
+keyword_event_sound keywords.Static left e h = read_sound static_form is_static left e h
+keyword_event_sound keywords.Start left e h = read_sound (bare_form keywords.Start events.Start) is_start left e h
+keyword_event_sound keywords.Attach left e h = read_sound attach_form is_attach left e h
+keyword_event_sound keywords.Offer left e h = read_sound offer_form is_offer left e h
+keyword_event_sound keywords.Get left e h = read_sound get_form is_get left e h
+keyword_event_sound keywords.Air left e h = read_sound air_form is_air left e h
+keyword_event_sound keywords.Ack left e h = read_sound ack_form is_ack left e h
+keyword_event_sound keywords.Give left e h = read_sound give_form is_give left e h
+keyword_event_sound keywords.Lose left e h = elim (chosen (names_message left) (read_form lose_message_form left) (read_form lose_item_form left) (Ok e) h) [
+  | inl w ↦ read_sound lose_message_form is_lose_message left e w.1
+  | inr w ↦ read_sound lose_item_form is_lose_item left e w.1
 ]
-
--- the words of places that were read
-as_words : {left rest texts : List (List ℕ)} {word text : List ℕ} → left ≡ word ∷ rest → word ≡ text → rest ≡ texts → left ≡ text ∷ texts
-as_words {left} {rest} {texts} {word} {text} p q r = p ∙ ap (λ w. w ∷ rest) q ∙ ap (λ ws. text ∷ ws) r
-
-air_sound : (left : List (List ℕ)) (e : Event) → air_event left ≡ Ok e → IsTextOf (join_with_byte 32 (codes "air" ∷ left)) e
-unfolding air_event event_text
-air_sound left e h =
-    let u = step ue (λ u. bearer >>= (λ b. fixed (codes "dl") Word >>= (λ d. ended (events.Air u b)))) left e h in
-    let b = step bearer (λ b. fixed (codes "dl") Word >>= (λ d. ended (events.Air u.value b))) u.rest e u.goes in
-    let d = step (fixed (codes "dl") Word) (λ d. ended (events.Air u.value b.value)) b.rest e b.goes in
-    let end = at_end (events.Air u.value b.value) e d.rest d.goes in
-    let us = ue_sound u.word u.value (ok_or_ok (ue_of u.word) Name u.value u.means) in
-    let bs = bearer_sound b.word b.value (ok_or_ok (bearer_of b.word) Name b.value b.means) in
-    let dl = fixed_sound (codes "dl") Word d.word d.value d.means in
-    let same : left ≡ ue_text u.value ∷ bearer_text b.value ∷ codes "dl" ∷ [] =
-    as_words {rest = u.rest} {word = u.word} u.stands us.0 (as_words {rest = b.rest} {word = b.word} b.stands bs.0 (as_words {rest = d.rest} {word = d.word} d.stands dl end.0)) in
-    let P : Event → Type 0 = λ x. IsTextOf (join_with_byte 32 (codes "air" ∷ left)) x in
-    subst P end.1 (record { text = ap (λ ws. join_with_byte 32 (codes "air" ∷ ws)) same; range = (us.1, bs.1) })
-
-static_sound : (left : List (List ℕ)) (e : Event) → static_event left ≡ Ok e → IsTextOf (join_with_byte 32 (codes "static" ∷ left)) e
-unfolding static_event event_text
-static_sound left e h =
-    let last : ℕ → Places Event = λ q. ended (events.Static q) in
-    let p1 = step (fixed (codes "u1") Name) (λ u. fixed (codes "A") Name >>= (λ g. fixed (codes "1") Number >>= (λ p. fixed (codes "1") Number >>= (λ d. fixed (codes "12") Number >>= (λ n. fixed (codes "1") Number >>= (λ c. number 4 4096 >>= last)))))) left e h in
-    let p2 = step (fixed (codes "A") Name) (λ g. fixed (codes "1") Number >>= (λ p. fixed (codes "1") Number >>= (λ d. fixed (codes "12") Number >>= (λ n. fixed (codes "1") Number >>= (λ c. number 4 4096 >>= last))))) p1.rest e p1.goes in
-    let p3 = step (fixed (codes "1") Number) (λ p. fixed (codes "1") Number >>= (λ d. fixed (codes "12") Number >>= (λ n. fixed (codes "1") Number >>= (λ c. number 4 4096 >>= last)))) p2.rest e p2.goes in
-    let p4 = step (fixed (codes "1") Number) (λ d. fixed (codes "12") Number >>= (λ n. fixed (codes "1") Number >>= (λ c. number 4 4096 >>= last))) p3.rest e p3.goes in
-    let p5 = step (fixed (codes "12") Number) (λ n. fixed (codes "1") Number >>= (λ c. number 4 4096 >>= last)) p4.rest e p4.goes in
-    let p6 = step (fixed (codes "1") Number) (λ c. number 4 4096 >>= last) p5.rest e p5.goes in
-    let q = step (number 4 4096) last p6.rest e p6.goes in
-    let end = at_end (events.Static q.value) e q.rest q.goes in
-    let qs = number_sound 4 4096 q.value q.word (omega arith) (ok_or_ok (number_of 4 4096 q.word) Number q.value q.means) in
-    let same : left ≡ codes "u1" ∷ codes "A" ∷ codes "1" ∷ codes "1" ∷ codes "12" ∷ codes "1" ∷ decimal q.value ∷ [] =
-    as_words {rest = p1.rest} {word = p1.word} p1.stands (fixed_sound (codes "u1") Name p1.word p1.value p1.means)
-    (as_words {rest = p2.rest} {word = p2.word} p2.stands (fixed_sound (codes "A") Name p2.word p2.value p2.means)
-    (as_words {rest = p3.rest} {word = p3.word} p3.stands (fixed_sound (codes "1") Number p3.word p3.value p3.means)
-    (as_words {rest = p4.rest} {word = p4.word} p4.stands (fixed_sound (codes "1") Number p4.word p4.value p4.means)
-    (as_words {rest = p5.rest} {word = p5.word} p5.stands (fixed_sound (codes "12") Number p5.word p5.value p5.means)
-    (as_words {rest = p6.rest} {word = p6.word} p6.stands (fixed_sound (codes "1") Number p6.word p6.value p6.means)
-    (as_words {rest = q.rest} {word = q.word} q.stands qs.0 end.0)))))) in
-    let P : Event → Type 0 = λ x. IsTextOf (join_with_byte 32 (codes "static" ∷ left)) x in
-    subst P end.1 (record { text = ap (λ ws. join_with_byte 32 (codes "static" ∷ ws)) same; range = qs.1 })
-
--- what is read of hexadecimal digits
-IsByte-digits : (text packet : List ℕ) → IsHexOf text packet → All (λ b. b < 256) packet
-IsByte-digits [] [] h = All-nil (λ b. b < 256)
-IsByte-digits [] (byte ∷ packet) h = absurd h
-IsByte-digits (a ∷ []) packet h = absurd h
-IsByte-digits (a ∷ b ∷ text) [] h = absurd h
-IsByte-digits (a ∷ b ∷ text) (byte ∷ packet) (high, low, ha, hb, e, rest) =
-    All-cons (λ x. x < 256) byte packet (small a b high low ha hb e) (IsByte-digits text packet rest)
-  where
-    small : (a b high low : ℕ) → IsDigitOf a high → IsDigitOf b low → byte ≡ 16 * high + low → byte < 256
-    small a b high low ha hb e = grind arith
-
-digits_some : (text packet : List ℕ) → 0 < length text → IsHexOf text packet → 0 < length packet
-digits_some [] packet h is_hex = absurd (omega arith)
-digits_some (a ∷ []) packet h is_hex = absurd is_hex
-digits_some (a ∷ b ∷ text) [] h is_hex = absurd is_hex
-digits_some (a ∷ b ∷ text) (byte ∷ packet) h is_hex = omega arith
-
-hex_sound : (word packet : List ℕ) → hex word ≡ Ok packet → IsHexOf word packet × IsPacket packet
-hex_sound word packet h = elim (chosen (nat_lt 0 (length word)) (ok_or (read_hex word) Hex) (Err Hex) (Ok packet) h) [
-  | inl w ↦
-      let is_hex = read_is_hex word packet (ok_or_ok _ Hex packet w.1) in
-      (is_hex, record { some = digits_some word packet (ltb-true 0 (length word) w.0) is_hex; bytes = IsByte-digits word packet is_hex })
-  | inr w ↦ absurd (let no : Err Hex ≡ Ok packet = w.1 in cc)
+keyword_event_sound keywords.Poll left e h = read_sound poll_form is_poll left e h
+keyword_event_sound keywords.Pump left e h = read_sound (bare_form keywords.Pump events.Pump) is_pump left e h
+keyword_event_sound keywords.Tick left e h = read_sound (bare_form keywords.Tick events.Tick) is_tick left e h
+keyword_event_sound keywords.Fail left e h = read_sound (ue_form keywords.Fail events.Fail) is_fail left e h
+keyword_event_sound keywords.Arrive left e h = read_sound (ue_form keywords.Arrive events.Arrive) is_arrive left e h
+keyword_event_sound keywords.Return left e h = read_sound (ue_form keywords.Return events.Return) is_return left e h
+keyword_event_sound keywords.Handover left e h = read_sound handover_form is_handover left e h
+keyword_event_sound keywords.Cancel left e h = read_sound (ue_form keywords.Cancel events.Cancel) is_cancel left e h
+keyword_event_sound keywords.Release left e h = read_sound (ue_form keywords.Release events.Release) is_release left e h
+keyword_event_sound keywords.Ask left e h = read_sound ask_form is_ask left e h
+keyword_event_sound keywords.Settle left e h = read_sound (bare_form keywords.Settle events.Settle) is_settle left e h
+keyword_event_sound keywords.Inject left e h = elim (chosen (names_tunnel left) (read_form inject_item_form left) (read_form inject_message_form left) (Ok e) h) [
+  | inl w ↦ read_sound inject_item_form is_inject_item left e w.1
+  | inr w ↦ read_sound inject_message_form is_inject_message left e w.1
 ]
-
-offer_sound : (left : List (List ℕ)) (e : Event) → offer_event left ≡ Ok e → IsTextOf (join_with_byte 32 (codes "offer" ∷ left)) e
-unfolding offer_event event_text
-offer_sound left e h =
-    let u = step ue (λ u. bearer >>= (λ b. fixed (codes "dl") Word >>= (λ d. hex >>= (λ p. ended (events.Offer u b p))))) left e h in
-    let b = step bearer (λ b. fixed (codes "dl") Word >>= (λ d. hex >>= (λ p. ended (events.Offer u.value b p)))) u.rest e u.goes in
-    let d = step (fixed (codes "dl") Word) (λ d. hex >>= (λ p. ended (events.Offer u.value b.value p))) b.rest e b.goes in
-    let p = step hex (λ p. ended (events.Offer u.value b.value p)) d.rest e d.goes in
-    let end = at_end (events.Offer u.value b.value p.value) e p.rest p.goes in
-    let us = ue_sound u.word u.value (ok_or_ok (ue_of u.word) Name u.value u.means) in
-    let bs = bearer_sound b.word b.value (ok_or_ok (bearer_of b.word) Name b.value b.means) in
-    let dl = fixed_sound (codes "dl") Word d.word d.value d.means in
-    let ps = hex_sound p.word p.value p.means in
-    let same : left ≡ ue_text u.value ∷ bearer_text b.value ∷ codes "dl" ∷ p.word ∷ [] =
-    as_words {rest = u.rest} {word = u.word} u.stands us.0 (as_words {rest = b.rest} {word = b.word} b.stands bs.0 (as_words {rest = d.rest} {word = d.word} d.stands dl (as_words {rest = p.rest} {word = p.word} p.stands refl end.0))) in
-    let P : Event → Type 0 = λ x. IsTextOf (join_with_byte 32 (codes "offer" ∷ left)) x in
-    subst P end.1 (record { text = (p.word, ps.0, ap (λ ws. join_with_byte 32 (codes "offer" ∷ ws)) same); range = (us.1, bs.1, ps.1) })
 
 same_value : {Z E : Type 0} (r : Result Z E) (u v : Z) → r ≡ Ok u → r ≡ Ok v → u ≡ v
 same_value r u v h k = cc
-
--- both halves of a tunnel's name
-both_ok : {X Y : Type 0} (r : Result X TextReason) (s : Result Y TextReason) (x : X) (y : Y) → both r s ≡ Ok (x, y) → (r ≡ Ok x) × (s ≡ Ok y)
-both_ok {X} {Y} (Ok a) (Ok b) x y h =
-    let same = same_value {Z = X × Y} (both {X = X} {Y = Y} (Ok a) (Ok b)) (a, b) (x, y) refl h in (ap Ok (ap (λ (p : X × Y). p.0) same), ap Ok (ap (λ (p : X × Y). p.1) same))
-both_ok (Ok a) (Err reason) x y h = absurd (cc)
-both_ok (Err reason) s x y h = absurd (cc)
-
-abbrev is_slash : ℕ → Bool
-is_slash c = nat_eq c 47
-
--- a text with a slash that something follows
-around_slash : (word : List ℕ) → 0 < length (after_first (λ c. nat_eq c 47) word) → word ≡ before_first (λ c. nat_eq c 47) word ++ 47 ∷ after_first (λ c. nat_eq c 47) word
-around_slash word h =
-    let place = position_or_len (λ c. nat_eq c 47) word in
-    let inside : place < length word = omega (arith, length-drop (place + 1) word, h) in
-    let slash : get_or word place 0 ≡ 47 = eqb-true (get_or word place 0) 47 (passes_at_first (λ c. nat_eq c 47) word 0 inside) in
-    split_at_first (λ c. nat_eq c 47) word 0 inside ∙ ap (λ c. before_first (λ x. nat_eq x 47) word ++ c ∷ after_first (λ x. nat_eq x 47) word) slash
-
-tunnel_sound : (word : List ℕ) (t : NodeId × ℕ) → tunnel word ≡ Ok t → (word ≡ node_text t.0 ++ codes "/" ++ decimal t.1) × IsNode t.0 × IsWithin 1 (2 ^ 32 - 1) t.1
-tunnel_sound word t h =
-    let halves = both_ok (node (before_first (λ c. nat_eq c 47) word)) (number 1 (2 ^ 32 - 1) (after_first (λ c. nat_eq c 47) word)) t.0 t.1 h in
-    let end = node_sound (before_first (λ c. nat_eq c 47) word) t.0 (ok_or_ok _ Name t.0 halves.0) in
-    let teid = number_sound 1 (2 ^ 32 - 1) t.1 (after_first (λ c. nat_eq c 47) word) (omega arith) (ok_or_ok _ Number t.1 halves.1) in
-    let some : 0 < length (decimal t.1) = decimal_nonempty t.1 (omega (arith, teid.1.to)) in
-    let behind : 0 < length (after_first (λ c. nat_eq c 47) word) = subst (λ (ds : List ℕ). 0 < length ds) (sym teid.0) some in
-    (around_slash word behind ∙ ap (λ f. f ++ 47 ∷ after_first (λ c. nat_eq c 47) word) end.0 ∙ ap (λ ds. node_text t.0 ++ 47 ∷ ds) teid.0 ∙ sym (append_assoc (node_text t.0) (47 ∷ []) (decimal t.1)), end.1, teid.1)
-
-get_sound : (left : List (List ℕ)) (e : Event) → get_event left ≡ Ok e → IsTextOf (join_with_byte 32 (codes "get" ∷ left)) e
-unfolding get_event event_text
-get_sound left e h =
-    let t = step tunnel (λ t. ended (events.Get t.0 t.1)) left e h in
-    let end = at_end (events.Get t.value.0 t.value.1) e t.rest t.goes in
-    let ts = tunnel_sound t.word t.value t.means in
-    let same : left ≡ (node_text t.value.0 ++ codes "/" ++ decimal t.value.1) ∷ [] = as_words {rest = t.rest} {word = t.word} t.stands ts.0 end.0 in
-    let P : Event → Type 0 = λ x. IsTextOf (join_with_byte 32 (codes "get" ∷ left)) x in
-    subst P end.1 (record { text = ap (λ ws. join_with_byte 32 (codes "get" ∷ ws)) same; range = (ts.1, ts.2) })
 
 next_ok : (left : List (List ℕ)) (next : List ℕ × List (List ℕ)) → next_word left ≡ Ok next → left ≡ next.0 ∷ next.1
 next_ok [] next h = absurd (cc)
@@ -195,233 +217,298 @@ next_ok (word ∷ rest) next h =
     let same = same_value {Z = List ℕ × List (List ℕ)} (next_word (word ∷ rest)) (word, rest) next refl h in
     ap (λ (n : List ℕ × List (List ℕ)). n.0 ∷ n.1) same
 
--- the places of a keyword that were read
-keyword_sound : (keyword : List ℕ) (left : List (List ℕ)) (e : Event) → places_of keyword left ≡ Ok e → IsTextOf (join_with_byte 32 (keyword ∷ left)) e
-keyword_sound keyword left e h =
-    let P : List ℕ → Type 0 = λ w. IsTextOf (join_with_byte 32 (w ∷ left)) e in
-    let none : Result Event TextReason = Err Word in
-    let air = cond (keyword is codes "air") (air_event left) none in
-    let get = cond (keyword is codes "get") (get_event left) air in
-    elim (chosen (keyword is codes "static") (static_event left) (cond (keyword is codes "offer") (offer_event left) get) (Ok e) h) [
-      | inl w ↦ subst P (sym (is_text keyword (codes "static") w.0)) (static_sound left e w.1)
-      | inr w ↦ elim (chosen (keyword is codes "offer") (offer_event left) get (Ok e) w.1) [
-        | inl u ↦ subst P (sym (is_text keyword (codes "offer") u.0)) (offer_sound left e u.1)
-        | inr u ↦ elim (chosen (keyword is codes "get") (get_event left) air (Ok e) u.1) [
-          | inl v ↦ subst P (sym (is_text keyword (codes "get") v.0)) (get_sound left e v.1)
-          | inr v ↦ elim (chosen (keyword is codes "air") (air_event left) none (Ok e) v.1) [
-            | inl x ↦ subst P (sym (is_text keyword (codes "air") x.0)) (air_sound left e x.1)
-            | inr x ↦ absurd (let no : Err Word ≡ Ok e = x.1 in cc)
-          ]
-        ]
-      ]
-    ]
+words_event_sound : (word : List ℕ) (left : List (List ℕ)) (e : Event) → words_event (word, left) ≡ Ok e → IsTextOf (join_with_byte 32 (word ∷ left)) e
+words_event_sound word left e h = by_keyword (keyword_of word) refl h
+  where
+    by_keyword : (o : Option Keyword) → keyword_of word ≡ o → result_then (ok_or o Word) (λ keyword. keyword_event keyword left) ≡ Ok e → IsTextOf (join_with_byte 32 (word ∷ left)) e
+    by_keyword (Some k) found g =
+        let P : List ℕ → Type 0 = λ w. IsTextOf (join_with_byte 32 (w ∷ left)) e in
+        subst P (sym (keyword_sound word k found)) (keyword_event_sound k left e g)
+    by_keyword None found g = absurd (cc)
 
 -- What is read as an event is a text of it.
 pub event_sound : (line : List ℕ) (e : Event) → event_of line ≡ Ok e → IsTextOf line e
 unfolding event_of
 event_sound line e h = by_words (next_word (words line)) refl h
   where
-    by_words : (r : Result (List ℕ × List (List ℕ)) TextReason) → next_word (words line) ≡ r → result_then r (λ next. places_of next.0 next.1) ≡ Ok e → IsTextOf line e
+    by_words : (r : Result (List ℕ × List (List ℕ)) TextReason) → next_word (words line) ≡ r → result_then r words_event ≡ Ok e → IsTextOf line e
     by_words (Ok next) is_next k =
         let P : List ℕ → Type 0 = λ l. IsTextOf l e in
-        subst P (ap (join_with_byte 32) (sym (next_ok (words line) next is_next)) ∙ join_with_byte-slice_split 32 line) (keyword_sound next.0 next.1 e k)
+        subst P (ap (join_with_byte 32) (sym (next_ok (words line) next is_next)) ∙ join_with_byte-slice_split 32 line) (words_event_sound next.0 next.1 e k)
     by_words (Err reason) is_next k = absurd (cc)
 
 -- ---- what stands in a line is read
 
--- a word without this byte
-abbrev pub Lacks : ℕ → List ℕ → Type 0
-Lacks c word = list_all (λ x. not (nat_eq x c)) word ≡ true
+-- the words of values are read in their form
+form_again : (form : EventForm) → IsForm form → (left : List (List ℕ)) (values : Values form.places) → AreWordsOf form.places left values → InPlaces form.places values
+    → read_form form left ≡ Ok (form.event values)
+form_again form k left values stand range =
+    ap (λ (r : Result (Values form.places) TextReason). result_then r (λ vs. Ok (form.event vs))) (places_again form.places k.places (λ vs. vs) left values stand range)
 
-not_true : (b : Bool) → not b ≡ true → b ≡ false
-not_true true h = absurd (cc)
-not_true false h = refl
-
-words_then : (word rest : List ℕ) → Lacks 32 word → words (word ++ 32 ∷ rest) ≡ word ∷ words rest
-words_then [] rest h = refl
-words_then (x ∷ xs) rest h =
-    let both = and_true (not (nat_eq x 32)) (list_all (λ y. not (nat_eq y 32)) xs) h in
-    slice_split-cons_no (λ y. nat_eq y 32) x (xs ++ 32 ∷ rest) (not_true (nat_eq x 32) both.0) ∙ ap (onto_first x) (words_then xs rest both.1)
-
-words_one : (word : List ℕ) → Lacks 32 word → words word ≡ word ∷ []
-words_one [] h = refl
-words_one (x ∷ xs) h =
-    let both = and_true (not (nat_eq x 32)) (list_all (λ y. not (nat_eq y 32)) xs) h in
-    slice_split-cons_no (λ y. nat_eq y 32) x xs (not_true (nat_eq x 32) both.0) ∙ ap (onto_first x) (words_one xs both.1)
-
--- digits are no blanks and no slashes
-Lacks-digits : (c : ℕ) (word : List ℕ) → c < 48 → list_all is_ascii_digit word ≡ true → Lacks c word
-Lacks-digits c [] small h = refl
-Lacks-digits c (x ∷ xs) small h =
-    let both = and_true (is_ascii_digit x) (list_all is_ascii_digit xs) h in
-    rw (digit_is_not x both.0, Lacks-digits c xs small both.1) refl
+lacking : (c : ℕ) (word : List ℕ) → Lacks c word → list_any (λ x. nat_eq x c) word ≡ false
+lacking c [] h = refl
+lacking c (x ∷ xs) h = by_head (nat_eq x c) (list_all (λ y. not (nat_eq y c)) xs) (lacking c xs) h
   where
-    digit_is_not : (y : ℕ) → is_ascii_digit y ≡ true → nat_eq y c ≡ false
-    digit_is_not y e = grind (arith, nat_tests)
+    by_head : (b rest : Bool) → (rest ≡ true → list_any (λ y. nat_eq y c) xs ≡ false) → (not b && rest) ≡ true → (b || list_any (λ y. nat_eq y c) xs) ≡ false
+    by_head true rest more h = absurd (cc)
+    by_head false rest more h = more h
 
-Lacks-decimal : (c n : ℕ) → c < 48 → n < 2 ^ 64 → Lacks c (decimal n)
-Lacks-decimal c n small fits = Lacks-digits c (decimal n) small (own.from (decimal n) (decimal_is_IsNumeral n fits).0.1)
-
-Lacks-hex : (text packet : List ℕ) → IsHexOf text packet → Lacks 32 text
-Lacks-hex [] packet h = refl
-Lacks-hex (a ∷ []) packet h = absurd h
-Lacks-hex (a ∷ b ∷ text) [] h = absurd h
-Lacks-hex (a ∷ b ∷ text) (byte ∷ packet) (high, low, ha, hb, e, rest) =
-    rw (no_blank a high ha, no_blank b low hb, Lacks-hex text packet rest) refl
+any_slash : (front rest : List ℕ) → list_any (λ x. nat_eq x 47) (front ++ 47 ∷ rest) ≡ true
+any_slash [] rest = refl
+any_slash (x ∷ xs) rest = by_head (nat_eq x 47) (any_slash xs rest)
   where
-    no_blank : (c n : ℕ) → IsDigitOf c n → nat_eq c 32 ≡ false
-    no_blank c n d = grind (arith, nat_tests)
+    by_head : (b : Bool) → list_any (λ y. nat_eq y 47) (xs ++ 47 ∷ rest) ≡ true → (b || list_any (λ y. nat_eq y 47) (xs ++ 47 ∷ rest)) ≡ true
+    by_head true more = refl
+    by_head false more = more
 
-Lacks-node : (c : ℕ) (n : NodeId) → (c ≡ 32) ⊎ (c ≡ 47) → IsNode n → Lacks c (node_text n)
-Lacks-node c n (inl e) h = subst (λ (b : ℕ). Lacks b (node_text n)) (sym e) (by_blank n h)
-  where
-    by_blank : (m : NodeId) → IsNode m → Lacks 32 (node_text m)
-    by_blank (CuCp A) h = refl
-    by_blank (CuCp B) h = refl
-    by_blank (CuUp A k) h = Lacks-decimal 32 k (omega arith) (omega (arith, h.to))
-    by_blank (CuUp B k) h = Lacks-decimal 32 k (omega arith) (omega (arith, h.to))
-    by_blank (Du A k) h = Lacks-decimal 32 k (omega arith) (omega (arith, h.to))
-    by_blank (Du B k) h = Lacks-decimal 32 k (omega arith) (omega (arith, h.to))
-    by_blank Core h = refl
-    by_blank (Ue k) h = Lacks-decimal 32 k (omega arith) (omega (arith, h.to))
-Lacks-node c n (inr e) h = subst (λ (b : ℕ). Lacks b (node_text n)) (sym e) (by_slash n h)
-  where
-    by_slash : (m : NodeId) → IsNode m → Lacks 47 (node_text m)
-    by_slash (CuCp A) h = refl
-    by_slash (CuCp B) h = refl
-    by_slash (CuUp A k) h = Lacks-decimal 47 k (omega arith) (omega (arith, h.to))
-    by_slash (CuUp B k) h = Lacks-decimal 47 k (omega arith) (omega (arith, h.to))
-    by_slash (Du A k) h = Lacks-decimal 47 k (omega arith) (omega (arith, h.to))
-    by_slash (Du B k) h = Lacks-decimal 47 k (omega arith) (omega (arith, h.to))
-    by_slash Core h = refl
-    by_slash (Ue k) h = Lacks-decimal 47 k (omega arith) (omega (arith, h.to))
+-- a node's name begins with no `#`
+node_not_message : (n : NodeId) (rest : List ℕ) → (node_text n ++ rest) begins codes "#" ≡ false
+node_not_message (CuCp A) rest = refl
+node_not_message (CuCp B) rest = refl
+node_not_message (CuUp A k) rest = refl
+node_not_message (CuUp B k) rest = refl
+node_not_message (Du A k) rest = refl
+node_not_message (Du B k) rest = refl
+node_not_message Core rest = refl
+node_not_message (Ue k) rest = refl
 
-Lacks-append : (c : ℕ) (a b : List ℕ) → Lacks c a → Lacks c b → Lacks c (a ++ b)
-Lacks-append c a b h k = list_all-append (λ x. not (nat_eq x c)) a b ∙ (rw (h, k) refl)
+-- a form that is read where its words stand
+abbrev Again : Keyword → EventForm → Type 0
+Again k form = (left : List (List ℕ)) (values : Values form.places) → AreWordsOf form.places left values → InPlaces form.places values
+    → keyword_event k left ≡ Ok (form.event values)
 
--- the place of the slash behind a word that has none
-slash_behind : (word rest : List ℕ) → Lacks 47 word → position_or_len (λ x. nat_eq x 47) (word ++ 47 ∷ rest) ≡ length word
-slash_behind [] rest h = refl
-slash_behind (x ∷ xs) rest h =
-    let both = and_true (not (nat_eq x 47)) (list_all (λ y. not (nat_eq y 47)) xs) h in
-    let more = slash_behind xs rest both.1 in
-    rw both.0 (omega (arith, more))
+lose_message_again : Again keywords.Lose lose_message_form
+unfolding keyword_event
+lose_message_again [] values stand range = absurd stand
+lose_message_again (word ∷ left) values stand range =
+    let test : word begins codes "#" ≡ true = ap (λ w. w begins codes "#") stand.0 in
+    ap (λ b. cond b (read_form lose_message_form (word ∷ left)) (read_form lose_item_form (word ∷ left))) test ∙ form_again lose_message_form is_lose_message (word ∷ left) values stand range
 
-tunnel_again : (end : NodeId) (teid : ℕ) → IsNode end → IsWithin 1 (2 ^ 32 - 1) teid → tunnel (node_text end ++ 47 ∷ decimal teid) ≡ Ok (end, teid)
-tunnel_again end teid range within =
-    let place = slash_behind (node_text end) (decimal teid) (Lacks-node 47 end (inr refl) range) in
-    let front : before_first (λ x. nat_eq x 47) (node_text end ++ 47 ∷ decimal teid) ≡ node_text end =
-    ap (λ n. take n (node_text end ++ 47 ∷ decimal teid)) place ∙ take-append_seam (node_text end) (47 ∷ decimal teid) in
-    let behind : after_first (λ x. nat_eq x 47) (node_text end ++ 47 ∷ decimal teid) ≡ decimal teid =
-    ap (λ n. drop (n + 1) (node_text end ++ 47 ∷ decimal teid)) place ∙ drop-append-add (node_text end) (47 ∷ decimal teid) 1 in
-    ap (λ w. both (node w) (number 1 (2 ^ 32 - 1) (after_first (λ x. nat_eq x 47) (node_text end ++ 47 ∷ decimal teid)))) front
-    ∙ ap (λ w. both (node (node_text end)) (number 1 (2 ^ 32 - 1) w)) behind
-    ∙ ap (λ o. both (ok_or o Name) (number 1 (2 ^ 32 - 1) (decimal teid))) (node_again end range)
-    ∙ ap (λ o. both (Ok end) (ok_or o Number)) (number_again 1 (2 ^ 32 - 1) teid (omega arith) (omega arith) within)
+lose_item_again : Again keywords.Lose lose_item_form
+unfolding keyword_event
+lose_item_again [] values stand range = absurd stand
+lose_item_again (word ∷ left) values stand range =
+    let test : word begins codes "#" ≡ false = ap (λ w. w begins codes "#") (stand.0 ∙ append_assoc (node_text values.0.0) (codes "/") (decimal values.0.1)) ∙ node_not_message values.0.0 (codes "/" ++ decimal values.0.1) in
+    ap (λ b. cond b (read_form lose_message_form (word ∷ left)) (read_form lose_item_form (word ∷ left))) test ∙ form_again lose_item_form is_lose_item (word ∷ left) values stand range
 
--- a line of these words is the event that its places mean
-by_words : (line keyword : List ℕ) (places : List (List ℕ)) (e : Event) → words line ≡ keyword ∷ places → places_of keyword places ≡ Ok e → event_of line ≡ Ok e
+inject_item_again : Again keywords.Inject inject_item_form
+unfolding keyword_event
+inject_item_again [] values stand range = absurd stand
+inject_item_again (word ∷ left) values stand range =
+    let test : list_any (λ c. nat_eq c 47) word ≡ true = ap (list_any (λ c. nat_eq c 47)) (stand.0 ∙ append_assoc (node_text values.0.0) (codes "/") (decimal values.0.1)) ∙ any_slash (node_text values.0.0) (decimal values.0.1) in
+    ap (λ b. cond b (read_form inject_item_form (word ∷ left)) (read_form inject_message_form (word ∷ left))) test ∙ form_again inject_item_form is_inject_item (word ∷ left) values stand range
+
+inject_message_again : Again keywords.Inject inject_message_form
+unfolding keyword_event
+inject_message_again [] values stand range = absurd stand
+inject_message_again (word ∷ left) values stand range =
+    let test : list_any (λ c. nat_eq c 47) word ≡ false = ap (list_any (λ c. nat_eq c 47)) stand.0 ∙ lacking 47 (node_text values.0) (Lacks-node 47 values.0 (inr refl) range.0) in
+    ap (λ b. cond b (read_form inject_item_form (word ∷ left)) (read_form inject_message_form (word ∷ left))) test ∙ form_again inject_message_form is_inject_message (word ∷ left) values stand range
+
+static_again : Again keywords.Static static_form
+unfolding keyword_event
+static_again left values stand range = form_again static_form is_static left values stand range
+
+start_again : Again keywords.Start (bare_form keywords.Start events.Start)
+unfolding keyword_event
+start_again left values stand range = form_again (bare_form keywords.Start events.Start) is_start left values stand range
+
+attach_again : Again keywords.Attach attach_form
+unfolding keyword_event
+attach_again left values stand range = form_again attach_form is_attach left values stand range
+
+offer_again : Again keywords.Offer offer_form
+unfolding keyword_event
+offer_again left values stand range = form_again offer_form is_offer left values stand range
+
+get_again : Again keywords.Get get_form
+unfolding keyword_event
+get_again left values stand range = form_again get_form is_get left values stand range
+
+air_again : Again keywords.Air air_form
+unfolding keyword_event
+air_again left values stand range = form_again air_form is_air left values stand range
+
+ack_again : Again keywords.Ack ack_form
+unfolding keyword_event
+ack_again left values stand range = form_again ack_form is_ack left values stand range
+
+give_again : Again keywords.Give give_form
+unfolding keyword_event
+give_again left values stand range = form_again give_form is_give left values stand range
+
+poll_again : Again keywords.Poll poll_form
+unfolding keyword_event
+poll_again left values stand range = form_again poll_form is_poll left values stand range
+
+pump_again : Again keywords.Pump (bare_form keywords.Pump events.Pump)
+unfolding keyword_event
+pump_again left values stand range = form_again (bare_form keywords.Pump events.Pump) is_pump left values stand range
+
+tick_again : Again keywords.Tick (bare_form keywords.Tick events.Tick)
+unfolding keyword_event
+tick_again left values stand range = form_again (bare_form keywords.Tick events.Tick) is_tick left values stand range
+
+fail_again : Again keywords.Fail (ue_form keywords.Fail events.Fail)
+unfolding keyword_event
+fail_again left values stand range = form_again (ue_form keywords.Fail events.Fail) is_fail left values stand range
+
+arrive_again : Again keywords.Arrive (ue_form keywords.Arrive events.Arrive)
+unfolding keyword_event
+arrive_again left values stand range = form_again (ue_form keywords.Arrive events.Arrive) is_arrive left values stand range
+
+return_again : Again keywords.Return (ue_form keywords.Return events.Return)
+unfolding keyword_event
+return_again left values stand range = form_again (ue_form keywords.Return events.Return) is_return left values stand range
+
+handover_again : Again keywords.Handover handover_form
+unfolding keyword_event
+handover_again left values stand range = form_again handover_form is_handover left values stand range
+
+cancel_again : Again keywords.Cancel (ue_form keywords.Cancel events.Cancel)
+unfolding keyword_event
+cancel_again left values stand range = form_again (ue_form keywords.Cancel events.Cancel) is_cancel left values stand range
+
+release_again : Again keywords.Release (ue_form keywords.Release events.Release)
+unfolding keyword_event
+release_again left values stand range = form_again (ue_form keywords.Release events.Release) is_release left values stand range
+
+ask_again : Again keywords.Ask ask_form
+unfolding keyword_event
+ask_again left values stand range = form_again ask_form is_ask left values stand range
+
+settle_again : Again keywords.Settle (bare_form keywords.Settle events.Settle)
+unfolding keyword_event
+settle_again left values stand range = form_again (bare_form keywords.Settle events.Settle) is_settle left values stand range
+
+-- a line of these words is the event that its keyword reads
+written_again : (line : List ℕ) (form : EventForm) → IsForm form → Again form.keyword form → (values : Values form.places) → IsWritten line form values
+    → event_of line ≡ Ok (form.event values)
 unfolding event_of
-by_words line keyword places e are goes = ap (λ ws. result_then (next_word ws) (λ next. places_of next.0 next.1)) are ∙ goes
-
-Lacks-ue : (u : UeId) → IsUe u → Lacks 32 (ue_text u)
-Lacks-ue u h = Lacks-decimal 32 u.0 (omega arith) (omega (arith, h.to))
-
-Lacks-bearer : (b : BearerId) → IsBearer b → Lacks 32 (bearer_text b)
-Lacks-bearer b h = Lacks-decimal 32 b.0 (omega arith) (omega (arith, h.to))
-
--- the words of a line that begins with one of them
-words_from : (word rest : List ℕ) (more : List (List ℕ)) → Lacks 32 word → words rest ≡ more → words (word then rest) ≡ word ∷ more
-words_from word rest more lacks e = words_then word rest lacks ∙ ap (λ ws. word ∷ ws) e
-
-air_places : (u : UeId) (b : BearerId) → IsUe u → IsBearer b → air_event (ue_text u ∷ bearer_text b ∷ codes "dl" ∷ []) ≡ Ok (events.Air u b)
-unfolding air_event
-air_places u b hu hb = rw (ue_again u hu, bearer_again b hb) refl
-
-air_again : (u : UeId) (b : BearerId) → IsUe u → IsBearer b → event_of (event_text (events.Air u b)) ≡ Ok (events.Air u b)
-unfolding event_text
-air_again u b hu hb =
-    by_words (event_text (events.Air u b)) (codes "air") (ue_text u ∷ bearer_text b ∷ codes "dl" ∷ []) (events.Air u b)
-    (words_from (codes "air") (ue_text u then bearer_text b then codes "dl") (ue_text u ∷ bearer_text b ∷ codes "dl" ∷ []) refl
-    (words_from (ue_text u) (bearer_text b then codes "dl") (bearer_text b ∷ codes "dl" ∷ []) (Lacks-ue u hu)
-    (words_from (bearer_text b) (codes "dl") (codes "dl" ∷ []) (Lacks-bearer b hb) (words_one (codes "dl") refl))))
-    (air_places u b hu hb)
-
-static_places : (q : ℕ) → IsWithin 4 4096 q → static_event (codes "u1" ∷ codes "A" ∷ codes "1" ∷ codes "1" ∷ codes "12" ∷ codes "1" ∷ decimal q ∷ []) ≡ Ok (events.Static q)
-unfolding static_event
-static_places q h = rw (number_again 4 4096 q (omega arith) (omega arith) h) refl
-
-static_again : (q : ℕ) → IsWithin 4 4096 q → event_of (event_text (events.Static q)) ≡ Ok (events.Static q)
-unfolding event_text
-static_again q h =
-    by_words (event_text (events.Static q)) (codes "static") (codes "u1" ∷ codes "A" ∷ codes "1" ∷ codes "1" ∷ codes "12" ∷ codes "1" ∷ decimal q ∷ []) (events.Static q)
-    (words_from (codes "static") (codes "u1 A 1 1 12 1 " ++ decimal q) (codes "u1" ∷ codes "A" ∷ codes "1" ∷ codes "1" ∷ codes "12" ∷ codes "1" ∷ decimal q ∷ []) refl
-    (words_from (codes "u1") (codes "A 1 1 12 1 " ++ decimal q) (codes "A" ∷ codes "1" ∷ codes "1" ∷ codes "12" ∷ codes "1" ∷ decimal q ∷ []) refl
-    (words_from (codes "A") (codes "1 1 12 1 " ++ decimal q) (codes "1" ∷ codes "1" ∷ codes "12" ∷ codes "1" ∷ decimal q ∷ []) refl
-    (words_from (codes "1") (codes "1 12 1 " ++ decimal q) (codes "1" ∷ codes "12" ∷ codes "1" ∷ decimal q ∷ []) refl
-    (words_from (codes "1") (codes "12 1 " ++ decimal q) (codes "12" ∷ codes "1" ∷ decimal q ∷ []) refl
-    (words_from (codes "12") (codes "1 " ++ decimal q) (codes "1" ∷ decimal q ∷ []) refl
-    (words_from (codes "1") (decimal q) (decimal q ∷ []) refl (words_one (decimal q) (Lacks-decimal 32 q (omega arith) (omega (arith, h.to)))))))))))
-    (static_places q h)
-
-get_places : (end : NodeId) (teid : ℕ) → IsNode end → IsWithin 1 (2 ^ 32 - 1) teid → get_event ((node_text end ++ 47 ∷ decimal teid) ∷ []) ≡ Ok (events.Get end teid)
-unfolding get_event
-get_places end teid h k = ap (λ t. result_then {X = (NodeId × ℕ) × List (List ℕ)} (result_then t (λ x. Ok (x, []))) (λ read. ended (events.Get read.0.0 read.0.1) read.1)) (tunnel_again end teid h k)
-
-get_again : (end : NodeId) (teid : ℕ) → IsNode end → IsWithin 1 (2 ^ 32 - 1) teid → event_of (event_text (events.Get end teid)) ≡ Ok (events.Get end teid)
-unfolding event_text
-get_again end teid h k =
-    let tunnel_text = node_text end ++ 47 ∷ decimal teid in
-    by_words (event_text (events.Get end teid)) (codes "get") (tunnel_text ∷ []) (events.Get end teid)
-    (ap (λ t. words (codes "get " ++ t)) (append_assoc (node_text end) (47 ∷ []) (decimal teid))
-    ∙ words_from (codes "get") tunnel_text (tunnel_text ∷ []) refl
-    (words_one tunnel_text (Lacks-append 32 (node_text end) (47 ∷ decimal teid) (Lacks-node 32 end (inl refl) h) (Lacks-decimal 32 teid (omega arith) (omega (arith, k.to))))))
-    (get_places end teid h k)
-
-hex_again : (digits packet : List ℕ) → 0 < length packet → IsHexOf digits packet → hex digits ≡ Ok packet
-hex_again [] [] some is_hex = absurd (omega arith)
-hex_again [] (byte ∷ packet) some is_hex = absurd is_hex
-hex_again (a ∷ digits) packet some is_hex =
-    let long : nat_lt 0 (length (a ∷ digits)) ≡ true = lt-ltb 0 (length (a ∷ digits)) (omega arith) in
-    ap (λ b. cond b (ok_or (read_hex (a ∷ digits)) Hex) (Err Hex)) long ∙ ap (λ o. ok_or o Hex) (hex_is_read (a ∷ digits) packet is_hex)
-
-offer_places : (u : UeId) (b : BearerId) (digits packet : List ℕ) → IsUe u → IsBearer b → 0 < length packet → IsHexOf digits packet
-    → offer_event (ue_text u ∷ bearer_text b ∷ codes "dl" ∷ digits ∷ []) ≡ Ok (events.Offer u b packet)
-unfolding offer_event
-offer_places u b digits packet hu hb some is_hex = rw (ue_again u hu, bearer_again b hb, hex_again digits packet some is_hex) refl
-
-offer_again : (u : UeId) (b : BearerId) (digits packet : List ℕ) → IsUe u → IsBearer b → 0 < length packet → IsHexOf digits packet
-    → event_of (codes "offer" then ue_text u then bearer_text b then codes "dl" then digits) ≡ Ok (events.Offer u b packet)
-offer_again u b digits packet hu hb some is_hex =
-    by_words (codes "offer" then ue_text u then bearer_text b then codes "dl" then digits) (codes "offer") (ue_text u ∷ bearer_text b ∷ codes "dl" ∷ digits ∷ []) (events.Offer u b packet)
-    (words_from (codes "offer") (ue_text u then bearer_text b then codes "dl" then digits) (ue_text u ∷ bearer_text b ∷ codes "dl" ∷ digits ∷ []) refl
-    (words_from (ue_text u) (bearer_text b then codes "dl" then digits) (bearer_text b ∷ codes "dl" ∷ digits ∷ []) (Lacks-ue u hu)
-    (words_from (bearer_text b) (codes "dl" then digits) (codes "dl" ∷ digits ∷ []) (Lacks-bearer b hb)
-    (words_from (codes "dl") digits (digits ∷ []) refl (words_one digits (Lacks-hex digits packet is_hex))))))
-    (offer_places u b digits packet hu hb some is_hex)
+written_again line form k again values h =
+    let are : words line ≡ keyword_text form.keyword ∷ h.words =
+    ap words h.text ∙ words-joined (keyword_text form.keyword) h.words (keyword_lacks_blank form.keyword) (words_lack_blanks form.places k.places h.words values h.stand h.range) in
+    ap (λ ws. result_then (next_word ws) words_event) are
+    ∙ ap (λ o. result_then (ok_or o Word) (λ keyword. keyword_event keyword h.words)) (keyword_again form.keyword)
+    ∙ again h.words values h.stand h.range
 
 -- A text of an event is read as it.
 pub text_is_read : (line : List ℕ) (e : Event) → IsTextOf line e → event_of line ≡ Ok e
-text_is_read line (events.Static quota) h = ap event_of h.text ∙ static_again quota h.range
-text_is_read line (events.Offer u b packet) h = ap event_of h.text.2 ∙ offer_again u b h.text.0 packet h.range.0 h.range.1 h.range.2.some h.text.1
-text_is_read line (events.Get end teid) h = ap event_of h.text ∙ get_again end teid h.range.0 h.range.1
-text_is_read line (events.Air u b) h = ap event_of h.text ∙ air_again u b h.range.0 h.range.1
+text_is_read line (events.Static plan) h = written_again line static_form is_static static_again (plan_values plan) h
+text_is_read line events.Start h = written_again line (bare_form keywords.Start events.Start) is_start start_again tt h
+text_is_read line (events.Attach plan) h = written_again line attach_form is_attach attach_again (plan_values plan) h
+text_is_read line (events.Offer ue bearer dir packet) h = written_again line offer_form is_offer offer_again (ue, (bearer, (dir, (packet, tt)))) h
+text_is_read line (events.Get end teid) h = written_again line get_form is_get get_again ((end, teid), tt) h
+text_is_read line (events.Air ue bearer dir) h = written_again line air_form is_air air_again (ue, (bearer, (dir, tt))) h
+text_is_read line (events.Ack ue bearer dir) h = written_again line ack_form is_ack ack_again (ue, (bearer, (dir, tt))) h
+text_is_read line (events.Give message) h = written_again line give_form is_give give_again (message, tt) h
+text_is_read line (events.LoseMessage message) h = written_again line lose_message_form is_lose_message lose_message_again (message, tt) h
+text_is_read line (events.LoseItem end teid) h = written_again line lose_item_form is_lose_item lose_item_again ((end, teid), tt) h
+text_is_read line (events.Poll ue bearer) h = written_again line poll_form is_poll poll_again (ue, (bearer, tt)) h
+text_is_read line events.Pump h = written_again line (bare_form keywords.Pump events.Pump) is_pump pump_again tt h
+text_is_read line events.Tick h = written_again line (bare_form keywords.Tick events.Tick) is_tick tick_again tt h
+text_is_read line (events.Fail ue) h = written_again line (ue_form keywords.Fail events.Fail) is_fail fail_again (ue, tt) h
+text_is_read line (events.Arrive ue) h = written_again line (ue_form keywords.Arrive events.Arrive) is_arrive arrive_again (ue, tt) h
+text_is_read line (events.Return ue) h = written_again line (ue_form keywords.Return events.Return) is_return return_again (ue, tt) h
+text_is_read line (events.Handover ue gnb up du) h = written_again line handover_form is_handover handover_again (ue, (gnb, (up, (du, tt)))) h
+text_is_read line (events.Cancel ue) h = written_again line (ue_form keywords.Cancel events.Cancel) is_cancel cancel_again (ue, tt) h
+text_is_read line (events.Release ue) h = written_again line (ue_form keywords.Release events.Release) is_release release_again (ue, tt) h
+text_is_read line (events.Ask ue bearer) h = written_again line ask_form is_ask ask_again (ue, (bearer, tt)) h
+text_is_read line events.Settle h = written_again line (bare_form keywords.Settle events.Settle) is_settle settle_again tt h
+text_is_read line (events.InjectMessage from to bytes) h = written_again line inject_message_form is_inject_message inject_message_again (from, (to, (bytes, tt))) h
+text_is_read line (events.InjectItem end teid bytes) h = written_again line inject_item_form is_inject_item inject_item_again ((end, teid), (bytes, tt)) h
+
+form_text-IsWritten : (form : EventForm) (values : Values form.places) → InPlaces form.places values → IsWritten (form_text form values) form values
+form_text-IsWritten form values range =
+    record { words = value_words form.places values; text = refl; stand = value_words-AreWordsOf form.places values range; range = range }
 
 -- The text of an event in its ranges is one of its texts.
 pub event_text-IsTextOf : (e : Event) → InRange e → IsTextOf (event_text e) e
 unfolding event_text
-event_text-IsTextOf (events.Static quota) h = record { text = refl; range = h }
-event_text-IsTextOf (events.Offer u b packet) h = record { text = (hex_of packet, hex_of_is_hex packet h.2.bytes, refl); range = h }
-event_text-IsTextOf (events.Get end teid) h = record { text = refl; range = h }
-event_text-IsTextOf (events.Air u b) h = record { text = refl; range = h }
+event_text-IsTextOf (events.Static plan) h = form_text-IsWritten static_form (plan_values plan) h
+event_text-IsTextOf events.Start h = form_text-IsWritten (bare_form keywords.Start events.Start) tt h
+event_text-IsTextOf (events.Attach plan) h = form_text-IsWritten attach_form (plan_values plan) h
+event_text-IsTextOf (events.Offer ue bearer dir packet) h = form_text-IsWritten offer_form (ue, (bearer, (dir, (packet, tt)))) h
+event_text-IsTextOf (events.Get end teid) h = form_text-IsWritten get_form ((end, teid), tt) h
+event_text-IsTextOf (events.Air ue bearer dir) h = form_text-IsWritten air_form (ue, (bearer, (dir, tt))) h
+event_text-IsTextOf (events.Ack ue bearer dir) h = form_text-IsWritten ack_form (ue, (bearer, (dir, tt))) h
+event_text-IsTextOf (events.Give message) h = form_text-IsWritten give_form (message, tt) h
+event_text-IsTextOf (events.LoseMessage message) h = form_text-IsWritten lose_message_form (message, tt) h
+event_text-IsTextOf (events.LoseItem end teid) h = form_text-IsWritten lose_item_form ((end, teid), tt) h
+event_text-IsTextOf (events.Poll ue bearer) h = form_text-IsWritten poll_form (ue, (bearer, tt)) h
+event_text-IsTextOf events.Pump h = form_text-IsWritten (bare_form keywords.Pump events.Pump) tt h
+event_text-IsTextOf events.Tick h = form_text-IsWritten (bare_form keywords.Tick events.Tick) tt h
+event_text-IsTextOf (events.Fail ue) h = form_text-IsWritten (ue_form keywords.Fail events.Fail) (ue, tt) h
+event_text-IsTextOf (events.Arrive ue) h = form_text-IsWritten (ue_form keywords.Arrive events.Arrive) (ue, tt) h
+event_text-IsTextOf (events.Return ue) h = form_text-IsWritten (ue_form keywords.Return events.Return) (ue, tt) h
+event_text-IsTextOf (events.Handover ue gnb up du) h = form_text-IsWritten handover_form (ue, (gnb, (up, (du, tt)))) h
+event_text-IsTextOf (events.Cancel ue) h = form_text-IsWritten (ue_form keywords.Cancel events.Cancel) (ue, tt) h
+event_text-IsTextOf (events.Release ue) h = form_text-IsWritten (ue_form keywords.Release events.Release) (ue, tt) h
+event_text-IsTextOf (events.Ask ue bearer) h = form_text-IsWritten ask_form (ue, (bearer, tt)) h
+event_text-IsTextOf events.Settle h = form_text-IsWritten (bare_form keywords.Settle events.Settle) tt h
+event_text-IsTextOf (events.InjectMessage from to bytes) h = form_text-IsWritten inject_message_form (from, (to, (bytes, tt))) h
+event_text-IsTextOf (events.InjectItem end teid bytes) h = form_text-IsWritten inject_item_form ((end, teid), (bytes, tt)) h
 
 -- An event in its ranges is read again from its text.
 pub event_of-event_text : (e : Event) → InRange e → event_of (event_text e) ≡ Ok e
 event_of-event_text e h = text_is_read (event_text e) e (event_text-IsTextOf e h)
 
+-- What holds of the text of each form holds of each event's text.
+pub text_by_form : (P : List ℕ → Type 0) → ((form : EventForm) → IsForm form → (values : Values form.places) → InPlaces form.places values → P (form_text form values))
+    → (e : Event) → InRange e → P (event_text e)
+unfolding event_text
+text_by_form P each (events.Static plan) h = each static_form is_static (plan_values plan) h
+text_by_form P each events.Start h = each (bare_form keywords.Start events.Start) is_start tt h
+text_by_form P each (events.Attach plan) h = each attach_form is_attach (plan_values plan) h
+text_by_form P each (events.Offer ue bearer dir packet) h = each offer_form is_offer (ue, (bearer, (dir, (packet, tt)))) h
+text_by_form P each (events.Get end teid) h = each get_form is_get ((end, teid), tt) h
+text_by_form P each (events.Air ue bearer dir) h = each air_form is_air (ue, (bearer, (dir, tt))) h
+text_by_form P each (events.Ack ue bearer dir) h = each ack_form is_ack (ue, (bearer, (dir, tt))) h
+text_by_form P each (events.Give message) h = each give_form is_give (message, tt) h
+text_by_form P each (events.LoseMessage message) h = each lose_message_form is_lose_message (message, tt) h
+text_by_form P each (events.LoseItem end teid) h = each lose_item_form is_lose_item ((end, teid), tt) h
+text_by_form P each (events.Poll ue bearer) h = each poll_form is_poll (ue, (bearer, tt)) h
+text_by_form P each events.Pump h = each (bare_form keywords.Pump events.Pump) is_pump tt h
+text_by_form P each events.Tick h = each (bare_form keywords.Tick events.Tick) is_tick tt h
+text_by_form P each (events.Fail ue) h = each (ue_form keywords.Fail events.Fail) is_fail (ue, tt) h
+text_by_form P each (events.Arrive ue) h = each (ue_form keywords.Arrive events.Arrive) is_arrive (ue, tt) h
+text_by_form P each (events.Return ue) h = each (ue_form keywords.Return events.Return) is_return (ue, tt) h
+text_by_form P each (events.Handover ue gnb up du) h = each handover_form is_handover (ue, (gnb, (up, (du, tt)))) h
+text_by_form P each (events.Cancel ue) h = each (ue_form keywords.Cancel events.Cancel) is_cancel (ue, tt) h
+text_by_form P each (events.Release ue) h = each (ue_form keywords.Release events.Release) is_release (ue, tt) h
+text_by_form P each (events.Ask ue bearer) h = each ask_form is_ask (ue, (bearer, tt)) h
+text_by_form P each events.Settle h = each (bare_form keywords.Settle events.Settle) is_settle tt h
+text_by_form P each (events.InjectMessage from to bytes) h = each inject_message_form is_inject_message (from, (to, (bytes, tt))) h
+text_by_form P each (events.InjectItem end teid bytes) h = each inject_item_form is_inject_item ((end, teid), (bytes, tt)) h
+
+text_in_range : (line : List ℕ) (e : Event) → IsTextOf line e → InRange e
+text_in_range line (events.Static plan) h = h.range
+text_in_range line events.Start h = h.range
+text_in_range line (events.Attach plan) h = h.range
+text_in_range line (events.Offer ue bearer dir packet) h = h.range
+text_in_range line (events.Get end teid) h = h.range
+text_in_range line (events.Air ue bearer dir) h = h.range
+text_in_range line (events.Ack ue bearer dir) h = h.range
+text_in_range line (events.Give message) h = h.range
+text_in_range line (events.LoseMessage message) h = h.range
+text_in_range line (events.LoseItem end teid) h = h.range
+text_in_range line (events.Poll ue bearer) h = h.range
+text_in_range line events.Pump h = h.range
+text_in_range line events.Tick h = h.range
+text_in_range line (events.Fail ue) h = h.range
+text_in_range line (events.Arrive ue) h = h.range
+text_in_range line (events.Return ue) h = h.range
+text_in_range line (events.Handover ue gnb up du) h = h.range
+text_in_range line (events.Cancel ue) h = h.range
+text_in_range line (events.Release ue) h = h.range
+text_in_range line (events.Ask ue bearer) h = h.range
+text_in_range line events.Settle h = h.range
+text_in_range line (events.InjectMessage from to bytes) h = h.range
+text_in_range line (events.InjectItem end teid bytes) h = h.range
+
 -- What is read lies in its ranges.
 pub event_in_range : (line : List ℕ) (e : Event) → event_of line ≡ Ok e → InRange e
-event_in_range line e h = (event_sound line e h).range
+event_in_range line e h = text_in_range line e (event_sound line e h)
 
 -- What a reader gives as the grammar says lies in its ranges.
 pub given_in_range : (line : List ℕ) (r : Result Event TextError) → GivesOrMemory (λ x. x) r (event_of line) → IfOk r InRange
@@ -429,15 +516,27 @@ given_in_range line (Ok e) h = event_in_range line e h
 given_in_range line (Err error) h = tt
 
 -- The header is one line.
+header_ok : (left : List (List ℕ)) → header left ≡ Ok tt → left ≡ codes "module" ∷ codes "builtin" ∷ []
+header_ok [] h = absurd (cc)
+header_ok (first ∷ rest) h = elim (chosen (first is codes "module") (Ok tt) (Err Word) (fixed (codes "module") Word first) refl) [
+  | inl w ↦ with_first rest (is_text first (codes "module") w.0) (ap (λ (r : Result (Unit {0}) TextReason). result_then {X = Unit {0} × List (List ℕ)} {Y = Unit {0}} (result_then r (λ x. Ok (x, rest))) (λ keyword. result_then (place (fixed (codes "builtin") Word) keyword.1) (λ kind. line_end kind.1))) w.1 ∙ h)
+  | inr w ↦ absurd (let no : Err Word ≡ Ok tt = ap (λ (r : Result (Unit {0}) TextReason). result_then {X = Unit {0} × List (List ℕ)} {Y = Unit {0}} (result_then r (λ x. Ok (x, rest))) (λ keyword. result_then (place (fixed (codes "builtin") Word) keyword.1) (λ kind. line_end kind.1))) w.1 ∙ h in cc)
+]
+  where
+    with_end : (second : List ℕ) (end : List (List ℕ)) → first ≡ codes "module" → second ≡ codes "builtin" → line_end end ≡ Ok tt → first ∷ second ∷ end ≡ codes "module" ∷ codes "builtin" ∷ []
+    with_end second [] p q h = ap (λ w. w ∷ second ∷ []) p ∙ ap (λ w. codes "module" ∷ w ∷ []) q
+    with_end second (word ∷ end) p q h = absurd (cc)
+
+    with_first : (rest : List (List ℕ)) → first ≡ codes "module" → result_then (place (fixed (codes "builtin") Word) rest) (λ kind. line_end kind.1) ≡ Ok tt → first ∷ rest ≡ codes "module" ∷ codes "builtin" ∷ []
+    with_first [] p h = absurd (cc)
+    with_first (second ∷ end) p h = elim (chosen (second is codes "builtin") (Ok tt) (Err Word) (fixed (codes "builtin") Word second) refl) [
+      | inl w ↦ with_end second end p (is_text second (codes "builtin") w.0) (ap (λ (r : Result (Unit {0}) TextReason). result_then {X = Unit {0} × List (List ℕ)} {Y = Unit {0}} (result_then r (λ x. Ok (x, end))) (λ kind. line_end kind.1)) w.1 ∙ h)
+      | inr w ↦ absurd (let no : Err Word ≡ Ok tt = ap (λ (r : Result (Unit {0}) TextReason). result_then {X = Unit {0} × List (List ℕ)} {Y = Unit {0}} (result_then r (λ x. Ok (x, end))) (λ kind. line_end kind.1)) w.1 ∙ h in cc)
+    ]
+
 pub header_sound : (line : List ℕ) → header_of line ≡ Ok tt → line ≡ codes "module builtin"
 unfolding header_of
-header_sound line h =
-    let k = step (fixed (codes "module") Word) (λ k. fixed (codes "builtin") Word >>= (λ b. ended tt)) (words line) tt h in
-    let b = step (fixed (codes "builtin") Word) (λ b. ended tt) k.rest tt k.goes in
-    let end = at_end tt tt b.rest b.goes in
-    let same : words line ≡ codes "module" ∷ codes "builtin" ∷ [] =
-    as_words {rest = k.rest} {word = k.word} k.stands (fixed_sound (codes "module") Word k.word k.value k.means) (as_words {rest = b.rest} {word = b.word} b.stands (fixed_sound (codes "builtin") Word b.word b.value b.means) end.0) in
-    sym (join_with_byte-slice_split 32 line) ∙ ap (join_with_byte 32) same
+header_sound line h = sym (join_with_byte-slice_split 32 line) ∙ ap (join_with_byte 32) (header_ok (words line) h)
 
 pub header_is_read : (line : List ℕ) → line ≡ codes "module builtin" → header_of line ≡ Ok tt
 unfolding header_of

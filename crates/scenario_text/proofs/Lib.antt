@@ -1,5 +1,2 @@
 pub mod EventLaws
-pub mod FormLaws
 pub mod HexText
-pub mod NumberLemmas
-pub mod WordLemmas

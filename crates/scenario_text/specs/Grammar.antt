@@ -1,220 +1,221 @@
--- The grammar of a script: a line is words with one blank between two of them; an event is its keyword and then one
--- word for each place, each place of a form. The first wrong word from the left decides.
-use Rattle.std.specs.Prelude.{◌≡◌, ℕ, ◌-◌, ◌^◌, ◌==◌, ◌&&◌, ◌||◌, not, Bool, List, [], ◌∷◌, length, take, drop, slice_index, Option, Some, None, Result, Ok, Err, codes, nat_lt, nat_le, if◌then◌else◌}
-use Rattle.std.specs.List.{list_all, slice_split, before_first, after_first}
-use Rattle.std.specs.Option.{ok_or, option_map}
-use Rattle.std.specs.Char.{is_ascii_digit}
-use Rattle.std.specs.Str.{bytes_eq}
-use Rattle.std.specs.Str.Parse.{digits_value}
-use denote.Ref.{Bor}
-use Rattle.gnb_types.specs.Hex.{read_hex}
-use Rattle.gnb_types.specs.declared.names.Gnb.{Gnb}
-use Rattle.gnb_types.specs.declared.names.Gnb.TheVariants.{A, B}
-use Rattle.gnb_types.specs.declared.names.NodeId.{NodeId}
-use Rattle.gnb_types.specs.declared.names.NodeId.TheVariants.{CuCp, CuUp, Du, Core, Ue}
+-- The events of a script: an event is its keyword and then one word for each of its places. The first wrong word from
+-- the left decides the reason.
+use Rattle.std.specs.Prelude.{◌≡◌, ℕ, ◌==◌, ◌||◌, Bool, true, false, List, [], ◌∷◌, length, slice_index, Option, Some, None, Result, Ok, Err, codes, if◌then◌else◌}
+use Rattle.std.specs.List.{find, list_any}
+use Rattle.std.specs.Option.{ok_or}
+use Rattle.gnb_types.specs.declared.plans.Plan.{Plan}
 use Rattle.gnb_types.specs.declared.names.UeId.{UeId}
-use Rattle.gnb_types.specs.declared.names.BearerId.{BearerId}
 use Rattle.scenario_text.specs.declared.event.Event.{Event}
 use Rattle.scenario_text.specs.declared.event.Event.TheVariants as events
-use Rattle.scenario_text.specs.declared.event.TextReason.{TextReason}
-use Rattle.scenario_text.specs.declared.event.TextReason.TheVariants.{Word, Number, Hex, Extra, Name}
-use Rattle.scenario_text.specs.declared.read.TextError.{TextError}
-use Rattle.scenario_text.specs.declared.read.TextError.TheVariants as errors
+use Rattle.scenario_text.specs.declared.event.Keyword.{Keyword}
+use Rattle.scenario_text.specs.declared.event.Keyword.TheVariants as keywords
+use Rattle.script_words.specs.declared.reason.TextReason.{TextReason}
+use Rattle.script_words.specs.declared.reason.TextReason.TheVariants.{Word}
+use Rattle.script_words.specs.Forms.{words, ◌is◌, ◌begins◌, fixed}
+use Rattle.script_words.specs.Places.{Place, AtUe, AtBearer, AtGnb, AtNode, AtDir, AtNumber, AtSnBits, AtMessage, AtTunnel, AtHex, Values, next_word, result_then, place, line_end, read_places}
 
--- ---- words
+-- ---- keywords
 
--- the words of a line; two blanks in a row make an empty word
-abbrev pub words : List ℕ → List (List ℕ)
-words line = slice_split (λ c. c == 32) line
+abbrev pub keyword_text : Keyword → List ℕ
+keyword_text keywords.Static = codes "static"
+keyword_text keywords.Start = codes "start"
+keyword_text keywords.Attach = codes "attach"
+keyword_text keywords.Offer = codes "offer"
+keyword_text keywords.Get = codes "get"
+keyword_text keywords.Air = codes "air"
+keyword_text keywords.Ack = codes "ack"
+keyword_text keywords.Give = codes "give"
+keyword_text keywords.Lose = codes "lose"
+keyword_text keywords.Poll = codes "poll"
+keyword_text keywords.Pump = codes "pump"
+keyword_text keywords.Tick = codes "tick"
+keyword_text keywords.Fail = codes "fail"
+keyword_text keywords.Arrive = codes "arrive"
+keyword_text keywords.Return = codes "return"
+keyword_text keywords.Handover = codes "handover"
+keyword_text keywords.Cancel = codes "cancel"
+keyword_text keywords.Release = codes "release"
+keyword_text keywords.Ask = codes "ask"
+keyword_text keywords.Settle = codes "settle"
+keyword_text keywords.Inject = codes "inject"
 
--- the word is this text
-infixl 6 ◌is◌
-abbrev pub ◌is◌ : List ℕ → List ℕ → Bool
-word is text = bytes_eq word text
+abbrev pub all_keywords : List Keyword
+all_keywords =
+    keywords.Static ∷ keywords.Start ∷ keywords.Attach ∷ keywords.Offer ∷ keywords.Get ∷ keywords.Air ∷ keywords.Ack
+    ∷ keywords.Give ∷ keywords.Lose ∷ keywords.Poll ∷ keywords.Pump ∷ keywords.Tick ∷ keywords.Fail ∷ keywords.Arrive
+    ∷ keywords.Return ∷ keywords.Handover ∷ keywords.Cancel ∷ keywords.Release ∷ keywords.Ask ∷ keywords.Settle
+    ∷ keywords.Inject ∷ []
 
--- the word begins with this text
-infixl 6 ◌begins◌
-abbrev pub ◌begins◌ : List ℕ → List ℕ → Bool
-word begins text = bytes_eq (take (length text) word) text
+-- the keyword that is this word
+unfoldable pub keyword_of : List ℕ → Option Keyword
+keyword_of word = find (λ keyword. word is keyword_text keyword) all_keywords
 
--- ---- forms
+-- ---- the places of events
 
--- What a word means, or the reason told of it.
-abbrev pub Form : Type 0 → Type 0
-Form X = List ℕ → Result X TextReason
+-- `uU G P D N C Q`
+abbrev pub plan_places : List Place
+plan_places = AtUe ∷ AtGnb ∷ AtNumber 1 2 ∷ AtNumber 1 2 ∷ AtSnBits ∷ AtNumber 1 8 ∷ AtNumber 4 4096 ∷ []
 
--- this word and no other
-abbrev pub fixed : List ℕ → TextReason → Form (Unit {0})
-fixed text reason word = if word is text then Ok tt else Err reason
+-- `uU bB DIR HEX`
+abbrev pub offer_places : List Place
+offer_places = AtUe ∷ AtBearer ∷ AtDir ∷ AtHex ∷ []
 
--- digits alone, at least one, and no leading zero
-abbrev pub is_plain : List ℕ → Bool
-is_plain word = nat_lt 0 (length word) && list_all is_ascii_digit word && (not (slice_index word 0 == 48) || length word == 1)
+-- `uU bB DIR`
+abbrev pub radio_places : List Place
+radio_places = AtUe ∷ AtBearer ∷ AtDir ∷ []
 
--- a number from low to high in plain decimal
-abbrev pub number_of : ℕ → ℕ → List ℕ → Option ℕ
-number_of low high word =
-    if is_plain word && nat_le low (digits_value 10 word) && nat_le (digits_value 10 word) high then Some (digits_value 10 word) else None
+-- `uU bB`
+abbrev pub bearer_places : List Place
+bearer_places = AtUe ∷ AtBearer ∷ []
 
-abbrev pub number : ℕ → ℕ → Form ℕ
-number low high word = ok_or (number_of low high word) Number
+-- `uU`
+abbrev pub ue_places : List Place
+ue_places = AtUe ∷ []
 
--- `u1` to `u16`
-abbrev pub ue_of : List ℕ → Option UeId
-ue_of word = if word begins codes "u" then option_map (λ n. record { 0 = n }) (number_of 1 16 (drop 1 word)) else None
+-- `uU G P D`
+abbrev pub handover_places : List Place
+handover_places = AtUe ∷ AtGnb ∷ AtNumber 1 2 ∷ AtNumber 1 2 ∷ []
 
-abbrev pub ue : Form UeId
-ue word = ok_or (ue_of word) Name
+-- `#M`
+abbrev pub message_places : List Place
+message_places = AtMessage ∷ []
 
--- `b1` to `b8`
-abbrev pub bearer_of : List ℕ → Option BearerId
-bearer_of word = if word begins codes "b" then option_map (λ n. record { 0 = n }) (number_of 1 8 (drop 1 word)) else None
+-- `NODE/TEID`
+abbrev pub tunnel_places : List Place
+tunnel_places = AtTunnel ∷ []
 
-abbrev pub bearer : Form BearerId
-bearer word = ok_or (bearer_of word) Name
+-- `FROM TO HEX`
+abbrev pub inject_message_places : List Place
+inject_message_places = AtNode ∷ AtNode ∷ AtHex ∷ []
 
--- a unit of a gNB behind its letter and the dot: `cp`, `up1`, `up2`, `du1` or `du2`
-abbrev pub unit_of : Gnb → List ℕ → Option NodeId
-unit_of gnb word =
-    if word is codes "cp" then Some (CuCp gnb) else
-    (if word begins codes "up" then option_map (λ n. CuUp gnb n) (number_of 1 2 (drop 2 word)) else
-    (if word begins codes "du" then option_map (λ n. Du gnb n) (number_of 1 2 (drop 2 word)) else None))
-
--- a unit of a gNB, the core, or a terminal
-abbrev pub node_of : List ℕ → Option NodeId
-node_of word =
-    if word is codes "core" then Some Core else
-    (if word begins codes "u" then option_map (λ n. Ue n) (number_of 1 16 (drop 1 word)) else
-    (if word begins codes "A." then unit_of A (drop 2 word) else
-    (if word begins codes "B." then unit_of B (drop 2 word) else None)))
-
-abbrev pub node : Form NodeId
-node word = ok_or (node_of word) Name
-
--- an even number of hexadecimal digits of either case, at least two
-abbrev pub hex : Form (List ℕ)
-hex word = if nat_lt 0 (length word) then ok_or (read_hex word) Hex else Err Hex
-
--- both values, or the first reason
-abbrev pub both : {X Y : Type 0} → Result X TextReason → Result Y TextReason → Result (X × Y) TextReason
-both (Ok x) (Ok y) = Ok (x, y)
-both (Ok x) (Err reason) = Err reason
-both (Err reason) y = Err reason
-
--- `NODE/TEID`; behind a missing slash stands no number
-abbrev pub tunnel : Form (NodeId × ℕ)
-tunnel word = both (node (before_first (λ c. c == 47) word)) (number 1 (2 ^ 32 - 1) (after_first (λ c. c == 47) word))
-
--- ---- places
-
--- What the words behind a keyword mean, all of them.
-abbrev pub Places : Type 0 → Type 0
-Places X = List (List ℕ) → Result X TextReason
-
--- the next word, and those behind it
-abbrev pub next_word : List (List ℕ) → Result (List ℕ × List (List ℕ)) TextReason
-next_word [] = Err Word
-next_word (word ∷ rest) = Ok (word, rest)
-
-abbrev pub result_then : {X Y : Type 0} → Result X TextReason → (X → Result Y TextReason) → Result Y TextReason
-result_then (Ok x) more = more x
-result_then (Err reason) more = Err reason
-
--- one place: a word of the form, and its value beside the words behind it
-abbrev pub place : {X : Type 0} → Form X → List (List ℕ) → Result (X × List (List ℕ)) TextReason
-place form left = result_then (next_word left) (λ next. result_then (form next.0) (λ x. Ok (x, next.1)))
-
--- a place, and then the places that follow
-infixr 4 ◌>>=◌
-abbrev pub ◌>>=◌ : {X Y : Type 0} → Form X → (X → Places Y) → Places Y
-(form >>= more) left = result_then (place form left) (λ read. more read.0 read.1)
-
--- no word is left
-abbrev pub line_end : Places (Unit {0})
-line_end [] = Ok tt
-line_end (word ∷ rest) = Err Extra
-
--- the value, if no word is left
-abbrev pub ended : {X : Type 0} → X → Places X
-ended x left = result_then (line_end left) (λ end. Ok x)
+-- `NODE/TEID HEX`
+abbrev pub inject_item_places : List Place
+inject_item_places = AtTunnel ∷ AtHex ∷ []
 
 -- ---- events
 
--- `static u1 A 1 1 12 1 Q`, Q from 4 to 4096
-unfoldable pub static_event : Places Event
-static_event = do
-  ue ← fixed (codes "u1") Name
-  gnb ← fixed (codes "A") Name
-  cu_up ← fixed (codes "1") Number
-  du ← fixed (codes "1") Number
-  bits ← fixed (codes "12") Number
-  bearers ← fixed (codes "1") Number
-  quota ← number 4 4096
-  ended (events.Static quota)
+-- an event's words: its keyword, a place for each word after it, and the event that the values there make
+pub record EventForm : Type 0 where
+  pub keyword : Keyword
+  pub places : List Place
+  pub event : Values places → Event
 
--- `offer uU bB dl HEX`
-unfoldable pub offer_event : Places Event
-offer_event = do
-  ue ← ue
-  bearer ← bearer
-  direction ← fixed (codes "dl") Word
-  packet ← hex
-  ended (events.Offer ue bearer packet)
+abbrev pub plan_of : Values plan_places → Plan
+plan_of (ue, (gnb, (up, (du, (sn, (bearers, (quota, end))))))) =
+    record { ue = ue; gnb = gnb; up = up; du = du; sn = sn; bearers = bearers; quota = quota }
 
--- `get NODE/TEID`
-unfoldable pub get_event : Places Event
-get_event = do
-  tunnel ← tunnel
-  ended (events.Get tunnel.0 tunnel.1)
+-- an event that is its keyword alone
+abbrev pub bare_form : Keyword → Event → EventForm
+bare_form keyword event = record { keyword = keyword; places = []; event = λ end. event }
 
--- `air uU bB dl`
-unfoldable pub air_event : Places Event
-air_event = do
-  ue ← ue
-  bearer ← bearer
-  direction ← fixed (codes "dl") Word
-  ended (events.Air ue bearer)
+abbrev pub static_form : EventForm
+static_form = record { keyword = keywords.Static; places = plan_places; event = λ values. events.Static (plan_of values) }
 
--- the places of each keyword
-abbrev pub places_of : List ℕ → Places Event
-places_of keyword rest =
-    if keyword is codes "static" then static_event rest else
-    (if keyword is codes "offer" then offer_event rest else
-    (if keyword is codes "get" then get_event rest else
-    (if keyword is codes "air" then air_event rest else Err Word)))
+abbrev pub attach_form : EventForm
+attach_form = record { keyword = keywords.Attach; places = plan_places; event = λ values. events.Attach (plan_of values) }
+
+abbrev pub offer_form : EventForm
+offer_form =
+    record { keyword = keywords.Offer; places = offer_places; event = λ (ue, (bearer, (dir, (packet, end)))). events.Offer ue bearer dir packet }
+
+abbrev pub get_form : EventForm
+get_form = record { keyword = keywords.Get; places = tunnel_places; event = λ (tunnel, end). events.Get tunnel.0 tunnel.1 }
+
+abbrev pub air_form : EventForm
+air_form = record { keyword = keywords.Air; places = radio_places; event = λ (ue, (bearer, (dir, end))). events.Air ue bearer dir }
+
+abbrev pub ack_form : EventForm
+ack_form = record { keyword = keywords.Ack; places = radio_places; event = λ (ue, (bearer, (dir, end))). events.Ack ue bearer dir }
+
+abbrev pub give_form : EventForm
+give_form = record { keyword = keywords.Give; places = message_places; event = λ (message, end). events.Give message }
+
+abbrev pub lose_message_form : EventForm
+lose_message_form = record { keyword = keywords.Lose; places = message_places; event = λ (message, end). events.LoseMessage message }
+
+abbrev pub lose_item_form : EventForm
+lose_item_form = record { keyword = keywords.Lose; places = tunnel_places; event = λ (tunnel, end). events.LoseItem tunnel.0 tunnel.1 }
+
+abbrev pub poll_form : EventForm
+poll_form = record { keyword = keywords.Poll; places = bearer_places; event = λ (ue, (bearer, end)). events.Poll ue bearer }
+
+-- an event of a terminal alone
+abbrev pub ue_form : Keyword → (UeId → Event) → EventForm
+ue_form keyword event = record { keyword = keyword; places = ue_places; event = λ (ue, end). event ue }
+
+abbrev pub handover_form : EventForm
+handover_form =
+    record { keyword = keywords.Handover; places = handover_places; event = λ (ue, (gnb, (up, (du, end)))). events.Handover ue gnb up du }
+
+abbrev pub ask_form : EventForm
+ask_form = record { keyword = keywords.Ask; places = bearer_places; event = λ (ue, (bearer, end)). events.Ask ue bearer }
+
+abbrev pub inject_message_form : EventForm
+inject_message_form =
+    record { keyword = keywords.Inject; places = inject_message_places; event = λ (from, (to, (bytes, end))). events.InjectMessage from to bytes }
+
+abbrev pub inject_item_form : EventForm
+inject_item_form =
+    record { keyword = keywords.Inject; places = inject_item_places; event = λ (tunnel, (bytes, end)). events.InjectItem tunnel.0 tunnel.1 bytes }
+
+-- ---- reading
+
+-- the next word begins with `#`
+abbrev pub names_message : List (List ℕ) → Bool
+names_message [] = false
+names_message (word ∷ rest) = word begins codes "#"
+
+-- the next word has a slash
+abbrev pub names_tunnel : List (List ℕ) → Bool
+names_tunnel [] = false
+names_tunnel (word ∷ rest) = list_any (λ c. c == 47) word
+
+-- what words mean in a form
+abbrev pub read_form : EventForm → List (List ℕ) → Result Event TextReason
+read_form form left = result_then (read_places form.places left) (λ values. Ok (form.event values))
+
+-- the event of a keyword and the words after it; what is lost is a message or a tunnel's item, what is injected a
+-- tunnel's item or a message
+unfoldable pub keyword_event : Keyword → List (List ℕ) → Result Event TextReason
+keyword_event keywords.Static left = read_form static_form left
+keyword_event keywords.Start left = read_form (bare_form keywords.Start events.Start) left
+keyword_event keywords.Attach left = read_form attach_form left
+keyword_event keywords.Offer left = read_form offer_form left
+keyword_event keywords.Get left = read_form get_form left
+keyword_event keywords.Air left = read_form air_form left
+keyword_event keywords.Ack left = read_form ack_form left
+keyword_event keywords.Give left = read_form give_form left
+keyword_event keywords.Lose left = if names_message left then read_form lose_message_form left else read_form lose_item_form left
+keyword_event keywords.Poll left = read_form poll_form left
+keyword_event keywords.Pump left = read_form (bare_form keywords.Pump events.Pump) left
+keyword_event keywords.Tick left = read_form (bare_form keywords.Tick events.Tick) left
+keyword_event keywords.Fail left = read_form (ue_form keywords.Fail events.Fail) left
+keyword_event keywords.Arrive left = read_form (ue_form keywords.Arrive events.Arrive) left
+keyword_event keywords.Return left = read_form (ue_form keywords.Return events.Return) left
+keyword_event keywords.Handover left = read_form handover_form left
+keyword_event keywords.Cancel left = read_form (ue_form keywords.Cancel events.Cancel) left
+keyword_event keywords.Release left = read_form (ue_form keywords.Release events.Release) left
+keyword_event keywords.Ask left = read_form ask_form left
+keyword_event keywords.Settle left = read_form (bare_form keywords.Settle events.Settle) left
+keyword_event keywords.Inject left = if names_tunnel left then read_form inject_item_form left else read_form inject_message_form left
+
+-- the event of a first word and those after it
+abbrev pub words_event : List ℕ × List (List ℕ) → Result Event TextReason
+words_event next = result_then (ok_or (keyword_of next.0) Word) (λ keyword. keyword_event keyword next.1)
 
 -- what a line of a script means
 unfoldable pub event_of : List ℕ → Result Event TextReason
-event_of line = result_then (next_word (words line)) (λ next. places_of next.0 next.1)
+event_of line = result_then (next_word (words line)) words_event
 
 -- the header line, `module builtin`
-abbrev pub header : Places (Unit {0})
-header = do
-  keyword ← fixed (codes "module") Word
-  kind ← fixed (codes "builtin") Word
-  ended tt
+abbrev pub header : List (List ℕ) → Result (Unit {0}) TextReason
+header left =
+    result_then (place (fixed (codes "module") Word) left)
+    (λ keyword. result_then (place (fixed (codes "builtin") Word) keyword.1) (λ kind. line_end kind.1))
 
 unfoldable pub header_of : List ℕ → Result (Unit {0}) TextReason
 header_of line = header (words line)
 
--- a line that is no event: an empty one, or a comment
+-- a line that is not an event: an empty one, or a comment
 abbrev pub is_skipped : List ℕ → Bool
 is_skipped line = length line == 0 || slice_index line 0 == 59
-
--- ---- what a reader answers
-
--- what a reader answered, seen by view, is what the grammar says
-abbrev pub Gives : {X Y : Type 0} → (X → Y) → Result X TextReason → Result Y TextReason → Type 0
-Gives view (Ok x) read = read ≡ Ok (view x)
-Gives view (Err reason) read = read ≡ Err reason
-
--- the same of a reader that may run out of memory
-abbrev pub GivesOrMemory : {X Y : Type 0} → (X → Y) → Result X TextError → Result Y TextReason → Type 0
-GivesOrMemory view (Ok x) read = read ≡ Ok (view x)
-GivesOrMemory view (Err (errors.Refused reason)) read = read ≡ Err reason
-GivesOrMemory view (Err errors.Memory) read = Unit {0}
-
--- the words of what a reader still has before it
-abbrev pub words_left : Option (Bor (List ℕ)) → List (List ℕ)
-words_left None = []
-words_left (Some text) = words text.now

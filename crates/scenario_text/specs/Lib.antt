@@ -1,3 +1,3 @@
 pub mod Grammar
-pub mod Print
 pub mod Texts
+pub mod Print

@@ -1,19 +1,28 @@
-//! The events of a script, and why a line is none.
+//! The events of a script.
 
-use gnb_types::names::{BearerId, NodeId, UeId};
+use gnb_types::names::{BearerId, Dir, Gnb, NodeId, UeId};
 use gnb_types::octets::Octets;
+use gnb_types::plans::Plan;
+pub use script_words::reason::TextReason;
 
 /// What a line of a script makes happen.
 #[derive(Clone, Debug, PartialEq, Eq, Drop)]
 pub enum Event {
-    /// Terminal `u1` is set up with the one static downlink bearer of 12-bit numbers: `static u1 A 1 1 12 1 Q`.
+    /// A terminal is set up without messages: `static uU G P D N C Q`.
     Static {
-        quota: u16,
+        plan: Plan,
     },
-    /// A downlink packet is offered at the core: `offer uU bB dl HEX`.
+    /// The units that aren't set up begin to be: `start`.
+    Start,
+    /// A CU-CP begins to attach a terminal: `attach uU G P D N C Q`.
+    Attach {
+        plan: Plan,
+    },
+    /// A packet is offered at the core (`dl`) or at the terminal (`ul`): `offer uU bB DIR HEX`.
     Offer {
         ue: UeId,
         bearer: BearerId,
+        dir: Dir,
         packet: Octets,
     },
     /// The oldest item of a tunnel is given to its end: `get NODE/TEID`.
@@ -21,24 +30,110 @@ pub enum Event {
         end: NodeId,
         teid: u32,
     },
-    /// The oldest downlink item of a bearer's radio is carried to the terminal: `air uU bB dl`.
+    /// The oldest uncarried item of a radio is carried to its receiver: `air uU bB DIR`.
     Air {
         ue: UeId,
         bearer: BearerId,
+        dir: Dir,
+    },
+    /// The oldest carried item of a radio is confirmed to its sender: `ack uU bB DIR`.
+    Ack {
+        ue: UeId,
+        bearer: BearerId,
+        dir: Dir,
+    },
+    /// A control message is given to its receiver: `give #M`.
+    Give {
+        message: u32,
+    },
+    /// A control message is no longer in flight: `lose #M`.
+    LoseMessage {
+        message: u32,
+    },
+    /// The oldest item of a tunnel is lost: `lose NODE/TEID`.
+    LoseItem {
+        end: NodeId,
+        teid: u32,
+    },
+    /// A CU-UP asks for a delivery status: `poll uU bB`.
+    Poll {
+        ue: UeId,
+        bearer: BearerId,
+    },
+    /// The control messages in flight are given, again and again: `pump`.
+    Pump,
+    /// Each node acts on a tick: `tick`.
+    Tick,
+    /// A radio fails: `fail uU`.
+    Fail {
+        ue: UeId,
+    },
+    /// A terminal arrives where it was sent: `arrive uU`.
+    Arrive {
+        ue: UeId,
+    },
+    /// A terminal asks its home DU for re-establishment: `return uU`.
+    Return {
+        ue: UeId,
+    },
+    /// A handover begins: `handover uU G P D`.
+    Handover {
+        ue: UeId,
+        gnb: Gnb,
+        up: u8,
+        du: u8,
+    },
+    /// The source cancels a handover: `cancel uU`.
+    Cancel {
+        ue: UeId,
+    },
+    /// A terminal is released: `release uU`.
+    Release {
+        ue: UeId,
+    },
+    /// Is a bearer quiet: `ask uU bB`.
+    Ask {
+        ue: UeId,
+        bearer: BearerId,
+    },
+    /// All is brought to rest: `settle`.
+    Settle,
+    /// Bytes are given to a node as a control message of another: `inject FROM TO HEX`.
+    InjectMessage {
+        from: NodeId,
+        to: NodeId,
+        bytes: Octets,
+    },
+    /// Bytes are given to the end of a tunnel as an item: `inject NODE/TEID HEX`.
+    InjectItem {
+        end: NodeId,
+        teid: u32,
+        bytes: Octets,
     },
 }
 
-/// Why a line is no event: what the first wrong word from the left isn't.
+/// The first word of an event.
 #[derive(Clone, Copy, Debug, PartialEq, Eq)]
-pub enum TextReason {
-    /// The awaited word, or there is none.
-    Word,
-    /// A number of the awaited range, in plain decimal.
-    Number,
-    /// An even number of hexadecimal digits, at least two.
-    Hex,
-    /// The end of the line.
-    Extra,
-    /// The name of a node, a gNB, a terminal or a bearer.
-    Name,
+pub enum Keyword {
+    Static,
+    Start,
+    Attach,
+    Offer,
+    Get,
+    Air,
+    Ack,
+    Give,
+    Lose,
+    Poll,
+    Pump,
+    Tick,
+    Fail,
+    Arrive,
+    Return,
+    Handover,
+    Cancel,
+    Release,
+    Ask,
+    Settle,
+    Inject,
 }

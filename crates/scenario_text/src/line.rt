@@ -3,6 +3,7 @@
 use crate::event::Event;
 use gnb_types::names::{BearerId, Dir, NodeId, UeId};
 use gnb_types::octets::Octets;
+use gnb_types::reasons::{CauseName, DropReason, HeldReason, RefuseReason};
 
 /// A tunnel, named by its end, or the radio of a bearer, a direction and an epoch.
 #[derive(Clone, Copy, Debug, PartialEq, Eq)]
@@ -29,46 +30,43 @@ pub struct Item {
     pub bytes: Octets,
 }
 
-/// Why an event that is well formed can't apply.
-#[derive(Clone, Copy, Debug, PartialEq, Eq)]
-pub enum RefuseReason {
-    /// The terminal was attached before.
-    Attached,
-    /// There is no such terminal, or it has no such bearer.
-    NoBearer,
-    /// The packet is longer than 2,048 octets.
-    Size,
-    /// The tunnel isn't open.
-    NoSuch,
-    /// Nothing stands there that the event could take.
-    Empty,
-}
-
-/// Why an item stays at the head of its link.
-#[derive(Clone, Copy, Debug, PartialEq, Eq)]
-pub enum HeldReason {
-    /// The blocks of its bearer and direction stand at their quota.
-    Quota,
+/// A control message, by its number.
+#[derive(Clone, Debug, PartialEq, Eq, Drop)]
+pub struct Message {
+    pub number: u32,
+    pub from: NodeId,
+    pub to: NodeId,
+    /// The number of the terminal that it belongs to, or 0.
+    pub ue: u8,
+    pub bytes: Octets,
 }
 
 /// A line of a transcript.
 #[derive(Clone, Debug, PartialEq, Eq, Drop)]
 pub enum OutLine {
-    /// The event, as it was read, with upper-case hexadecimal digits.
+    /// The event, as it was read, with upper-case hexadecimal digits: `> EVENT`.
     Happens {
         event: Event,
     },
-    /// An item is put on a link.
+    /// An item is put on a link: `put LINK uU bB DIR C HEX`.
     Put {
         link: Link,
         item: Item,
     },
-    /// An item is taken from a link.
+    /// An item is taken from a link: `got LINK uU bB DIR C HEX`.
     Got {
         link: Link,
         item: Item,
     },
-    /// A packet is delivered.
+    /// A control message is put: `put #M FROM TO uU HEX`.
+    PutMessage {
+        message: Message,
+    },
+    /// A control message is given: `got #M FROM TO uU HEX`.
+    GotMessage {
+        message: Message,
+    },
+    /// A packet is delivered: `deliver uU bB DIR C HEX`.
     Deliver {
         ue: UeId,
         bearer: BearerId,
@@ -76,20 +74,68 @@ pub enum OutLine {
         count: u32,
         packet: Octets,
     },
-    /// The item at the head of a link stays there.
+    /// Items of a link were lost or discarded: `lost LINK N`.
+    Lost {
+        link: Link,
+        items: u64,
+    },
+    /// A control message was lost: `lost #M 1`.
+    LostMessage {
+        message: u32,
+    },
+    /// A unit ignored its input: `drop NODE REASON`.
+    Drop {
+        node: NodeId,
+        reason: DropReason,
+    },
+    /// The item at the head of a link stays there: `held LINK REASON`.
     Held {
         link: Link,
         reason: HeldReason,
     },
-    /// The event can't apply, and changes nothing.
+    /// A procedure ended without success: `failed NODE uU CAUSE`.
+    Failed {
+        node: NodeId,
+        ue: UeId,
+        cause: CauseName,
+    },
+    /// A bearer is quiet, and so many packets were delivered: `quiet uU bB DL UL`.
+    Quiet {
+        ue: UeId,
+        bearer: BearerId,
+        downlink: u64,
+        uplink: u64,
+    },
+    /// A bearer isn't quiet: `busy uU bB`.
+    Busy {
+        ue: UeId,
+        bearer: BearerId,
+    },
+    /// Every bearer is quiet after so many rounds: `settled R`.
+    Settled {
+        rounds: u64,
+    },
+    /// Some bearer isn't quiet after so many rounds: `unsettled R`.
+    Unsettled {
+        rounds: u64,
+    },
+    /// The event can't apply, and changes nothing: `refused REASON`.
     Refused {
         reason: RefuseReason,
     },
-    /// The last line of a run that came to its end, with the number of its events.
+    /// More numbers of a bearer are outstanding than half their space: `outstanding uU bB DIR SPAN W`.
+    Outstanding {
+        ue: UeId,
+        bearer: BearerId,
+        dir: Dir,
+        span: u64,
+        window: u32,
+    },
+    /// The last line of a run that came to its end, with the number of its events: `end N`.
     End {
         events: u64,
     },
-    /// The last line of a run that was stopped.
+    /// The last line of a run that was stopped: `stop CODE PLACE REASON`.
     Stop {
         code: u8,
         place: u64,

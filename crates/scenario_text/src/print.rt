@@ -2,10 +2,13 @@
 
 ghost use Rattle.std.specs.Prelude.{◌≡◌, Some, IfOk};
 ghost use Rattle.gnb_types.specs.Hex.{hex_of};
-ghost use Rattle.scenario_text.specs.Print.{event_text, link_text, count_text, item_text, refusal_text, hold_text, line_text};
+ghost use Rattle.script_words.specs.Places.{sn_bits_text};
+ghost use Rattle.scenario_text.specs.Texts.{event_text};
+ghost use Rattle.scenario_text.specs.Print.{link_text, count_text, item_text, message_text, line_text};
 
 use crate::event::Event;
-use crate::line::{HeldReason, Item, Link, OutLine, RefuseReason};
+use crate::line::{Item, Link, Message, OutLine};
+use gnb_types::names::SnBits;
 use gnb_types::octets::{Memory, Octets};
 use std::alloc::Global;
 use std::fmt;
@@ -25,6 +28,21 @@ impl fmt::Display for Hex<'_> {
     }
 }
 
+/// The number of bits of a sequence number.
+#[derive(Clone, Copy)]
+struct Bits(SnBits);
+
+impl fmt::Display for Bits {
+    ghost output = { λ x. Some (sn_bits_text x.0) };
+
+    fn fmt<W: fmt::Write>(&self, f: &mut fmt::Formatter<W>) -> fmt::Result {
+        match self.0 {
+            SnBits::Len12 => write!(f, "12"),
+            SnBits::Len18 => write!(f, "18"),
+        }
+    }
+}
+
 impl fmt::Display for Link {
     ghost output = { λ x. Some (link_text x) };
 
@@ -37,30 +55,6 @@ impl fmt::Display for Link {
                 dir,
                 epoch,
             } => write!(f, "r/{ue}/{bearer}/{dir}/{epoch}"),
-        }
-    }
-}
-
-impl fmt::Display for RefuseReason {
-    ghost output = { λ x. Some (refusal_text x) };
-
-    fn fmt<W: fmt::Write>(&self, f: &mut fmt::Formatter<W>) -> fmt::Result {
-        match self {
-            RefuseReason::Attached => write!(f, "Attached"),
-            RefuseReason::NoBearer => write!(f, "NoBearer"),
-            RefuseReason::Size => write!(f, "Size"),
-            RefuseReason::NoSuch => write!(f, "NoSuch"),
-            RefuseReason::Empty => write!(f, "Empty"),
-        }
-    }
-}
-
-impl fmt::Display for HeldReason {
-    ghost output = { λ x. Some (hold_text x) };
-
-    fn fmt<W: fmt::Write>(&self, f: &mut fmt::Formatter<W>) -> fmt::Result {
-        match self {
-            HeldReason::Quota => write!(f, "Quota"),
         }
     }
 }
@@ -80,18 +74,52 @@ impl fmt::Display for Count {
     }
 }
 
-#[tactic(auto, unfolding(crate::specs::Print::event_text))]
+#[tactic(auto, unfolding(crate::specs::Texts::event_text))]
 impl fmt::Display for Event {
     ghost output = { λ x. Some (event_text x) };
 
     fn fmt<W: fmt::Write>(&self, f: &mut fmt::Formatter<W>) -> fmt::Result {
         match self {
-            Event::Static { quota } => write!(f, "static u1 A 1 1 12 1 {quota}"),
-            Event::Offer { ue, bearer, packet } => {
-                write!(f, "offer {ue} {bearer} dl {}", Hex(packet))
+            Event::Static { plan } => {
+                let (ue, gnb, up, du, sn) = (plan.ue, plan.gnb, plan.up, plan.du, Bits(plan.sn));
+                let (bearers, quota) = (plan.bearers, plan.quota);
+                write!(f, "static {ue} {gnb} {up} {du} {sn} {bearers} {quota}")
             }
+            Event::Start => write!(f, "start"),
+            Event::Attach { plan } => {
+                let (ue, gnb, up, du, sn) = (plan.ue, plan.gnb, plan.up, plan.du, Bits(plan.sn));
+                let (bearers, quota) = (plan.bearers, plan.quota);
+                write!(f, "attach {ue} {gnb} {up} {du} {sn} {bearers} {quota}")
+            }
+            Event::Offer {
+                ue,
+                bearer,
+                dir,
+                packet,
+            } => write!(f, "offer {ue} {bearer} {dir} {}", Hex(packet)),
             Event::Get { end, teid } => write!(f, "get {end}/{teid}"),
-            Event::Air { ue, bearer } => write!(f, "air {ue} {bearer} dl"),
+            Event::Air { ue, bearer, dir } => write!(f, "air {ue} {bearer} {dir}"),
+            Event::Ack { ue, bearer, dir } => write!(f, "ack {ue} {bearer} {dir}"),
+            Event::Give { message } => write!(f, "give #{message}"),
+            Event::LoseMessage { message } => write!(f, "lose #{message}"),
+            Event::LoseItem { end, teid } => write!(f, "lose {end}/{teid}"),
+            Event::Poll { ue, bearer } => write!(f, "poll {ue} {bearer}"),
+            Event::Pump => write!(f, "pump"),
+            Event::Tick => write!(f, "tick"),
+            Event::Fail { ue } => write!(f, "fail {ue}"),
+            Event::Arrive { ue } => write!(f, "arrive {ue}"),
+            Event::Return { ue } => write!(f, "return {ue}"),
+            Event::Handover { ue, gnb, up, du } => write!(f, "handover {ue} {gnb} {up} {du}"),
+            Event::Cancel { ue } => write!(f, "cancel {ue}"),
+            Event::Release { ue } => write!(f, "release {ue}"),
+            Event::Ask { ue, bearer } => write!(f, "ask {ue} {bearer}"),
+            Event::Settle => write!(f, "settle"),
+            Event::InjectMessage { from, to, bytes } => {
+                write!(f, "inject {from} {to} {}", Hex(bytes))
+            }
+            Event::InjectItem { end, teid, bytes } => {
+                write!(f, "inject {end}/{teid} {}", Hex(bytes))
+            }
         }
     }
 }
@@ -106,6 +134,16 @@ impl fmt::Display for Item {
     }
 }
 
+#[tactic(auto, unfolding(crate::specs::Print::message_text))]
+impl fmt::Display for Message {
+    ghost output = { λ x. Some (message_text x) };
+
+    fn fmt<W: fmt::Write>(&self, f: &mut fmt::Formatter<W>) -> fmt::Result {
+        let (number, from, to, ue) = (self.number, self.from, self.to, self.ue);
+        write!(f, "#{number} {from} {to} u{ue} {}", Hex(&self.bytes))
+    }
+}
+
 #[tactic(auto, unfolding(crate::specs::Print::line_text))]
 impl fmt::Display for OutLine {
     ghost output = { λ x. Some (line_text x) };
@@ -115,6 +153,8 @@ impl fmt::Display for OutLine {
             OutLine::Happens { event } => write!(f, "> {event}"),
             OutLine::Put { link, item } => write!(f, "put {link} {item}"),
             OutLine::Got { link, item } => write!(f, "got {link} {item}"),
+            OutLine::PutMessage { message } => write!(f, "put {message}"),
+            OutLine::GotMessage { message } => write!(f, "got {message}"),
             OutLine::Deliver {
                 ue,
                 bearer,
@@ -122,8 +162,28 @@ impl fmt::Display for OutLine {
                 count,
                 packet,
             } => write!(f, "deliver {ue} {bearer} {dir} {count} {}", Hex(packet)),
+            OutLine::Lost { link, items } => write!(f, "lost {link} {items}"),
+            OutLine::LostMessage { message } => write!(f, "lost #{message} 1"),
+            OutLine::Drop { node, reason } => write!(f, "drop {node} {reason}"),
             OutLine::Held { link, reason } => write!(f, "held {link} {reason}"),
+            OutLine::Failed { node, ue, cause } => write!(f, "failed {node} {ue} {cause}"),
+            OutLine::Quiet {
+                ue,
+                bearer,
+                downlink,
+                uplink,
+            } => write!(f, "quiet {ue} {bearer} {downlink} {uplink}"),
+            OutLine::Busy { ue, bearer } => write!(f, "busy {ue} {bearer}"),
+            OutLine::Settled { rounds } => write!(f, "settled {rounds}"),
+            OutLine::Unsettled { rounds } => write!(f, "unsettled {rounds}"),
             OutLine::Refused { reason } => write!(f, "refused {reason}"),
+            OutLine::Outstanding {
+                ue,
+                bearer,
+                dir,
+                span,
+                window,
+            } => write!(f, "outstanding {ue} {bearer} {dir} {span} {window}"),
             OutLine::End { events } => write!(f, "end {events}"),
             OutLine::Stop {
                 code,

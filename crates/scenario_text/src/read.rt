@@ -1,298 +1,430 @@
-//! Reading the lines of a script: words with one blank between two of them. The first wrong word from the left
-//! decides the reason.
+//! Reading the lines of a script. The first wrong word from the left decides the reason.
 
-ghost use Rattle.std.specs.Prelude.{◌≡◌, ◌==◌, ◌<◌, ◌≤◌, codes, length, position, IfSome, IfOk, MatchOption};
-ghost use Rattle.std.specs.Char.{is_ascii_digit};
-ghost use Rattle.std.specs.List.{list_all, before_first, after_first, position_or_len};
-ghost use Rattle.scenario_text.specs.Grammar.{words, words_left, next_word, place, fixed, is_plain as plain, number_of, number as number_form, ue as ue_form, bearer as bearer_form, ue_of, bearer_of, unit_of, node_of, hex as hex_form, tunnel as tunnel_form, line_end, static_event, offer_event, get_event, air_event, event_of, header_of, Gives, GivesOrMemory};
+ghost use Rattle.std.specs.Prelude.{◌≡◌, ◌==◌, ◌≤◌, IfOk, Bool};
+ghost use Rattle.std.specs.List.{list_any};
+ghost use Rattle.script_words.specs.Places.{read_places};
+ghost use Rattle.script_words.specs.Answers.{words_left, Gives, GivesOrMemory};
+ghost use Rattle.scenario_text.specs.Grammar.{keyword_text, keyword_of, plan_places, radio_places, bearer_places, ue_places, message_places, tunnel_places, inject_message_form, inject_item_form, read_form, names_message as names_a_message, names_tunnel as names_a_tunnel, keyword_event, event_of, header_of};
 ghost use Rattle.scenario_text.specs.Grammar.{is_skipped as skips};
-ghost use Rattle.scenario_text.specs.Texts.{InRange};
-ghost use Rattle.scenario_text.specs.declared.read.TextError.TheVariants.{Refused as RefusedFor, Memory as OutOfMemory};
+ghost use Rattle.scenario_text.specs.Texts.{InRange, plan_values};
+ghost use Rattle.scenario_text.specs.declared.event.Keyword.TheVariants as keywords;
 
-use crate::event::{Event, TextReason};
-use gnb_types::hex::{HexError, hex_bytes};
-use gnb_types::names::{BearerId, Gnb, NodeId, UeId};
+use crate::event::{Event, Keyword};
+use gnb_types::names::{BearerId, Dir, NodeId, UeId};
 use gnb_types::octets::Octets;
+use gnb_types::plans::Plan;
+pub use script_words::reason::TextError;
+use script_words::reason::TextReason;
+use script_words::words::Words;
 use std::alloc::Global;
 
-/// Why a line isn't read as an event.
-#[derive(Clone, Copy, Debug, PartialEq, Eq)]
-pub enum TextError {
-    /// It is none.
-    Refused(TextReason),
-    /// Want of memory.
-    Memory,
-}
+/// All keywords.
+const KEYWORDS: [Keyword; 21] = [
+    Keyword::Static,
+    Keyword::Start,
+    Keyword::Attach,
+    Keyword::Offer,
+    Keyword::Get,
+    Keyword::Air,
+    Keyword::Ack,
+    Keyword::Give,
+    Keyword::Lose,
+    Keyword::Poll,
+    Keyword::Pump,
+    Keyword::Tick,
+    Keyword::Fail,
+    Keyword::Arrive,
+    Keyword::Return,
+    Keyword::Handover,
+    Keyword::Cancel,
+    Keyword::Release,
+    Keyword::Ask,
+    Keyword::Settle,
+    Keyword::Inject,
+];
 
-impl From<TextReason> for TextError {
-    ghost from_gives = { λ reason e. e ≡ RefusedFor reason };
-
-    fn from(reason: TextReason) -> TextError {
-        TextError::Refused(reason)
-    }
-}
-
-/// Where a byte stands first.
-fn find(text: &[u8], byte: u8) -> Option<usize>
-    ensures { result ≡ position (λ c. c == byte) text.now }
-{
-    text.iter().position(|c| *c == byte)
-}
-
-/// The text before the first such byte, and the text behind it, if it stands there.
-fn cut(text: &[u8], byte: u8) -> (&[u8], Option<&[u8]>)
-    ensures front { result.0.now ≡ before_first (λ c. c == byte) text.now }
-    ensures rest { MatchOption result.1 (length text.now ≤ position_or_len (λ c. c == byte) text.now) (λ rest. (position_or_len (λ c. c == byte) text.now < length text.now) × (rest.now ≡ after_first (λ c. c == byte) text.now)) }
-{
-    match find(text, byte) {
-        Some(i) => (&text[..i], Some(&text[i + 1..])),
-        None => (text, None),
-    }
-}
-
-fn all_digits(word: &[u8]) -> bool
-    ensures { result ≡ list_all is_ascii_digit word.now }
-{
-    word.iter().all(|c| c.is_ascii_digit())
-}
-
-/// Whether a word has digits alone, at least one, and no leading zero.
-fn is_plain(word: &[u8]) -> bool
-    ensures { result ≡ plain word.now }
-{
-    !word.is_empty() && all_digits(word) && (word[0] != b'0' || word.len() == 1)
-}
-
-/// A number in plain decimal.
-fn number(word: &[u8], low: u32, high: u32) -> Option<u32>
-    ensures value { result ≡ number_of low high word.now }
-    ensures range { IfSome result (λ n. (low ≤ n) × (n ≤ high)) }
-{
-    if !is_plain(word) {
-        return None;
-    }
-    let text = std::str::from_utf8(word).ok()?;
-    let value = text.parse::<u32>().ok()?;
-    (low <= value && value <= high).then_some(value)
-}
-
-/// A number from 1 on.
-fn small(word: &[u8], high: u8) -> Option<u8>
-    ensures { result ≡ number_of 1 high word.now }
-{
-    Some(number(word, 1, u32::from(high))? as u8)
-}
-
-fn ue(word: &[u8]) -> Option<UeId>
-    ensures { result ≡ ue_of word.now }
-{
-    let number = word.strip_prefix(b"u")?;
-    Some(UeId(small(number, 16)?))
-}
-
-fn bearer(word: &[u8]) -> Option<BearerId>
-    ensures { result ≡ bearer_of word.now }
-{
-    let number = word.strip_prefix(b"b")?;
-    Some(BearerId(small(number, 8)?))
-}
-
-/// A unit of a gNB, as `cp` or `up1`.
-fn unit(gnb: Gnb, word: &[u8]) -> Option<NodeId>
-    ensures { result ≡ unit_of gnb word.now }
-{
-    if word == b"cp".as_slice() {
-        return Some(NodeId::CuCp(gnb));
-    }
-    if let Some(number) = word.strip_prefix(b"up") {
-        return Some(NodeId::CuUp(gnb, small(number, 2)?));
-    }
-    let number = word.strip_prefix(b"du")?;
-    Some(NodeId::Du(gnb, small(number, 2)?))
-}
-
-fn node(word: &[u8]) -> Option<NodeId>
-    ensures { result ≡ node_of word.now }
-{
-    if word == b"core".as_slice() {
-        return Some(NodeId::Core);
-    }
-    if let Some(number) = word.strip_prefix(b"u") {
-        return Some(NodeId::Ue(small(number, 16)?));
-    }
-    if let Some(word) = word.strip_prefix(b"A.") {
-        return unit(Gnb::A, word);
-    }
-    unit(Gnb::B, word.strip_prefix(b"B.")?)
-}
-
-fn hex(alloc: Global, word: &[u8]) -> Result<Octets, TextError>
-    ensures { GivesOrMemory (λ x. x) result (hex_form word.now) }
-{
-    if word.is_empty() {
-        return Err(TextError::Refused(TextReason::Hex));
-    }
-    match hex_bytes(alloc, word) {
-        Ok(bytes) => Ok(bytes),
-        Err(HexError::NotHex) => Err(TextError::Refused(TextReason::Hex)),
-        Err(HexError::Memory) => Err(TextError::Memory),
-    }
-}
-
-fn tunnel(word: &[u8]) -> Result<(NodeId, u32), TextReason>
-    ensures { Gives (λ x. x) result (tunnel_form word.now) }
-{
-    let (end, teid) = cut(word, b'/');
-    let end = node(end).ok_or(TextReason::Name)?;
-    let Some(teid) = teid else {
-        return Err(TextReason::Number);
-    };
-    let teid = number(teid, 1, u32::MAX).ok_or(TextReason::Number)?;
-    Ok((end, teid))
-}
-
-/// What is left of a line behind the last blank that was read.
-#[derive(Clone, Copy)]
-struct Words<'a> {
-    rest: Option<&'a [u8]>,
-}
-
-impl<'a> Words<'a> {
-    fn of(line: &'a [u8]) -> Words<'a>
-        ensures { words_left result.rest ≡ words line.now }
+impl Keyword {
+    /// The keyword's word.
+    fn text(self) -> &'static [u8]
+        ensures { result.now ≡ keyword_text self }
     {
-        Words { rest: Some(line) }
-    }
-
-    /// The next word, and what is left behind it.
-    fn next(self) -> Result<(&'a [u8], Words<'a>), TextReason>
-        ensures { Gives (λ x. (x.0.now, words_left x.1.rest)) result (next_word (words_left self.entry.rest)) }
-    {
-        let line = self.rest.ok_or(TextReason::Word)?;
-        let (word, rest) = cut(line, b' ');
-        Ok((word, Words { rest }))
-    }
-
-    /// This word, or the reason.
-    fn fixed(self, text: &[u8], reason: TextReason) -> Result<Words<'a>, TextReason>
-        ensures { Gives (λ left. (tt, words_left left.rest)) result (place (fixed text.now reason) (words_left self.entry.rest)) }
-    {
-        let (word, rest) = self.next()?;
-        if word == text { Ok(rest) } else { Err(reason) }
-    }
-
-    fn number(self, low: u32, high: u32) -> Result<(u32, Words<'a>), TextReason>
-        ensures value { Gives (λ x. (x.0, words_left x.1.rest)) result (place (number_form low high) (words_left self.entry.rest)) }
-        ensures range { IfOk result (λ x. x.0 ≤ high) }
-    {
-        let (word, rest) = self.next()?;
-        Ok((number(word, low, high).ok_or(TextReason::Number)?, rest))
-    }
-
-    fn ue(self) -> Result<(UeId, Words<'a>), TextReason>
-        ensures { Gives (λ x. (x.0, words_left x.1.rest)) result (place ue_form (words_left self.entry.rest)) }
-    {
-        let (word, rest) = self.next()?;
-        Ok((ue(word).ok_or(TextReason::Name)?, rest))
-    }
-
-    fn bearer(self) -> Result<(BearerId, Words<'a>), TextReason>
-        ensures { Gives (λ x. (x.0, words_left x.1.rest)) result (place bearer_form (words_left self.entry.rest)) }
-    {
-        let (word, rest) = self.next()?;
-        Ok((bearer(word).ok_or(TextReason::Name)?, rest))
-    }
-
-    fn tunnel(self) -> Result<((NodeId, u32), Words<'a>), TextReason>
-        ensures { Gives (λ x. (x.0, words_left x.1.rest)) result (place tunnel_form (words_left self.entry.rest)) }
-    {
-        let (word, rest) = self.next()?;
-        Ok((tunnel(word)?, rest))
-    }
-
-    fn hex(self, alloc: Global) -> Result<(Octets, Words<'a>), TextError>
-        ensures { GivesOrMemory (λ x. (x.0, words_left x.1.rest)) result (place hex_form (words_left self.entry.rest)) }
-    {
-        let (word, rest) = self.next()?;
-        Ok((hex(alloc, word)?, rest))
-    }
-
-    /// No word may be left.
-    fn end(self) -> Result<(), TextReason>
-        ensures { Gives (λ x. x) result (line_end (words_left self.entry.rest)) }
-    {
-        match self.rest {
-            None => Ok(()),
-            Some(_) => Err(TextReason::Extra),
+        match self {
+            Keyword::Static => b"static",
+            Keyword::Start => b"start",
+            Keyword::Attach => b"attach",
+            Keyword::Offer => b"offer",
+            Keyword::Get => b"get",
+            Keyword::Air => b"air",
+            Keyword::Ack => b"ack",
+            Keyword::Give => b"give",
+            Keyword::Lose => b"lose",
+            Keyword::Poll => b"poll",
+            Keyword::Pump => b"pump",
+            Keyword::Tick => b"tick",
+            Keyword::Fail => b"fail",
+            Keyword::Arrive => b"arrive",
+            Keyword::Return => b"return",
+            Keyword::Handover => b"handover",
+            Keyword::Cancel => b"cancel",
+            Keyword::Release => b"release",
+            Keyword::Ask => b"ask",
+            Keyword::Settle => b"settle",
+            Keyword::Inject => b"inject",
         }
     }
 }
 
-#[tactic(auto, unfolding(crate::specs::Grammar::static_event))]
-fn static_places(words: Words) -> Result<Event, TextReason>
-    ensures { Gives (λ x. x) result (static_event (words_left words.entry.rest)) }
+/// The keyword that is this word.
+#[tactic(auto, unfolding(crate::specs::Grammar::keyword_of))]
+fn keyword(word: &[u8]) -> Option<Keyword>
+    ensures { result ≡ keyword_of word.now }
 {
-    let words = words.fixed(b"u1", TextReason::Name)?;
-    let words = words.fixed(b"A", TextReason::Name)?;
-    let words = words.fixed(b"1", TextReason::Number)?;
-    let words = words.fixed(b"1", TextReason::Number)?;
-    let words = words.fixed(b"12", TextReason::Number)?;
-    let words = words.fixed(b"1", TextReason::Number)?;
+    KEYWORDS.iter().copied().find(|k| word == k.text())
+}
+
+/// `uU G P D N C Q`
+fn plan(words: Words) -> Result<Plan, TextReason>
+    ensures { Gives plan_values result (read_places plan_places (words_left words.entry.rest)) }
+{
+    let (ue, words) = words.ue()?;
+    let (gnb, words) = words.gnb()?;
+    let (up, words) = words.number(1, 2)?;
+    let (du, words) = words.number(1, 2)?;
+    let (sn, words) = words.sn_bits()?;
+    let (bearers, words) = words.number(1, 8)?;
     let (quota, words) = words.number(4, 4096)?;
     words.end()?;
-    Ok(Event::Static {
+    Ok(Plan {
+        ue,
+        gnb,
+        up: up as u8,
+        du: du as u8,
+        sn,
+        bearers: bearers as u8,
         quota: quota as u16,
     })
 }
 
-#[tactic(auto, unfolding(crate::specs::Grammar::offer_event))]
-fn offer_places(alloc: Global, words: Words) -> Result<Event, TextError>
-    ensures { GivesOrMemory (λ x. x) result (offer_event (words_left words.entry.rest)) }
+/// `uU bB DIR`
+fn radio(words: Words) -> Result<(UeId, BearerId, Dir), TextReason>
+    ensures { Gives (λ x. (x.0, (x.1, (x.2, tt)))) result (read_places radio_places (words_left words.entry.rest)) }
 {
     let (ue, words) = words.ue()?;
     let (bearer, words) = words.bearer()?;
-    let words = words.fixed(b"dl", TextReason::Word)?;
-    let (packet, words) = words.hex(alloc)?;
+    let (dir, words) = words.dir()?;
     words.end()?;
-    Ok(Event::Offer { ue, bearer, packet })
+    Ok((ue, bearer, dir))
 }
 
-#[tactic(auto, unfolding(crate::specs::Grammar::get_event))]
-fn get_places(words: Words) -> Result<Event, TextReason>
-    ensures { Gives (λ x. x) result (get_event (words_left words.entry.rest)) }
+/// `uU bB`
+fn bearer(words: Words) -> Result<(UeId, BearerId), TextReason>
+    ensures { Gives (λ x. (x.0, (x.1, tt))) result (read_places bearer_places (words_left words.entry.rest)) }
 {
-    let ((end, teid), words) = words.tunnel()?;
+    let (ue, words) = words.ue()?;
+    let (bearer, words) = words.bearer()?;
     words.end()?;
+    Ok((ue, bearer))
+}
+
+/// `uU`
+fn ue(words: Words) -> Result<UeId, TextReason>
+    ensures { Gives (λ ue. (ue, tt)) result (read_places ue_places (words_left words.entry.rest)) }
+{
+    let (ue, words) = words.ue()?;
+    words.end()?;
+    Ok(ue)
+}
+
+/// `#M`
+fn message(words: Words) -> Result<u32, TextReason>
+    ensures { Gives (λ message. (message, tt)) result (read_places message_places (words_left words.entry.rest)) }
+{
+    let (message, words) = words.message()?;
+    words.end()?;
+    Ok(message)
+}
+
+/// `NODE/TEID`
+fn tunnel(words: Words) -> Result<(NodeId, u32), TextReason>
+    ensures { Gives (λ x. ((x.0, x.1), tt)) result (read_places tunnel_places (words_left words.entry.rest)) }
+{
+    let (tunnel, words) = words.tunnel()?;
+    words.end()?;
+    Ok(tunnel)
+}
+
+#[tactic(auto, unfolding(crate::specs::Grammar::keyword_event))]
+fn set_up_event(words: Words) -> Result<Event, TextError>
+    ensures { GivesOrMemory (λ x. x) result (keyword_event keywords.Static (words_left words.entry.rest)) }
+{
+    let plan = plan(words)?;
+    Ok(Event::Static { plan })
+}
+
+#[tactic(auto, unfolding(crate::specs::Grammar::keyword_event))]
+fn start_event(words: Words) -> Result<Event, TextError>
+    ensures { GivesOrMemory (λ x. x) result (keyword_event keywords.Start (words_left words.entry.rest)) }
+{
+    words.end()?;
+    Ok(Event::Start)
+}
+
+#[tactic(auto, unfolding(crate::specs::Grammar::keyword_event))]
+fn attach_event(words: Words) -> Result<Event, TextError>
+    ensures { GivesOrMemory (λ x. x) result (keyword_event keywords.Attach (words_left words.entry.rest)) }
+{
+    let plan = plan(words)?;
+    Ok(Event::Attach { plan })
+}
+
+#[tactic(auto, unfolding(crate::specs::Grammar::keyword_event))]
+fn offer_event(alloc: Global, words: Words) -> Result<Event, TextError>
+    ensures { GivesOrMemory (λ x. x) result (keyword_event keywords.Offer (words_left words.entry.rest)) }
+{
+    let (ue, words) = words.ue()?;
+    let (bearer, words) = words.bearer()?;
+    let (dir, words) = words.dir()?;
+    let (packet, words) = words.hex(alloc)?;
+    words.end()?;
+    Ok(Event::Offer {
+        ue,
+        bearer,
+        dir,
+        packet,
+    })
+}
+
+#[tactic(auto, unfolding(crate::specs::Grammar::keyword_event))]
+fn get_event(words: Words) -> Result<Event, TextError>
+    ensures { GivesOrMemory (λ x. x) result (keyword_event keywords.Get (words_left words.entry.rest)) }
+{
+    let (end, teid) = tunnel(words)?;
     Ok(Event::Get { end, teid })
 }
 
-#[tactic(auto, unfolding(crate::specs::Grammar::air_event))]
-fn air_places(words: Words) -> Result<Event, TextReason>
-    ensures { Gives (λ x. x) result (air_event (words_left words.entry.rest)) }
+#[tactic(auto, unfolding(crate::specs::Grammar::keyword_event))]
+fn air_event(words: Words) -> Result<Event, TextError>
+    ensures { GivesOrMemory (λ x. x) result (keyword_event keywords.Air (words_left words.entry.rest)) }
+{
+    let (ue, bearer, dir) = radio(words)?;
+    Ok(Event::Air { ue, bearer, dir })
+}
+
+#[tactic(auto, unfolding(crate::specs::Grammar::keyword_event))]
+fn ack_event(words: Words) -> Result<Event, TextError>
+    ensures { GivesOrMemory (λ x. x) result (keyword_event keywords.Ack (words_left words.entry.rest)) }
+{
+    let (ue, bearer, dir) = radio(words)?;
+    Ok(Event::Ack { ue, bearer, dir })
+}
+
+#[tactic(auto, unfolding(crate::specs::Grammar::keyword_event))]
+fn give_event(words: Words) -> Result<Event, TextError>
+    ensures { GivesOrMemory (λ x. x) result (keyword_event keywords.Give (words_left words.entry.rest)) }
+{
+    let message = message(words)?;
+    Ok(Event::Give { message })
+}
+
+/// Whether the next word names a message.
+fn names_message(words: Words) -> bool
+    ensures { result ≡ names_a_message (words_left words.entry.rest) }
+{
+    match words.next() {
+        Ok((word, _)) => word.starts_with(b"#"),
+        Err(_) => false,
+    }
+}
+
+#[tactic(auto, unfolding(crate::specs::Grammar::keyword_event))]
+fn lose_event(words: Words) -> Result<Event, TextError>
+    ensures { GivesOrMemory (λ x. x) result (keyword_event keywords.Lose (words_left words.entry.rest)) }
+{
+    if names_message(words) {
+        let message = message(words)?;
+        return Ok(Event::LoseMessage { message });
+    }
+    let (end, teid) = tunnel(words)?;
+    Ok(Event::LoseItem { end, teid })
+}
+
+#[tactic(auto, unfolding(crate::specs::Grammar::keyword_event))]
+fn poll_event(words: Words) -> Result<Event, TextError>
+    ensures { GivesOrMemory (λ x. x) result (keyword_event keywords.Poll (words_left words.entry.rest)) }
+{
+    let (ue, bearer) = bearer(words)?;
+    Ok(Event::Poll { ue, bearer })
+}
+
+#[tactic(auto, unfolding(crate::specs::Grammar::keyword_event))]
+fn pump_event(words: Words) -> Result<Event, TextError>
+    ensures { GivesOrMemory (λ x. x) result (keyword_event keywords.Pump (words_left words.entry.rest)) }
+{
+    words.end()?;
+    Ok(Event::Pump)
+}
+
+#[tactic(auto, unfolding(crate::specs::Grammar::keyword_event))]
+fn tick_event(words: Words) -> Result<Event, TextError>
+    ensures { GivesOrMemory (λ x. x) result (keyword_event keywords.Tick (words_left words.entry.rest)) }
+{
+    words.end()?;
+    Ok(Event::Tick)
+}
+
+#[tactic(auto, unfolding(crate::specs::Grammar::keyword_event))]
+fn fail_event(words: Words) -> Result<Event, TextError>
+    ensures { GivesOrMemory (λ x. x) result (keyword_event keywords.Fail (words_left words.entry.rest)) }
+{
+    let ue = ue(words)?;
+    Ok(Event::Fail { ue })
+}
+
+#[tactic(auto, unfolding(crate::specs::Grammar::keyword_event))]
+fn arrive_event(words: Words) -> Result<Event, TextError>
+    ensures { GivesOrMemory (λ x. x) result (keyword_event keywords.Arrive (words_left words.entry.rest)) }
+{
+    let ue = ue(words)?;
+    Ok(Event::Arrive { ue })
+}
+
+#[tactic(auto, unfolding(crate::specs::Grammar::keyword_event))]
+fn return_home_event(words: Words) -> Result<Event, TextError>
+    ensures { GivesOrMemory (λ x. x) result (keyword_event keywords.Return (words_left words.entry.rest)) }
+{
+    let ue = ue(words)?;
+    Ok(Event::Return { ue })
+}
+
+#[tactic(auto, unfolding(crate::specs::Grammar::keyword_event))]
+fn handover_event(words: Words) -> Result<Event, TextError>
+    ensures { GivesOrMemory (λ x. x) result (keyword_event keywords.Handover (words_left words.entry.rest)) }
 {
     let (ue, words) = words.ue()?;
-    let (bearer, words) = words.bearer()?;
-    let words = words.fixed(b"dl", TextReason::Word)?;
+    let (gnb, words) = words.gnb()?;
+    let (up, words) = words.number(1, 2)?;
+    let (du, words) = words.number(1, 2)?;
     words.end()?;
-    Ok(Event::Air { ue, bearer })
+    let (up, du) = (up as u8, du as u8);
+    Ok(Event::Handover { ue, gnb, up, du })
+}
+
+#[tactic(auto, unfolding(crate::specs::Grammar::keyword_event))]
+fn cancel_event(words: Words) -> Result<Event, TextError>
+    ensures { GivesOrMemory (λ x. x) result (keyword_event keywords.Cancel (words_left words.entry.rest)) }
+{
+    let ue = ue(words)?;
+    Ok(Event::Cancel { ue })
+}
+
+#[tactic(auto, unfolding(crate::specs::Grammar::keyword_event))]
+fn release_event(words: Words) -> Result<Event, TextError>
+    ensures { GivesOrMemory (λ x. x) result (keyword_event keywords.Release (words_left words.entry.rest)) }
+{
+    let ue = ue(words)?;
+    Ok(Event::Release { ue })
+}
+
+#[tactic(auto, unfolding(crate::specs::Grammar::keyword_event))]
+fn ask_event(words: Words) -> Result<Event, TextError>
+    ensures { GivesOrMemory (λ x. x) result (keyword_event keywords.Ask (words_left words.entry.rest)) }
+{
+    let (ue, bearer) = bearer(words)?;
+    Ok(Event::Ask { ue, bearer })
+}
+
+#[tactic(auto, unfolding(crate::specs::Grammar::keyword_event))]
+fn settle_event(words: Words) -> Result<Event, TextError>
+    ensures { GivesOrMemory (λ x. x) result (keyword_event keywords.Settle (words_left words.entry.rest)) }
+{
+    words.end()?;
+    Ok(Event::Settle)
+}
+
+/// `FROM TO HEX`
+fn inject_message(alloc: Global, words: Words) -> Result<Event, TextError>
+    ensures { GivesOrMemory (λ x. x) result (read_form inject_message_form (words_left words.entry.rest)) }
+{
+    let (from, words) = words.node()?;
+    let (to, words) = words.node()?;
+    let (bytes, words) = words.hex(alloc)?;
+    words.end()?;
+    Ok(Event::InjectMessage { from, to, bytes })
+}
+
+/// `NODE/TEID HEX`
+fn inject_item(alloc: Global, words: Words) -> Result<Event, TextError>
+    ensures { GivesOrMemory (λ x. x) result (read_form inject_item_form (words_left words.entry.rest)) }
+{
+    let ((end, teid), words) = words.tunnel()?;
+    let (bytes, words) = words.hex(alloc)?;
+    words.end()?;
+    Ok(Event::InjectItem { end, teid, bytes })
+}
+
+fn has_slash(word: &[u8]) -> bool
+    ensures { result ≡ list_any (λ c. c == 47) word.now }
+{
+    word.iter().any(|c| *c == b'/')
+}
+
+/// Whether the next word names a tunnel.
+fn names_tunnel(words: Words) -> bool
+    ensures { result ≡ names_a_tunnel (words_left words.entry.rest) }
+{
+    match words.next() {
+        Ok((word, _)) => has_slash(word),
+        Err(_) => false,
+    }
+}
+
+#[tactic(auto, unfolding(crate::specs::Grammar::keyword_event))]
+fn inject_event(alloc: Global, words: Words) -> Result<Event, TextError>
+    ensures { GivesOrMemory (λ x. x) result (keyword_event keywords.Inject (words_left words.entry.rest)) }
+{
+    if names_tunnel(words) {
+        inject_item(alloc, words)
+    } else {
+        inject_message(alloc, words)
+    }
+}
+
+/// The event of a keyword, and of the words after it.
+fn event_after(alloc: Global, keyword: Keyword, words: Words) -> Result<Event, TextError>
+    ensures { GivesOrMemory (λ x. x) result (keyword_event keyword (words_left words.entry.rest)) }
+{
+    match keyword {
+        Keyword::Static => set_up_event(words),
+        Keyword::Start => start_event(words),
+        Keyword::Attach => attach_event(words),
+        Keyword::Offer => offer_event(alloc, words),
+        Keyword::Get => get_event(words),
+        Keyword::Air => air_event(words),
+        Keyword::Ack => ack_event(words),
+        Keyword::Give => give_event(words),
+        Keyword::Lose => lose_event(words),
+        Keyword::Poll => poll_event(words),
+        Keyword::Pump => pump_event(words),
+        Keyword::Tick => tick_event(words),
+        Keyword::Fail => fail_event(words),
+        Keyword::Arrive => arrive_event(words),
+        Keyword::Return => return_home_event(words),
+        Keyword::Handover => handover_event(words),
+        Keyword::Cancel => cancel_event(words),
+        Keyword::Release => release_event(words),
+        Keyword::Ask => ask_event(words),
+        Keyword::Settle => settle_event(words),
+        Keyword::Inject => inject_event(alloc, words),
+    }
 }
 
 #[tactic(auto, unfolding(crate::specs::Grammar::event_of))]
 fn event(alloc: Global, line: &[u8]) -> Result<Event, TextError>
     ensures { GivesOrMemory (λ x. x) result (event_of line.now) }
 {
-    let (keyword, words) = Words::of(line).next()?;
-    if keyword == b"static".as_slice() {
-        Ok(static_places(words)?)
-    } else if keyword == b"offer".as_slice() {
-        offer_places(alloc, words)
-    } else if keyword == b"get".as_slice() {
-        Ok(get_places(words)?)
-    } else if keyword == b"air".as_slice() {
-        Ok(air_places(words)?)
-    } else {
-        Err(TextError::Refused(TextReason::Word))
-    }
+    let (word, words) = Words::of(line).next()?;
+    let keyword = keyword(word).ok_or(TextReason::Word)?;
+    event_after(alloc, keyword, words)
 }
 
 /// The event of a line of a script, without its LF; the reason is that of the first wrong word from the left.
@@ -313,7 +445,7 @@ pub fn read_header(line: &[u8]) -> Result<(), TextReason>
     words.end()
 }
 
-/// Whether a line is no event: an empty one, or a comment.
+/// Whether a line is not an event: an empty one, or a comment.
 pub fn is_skipped(line: &[u8]) -> bool
     ensures { result ≡ skips line.now }
 {

@@ -1,100 +1,209 @@
-//! Lines written by hand: events and their reasons, and lines of a transcript with their text.
+//! Lines written by hand: events, what is wrong with each of their words, and lines of a transcript with their text.
 
 use crate::event::TextReason;
-use crate::line::{HeldReason, Item, Link, OutLine, RefuseReason};
+use crate::line::{Item, Link, Message, OutLine};
 use crate::print::print_line;
 use crate::read::{TextError, is_skipped, read_event, read_header};
 use gnb_types::names::{BearerId, Dir, Gnb, NodeId, UeId};
 use gnb_types::octets::{Memory, Octets};
+use gnb_types::reasons::{CauseName, DropReason, HeldReason, RefuseReason};
 use std::alloc::Global;
 use std::test::Fail;
 
-/// Lines that are no events, with the reason of the first wrong word.
-const WRONG: [(&str, TextReason); 64] = [
-    ("", TextReason::Word),
-    ("jump", TextReason::Word),
-    (" air u1 b1 dl", TextReason::Word),
-    ("Air u1 b1 dl", TextReason::Word),
-    ("module builtin", TextReason::Word),
-    ("; a comment", TextReason::Word),
-    ("offer", TextReason::Word),
-    ("offer u1", TextReason::Word),
-    ("offer u1 b1", TextReason::Word),
-    ("offer u1 b1 dl", TextReason::Word),
-    ("offer u1 b1 ul 45", TextReason::Word),
-    ("offer u1 b1 DL 45", TextReason::Word),
-    ("offer u1 b1 dl 4", TextReason::Hex),
-    ("offer u1 b1 dl 4G", TextReason::Hex),
-    ("offer u1 b1 dl 454", TextReason::Hex),
-    ("offer u1 b1 dl ", TextReason::Hex),
-    ("offer u1 b1 dl 0x45", TextReason::Hex),
-    ("offer u17 b1 dl 00", TextReason::Name),
-    ("offer u0 b1 dl 00", TextReason::Name),
-    ("offer u b1 dl 00", TextReason::Name),
-    ("offer u01 b1 dl 00", TextReason::Name),
-    ("offer U1 b1 dl 00", TextReason::Name),
-    ("offer 1 b1 dl 00", TextReason::Name),
-    ("offer u1 b9 dl 00", TextReason::Name),
-    ("offer u1 b0 dl 00", TextReason::Name),
-    ("offer u1 u1 dl 00", TextReason::Name),
-    ("offer  u1 b1 dl 00", TextReason::Name),
-    ("offer u1 b1 dl 00 ", TextReason::Extra),
-    ("offer u17 b9 ul 4", TextReason::Name),
-    ("offer u1 b1 ul 4 x", TextReason::Word),
-    ("get", TextReason::Word),
-    ("get A.up1", TextReason::Number),
-    ("get A.up1/", TextReason::Number),
-    ("get A.up3/1", TextReason::Name),
-    ("get A.up0/1", TextReason::Name),
-    ("get C.up1/1", TextReason::Name),
-    ("get A.up/1", TextReason::Name),
-    ("get A.cp1/1", TextReason::Name),
-    ("get A/1", TextReason::Name),
-    ("get u17/1", TextReason::Name),
-    ("get /1", TextReason::Name),
-    ("get x", TextReason::Name),
-    ("get A.up1/0", TextReason::Number),
-    ("get A.up1/01", TextReason::Number),
-    ("get A.up1/-1", TextReason::Number),
-    ("get A.up1/+1", TextReason::Number),
-    ("get A.up1/1/1", TextReason::Number),
-    ("get A.up1/4294967296", TextReason::Number),
-    ("get A.up1/99999999999999999999999", TextReason::Number),
-    ("get A.up1/1 1", TextReason::Extra),
-    ("air u1 b1", TextReason::Word),
-    ("air u1 b1 dl dl", TextReason::Extra),
-    ("air u1 b1 dl\r", TextReason::Word),
-    ("static", TextReason::Word),
-    ("static u01 A 1 1 12 1 64", TextReason::Name),
-    ("static u1 C 1 1 12 1 64", TextReason::Name),
-    ("static u1 A 3 1 12 1 64", TextReason::Number),
-    ("static u1 A 1 3 12 1 64", TextReason::Number),
-    ("static u1 A 1 1 13 1 64", TextReason::Number),
-    ("static u1 A 1 1 12 9 64", TextReason::Number),
-    ("static u1 A 1 1 12 1 3", TextReason::Number),
-    ("static u1 A 1 1 12 1 4097", TextReason::Number),
-    ("static u1 A 1 1 12 1 +4", TextReason::Number),
-    ("static u1 A 1 1 12 1 64 1", TextReason::Extra),
+const W: Option<TextReason> = Some(TextReason::Word);
+
+const N: Option<TextReason> = Some(TextReason::Number);
+
+const H: Option<TextReason> = Some(TextReason::Hex);
+
+const X: Option<TextReason> = Some(TextReason::Extra);
+
+const A: Option<TextReason> = Some(TextReason::Name);
+
+/// Each event, and then each of its words wrong in turn, with the reason of the first wrong word.
+const LINES: [(&str, Option<TextReason>); 160] = [
+    ("static u1 A 1 1 12 1 64", None),
+    ("static u16 B 2 2 18 8 4096", None),
+    ("attach u1 A 1 1 12 1 64", None),
+    ("attach u16 B 2 2 18 8 4096", None),
+    ("Static u1 A 1 1 12 1 64", W),
+    ("static", W),
+    ("static u17 A 1 1 12 1 64", A),
+    ("static u1 C 1 1 12 1 64", A),
+    ("static u1 A 3 1 12 1 64", N),
+    ("static u1 A 1 0 12 1 64", N),
+    ("static u1 A 1 1 13 1 64", N),
+    ("static u1 A 1 1 12 9 64", N),
+    ("static u1 A 1 1 12 1 3", N),
+    ("static u1 A 1 1 12 1 4097", N),
+    ("static u1 A 1 1 12 1 064", N),
+    ("static u1 A 1 1 12 1", W),
+    ("static u1 A 1 1 12 1 64 1", X),
+    ("attach u0 A 1 1 12 1 64", A),
+    ("attach u1 a 1 1 12 1 64", A),
+    ("attach u1 A 01 1 12 1 64", N),
+    ("attach u1 A 1 +1 12 1 64", N),
+    ("attach u1 A 1 1 012 1 64", N),
+    ("attach u1 A 1 1 12 0 64", N),
+    ("attach u1 A 1 1 12 1 x", N),
+    ("attach u1 A 1 1 12 1 64 ", X),
+    ("start", None),
+    ("start ", X),
+    ("start u1", X),
+    ("START", W),
+    ("pump", None),
+    ("pump ", X),
+    ("pump u1", X),
+    ("PUMP", W),
+    ("tick", None),
+    ("tick ", X),
+    ("tick u1", X),
+    ("TICK", W),
+    ("settle", None),
+    ("settle ", X),
+    ("settle u1", X),
+    ("SETTLE", W),
+    ("offer u1 b1 dl 45", None),
+    ("offer u16 b8 ul 00aBcDeF", None),
+    ("offer", W),
+    ("offer u17 b1 dl 45", A),
+    ("offer u01 b1 dl 45", A),
+    ("offer u1 b9 dl 45", A),
+    ("offer u1 b0 dl 45", A),
+    ("offer u1 b1 DL 45", W),
+    ("offer u1 b1 45", W),
+    ("offer u1 b1 dl 4", H),
+    ("offer u1 b1 dl 4G", H),
+    ("offer u1 b1 dl 454", H),
+    ("offer u1 b1 dl ", H),
+    ("offer u1 b1 dl", W),
+    ("offer u1 b1 dl 45 ", X),
+    ("offer  u1 b1 dl 45", A),
+    ("offer u17 b9 xl 4", A),
+    ("get A.up1/1", None),
+    ("get B.du2/4294967295", None),
+    ("get core/7", None),
+    ("get u16/10", None),
+    ("get", W),
+    ("get A.up1", N),
+    ("get A.up3/1", A),
+    ("get C.up1/1", A),
+    ("get /1", A),
+    ("get A.up1/0", N),
+    ("get A.up1/01", N),
+    ("get A.up1/4294967296", N),
+    ("get A.up1/1/1", N),
+    ("get A.up1/", N),
+    ("get A.up1/1 1", X),
+    ("air u1 b1 dl", None),
+    ("air u2 b8 ul", None),
+    ("air x b1 dl", A),
+    ("air u1 u1 dl", A),
+    ("air u1 b1 d", W),
+    ("air u1 b1", W),
+    ("air u1 b1 dl dl", X),
+    ("ack u1 b1 dl", None),
+    ("ack u2 b8 ul", None),
+    ("ack x b1 dl", A),
+    ("ack u1 u1 dl", A),
+    ("ack u1 b1 d", W),
+    ("ack u1 b1", W),
+    ("ack u1 b1 dl dl", X),
+    ("give #1", None),
+    ("give #4294967295", None),
+    ("give 5", N),
+    ("give #0", N),
+    ("give #", N),
+    ("give #01", N),
+    ("give #4294967296", N),
+    ("give", W),
+    ("give #1 2", X),
+    ("lose #3", None),
+    ("lose A.du1/2", None),
+    ("lose", W),
+    ("lose #", N),
+    ("lose #A.du1/2", N),
+    ("lose A.du1", N),
+    ("lose 3", A),
+    ("lose A.du3/2", A),
+    ("lose #3 4", X),
+    ("poll u1 b2", None),
+    ("poll u1", W),
+    ("poll b2 b2", A),
+    ("poll u1 b", A),
+    ("poll u1 b2 dl", X),
+    ("ask u1 b2", None),
+    ("ask u1", W),
+    ("ask b2 b2", A),
+    ("ask u1 b", A),
+    ("ask u1 b2 dl", X),
+    ("fail u3", None),
+    ("fail", W),
+    ("fail 3", A),
+    ("fail u3 b1", X),
+    ("arrive u3", None),
+    ("arrive", W),
+    ("arrive 3", A),
+    ("arrive u3 b1", X),
+    ("return u3", None),
+    ("return", W),
+    ("return 3", A),
+    ("return u3 b1", X),
+    ("cancel u3", None),
+    ("cancel", W),
+    ("cancel 3", A),
+    ("cancel u3 b1", X),
+    ("release u3", None),
+    ("release", W),
+    ("release 3", A),
+    ("release u3 b1", X),
+    ("handover u1 B 1 2", None),
+    ("handover u B 1 2", A),
+    ("handover u1 D 1 2", A),
+    ("handover u1 B 3 2", N),
+    ("handover u1 B 1 2x", N),
+    ("handover u1 B 1", W),
+    ("handover u1 B 1 2 12", X),
+    ("inject A.du1 A.cp 0aF0", None),
+    ("inject A.up1/3 00", None),
+    ("inject", W),
+    ("inject A.du A.cp 00", A),
+    ("inject A.du1 A.up 00", A),
+    ("inject A.du1 A.cp", W),
+    ("inject A.du1 A.cp 0", H),
+    ("inject A.du1 A.cp 00 ", X),
+    ("inject A.up1/0 00", N),
+    ("inject A.up1/3 0x", H),
+    ("inject A.up1/3", W),
+    ("inject A.du1/1 A.cp 00", H),
+    ("", W),
+    ("jump", W),
+    (" air u1 b1 dl", W),
+    ("module builtin", W),
+    ("; a remark", W),
+    ("air u1 b1 dl\r", W),
 ];
 
 #[test]
-fn wrong_lines(rt: HostRuntime) -> Result<(), Fail> {
-    for (line, reason) in WRONG {
+fn lines_are_read(rt: HostRuntime) {
+    for (line, reason) in LINES {
         let read = read_event(rt.alloc(), line.as_bytes());
-        assert!(rt; read == Err(TextError::Refused(reason)), "{line}");
+        match reason {
+            None => assert!(rt; read.is_ok(), "{line}"),
+            Some(reason) => assert!(rt; read == Err(TextError::Refused(reason)), "{line}"),
+        }
     }
-    Ok(())
 }
 
-/// Header lines, and the reason of one that is none.
+/// Header lines, and the reason of one that isn't.
 const HEADERS: [(&str, Option<TextReason>); 7] = [
     ("module builtin", None),
-    ("module", Some(TextReason::Word)),
-    ("", Some(TextReason::Word)),
-    ("modul builtin", Some(TextReason::Word)),
-    ("module x", Some(TextReason::Word)),
-    ("module builtin ", Some(TextReason::Extra)),
-    ("module builtin 3", Some(TextReason::Extra)),
+    ("module", W),
+    ("", W),
+    ("modul builtin", W),
+    ("module x", W),
+    ("module builtin ", X),
+    ("module builtin 3", X),
 ];
 
 #[test]
@@ -105,26 +214,26 @@ fn headers(rt: HostRuntime) {
     assert!(rt; is_skipped(b"") && is_skipped(b"; air u1 b1 dl") && !is_skipped(b" ;"));
 }
 
-/// Events that are read, and how their line shows them again.
-const EVENTS: [(&str, &str); 9] = [
-    ("static u1 A 1 1 12 1 4", "> static u1 A 1 1 12 1 4"),
-    ("static u1 A 1 1 12 1 4096", "> static u1 A 1 1 12 1 4096"),
-    ("offer u1 b1 dl 45", "> offer u1 b1 dl 45"),
-    ("offer u16 b8 dl 00aBcDeF", "> offer u16 b8 dl 00ABCDEF"),
-    ("get A.up1/1", "> get A.up1/1"),
-    ("get B.du2/4294967295", "> get B.du2/4294967295"),
-    ("get core/7", "> get core/7"),
-    ("get u16/10", "> get u16/10"),
-    ("air u1 b1 dl", "> air u1 b1 dl"),
-];
-
-#[test]
-fn events(rt: HostRuntime) -> Result<(), Fail> {
-    for (line, text) in EVENTS {
-        let event = read_event(rt.alloc(), line.as_bytes())?;
-        let shown = print_line(rt.alloc(), &OutLine::Happens { event })?;
-        assert!(rt; shown.as_slice() == text.as_bytes(), "{line}");
+/// Whether an event's line shows this text, but for the case of its digits.
+fn shows_again(shown: &[u8], line: &[u8]) -> bool {
+    match shown.strip_prefix(b"> ") {
+        Some(text) => text.eq_ignore_ascii_case(line),
+        None => false,
     }
+}
+
+/// Events are shown as they were read, with upper-case digits.
+#[test]
+fn events_are_shown(rt: HostRuntime) -> Result<(), Fail> {
+    for (line, reason) in LINES {
+        if reason.is_none() {
+            let event = read_event(rt.alloc(), line.as_bytes())?;
+            let shown = print_line(rt.alloc(), &OutLine::Happens { event })?;
+            assert!(rt; shows_again(shown.as_slice(), line.as_bytes()), "{line}");
+        }
+    }
+    let event = read_event(rt.alloc(), b"inject A.du1 A.cp 0aF0")?;
+    assert!(rt; shows(&rt, &OutLine::Happens { event }, "> inject A.du1 A.cp 0AF0")?);
     Ok(())
 }
 
@@ -155,47 +264,171 @@ fn item(alloc: Global, count: Option<u32>, bytes: &[u8]) -> Result<Item, Memory>
     })
 }
 
-/// Lines of the run with one packet that show an item or a packet.
+/// Lines that show an item, a packet or a message.
 #[test]
 fn items(rt: HostRuntime) -> Result<(), Fail> {
     let n3 = item(rt.alloc(), None, &[0x30, 0xff, 0, 1, 0, 0, 0, 1, 0x45])?;
-    let put = OutLine::Put { link: UP, item: n3 };
-    assert!(rt; shows(&rt, &put, "put A.up1/1 u1 b1 dl - 30FF00010000000145")?);
-    let pdcp = item(rt.alloc(), Some(0), &[0x80, 0, 0x45])?;
-    let got = OutLine::Got {
-        link: RADIO,
-        item: pdcp,
-    };
-    assert!(rt; shows(&rt, &got, "got r/u1/b1/dl/1 u1 b1 dl 0 800045")?);
+    assert!(rt;
+        shows(
+            &rt,
+            &OutLine::Put { link: UP, item: n3 },
+            "put A.up1/1 u1 b1 dl - 30FF00010000000145",
+        )?
+    );
+    let pdu = item(rt.alloc(), Some(0), &[0x80, 0, 0x45])?;
+    assert!(rt;
+        shows(
+            &rt,
+            &OutLine::Got {
+                link: RADIO,
+                item: pdu,
+            },
+            "got r/u1/b1/dl/1 u1 b1 dl 0 800045",
+        )?
+    );
     let deliver = OutLine::Deliver {
         ue: UeId(1),
-        bearer: BearerId(1),
-        dir: Dir::Dl,
+        bearer: BearerId(2),
+        dir: Dir::Ul,
         count: 0,
-        packet: Octets::from_slice(rt.alloc(), &[0x45])?,
+        packet: Octets::from_slice(rt.alloc(), &[0x0a])?,
     };
-    assert!(rt; shows(&rt, &deliver, "deliver u1 b1 dl 0 45")?);
+    assert!(rt; shows(&rt, &deliver, "deliver u1 b2 ul 0 0A")?);
+    Ok(())
+}
+
+fn setup(alloc: Global, ue: u8) -> Result<Message, Memory> {
+    Ok(Message {
+        number: 12,
+        from: NodeId::CuCp(Gnb::A),
+        to: NodeId::Du(Gnb::A, 1),
+        ue,
+        bytes: Octets::from_slice(alloc, &[0x00, 0x2f])?,
+    })
+}
+
+#[test]
+fn messages(rt: HostRuntime) -> Result<(), Fail> {
+    let message = setup(rt.alloc(), 0)?;
+    assert!(rt;
+        shows(
+            &rt,
+            &OutLine::PutMessage { message },
+            "put #12 A.cp A.du1 u0 002F",
+        )?
+    );
+    let message = setup(rt.alloc(), 16)?;
+    assert!(rt;
+        shows(
+            &rt,
+            &OutLine::GotMessage { message },
+            "got #12 A.cp A.du1 u16 002F",
+        )?
+    );
+    assert!(rt; shows(&rt, &OutLine::LostMessage { message: 3 }, "lost #3 1")?);
     Ok(())
 }
 
 /// A line of each other kind.
 #[test]
-fn lines(rt: HostRuntime) -> Result<(), Fail> {
-    let held = OutLine::Held {
-        link: UP,
-        reason: HeldReason::Quota,
+fn other_lines(rt: HostRuntime) -> Result<(), Fail> {
+    let (ue, bearer, dir) = (UeId(1), BearerId(1), Dir::Ul);
+    let cp = NodeId::CuCp(Gnb::A);
+    assert!(rt;
+        shows(
+            &rt,
+            &OutLine::Lost {
+                link: RADIO,
+                items: 2,
+            },
+            "lost r/u1/b1/dl/1 2",
+        )?
+    );
+    assert!(rt; shows(&rt, &OutLine::Lost { link: UP, items: 1 }, "lost A.up1/1 1")?);
+    assert!(rt;
+        shows(
+            &rt,
+            &OutLine::Drop {
+                node: cp,
+                reason: DropReason::Criticality,
+            },
+            "drop A.cp Criticality",
+        )?
+    );
+    assert!(rt;
+        shows(
+            &rt,
+            &OutLine::Drop {
+                node: NodeId::Ue(1),
+                reason: DropReason::Duplicate,
+            },
+            "drop u1 Duplicate",
+        )?
+    );
+    assert!(rt;
+        shows(
+            &rt,
+            &OutLine::Held {
+                link: UP,
+                reason: HeldReason::Early,
+            },
+            "held A.up1/1 Early",
+        )?
+    );
+    assert!(rt;
+        shows(
+            &rt,
+            &OutLine::Failed {
+                node: cp,
+                ue,
+                cause: CauseName::Timeout,
+            },
+            "failed A.cp u1 timeout",
+        )?
+    );
+    assert!(rt;
+        shows(
+            &rt,
+            &OutLine::Quiet {
+                ue,
+                bearer,
+                downlink: 1,
+                uplink: 0,
+            },
+            "quiet u1 b1 1 0",
+        )?
+    );
+    assert!(rt; shows(&rt, &OutLine::Busy { ue, bearer }, "busy u1 b1")?);
+    assert!(rt; shows(&rt, &OutLine::Settled { rounds: 2 }, "settled 2")?);
+    assert!(rt; shows(&rt, &OutLine::Unsettled { rounds: 100 }, "unsettled 100")?);
+    assert!(rt;
+        shows(
+            &rt,
+            &OutLine::Refused {
+                reason: RefuseReason::NotAllowed,
+            },
+            "refused NotAllowed",
+        )?
+    );
+    let outstanding = OutLine::Outstanding {
+        ue,
+        bearer,
+        dir,
+        span: 2049,
+        window: 2048,
     };
-    assert!(rt; shows(&rt, &held, "held A.up1/1 Quota")?);
-    let refused = OutLine::Refused {
-        reason: RefuseReason::NoBearer,
-    };
-    assert!(rt; shows(&rt, &refused, "refused NoBearer")?);
+    assert!(rt; shows(&rt, &outstanding, "outstanding u1 b1 ul 2049 2048")?);
     assert!(rt; shows(&rt, &OutLine::End { events: 5 }, "end 5")?);
-    let stop = OutLine::Stop {
-        code: 4,
-        place: 1,
-        reason: 1,
-    };
-    assert!(rt; shows(&rt, &stop, "stop 4 1 1")?);
+    assert!(rt;
+        shows(
+            &rt,
+            &OutLine::Stop {
+                code: 4,
+                place: 1,
+                reason: 1,
+            },
+            "stop 4 1 1",
+        )?
+    );
     Ok(())
 }

@@ -7,8 +7,8 @@ use Rattle.gnb_types.specs.declared.names.SnBits.TheVariants.{Len12}
 use Rattle.scenario_text.specs.declared.line.Item.{Item}
 use Rattle.scenario_text.specs.declared.line.OutLine.{OutLine}
 use Rattle.scenario_text.specs.declared.line.OutLine.TheVariants as lines
-use Rattle.scenario_text.specs.declared.line.RefuseReason.TheVariants.{Empty}
-use Rattle.scenario_text.specs.declared.line.HeldReason.TheVariants.{Quota}
+use Rattle.gnb_types.specs.declared.reasons.RefuseReason.TheVariants.{Empty}
+use Rattle.gnb_types.specs.declared.reasons.HeldReason.TheVariants.{Quota}
 use Rattle.link_defs.specs.Decoding.{IsSized}
 use Rattle.link_defs.specs.Links.{radio_data, n3_downlink, f1u_downlink_data}
 use Rattle.run_model.specs.State.{Numbered}

@@ -2,7 +2,7 @@
 //! beside an item is the runner's.
 
 ghost use Rattle.std.specs.Prelude.{◌≡◌, ◌<◌, ◌≤◌, ◌++◌, ◌∷◌, [], ℕ, Option, None, Some, false, IfOk, OnOk, length};
-ghost use Rattle.scenario_text.specs.Texts.{InRange};
+ghost use Rattle.run_model.specs.Runnable.{InRange};
 ghost use Rattle.scenario_text.specs.declared.line.OutLine.TheVariants as out_lines;
 ghost use Rattle.run_model.specs.Keys.{same_bearer, same_place};
 ghost use Rattle.run_model.specs.Run.{shown, static_bearer, downlink_of, place_at};
@@ -13,8 +13,9 @@ use crate::lines::Lines;
 use crate::ue::Ue;
 use gnb_types::names::{BearerId, Dir, Gnb, NodeId, UeId};
 use gnb_types::octets::{Memory, Octets};
-use scenario_text::event::Event;
-use scenario_text::line::{HeldReason, Item, Link, OutLine, RefuseReason};
+use gnb_types::reasons::{HeldReason, RefuseReason};
+use run_model::event::StaticEvent;
+use scenario_text::line::{Item, Link, OutLine};
 use std::alloc::Global;
 use std::collections::VecDeque;
 
@@ -207,21 +208,21 @@ impl Site {
 
     /// Makes an event happen, where the bearer stands.
     #[tactic(auto, using(crate::proofs::Same::radio_test), unfolding(run_model::specs::OneBearer::one_happens))]
-    fn apply(&mut self, alloc: Global, event: &Event) -> Result<Lines, Memory>
+    fn apply(&mut self, alloc: Global, event: &StaticEvent) -> Result<Lines, Memory>
         requires { InRange event.now }
         ensures { IfOk result (λ lines. (one : OneBearer) → ShowsOne self.old one → SiteGoes self.new lines (one_happens (Some one) event.now)) }
     {
         match event {
-            Event::Static { .. } => refused(alloc, RefuseReason::Attached),
-            Event::Get { end, teid } => self.get(alloc, *end, *teid),
-            Event::Offer { ue, bearer, packet } => {
+            StaticEvent::Static { .. } => refused(alloc, RefuseReason::Attached),
+            StaticEvent::Get { end, teid } => self.get(alloc, *end, *teid),
+            StaticEvent::Offer { ue, bearer, packet } => {
                 if is_static(*ue, *bearer) {
                     self.offer(alloc, packet)
                 } else {
                     refused(alloc, RefuseReason::NoBearer)
                 }
             }
-            Event::Air { ue, bearer } => {
+            StaticEvent::Air { ue, bearer } => {
                 if is_static(*ue, *bearer) {
                     self.air(alloc)
                 } else {
@@ -290,20 +291,20 @@ impl Runner {
     /// Makes an event happen, and gives its lines behind the line of the event itself. After want of memory the runner
     /// has failed.
     #[tactic(auto, unfolding(run_model::specs::OneBearer::one_happens))]
-    pub fn apply(&mut self, alloc: Global, event: &Event) -> Result<Lines, Memory>
+    pub fn apply(&mut self, alloc: Global, event: &StaticEvent) -> Result<Lines, Memory>
         requires { InRange event.now }
         ensures { IfOk result (λ lines. (one : Option OneBearer) → Shows self.old one → Goes self.new lines (one_happens one event.now)) }
     {
         match &mut self.site {
             Some(site) => site.apply(alloc, event),
             None => match event {
-                Event::Static { quota } => {
+                StaticEvent::Static { quota } => {
                     self.site = Some(Site::new(alloc, *quota));
                     Ok(Lines::new(alloc))
                 }
-                Event::Get { .. } => refused(alloc, RefuseReason::NoSuch),
-                Event::Offer { .. } => refused(alloc, RefuseReason::NoBearer),
-                Event::Air { .. } => refused(alloc, RefuseReason::NoBearer),
+                StaticEvent::Get { .. } => refused(alloc, RefuseReason::NoSuch),
+                StaticEvent::Offer { .. } => refused(alloc, RefuseReason::NoBearer),
+                StaticEvent::Air { .. } => refused(alloc, RefuseReason::NoBearer),
             },
         }
     }

@@ -2,8 +2,8 @@
 
 use crate::runner::Runner;
 use gnb_types::octets::Octets;
+use run_model::event::read_runnable;
 use scenario_text::print::print_line;
-use scenario_text::read::read_event;
 use std::test::Fail;
 
 /// An event, and the lines behind its own.
@@ -33,7 +33,7 @@ fn first_packet(rt: HostRuntime) -> Result<(), Fail> {
     let alloc = rt.alloc();
     let mut runner = Runner::new();
     for (event, text) in STEPS {
-        let event = read_event(alloc, event.as_bytes())?;
+        let event = read_runnable(alloc, event.as_bytes())?;
         let lines = runner.apply(alloc, &event)?;
         let mut printed = Octets::new(alloc);
         for line in lines.as_slice() {

@@ -1,0 +1,8 @@
+//! The words of a line: one blank between two of them, and what a word means at its place.
+#![tactic(auto)]
+
+pub mod forms;
+pub mod reason;
+#[cfg(test)]
+mod tests;
+pub mod words;
