@@ -1,21 +1,38 @@
 -- Laws of `find`, `put`, `without` and `at`. Those on look-ups ask for no order among the entries.
-use Rattle.std.proofs.Common.{◌≡◌, ◌≢◌, ℕ, ◌+◌, Bool, true, false, cond, not, List, [], ◌∷◌, Option, Some, None, refl, sym, ap, ◌∙◌, true≢false}
+use Rattle.std.proofs.Common.{◌<◌, length, get_or, arith, zero, suc, ◌≡◌, ◌≢◌, ℕ, ◌+◌, Bool, true, false, cond, not, List, [], ◌∷◌, Option, Some, None, refl, sym, ap, ◌∙◌, true≢false}
 use Rattle.std.specs.Prelude.{unwrap_or, sum_by}
 use Rattle.std.specs.Option.{option_map}
 use Rattle.std.specs.declared.cmp.Ordering.{Ordering}
 use Rattle.std.specs.declared.cmp.Ordering.TheVariants.{Less, Equal, Greater}
-use Rattle.std.specs.Ordering.{is_eq, eq_by_cmp, match_ordering}
+use Rattle.std.specs.Ordering.{ordering_reverse, is_eq, eq_by_cmp, match_ordering}
 use Rattle.std.specs.Cmp.{IsTotalOrder, alike_right, tied_itself, Equal-is}
-use Rattle.std.specs.List.{filter}
-use Rattle.std.specs.Map.{lookup, values_of}
+use Rattle.std.specs.List.{filter, AllByRecursion}
+use Rattle.std.specs.List.Sorted.{IsStrictlySortedBy}
+use Rattle.std.proofs.lemmas.Map.Keys.{sorted_head, sorted_tail, sorted_from_all_adjacent, Less-from_sorted}
+use Rattle.std.specs.Map.{lookup, values_of, keys_of}
 use Rattle.std.specs.BTreeMap.{is_at, insert_entry}
 use Rattle.std.proofs.lemmas.Map.Entries.{sum_by-insert_entry, sum_by-remove_entry}
-use Rattle.tables.specs.Tables.{find, put, without, at, IsSorted, IsKeyOrder}
+use Rattle.tables.specs.Tables.{map_values, find, put, without, at, IsSorted, IsKeyOrder}
 use Rattle.tables.proofs.TableLemmas.{removed}
 
 -- two keys that tie with the same key tie with each other
 ties_meet : {K : Type 0} {R : K → K → Ordering} → IsTotalOrder R → (k q e : K) → R q e ≡ Equal → R q k ≡ Equal → R k e ≡ Equal
 ties_meet o k q e at_e at_k = sym (o.congr q k e at_k) ∙ at_e
+
+module _ {K : Type 0} {R : K → K → Ordering} (o : IsTotalOrder R) where
+  -- a key below all of the others
+  sorted_cons : (k : K) (ks : List K) → AllByRecursion (λ y. R k y ≡ Less) ks → IsStrictlySortedBy R ks → IsStrictlySortedBy R (k ∷ ks)
+  sorted_cons k ks all sorted = sorted_from_all_adjacent o (k ∷ ks) k adjacent
+    where
+      first : (ks : List K) → AllByRecursion (λ y. R k y ≡ Less) ks → 0 < length ks → R k (get_or ks 0 k) ≡ Less
+      first [] all h = absurd (omega arith)
+      first (y ∷ ys) all h = all.0
+
+      adjacent : (j : ℕ) → j + 1 < length (k ∷ ks) → R (get_or (k ∷ ks) j k) (get_or (k ∷ ks) (j + 1) k) ≡ Less
+      adjacent zero h = first ks all (omega arith)
+      adjacent (suc j) h =
+          let next : suc j + 1 ≡ suc (j + 1) = omega arith in
+          ap (λ (n : ℕ). R (get_or ks j k) (get_or (k ∷ ks) n k)) next ∙ Less-from_sorted R ks j (j + 1) k sorted (omega arith) (omega arith)
 
 module _ {K X : Type 0} {R : K → K → Ordering} (o : IsTotalOrder R) where
   put_one : (r : Ordering) (e : K × X) (es : List (K × X)) (k : K) (v : X) (q : K) → R k e.0 ≡ r
@@ -106,6 +123,56 @@ module _ {K X : Type 0} {R : K → K → Ordering} (o : IsTotalOrder R) where
 
   -- ---- where the keys are in order
 
+  all_put : (P : K → Type 0) (es : List (K × X)) (k : K) (v : X) → AllByRecursion P (keys_of es) → P k → AllByRecursion P (keys_of (insert_entry R es k v))
+  all_put P [] k v all here = (here, tt)
+  all_put P (e ∷ es) k v all here = by (R k e.0) (all_put P es k v all.1 here)
+    where
+      by : (r : Ordering) → AllByRecursion P (keys_of (insert_entry R es k v))
+          → AllByRecursion P (keys_of (match_ordering r ((k, v) ∷ e ∷ es) ((e.0, v) ∷ es) (e ∷ insert_entry R es k v)))
+      by Less rest = (here, all)
+      by Equal rest = all
+      by Greater rest = (all.0, rest)
+
+  above_all : (k e : K) (es : List (K × X)) → R k e ≡ Less → AllByRecursion (λ y. R e y ≡ Less) (keys_of es) → AllByRecursion (λ y. R k y ≡ Less) (keys_of es)
+  above_all k e [] below all = tt
+  above_all k e (f ∷ es) below all = (o.trans k e f.0 below all.0, above_all k e es below all.1)
+
+  sorted_one : (r : Ordering) (e : K × X) (es : List (K × X)) (k : K) (v : X) → R k e.0 ≡ r → IsSorted R (e ∷ es)
+      → IsSorted R (insert_entry R es k v)
+      → IsSorted R (match_ordering r ((k, v) ∷ e ∷ es) ((e.0, v) ∷ es) (e ∷ insert_entry R es k v))
+  sorted_one Less e es k v is sorted again =
+      sorted_cons o k (keys_of (e ∷ es)) (is, above_all k e.0 es is (sorted_head R e.0 (keys_of es) sorted)) sorted
+  sorted_one Equal e es k v is sorted again = sorted
+  sorted_one Greater e es k v is sorted again =
+      sorted_cons o e.0 (keys_of (insert_entry R es k v))
+      (all_put (λ y. R e.0 y ≡ Less) es k v (sorted_head R e.0 (keys_of es) sorted) (o.antisymm e.0 k ∙ ap ordering_reverse is)) again
+
+  pub sorted-put : (m : List (K × X)) (k : K) (v : X) → IsSorted R m → IsSorted R (put R m k v)
+  unfolding put
+  sorted-put [] k v sorted = sorted_cons o k [] tt sorted
+  sorted-put (e ∷ es) k v sorted = sorted_one (R k e.0) e es k v refl sorted (sorted-put es k v (sorted_tail R e.0 (keys_of es) sorted))
+
+  all_kept : (P : K → Type 0) (p : K → Bool) (es : List (K × X)) → AllByRecursion P (keys_of es) → AllByRecursion P (keys_of (filter (λ e. p e.0) es))
+  all_kept P p [] all = tt
+  all_kept P p (e ∷ es) all = by (p e.0) (all_kept P p es all.1)
+    where
+      by : (b : Bool) → AllByRecursion P (keys_of (filter (λ f. p f.0) es))
+          → AllByRecursion P (keys_of (cond b (e ∷ filter (λ f. p f.0) es) (filter (λ f. p f.0) es)))
+      by true rest = (all.0, rest)
+      by false rest = rest
+
+  pub sorted-without : (m : List (K × X)) (k : K) → IsSorted R m → IsSorted R (without R m k)
+  unfolding without
+  sorted-without [] k sorted = sorted
+  sorted-without (e ∷ es) k sorted = by (is_at (R k) e.0) (sorted-without es k (sorted_tail R e.0 (keys_of es) sorted))
+    where
+      by : (b : Bool) → IsSorted R (filter (λ f. not (is_at (R k) f.0)) es)
+          → IsSorted R (cond (not b) (e ∷ filter (λ f. not (is_at (R k) f.0)) es) (filter (λ f. not (is_at (R k) f.0)) es))
+      by true rest = rest
+      by false rest =
+          sorted_cons o e.0 (keys_of (filter (λ f. not (is_at (R k) f.0)) es))
+          (all_kept (λ y. R e.0 y ≡ Less) (λ y. not (is_at (R k) y)) es (sorted_head R e.0 (keys_of es) sorted)) rest
+
   -- a sum over the values: the old value goes, the new one comes
   pub sum-put : (f : X → ℕ) (m : List (K × X)) (k : K) (v : X) → IsSorted R m
       → sum_by f (values_of (put R m k v)) + unwrap_or (option_map f (find R m k)) 0 ≡ sum_by f (values_of m) + f v
@@ -126,3 +193,39 @@ other_key {R = R} o q k apart = by (eq_by_cmp R q k) refl
     by : (b : Bool) → eq_by_cmp R q k ≡ b → b ≡ false
     by true tie = absurd (apart (o.exact q k ((Equal-is (R q k)).0 tie)))
     by false tie = refl
+
+-- ---- a function of the values
+
+module _ {K X Y : Type 0} (R : K → K → Ordering) (f : X → Y) where
+  pub find-mapped : (m : List (K × X)) (k : K) → find R (map_values f m) k ≡ option_map f (find R m k)
+  unfolding find map_values
+  find-mapped [] k = refl
+  find-mapped (e ∷ es) k = by (is_at (R k) e.0) (find-mapped es k)
+    where
+      by : (b : Bool) → lookup (is_at (R k)) (map_values f es) ≡ option_map f (lookup (is_at (R k)) es)
+          → cond b (Some (f e.1)) (lookup (is_at (R k)) (map_values f es)) ≡ option_map f (cond b (Some e.1) (lookup (is_at (R k)) es))
+      by true rest = refl
+      by false rest = rest
+
+  pub put-mapped : (m : List (K × X)) (k : K) (v : X) → put R (map_values f m) k (f v) ≡ map_values f (put R m k v)
+  unfolding put map_values
+  put-mapped [] k v = refl
+  put-mapped (e ∷ es) k v = by (R k e.0) (put-mapped es k v)
+    where
+      by : (r : Ordering) → insert_entry R (map_values f es) k (f v) ≡ map_values f (insert_entry R es k v)
+          → match_ordering r ((k, f v) ∷ (e.0, f e.1) ∷ map_values f es) ((e.0, f v) ∷ map_values f es) ((e.0, f e.1) ∷ insert_entry R (map_values f es) k (f v))
+          ≡ map_values f (match_ordering r ((k, v) ∷ e ∷ es) ((e.0, v) ∷ es) (e ∷ insert_entry R es k v))
+      by Less rest = refl
+      by Equal rest = refl
+      by Greater rest = ap (λ (m : List (K × Y)). (e.0, f e.1) ∷ m) rest
+
+  pub without-mapped : (m : List (K × X)) (k : K) → without R (map_values f m) k ≡ map_values f (without R m k)
+  unfolding without map_values
+  without-mapped [] k = refl
+  without-mapped (e ∷ es) k = by (is_at (R k) e.0) (without-mapped es k)
+    where
+      by : (b : Bool) → filter (λ x. not (is_at (R k) x.0)) (map_values f es) ≡ map_values f (filter (λ x. not (is_at (R k) x.0)) es)
+          → cond (not b) ((e.0, f e.1) ∷ filter (λ x. not (is_at (R k) x.0)) (map_values f es)) (filter (λ x. not (is_at (R k) x.0)) (map_values f es))
+          ≡ map_values f (cond (not b) (e ∷ filter (λ x. not (is_at (R k) x.0)) es) (filter (λ x. not (is_at (R k) x.0)) es))
+      by true rest = rest
+      by false rest = ap (λ (m : List (K × Y)). (e.0, f e.1) ∷ m) rest

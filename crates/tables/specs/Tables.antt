@@ -43,3 +43,8 @@ pub record IsKeyOrder {K : Type 0} (R : K → K → Ordering) : Type 0 where
 -- the value at the key k, or d where there is none
 unfoldable pub at : {K X : Type 0} → (K → K → Ordering) → X → List (K × X) → K → X
 at R d m k = unwrap_or (find R m k) d
+
+-- f of each value
+unfoldable pub map_values : {K X Y : Type 0} → (X → Y) → List (K × X) → List (K × Y)
+map_values f [] = []
+map_values f (e ∷ es) = (e.0, f e.1) ∷ map_values f es
