@@ -1,11 +1,9 @@
--- A line's text tells the line: its words are read back.
-use Rattle.std.proofs.Common.{◌≡◌, ℕ, zero, suc, ◌+◌, ◌-◌, ◌<◌, ◌≤◌, ◌^◌, ◌⊎◌, Bool, true, false, cond, List, Option, Some, None, Result, Ok, Err, [], ◌∷◌, ◌++◌, map, take, drop, refl, ap, ◌∙◌, sym, subst, inl, inr, arith, nat_eq, codes, append_assoc}
+-- A line's text is read back as the line.
+use Rattle.std.proofs.Common.{◌≡◌, ℕ, zero, suc, ◌-◌, ◌<◌, ◌^◌, Bool, true, false, cond, List, Option, Some, None, Result, [], ◌∷◌, ◌++◌, map, drop, refl, ap, ◌∙◌, sym, subst, inr, arith, nat_eq, codes, append_assoc}
 use Rattle.std.specs.Fmt.{decimal}
-use Rattle.std.specs.Str.Parse.{digits_value}
 use Rattle.std.specs.Option.{option_map}
 use Rattle.std.specs.Result.{result_ok}
-use Rattle.std.specs.List.{find, flat_map, slice_split, join_with_byte, AllByRecursion}
-use Rattle.std.proofs.lemmas.Bool.{le-leb}
+use Rattle.std.specs.List.{find, slice_split, join_with_byte}
 use Rattle.std.proofs.lemmas.Fmt.{decimal_digit}
 use Rattle.gnb_types.specs.Hex.{hex_of, read_hex}
 use Rattle.gnb_types.proofs.HexLemmas.{hex_is_read, hex_of_is_hex}
@@ -27,7 +25,7 @@ use Rattle.gnb_types.specs.declared.reasons.CauseName.TheVariants as causes
 use Rattle.gnb_types.specs.declared.reasons.RefuseReason.{RefuseReason}
 use Rattle.gnb_types.specs.declared.reasons.RefuseReason.TheVariants as refuses
 use Rattle.script_words.specs.declared.reason.TextReason.{TextReason}
-use Rattle.script_words.specs.Forms.{◌is◌, ◌begins◌, number_of, is_plain, ue_of, bearer_of, node_of, dir_of, message_of, greatest_number}
+use Rattle.script_words.specs.Forms.{◌is◌, ◌begins◌, number_of, ue_of, bearer_of, node_of, dir_of, message_of, greatest_number}
 use Rattle.script_words.specs.Ranges.{IsWithin, IsNode}
 use Rattle.script_words.proofs.FormLaws.{is_text, ue_again, bearer_again, node_again, number_again, positive_again}
 use Rattle.script_words.proofs.PlaceLaws.{Lacks, Lacks-decimal, Lacks-node, value_words-AreWordsOf}

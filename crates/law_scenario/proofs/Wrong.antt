@@ -1,21 +1,19 @@
 -- What a reader refuses is a first wrong word, and a first wrong word is refused.
-use Rattle.std.proofs.Common.{◌≡◌, ℕ, ◌⊎◌, ◌<◌, Bool, true, false, cond, List, Option, Some, None, Result, Ok, Err, [], ◌∷◌, length, refl, ap, ◌∙◌, sym, subst, inl, inr, nat_eq, nat_lt}
+use Rattle.std.proofs.Common.{◌≡◌, ℕ, ◌⊎◌, Bool, true, false, cond, List, Option, Some, None, Result, Ok, Err, [], ◌∷◌, length, refl, ap, ◌∙◌, sym, subst, inl, inr, nat_eq, nat_lt}
 use Rattle.std.specs.Option.{ok_or}
-use Rattle.std.specs.List.{find, before_first, after_first}
+use Rattle.std.specs.List.{before_first, after_first}
 use Rattle.gnb_types.specs.Hex.{read_hex}
-use Rattle.gnb_types.specs.declared.names.NodeId.{NodeId}
 use Rattle.script_words.specs.declared.reason.TextReason.{TextReason}
 use Rattle.script_words.specs.declared.reason.TextReason.TheVariants.{Word, Number, Hex, Extra, Name}
 use Rattle.script_words.specs.Forms.{words, node, number, both, greatest_number, ue_of, bearer_of, gnb_of, node_of, dir_of, number_of, sn_bits_of, message_of}
-use Rattle.script_words.specs.Places.{Place, AtUe, AtBearer, AtGnb, AtNode, AtDir, AtNumber, AtSnBits, AtMessage, AtTunnel, AtHex, Meaning, InPlace, IsWordOf, Values, read_word, read_into, read_places, result_then, next_word, line_end}
-use Rattle.script_words.proofs.FormLaws.{chosen, ok_or_ok}
+use Rattle.script_words.specs.Places.{Place, AtUe, AtBearer, AtGnb, AtNode, AtDir, AtNumber, AtSnBits, AtMessage, AtTunnel, AtHex, Meaning, Values, read_word, read_into, read_places, result_then, next_word, line_end}
+use Rattle.script_words.proofs.FormLaws.{chosen}
 use Rattle.script_words.proofs.WordLemmas.{line_end-words}
 use Rattle.script_words.proofs.PlaceLaws.{IsEventPlace, AreEventPlaces, word_sound, word_again}
-use Rattle.scenario_text.specs.declared.event.Event.{Event}
 use Rattle.scenario_text.specs.declared.event.Event.TheVariants as events
 use Rattle.scenario_text.specs.declared.event.Keyword.{Keyword}
 use Rattle.scenario_text.specs.declared.event.Keyword.TheVariants as keywords
-use Rattle.scenario_text.specs.Grammar.{EventForm, keyword_text, keyword_of, bare_form, static_form, attach_form, offer_form, get_form, air_form, ack_form, give_form, lose_message_form, lose_item_form, poll_form, ue_form, handover_form, ask_form, inject_message_form, inject_item_form, names_message, names_tunnel, read_form, keyword_event, words_event, event_of}
+use Rattle.scenario_text.specs.Grammar.{EventForm, keyword_of, bare_form, static_form, attach_form, offer_form, get_form, air_form, ack_form, give_form, lose_message_form, lose_item_form, poll_form, ue_form, handover_form, ask_form, inject_message_form, inject_item_form, names_message, names_tunnel, read_form, keyword_event, words_event, event_of}
 use Rattle.scenario_text.proofs.EventLaws.{keyword_sound, keyword_again, IsForm, is_static, is_start, is_attach, is_offer, is_get, is_air, is_ack, is_give, is_lose_message, is_lose_item, is_poll, is_pump, is_tick, is_fail, is_arrive, is_return, is_handover, is_cancel, is_release, is_ask, is_settle, is_inject_message, is_inject_item}
 use Rattle.law_scenario.specs.FirstWrong.{HasNone, TunnelFault, IsFaultAt, IsWrongAt, IsWrongIn, places_after, IsWrongEvent, IsFirstWrong}
 

@@ -1,5 +1,5 @@
 -- The names and numbers that a line of a transcript may have: names in their ranges, numbers of their types, bytes.
-use Rattle.std.specs.Prelude.{ℕ, ◌-◌, ◌^◌, ◌<◌, ◌≤◌, List, All, Option, Some, None}
+use Rattle.std.specs.Prelude.{ℕ, ◌^◌, ◌<◌, ◌≤◌, List, All, Option, Some, None}
 use Rattle.std.specs.List.{AllByRecursion}
 use Rattle.script_words.specs.Ranges.{IsWithin, IsUe, IsBearer, IsNode, IsTunnel}
 use Rattle.script_words.specs.Forms.{greatest_number}
