@@ -1,3 +1,5 @@
-pub mod HandedOut
-pub mod InputLines
+pub mod Sources
+pub mod Standing
 pub mod Stopped
+pub mod Wholes
+pub mod Near

@@ -1,3 +1,36 @@
-//! Definitions alone: how an input divides into the lines that were read of it. No code stands here; the contracts of the program
-//! cite these.
+//! A line of the input is read here, for every word of the program.
 #![tactic(auto)]
+
+ghost use Rattle.std.specs.Prelude.{◌≡◌};
+ghost use Rattle.input_lines.specs.ReadsLine.{end_of_read as end_of_error, ReadsLine};
+
+use gnb_base::lines::{Line, LineReader, ReadError};
+use gnb_base::outside::Source;
+use input_defs::InputEnd;
+
+#[cfg(test)]
+mod tests;
+
+/// How the reading ends whose reader could not hand out a line.
+fn end_of_read(error: ReadError, taken: u64) -> InputEnd
+    ensures { result ≡ end_of_error error taken }
+{
+    match error {
+        ReadError::ReadFault => InputEnd::ReadFault { taken },
+        ReadError::TooLong => InputEnd::TooLong,
+        ReadError::Memory => InputEnd::Memory,
+    }
+}
+
+/// The next line of the input, `None` at its end.
+pub fn next_line<S: Source>(
+    reader: &mut LineReader,
+    input: &mut S,
+) -> Result<Option<Line>, InputEnd>
+    ensures { ReadsLine reader.old reader.new (S.at input.old) (S.at input.new) result }
+{
+    match reader.next(input) {
+        Ok(line) => Ok(line),
+        Err(error) => Err(end_of_read(error, reader.read_so_far())),
+    }
+}

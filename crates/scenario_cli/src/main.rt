@@ -1,32 +1,36 @@
-//! The program: runs a script of events over the units of a split base station, and prints every message, packet and
-//! delivery; or checks an ASN.1 module.
+//! The program: runs a script of events over the units of a split base station, and prints every
+//! message, packet and delivery; or checks an ASN.1 module.
 #![tactic(auto)]
 
-pub mod check;
-pub mod output;
-pub mod script;
-pub mod status;
+mod plain_words;
 #[cfg(test)]
 mod tests;
 pub mod top;
 
 use gnb_base::standard::{StdSink, StdSource};
 use std::env;
+use std::io::ErrorKind;
 use std::process::ExitCode;
 
-/// Reads the words behind the program's name, and calls the program with standard input and output.
+/// Reads the words after the program's name, and calls the program with standard input and output.
 fn main(rt: HostRuntime) -> ExitCode {
     let alloc = rt.alloc();
     let mut words = Vec::new(alloc);
-    let Ok(arguments) = env::args(&rt) else {
-        return ExitCode::from(9);
-    };
-    for word in arguments.skip(1) {
-        if words.push(word).is_err() {
-            return ExitCode::from(9);
+    match env::args(&rt) {
+        Ok(arguments) => {
+            for word in arguments.skip(1) {
+                if words.push(word).is_err() {
+                    return ExitCode::from(9);
+                }
+            }
         }
+        // A word that isn't UTF-8 is in no form of the program, and so are no words.
+        Err(error) if error.kind() == ErrorKind::InvalidData => {}
+        Err(_) => return ExitCode::from(9),
     }
     let mut input = StdSource::new(rt.stdin());
     let mut output = StdSink::new(rt.stdout());
-    ExitCode::from(top::gnb(alloc, words.as_slice(), &mut input, &mut output).code)
+    let status = top::gnb(alloc, words.as_slice(), &mut input, &mut output);
+    let _ = plain_words::explain(&rt, status);
+    ExitCode::from(status.code)
 }

@@ -2,8 +2,8 @@
 
 ghost use Rattle.std.specs.Prelude.{◌<◌};
 
-use crate::status::Status;
 use crate::top::gnb;
+use command_defs::Status;
 use gnb_base::memory::{MemorySink, MemorySource};
 use gnb_types::octets::Octets;
 use std::alloc::Global;
@@ -18,7 +18,7 @@ const SCRIPT: &str =
 const TRANSCRIPT: &str =
     "> static u1 A 1 1 12 1 64\n> offer u1 b1 dl 45\nput A.up1/1 u1 b1 dl - 30FF00010000000145\n> get A.up1/1\ngot A.up1/1 u1 b1 dl - 30FF00010000000145\nput A.du1/1 u1 b1 dl 0 34FF000F00000001000000840200000000000000800045\n> get A.du1/1\ngot A.du1/1 u1 b1 dl 0 34FF000F00000001000000840200000000000000800045\nput r/u1/b1/dl/1 u1 b1 dl 0 800045\n> air u1 b1 dl\ngot r/u1/b1/dl/1 u1 b1 dl 0 800045\ndeliver u1 b1 dl 0 45\nend 5\n";
 
-/// Where each line of the script behind its header ends, and the lines that its event gives.
+/// Where each line of the script after its header ends, and the lines that its event gives.
 const STEPS: [(usize, &str); 5] = [
     (39, "> static u1 A 1 1 12 1 64\n"),
     (
@@ -46,7 +46,8 @@ const REFUSALS: &str =
 const REFUSED: &str =
     "> offer u1 b1 dl 45\nrefused NoBearer\n> get A.up1/1\nrefused NoSuch\n> static u1 A 1 1 12 1 4\n> get A.up1/9\nrefused NoSuch\n> get A.up1/2\nrefused Empty\n> offer u2 b1 dl 45\nrefused NoBearer\n> air u1 b1 dl\nrefused Empty\n> static u1 A 1 1 12 1 8\nrefused Attached\n> get A.up1/1\nrefused Empty\nend 9\n";
 
-/// Five packets where the quota is four: the fifth stays at the head of its tunnel, however often it is asked for.
+/// Five packets where the quota is four: the fifth stays at the head of its tunnel, however often
+/// it is asked for.
 const FIVE_PACKETS: &str =
     "module builtin\nstatic u1 A 1 1 12 1 4\noffer u1 b1 dl 01\noffer u1 b1 dl 02\noffer u1 b1 dl 03\noffer u1 b1 dl 04\noffer u1 b1 dl 05\nget A.up1/1\nget A.up1/1\nget A.up1/1\nget A.up1/1\nget A.up1/1\nget A.up1/1\n";
 
@@ -173,7 +174,8 @@ fn whole_calls(rt: HostRuntime) -> Result<(), Fail> {
     Ok(())
 }
 
-/// Writes what the script's lines among its first bytes give, and then the stop line of a failed read.
+/// Writes what the script's lines among its first bytes give, and then the stop line of a failed
+/// read.
 fn text_at(alloc: Global, taken: usize) -> Result<String, Fail> {
     let mut text = String::new(alloc);
     for (end, lines) in STEPS {
@@ -186,7 +188,8 @@ fn text_at(alloc: Global, taken: usize) -> Result<String, Fail> {
     Ok(text)
 }
 
-/// The read with each number fails in turn: what the lines before it gave stands, and then the stop line.
+/// The read with each number fails in turn: what the lines before it gave stands, and then the stop
+/// line.
 #[test]
 fn failing_reads(rt: HostRuntime) -> Result<(), Fail> {
     for (piece, reads) in [(1, 96), (16, 8), (4096, 3)] {
@@ -216,7 +219,8 @@ fn each_read_fails(rt: &impl Abort, alloc: Global, piece: usize, reads: u64) -> 
     Ok(())
 }
 
-/// The write with each number fails in turn: a front of the text stands, and no write comes behind it.
+/// The write with each number fails in turn: a front of the text stands, and no write comes after
+/// it.
 #[test]
 fn failing_writes(rt: HostRuntime) -> Result<(), Fail> {
     for piece in [1, 16, 4096] {
@@ -252,12 +256,13 @@ fn each_write_fails(rt: &impl Abort, alloc: Global, piece: usize) -> Result<(), 
     Ok(())
 }
 
-/// A check whose reads or writes fail: of the line of a fault and the `stop` line a front was written.
+/// A check whose reads or writes fail: of the line of a fault and the `stop` line a front was
+/// written.
 #[test]
 fn failing_checks(rt: HostRuntime) -> Result<(), Fail> {
     let alloc = rt.alloc();
     let wrong = "module text\nM END\nEND\n";
-    let told = "module 2 3 2\nstop 3 2 2\n";
+    let wanted = "module 2 3 2\nstop 3 2 2\n";
     for number in 1..28 {
         let call = Call {
             word: "check",
@@ -267,7 +272,7 @@ fn failing_checks(rt: HostRuntime) -> Result<(), Fail> {
             failing_writes: &[number],
         };
         let (answer, held, calls) = call.answer(alloc)?;
-        let all = number as usize > told.len();
+        let all = number as usize > wanted.len();
         assert_eq!(rt;
             answer,
             if all {
@@ -276,8 +281,8 @@ fn failing_checks(rt: HostRuntime) -> Result<(), Fail> {
                 status(7, 0, 0)
             }
         );
-        assert!(rt; told.as_bytes().starts_with(held.as_slice()));
-        assert_eq!(rt; calls, if all { told.len() as u64 } else { number });
+        assert!(rt; wanted.as_bytes().starts_with(held.as_slice()));
+        assert_eq!(rt; calls, if all { wanted.len() as u64 } else { number });
     }
     for number in 1..24 {
         let call = Call {

@@ -1,35 +1,20 @@
 //! The top call.
 
-ghost use Rattle.std.specs.Prelude.{◌≡◌, ◌≤◌, ℕ, List, Some, true, map};
+ghost use Rattle.std.specs.Prelude.{◌≡◌, map};
 ghost use Rattle.std.specs.String.{string_bytes};
-ghost use Rattle.gnb_base.specs.Causes.{Rose};
-ghost use Rattle.asn1_assignments.specs.declared.assignment.Syntax.{Syntax};
-ghost use Rattle.module_check.specs.Check.{IsWhole as IsWholeModule};
-ghost use Rattle.scenario_cli.specs.Causes.{IsCaused};
-ghost use Rattle.scenario_cli.specs.Headline.{form_of as form_of_words, GnbMeets, RunMeets};
-ghost use Rattle.scenario_cli.specs.Whole.{IsWhole, NoneRose, RunsWhole, ChecksWhole};
-ghost use Rattle.scenario_cli.specs.Writes.{Finishes};
-ghost use Rattle.scenario_text.specs.declared.event.Event.{Event};
+ghost use Rattle.gnb_base.specs.Outside.{Rose};
+ghost use Rattle.command_defs.specs.Ends.{StopsAtLine, UsageMeets};
+ghost use Rattle.command_defs.specs.Outside.{outside, CallsTo};
+ghost use Rattle.command_run.specs.Whole.{RunsWholly};
+ghost use Rattle.command_check.specs.Whole.{ChecksWholly};
+ghost use Rattle.scenario_cli.specs.Gnb.{form_of as form_of_words, FormMeets};
 
-use crate::output::write_lines;
-use crate::status::{Ended, Status};
-use crate::{check, script};
+use command_check::check_input;
+use command_defs::{CommonEnd, Status};
+use command_output::{common_status, stop_line, write_lines};
+use command_run::run_script;
 use gnb_base::outside::{Sink, Source};
 use std::alloc::Global;
-
-/// Writes the last line, and answers how the call ended in the end.
-fn finish<K: Sink>(alloc: Global, output: &mut K, ended: Ended) -> Ended
-    ensures last { Finishes (K.held output.old) (K.held output.new) (K.faults output.old) (K.faults output.new) ended result }
-    ensures later { K.faults output.old ≤ K.faults output.new }
-{
-    let Some(line) = ended.last_line() else {
-        return ended;
-    };
-    match write_lines(alloc, output, &[line]) {
-        Ok(()) => ended,
-        Err(fault) => fault,
-    }
-}
 
 /// The forms of the program.
 #[derive(Clone, Copy, Debug, PartialEq, Eq)]
@@ -58,13 +43,20 @@ fn form_of(words: &[String]) -> Form
     }
 }
 
-/// Runs a script, and writes the last line.
-fn run_script<S: Source, K: Sink>(alloc: Global, input: &mut S, output: &mut K) -> Ended
-    ensures meets { RunMeets (S.left input.old) (S.left input.new) (K.held output.old) (K.held output.new) result }
-    ensures causes { IsCaused (S.faults input.old) (S.faults input.new) (K.faults output.old) (K.faults output.new) result }
+/// Reports words that are no form.
+fn report_usage<S: Source, K: Sink>(alloc: Global, input: &S, output: &mut K) -> Status
+    ensures { UsageMeets (outside (S.at input.now) (K.at output.old))
+        (outside (S.at input.now) (K.at output.new)) result }
 {
-    let ended = script::run(alloc, input, output);
-    finish(alloc, output, ended)
+    let usage = Status {
+        code: 2,
+        place: 0,
+        reason: 0,
+    };
+    match write_lines(alloc, output, &[stop_line(usage)]) {
+        Ok(()) => usage,
+        Err(end) => common_status(end),
+    }
 }
 
 /// The program, with its words, its input and its output.
@@ -74,21 +66,33 @@ pub fn gnb<S: Source, K: Sink>(
     input: &mut S,
     output: &mut K,
 ) -> Status
-    ensures headline { GnbMeets (map string_bytes words.now) (S.left input.old) (S.left input.new) (K.held output.old) (K.held output.new) result }
-    ensures read { result.code ≡ 6 → Rose (S.faults input.old) (S.faults input.new) }
-    ensures write { result.code ≡ 7 → Rose (K.faults output.old) (K.faults output.new) }
+    ensures headline { FormMeets (form_of_words (map string_bytes words.now))
+        (outside (S.at input.old) (K.at output.old))
+        (outside (S.at input.new) (K.at output.new)) result }
+    ensures read { result.code ≡ 6 → Rose (S.at input.old).faults (S.at input.new).faults }
+    ensures write { result.code ≡ 7 → Rose (K.at output.old).faults (K.at output.new).faults }
 
-    // A whole script is run, where its bytes are told and no call fails, unless memory runs out.
-    ensures complete { (bytes : List ℕ) (events : List Event) → form_of_words (map string_bytes words.now) ≡ Form.Run → S.left input.old ≡ Some bytes → IsWhole bytes events
-        → NoneRose (S.faults input.old) (S.faults input.new) (K.faults output.old) (K.faults output.new) → RunsWhole (K.held output.old) (K.held output.new) events result }
+    // No call is made after one that failed, and the status reports it.
+    ensures calls { CallsTo (outside (S.at input.old) (K.at output.old))
+        (outside (S.at input.new) (K.at output.new)) result.code }
 
-    // A whole module is told, likewise.
-    ensures checks { (bytes text : List ℕ) (m : Syntax) → form_of_words (map string_bytes words.now) ≡ Form.Check → S.left input.old ≡ Some bytes → IsWholeModule bytes text m
-        → NoneRose (S.faults input.old) (S.faults input.new) (K.faults output.old) (K.faults output.new) → ChecksWhole (K.held output.old) (K.held output.new) m result }
+    // At a stop at a line the source was read hardly further than that line.
+    ensures near { StopsAtLine (S.at input.old) (S.at input.new) result }
+
+    // A whole script is run, where its bytes are reported and no call fails, unless memory runs
+    // out.
+    ensures complete { form_of_words (map string_bytes words.now) ≡ Form.Run
+        → RunsWholly (outside (S.at input.old) (K.at output.old))
+        (outside (S.at input.new) (K.at output.new)) result }
+
+    // A whole module is reported, likewise.
+    ensures checks { form_of_words (map string_bytes words.now) ≡ Form.Check
+        → ChecksWholly (outside (S.at input.old) (K.at output.old))
+        (outside (S.at input.new) (K.at output.new)) result }
 {
     match form_of(words) {
         Form::Run => run_script(alloc, input, output).status(),
-        Form::Check => check::run(alloc, input, output).status(),
-        Form::Other => finish(alloc, output, Ended::Usage).status(),
+        Form::Check => check_input(alloc, input, output).status(),
+        Form::Other => report_usage(alloc, input, output),
     }
 }

@@ -1,0 +1,168 @@
+-- A module was checked, and what it came to is written.
+use Rattle.std.proofs.Common.{◌≡◌, ◌⊎◌, ◌+◌, ℕ, List, length, Option, Some, None, Result, Ok, Err, refl, sym, ap, ◌∙◌, subst, inl, inr, append-nil, arith}
+use Rattle.gnb_base.specs.Outside.{SourceAt, SinkAt, Rose}
+use Rattle.input_defs.specs.declared.InputEnd.TheVariants as inputs
+use Rattle.input_defs.specs.Split.{InputSplit, rest_of, TakesInput}
+use Rattle.input_defs.specs.Near.{StopsNear}
+use Rattle.input_lines.proofs.Near.{near_handed, near_empty, near_next}
+use Rattle.asn1_assignments.specs.declared.assignment.Syntax.{Syntax}
+use Rattle.script_words.specs.declared.reason.TextReason.{TextReason}
+use Rattle.command_defs.specs.declared.CommonEnd.TheVariants.{WriteFault, Memory}
+use Rattle.command_defs.specs.Ends.{StopsAtLine}
+use Rattle.command_defs.specs.Outside.{OutsideAt, outside, NoneFailed, ReadsTo, AllRead, ReadStopped, WritesTo, AllWritten, WriteStopped}
+use Rattle.command_defs.specs.Output.{Prints, PrintsFront}
+use Rattle.command_output.specs.Writes.{WritesAll, WritesFront}
+use Rattle.command_output.proofs.Written.{none_failed}
+use Rattle.command_check.specs.declared.end.CheckEnd.{CheckEnd}
+use Rattle.command_check.specs.declared.end.CheckEnd.TheVariants.{Common}
+use Rattle.command_check.specs.declared.input.CheckedModule.{CheckedModule}
+use Rattle.command_check.specs.declared.input.CheckStop.{CheckStop}
+use Rattle.command_check.specs.declared.input.CheckStop.TheVariants.{NoModule, Script, Input}
+use Rattle.command_check.specs.Check.{ChecksInput, FaultsOfAnswer, IsWrongInput, Empty, NoHeader, Unended, Further, IsWrongHeader}
+use Rattle.command_check.specs.Report.{end_of, check_status, module_line, report_of, check_text, PrintsAnswer, Written, Cut, Unwritten, CheckMeets}
+use Rattle.command_check.specs.Whole.{IsWhole, FindsModule, ReportsModule, ChecksWholly}
+use Rattle.command_check.proofs.Whole.{finds_module}
+
+-- ---- the status of the reads and of the writes
+
+reads_end : (a b : SourceAt) (answer : Result CheckedModule CheckStop) → FaultsOfAnswer a b answer
+    → ReadsTo a b (check_status (end_of answer)).code
+reads_end a b (Ok checked) h = AllRead h (λ (e : 0 ≡ 6). omega arith)
+reads_end a b (Err (NoModule line column reason)) h = AllRead h (λ (e : 3 ≡ 6). omega arith)
+reads_end a b (Err (Script place reason)) h = AllRead h (λ (e : 4 ≡ 6). omega arith)
+reads_end a b (Err (Input (inputs.ReadFault taken))) h = ReadStopped h (inl refl)
+reads_end a b (Err (Input inputs.TooLong)) h = AllRead h (λ (e : 11 ≡ 6). omega arith)
+reads_end a b (Err (Input inputs.Memory)) h = AllRead h (λ (e : 9 ≡ 6). omega arith)
+
+reads_cut : (a b : SourceAt) (answer : Result CheckedModule CheckStop) → FaultsOfAnswer a b answer → ReadsTo a b 7
+reads_cut a b (Ok checked) h = AllRead h (λ (e : 7 ≡ 6). omega arith)
+reads_cut a b (Err (NoModule line column reason)) h = AllRead h (λ (e : 7 ≡ 6). omega arith)
+reads_cut a b (Err (Script place reason)) h = AllRead h (λ (e : 7 ≡ 6). omega arith)
+reads_cut a b (Err (Input (inputs.ReadFault taken))) h = ReadStopped h (inr (inl refl))
+reads_cut a b (Err (Input inputs.TooLong)) h = AllRead h (λ (e : 7 ≡ 6). omega arith)
+reads_cut a b (Err (Input inputs.Memory)) h = AllRead h (λ (e : 7 ≡ 6). omega arith)
+
+reads_out : (a b : SourceAt) (answer : Result CheckedModule CheckStop) → FaultsOfAnswer a b answer → ReadsTo a b 9
+reads_out a b (Ok checked) h = AllRead h (λ (e : 9 ≡ 6). omega arith)
+reads_out a b (Err (NoModule line column reason)) h = AllRead h (λ (e : 9 ≡ 6). omega arith)
+reads_out a b (Err (Script place reason)) h = AllRead h (λ (e : 9 ≡ 6). omega arith)
+reads_out a b (Err (Input (inputs.ReadFault taken))) h = ReadStopped h (inr (inr refl))
+reads_out a b (Err (Input inputs.TooLong)) h = AllRead h (λ (e : 9 ≡ 6). omega arith)
+reads_out a b (Err (Input inputs.Memory)) h = AllRead h (λ (e : 9 ≡ 6). omega arith)
+
+not_seven : (answer : Result CheckedModule CheckStop) → (check_status (end_of answer)).code ≡ 7 → ⊥
+not_seven (Ok checked) e = omega arith
+not_seven (Err (NoModule line column reason)) e = omega arith
+not_seven (Err (Script place reason)) e = omega arith
+not_seven (Err (Input (inputs.ReadFault taken))) e = omega arith
+not_seven (Err (Input inputs.TooLong)) e = omega arith
+not_seven (Err (Input inputs.Memory)) e = omega arith
+
+-- ---- the three ends of the output
+
+pub unwritten : {a b : SourceAt} (sink : SinkAt) (answer : Result CheckedModule CheckStop) → ChecksInput a b answer
+    → CheckMeets (outside a sink) (outside b sink) (Common Memory)
+unwritten sink answer h = record {
+  answer = answer;
+  checks = h;
+  prints = Unwritten refl refl;
+  calls = record { reads = reads_out _ _ answer h.reads; writes = AllWritten (none_failed sink) (λ (e : 9 ≡ 7). omega arith) };
+}
+
+pub cut : {a b : SourceAt} {c d : SinkAt} (answer : Result CheckedModule CheckStop) (text : List ℕ) → ChecksInput a b answer
+    → text ≡ check_text answer → WritesFront c d text
+    → CheckMeets (outside a c) (outside b d) (Common WriteFault)
+cut {c = c} {d = d} answer text h e w = record {
+  answer = answer;
+  checks = h;
+  prints = Cut refl (subst (λ (t : List ℕ). PrintsFront c d t) e w.prints);
+  calls = record { reads = reads_cut _ _ answer h.reads; writes = WriteStopped w.last refl };
+}
+
+pub written : {a b : SourceAt} {c d : SinkAt} (answer : Result CheckedModule CheckStop) (text : List ℕ) (end : CheckEnd)
+    → ChecksInput a b answer → text ≡ check_text answer → WritesAll c d text
+    → end ≡ end_of answer → CheckMeets (outside a c) (outside b d) end
+written {a = a} {b = b} {c = c} {d = d} answer text end h e w same =
+    subst (λ (x : CheckEnd). CheckMeets (outside a c) (outside b d) x) (sym same)
+    (record {
+      answer = answer;
+      checks = h;
+      prints = Written refl (subst (λ (t : List ℕ). Prints c d t) e w.prints);
+      calls = record { reads = reads_end _ _ answer h.reads; writes = AllWritten w.none (not_seven answer) };
+    })
+
+-- ---- a whole module
+
+no_read_fault : {before after : SourceAt} {code : ℕ} → code ≡ 6 → (Rose before.faults after.faults → ⊥) → ReadsTo before after code → ⊥
+no_read_fault e none (AllRead h other) = other e
+no_read_fault e none (ReadStopped h is) = none h.faults
+
+no_write_fault : {before after : SinkAt} {code : ℕ} → code ≡ 7 → (Rose before.faults after.faults → ⊥) → WritesTo before after code → ⊥
+no_write_fault e none (AllWritten h other) = other e
+no_write_fault e none (WriteStopped h is) = none h.faults
+
+found_reported : (c d : SinkAt) (m : Syntax) (answer : Result CheckedModule CheckStop) → Prints c d (check_text answer)
+    → FindsModule m answer → ReportsModule c d m (check_status (end_of answer))
+unfolding report_of
+found_reported c d m (Ok checked) all found =
+    inl (
+      refl,
+      subst (λ (text : List ℕ). Prints c d text)
+          (append-nil (module_line checked.name checked.types) ∙ ap (λ (name : List ℕ). module_line name checked.types) found.0 ∙ ap (λ (types : ℕ). module_line m.name types) found.1) all,
+    )
+found_reported c d m (Err stop) all found = inr (ap (λ (x : CheckStop). (check_status (end_of (Err x))).code) found)
+
+by_prints : (before after : OutsideAt) (end : CheckEnd) (c : CheckMeets before after end) → PrintsAnswer before.sink after.sink c.answer end
+    → (input text : List ℕ) (m : Syntax)
+    → before.source.left ≡ Some input → IsWhole input text m → NoneFailed before after
+    → ReportsModule before.sink after.sink m (check_status end)
+by_prints before after end c (Written same all) input text m known w none =
+    subst (λ (x : CheckEnd). ReportsModule before.sink after.sink m (check_status x)) (sym same)
+    (found_reported before.sink after.sink m c.answer all
+    (finds_module before.source after.source c.answer c.checks input text m known w
+    (λ (taken : ℕ) (e : c.answer ≡ Err (Input (inputs.ReadFault taken))).
+    no_read_fault (ap (λ (x : CheckEnd). (check_status x).code) (same ∙ ap end_of e)) none.reads c.calls.reads)))
+by_prints before after end c (Cut same part) input text m known w none =
+    absurd (no_write_fault (ap (λ (x : CheckEnd). (check_status x).code) same) none.writes c.calls.writes)
+by_prints before after end c (Unwritten same kept) input text m known w none = inr (ap (λ (x : CheckEnd). (check_status x).code) same)
+
+pub complete : (before after : OutsideAt) (end : CheckEnd) → CheckMeets before after end → ChecksWholly before after (check_status end)
+complete before after end c input text m known w none = by_prints before after end c c.prints input text m known w none
+
+-- ---- a stop at a line
+
+by_wrong : (before after : SourceAt) (split : InputSplit) (place : ℕ) (reason : TextReason) → TakesInput before after split
+    → IsWrongInput (rest_of before after) split place reason
+    → (bytes : List ℕ) → before.left ≡ Some bytes → StopsNear bytes after.left place
+by_wrong before after split place reason t (Empty e word) bytes known = near_empty place t e bytes known
+by_wrong before after split place reason t (NoHeader e) bytes known =
+    let at : place ≡ length split.lines + 1 = e.at ∙ ap (λ (ls : List (List ℕ)). length ls + 1) (sym e.none) in
+    near_next e.line place t e.next at bytes known
+by_wrong before after split place reason t (Unended e) bytes known = near_handed place t e.few (sym e.at) bytes known
+by_wrong before after split place reason t (Further e) bytes known = near_next e.line place t e.next e.at bytes known
+
+by_answer : (before after : SourceAt) (answer : Result CheckedModule CheckStop) → ChecksInput before after answer
+    → StopsAtLine before after (check_status (end_of answer))
+by_answer before after (Ok checked) c bytes known stop = absurd (omega arith)
+by_answer before after (Err (NoModule line column reason)) c bytes known stop = absurd (omega arith)
+by_answer before after (Err (Script place reason)) c bytes known stop =
+    by_wrong before after c.split place reason c.input c.answers bytes known
+by_answer before after (Err (Input (inputs.ReadFault taken))) c bytes known stop = absurd (omega arith)
+by_answer before after (Err (Input inputs.TooLong)) c bytes known stop = absurd (omega arith)
+by_answer before after (Err (Input inputs.Memory)) c bytes known stop = absurd (omega arith)
+
+two_codes : (code n : ℕ) → code ≡ n → code ≡ 4 → (n ≡ 4 → ⊥) → ⊥
+two_codes code n e f other = other (sym e ∙ f)
+
+near_by : (before after : OutsideAt) (end : CheckEnd) (c : CheckMeets before after end) → PrintsAnswer before.sink after.sink c.answer end
+    → StopsAtLine before.source after.source (check_status end)
+near_by before after end c (Written same all) bytes known stop =
+    subst (λ (x : CheckEnd). StopsAtLine before.source after.source (check_status x)) (sym same) (by_answer before.source after.source c.answer c.checks) bytes known stop
+near_by before after end c (Cut same part) bytes known stop =
+    absurd (two_codes _ 7 (ap (λ (x : CheckEnd). (check_status x).code) same) stop (λ (e : 7 ≡ 4). omega arith))
+near_by before after end c (Unwritten same kept) bytes known stop =
+    absurd (two_codes _ 9 (ap (λ (x : CheckEnd). (check_status x).code) same) stop (λ (e : 9 ≡ 4). omega arith))
+
+pub near : (before after : OutsideAt) (end : CheckEnd) → CheckMeets before after end
+    → StopsAtLine before.source after.source (check_status end)
+near before after end c = near_by before after end c c.prints

@@ -1,0 +1,6 @@
+pub mod Header
+pub mod Text
+pub mod Check
+pub mod Report
+pub mod Whole
+pub mod inside

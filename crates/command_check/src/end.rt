@@ -1,0 +1,81 @@
+//! How a check ends, and the status that reports it.
+
+ghost use Rattle.std.specs.Prelude.{◌≡◌};
+ghost use Rattle.std.specs.Option.{option_to_list};
+ghost use Rattle.command_check.specs.Report.{module_reason_code, module_status as status_of_module, check_status, check_last_lines};
+
+use asn1_types::ModuleReason;
+use command_defs::{CommonEnd, Status};
+use command_output::{common_last_line, common_status, line_status, stop_line};
+use scenario_text::event::TextReason;
+use scenario_text::line::OutLine;
+
+/// How a check ended.
+#[derive(Clone, Copy, Debug, PartialEq, Eq)]
+pub enum CheckEnd {
+    /// The input is a header and a module, and its name was written.
+    Checked,
+    /// The text is no module; its first fault stands in the line at `place`.
+    NoModule { place: u64, reason: ModuleReason },
+    /// The line at `place` is no header or one too many.
+    Script { place: u64, reason: TextReason },
+    /// An end that each word has.
+    Common(CommonEnd),
+}
+
+/// The number of a reason why a text is no module.
+pub fn module_code_of(reason: ModuleReason) -> u16
+    ensures { result ≡ module_reason_code reason }
+{
+    match reason {
+        ModuleReason::Token => 1,
+        ModuleReason::Form => 2,
+        ModuleReason::Unknown => 3,
+        ModuleReason::Twice => 4,
+        ModuleReason::Recursive => 5,
+        ModuleReason::OutOfProfile => 6,
+        ModuleReason::Bounds => 7,
+        ModuleReason::Deep => 8,
+        ModuleReason::Truncated => 9,
+    }
+}
+
+/// The status of a text that is no module.
+fn module_status(place: u64, reason: ModuleReason) -> Status
+    ensures { result ≡ status_of_module place reason }
+{
+    Status {
+        code: 3,
+        place,
+        reason: module_code_of(reason),
+    }
+}
+
+impl CheckEnd {
+    /// Its status.
+    pub fn status(&self) -> Status
+        ensures { result ≡ check_status self.now }
+    {
+        match *self {
+            CheckEnd::Checked => Status {
+                code: 0,
+                place: 0,
+                reason: 0,
+            },
+            CheckEnd::NoModule { place, reason } => module_status(place, reason),
+            CheckEnd::Script { place, reason } => line_status(place, reason),
+            CheckEnd::Common(end) => common_status(end),
+        }
+    }
+
+    /// The `stop` line, `None` where none is written.
+    pub fn last_line(&self) -> Option<OutLine>
+        ensures { option_to_list result ≡ check_last_lines self.now }
+    {
+        match *self {
+            CheckEnd::Checked => None,
+            CheckEnd::NoModule { .. } | CheckEnd::Script { .. } => Some(stop_line(self.status())),
+            CheckEnd::Common(end) => common_last_line(end),
+        }
+    }
+}

@@ -1,0 +1,4 @@
+pub mod Statuses
+pub mod Outside
+pub mod Output
+pub mod Ends

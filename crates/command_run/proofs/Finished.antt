@@ -1,0 +1,200 @@
+-- The last line after a run, and the status.
+use Rattle.std.proofs.Common.{◌≡◌, ◌⊎◌, ℕ, List, [], ◌∷◌, ◌++◌, Option, Some, None, Err, refl, sym, ap, ◌∙◌, subst, inl, inr, arith}
+use Rattle.gnb_base.specs.Outside.{SourceAt, SinkAt}
+use Rattle.input_defs.specs.Faults.{NoReadFailed, LastReadFailed}
+use Rattle.input_defs.specs.Split.{rest_of}
+use Rattle.run_model.specs.declared.event.StaticEvent.{StaticEvent}
+use Rattle.scenario_text.specs.declared.line.OutLine.{OutLine}
+use Rattle.scenario_text.specs.Print.{print}
+use Rattle.std.specs.Option.{option_to_list}
+use Rattle.command_defs.specs.declared.CommonEnd.{CommonEnd}
+use Rattle.command_defs.specs.declared.CommonEnd.TheVariants.{ReadFault, TooLong, WriteFault, Memory}
+use Rattle.command_defs.specs.Outside.{OutsideAt, outside, ReadsTo, AllRead, ReadStopped, WritesTo, AllWritten, WriteStopped, CallsTo}
+use Rattle.command_defs.specs.Output.{Prints, PrintsFront}
+use Rattle.command_output.specs.Writes.{WritesAll, WritesFront, WritesLines}
+use Rattle.command_output.proofs.Written.{none_then_none, none_then_last, prints_more, front_more, front_all}
+use Rattle.command_run.specs.declared.end.RunEnd.{RunEnd}
+use Rattle.command_run.specs.declared.end.RunEnd.TheVariants.{Done, Script, Common}
+use Rattle.command_run.specs.Ends.{run_status, run_last_lines}
+use Rattle.command_run.specs.Run.{RunEndMeets, run_text, PrintsRun, RunMeets}
+use Rattle.command_run.specs.inside.Stops.{RunsTo, PrintsTo, ReadsUntil, WritesUntil, Finishes, Silent, Written, Cut, Unwritten}
+
+-- ---- the status of the reads
+
+reads_end : (a b : SourceAt) (end : RunEnd) → ReadsUntil a b end → ReadsTo a b (run_status end).code
+reads_end a b (Done n) h = AllRead h (λ (e : 0 ≡ 6). omega arith)
+reads_end a b (Script place reason) h = AllRead h (λ (e : 4 ≡ 6). omega arith)
+reads_end a b (Common (ReadFault taken)) h = ReadStopped h (inl refl)
+reads_end a b (Common TooLong) h = AllRead h (λ (e : 11 ≡ 6). omega arith)
+reads_end a b (Common WriteFault) h = AllRead h (λ (e : 7 ≡ 6). omega arith)
+reads_end a b (Common Memory) h = AllRead h (λ (e : 9 ≡ 6). omega arith)
+
+-- the last line was not written
+reads_cut : (a b : SourceAt) (end : RunEnd) → ReadsUntil a b end → ReadsTo a b 7
+reads_cut a b (Done n) h = AllRead h (λ (e : 7 ≡ 6). omega arith)
+reads_cut a b (Script place reason) h = AllRead h (λ (e : 7 ≡ 6). omega arith)
+reads_cut a b (Common (ReadFault taken)) h = ReadStopped h (inr (inl refl))
+reads_cut a b (Common TooLong) h = AllRead h (λ (e : 7 ≡ 6). omega arith)
+reads_cut a b (Common WriteFault) h = AllRead h (λ (e : 7 ≡ 6). omega arith)
+reads_cut a b (Common Memory) h = AllRead h (λ (e : 7 ≡ 6). omega arith)
+
+reads_out : (a b : SourceAt) (end : RunEnd) → ReadsUntil a b end → ReadsTo a b 9
+reads_out a b (Done n) h = AllRead h (λ (e : 9 ≡ 6). omega arith)
+reads_out a b (Script place reason) h = AllRead h (λ (e : 9 ≡ 6). omega arith)
+reads_out a b (Common (ReadFault taken)) h = ReadStopped h (inr (inr refl))
+reads_out a b (Common TooLong) h = AllRead h (λ (e : 9 ≡ 6). omega arith)
+reads_out a b (Common WriteFault) h = AllRead h (λ (e : 9 ≡ 6). omega arith)
+reads_out a b (Common Memory) h = AllRead h (λ (e : 9 ≡ 6). omega arith)
+
+-- ---- the status of the writes, and what was written
+
+-- there is no last line
+silent_writes : (a b : SinkAt) (end : RunEnd) → run_last_lines end ≡ [] → WritesUntil a b end → WritesTo a b (run_status end).code
+silent_writes a b (Done n) e h = absurd (cc)
+silent_writes a b (Script place reason) e h = absurd (cc)
+silent_writes a b (Common (ReadFault taken)) e h = absurd (cc)
+silent_writes a b (Common TooLong) e h = absurd (cc)
+silent_writes a b (Common WriteFault) e h = WriteStopped h refl
+silent_writes a b (Common Memory) e h = AllWritten h (λ (f : 9 ≡ 7). omega arith)
+
+silent_prints : (a b : SinkAt) (Meets : RunEnd → Type 0) (events : List StaticEvent) (end : RunEnd) → run_last_lines end ≡ []
+    → PrintsTo a b events end → PrintsRun a b Meets events end
+silent_prints a b Meets events (Done n) e h = absurd (cc)
+silent_prints a b Meets events (Script place reason) e h = absurd (cc)
+silent_prints a b Meets events (Common (ReadFault taken)) e h = absurd (cc)
+silent_prints a b Meets events (Common TooLong) e h = absurd (cc)
+silent_prints a b Meets events (Common WriteFault) e h = (None, tt, h)
+silent_prints a b Meets events (Common Memory) e h = h
+
+-- the text before the last line
+text_before : (a b : SinkAt) (events : List StaticEvent) (end : RunEnd) (line : OutLine) → run_last_lines end ≡ line ∷ []
+    → PrintsTo a b events end → Prints a b (run_text events)
+text_before a b events (Done n) line e h = h
+text_before a b events (Script place reason) line e h = h
+text_before a b events (Common (ReadFault taken)) line e h = h
+text_before a b events (Common TooLong) line e h = h
+text_before a b events (Common WriteFault) line e h = absurd (cc)
+text_before a b events (Common Memory) line e h = absurd (cc)
+
+none_before : (a b : SinkAt) (end : RunEnd) (line : OutLine) → run_last_lines end ≡ line ∷ [] → WritesUntil a b end
+    → WritesUntil a b (Done 0)
+none_before a b (Done n) line e h = h
+none_before a b (Script place reason) line e h = h
+none_before a b (Common (ReadFault taken)) line e h = h
+none_before a b (Common TooLong) line e h = h
+none_before a b (Common WriteFault) line e h = absurd (cc)
+none_before a b (Common Memory) line e h = h
+
+not_seven : (end : RunEnd) (line : OutLine) → run_last_lines end ≡ line ∷ [] → (run_status end).code ≡ 7 → ⊥
+not_seven (Done n) line e f = omega arith
+not_seven (Script place reason) line e f = omega arith
+not_seven (Common (ReadFault taken)) line e f = omega arith
+not_seven (Common TooLong) line e f = omega arith
+not_seven (Common WriteFault) line e f = cc
+not_seven (Common Memory) line e f = omega arith
+
+written_prints : (a b : SinkAt) (Meets : RunEnd → Type 0) (events : List StaticEvent) (end : RunEnd) (line : OutLine)
+    → run_last_lines end ≡ line ∷ []
+    → Prints a b (run_text events ++ print (run_last_lines end)) → PrintsRun a b Meets events end
+written_prints a b Meets events (Done n) line e h = h
+written_prints a b Meets events (Script place reason) line e h = h
+written_prints a b Meets events (Common (ReadFault taken)) line e h = h
+written_prints a b Meets events (Common TooLong) line e h = h
+written_prints a b Meets events (Common WriteFault) line e h = absurd (cc)
+written_prints a b Meets events (Common Memory) line e h = absurd (cc)
+
+with_line : (a b c : SinkAt) (events : List StaticEvent) (end : RunEnd) (line : OutLine) → run_last_lines end ≡ line ∷ []
+    → Prints a b (run_text events) → Prints b c (print (line ∷ []))
+    → Prints a c (run_text events ++ print (run_last_lines end))
+with_line a b c events end line e h k =
+    prints_more h (subst (λ (ls : List OutLine). Prints b c (print ls)) (sym e) k)
+
+-- ---- with the word `run`
+
+pub run_meets : {first : OutsideAt} {source : SourceAt} {sink last : SinkAt} (end result : RunEnd) → RunsTo first (outside source sink) end
+    → Finishes sink last end result
+    → RunMeets first (outside source last) result
+run_meets {first = first} {source = source} {sink = sink} {last = last} end result r (Silent none same kept) =
+    subst (λ (e : RunEnd). RunMeets first (outside source last) e) (sym same)
+    (subst (λ (s : SinkAt). RunMeets first (outside source s) end) (sym kept)
+    (record {
+      split = r.split;
+      events = r.events;
+      input = r.input;
+      script = r.script;
+      ends = r.ends;
+      prints = silent_prints first.sink sink _ r.events end none r.prints;
+      calls = record { reads = reads_end _ _ end r.reads; writes = silent_writes first.sink sink end none r.writes };
+    }))
+run_meets {first = first} {source = source} {sink = sink} {last = last} end result r (Written line some same written) =
+    subst (λ (e : RunEnd). RunMeets first (outside source last) e) (sym same)
+    (record {
+      split = r.split;
+      events = r.events;
+      input = r.input;
+      script = r.script;
+      ends = r.ends;
+      prints = written_prints first.sink last _ r.events end line some
+          (with_line first.sink sink last r.events end line some (text_before first.sink sink r.events end line some r.prints) written.prints);
+      calls = record {
+        reads = reads_end _ _ end r.reads;
+        writes = AllWritten (none_then_none (none_before first.sink sink end line some r.writes) written.none) (not_seven end line some);
+      };
+    })
+run_meets {first = first} {source = source} {sink = sink} {last = last} end result r (Cut line some same cut) =
+    subst (λ (e : RunEnd). RunMeets first (outside source last) e) (sym same)
+    (record {
+      split = r.split;
+      events = r.events;
+      input = r.input;
+      script = r.script;
+      ends = tt;
+      prints = (
+        Some end,
+        r.ends,
+        front_more (text_before first.sink sink r.events end line some r.prints)
+            (subst (λ (ls : List OutLine). PrintsFront sink last (print ls)) (sym some) cut.prints),
+      );
+      calls = record {
+        reads = reads_cut _ _ end r.reads;
+        writes = WriteStopped (none_then_last (none_before first.sink sink end line some r.writes) cut.last) refl;
+      };
+    })
+run_meets {first = first} {source = source} {sink = sink} {last = last} end result r (Unwritten line some same kept) =
+    subst (λ (e : RunEnd). RunMeets first (outside source last) e) (sym same)
+    (subst (λ (s : SinkAt). RunMeets first (outside source s) (Common Memory)) (sym kept)
+    (record {
+      split = r.split;
+      events = r.events;
+      input = r.input;
+      script = r.script;
+      ends = tt;
+      prints = front_all (text_before first.sink sink r.events end line some r.prints);
+      calls = record {
+        reads = reads_out _ _ end r.reads;
+        writes = AllWritten (none_before first.sink sink end line some r.writes) (λ (e : 9 ≡ 7). omega arith);
+      };
+    }))
+
+-- ---- at the exits of the code
+
+one_line : (end : RunEnd) (line : OutLine) (found : Option OutLine) → found ≡ Some line → option_to_list found ≡ run_last_lines end
+    → run_last_lines end ≡ line ∷ []
+one_line end line found e f = sym f ∙ ap (λ (o : Option OutLine). option_to_list o) e
+
+pub finishes : {a b : SinkAt} (end : RunEnd) (line : OutLine) (found : Option OutLine) → found ≡ Some line
+    → option_to_list found ≡ run_last_lines end → WritesAll a b (print (line ∷ []))
+    → Finishes a b end end
+finishes end line found e f w = Written line (one_line end line found e f) refl w
+
+by_fault : (a b : SinkAt) (end : RunEnd) (line : OutLine) (fault : CommonEnd) → run_last_lines end ≡ line ∷ []
+    → WritesLines a b (line ∷ []) (Err fault) → Finishes a b end (Common fault)
+by_fault a b end line (ReadFault taken) e w = absurd w
+by_fault a b end line TooLong e w = absurd w
+by_fault a b end line WriteFault e w = Cut line e refl w
+by_fault a b end line Memory e w = Unwritten line e refl w
+
+pub finish_stops : (a b : SinkAt) (end : RunEnd) (line : OutLine) (found : Option OutLine) (fault : CommonEnd) → found ≡ Some line
+    → option_to_list found ≡ run_last_lines end
+    → WritesLines a b (line ∷ []) (Err fault) → Finishes a b end (Common fault)
+finish_stops a b end line found fault e f w = by_fault a b end line fault (one_line end line found e f) w

@@ -1,0 +1,20 @@
+use Rattle.command_run.proofs.Turned.{no_reader, header_at, begins_at, turns_at, ends_at_done, turn_stops}
+use Rattle.command_run.proofs.script.run.Goals as goal
+
+pub returns-in_default : goal.returns-in_default
+returns-in_default g c = no_reader _ _
+
+pub returns-in-Err : goal.returns-in-Err
+returns-in-Err g c = header_at _ _ _ _ _ _ c.in-Ok.ensures c.in-Err.ensures
+
+pub loop-more-init : goal.loop-more-init
+loop-more-init g c = begins_at _ _ _ _ _ _ c.in-Ok.ensures c.in_default-take_header.ensures c.new-runner.ensures
+
+pub loop-more-preserved : goal.loop-more-preserved
+loop-more-preserved g c = turns_at _ _ _ c.loop-more.invariant c.in-Ok-Some.field-0-is c.in-Ok-Some.ensures
+
+pub returns-in-Ok-None : goal.returns-in-Ok-None
+returns-in-Ok-None g c = ends_at_done _ _ c.loop-more.invariant c.in-Ok-None.field-0-is c.in-Ok-None.ensures
+
+pub returns-in-Err-apply_line : goal.returns-in-Err-apply_line
+returns-in-Err-apply_line g c = turn_stops _ _ c.loop-more.invariant c.in-Err-apply_line.ensures

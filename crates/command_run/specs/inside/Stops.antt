@@ -1,0 +1,49 @@
+-- Internal: what a run did before its last line is written, and the writing of that line.
+use Rattle.std.specs.Prelude.{◌≡◌, List, [], ◌∷◌}
+use Rattle.gnb_base.specs.Outside.{SourceAt, SinkAt}
+use Rattle.input_defs.specs.Faults.{NoReadFailed, LastReadFailed}
+use Rattle.input_defs.specs.Split.{InputSplit, rest_of, TakesInput}
+use Rattle.run_model.specs.declared.event.StaticEvent.{StaticEvent}
+use Rattle.scenario_text.specs.declared.line.OutLine.{OutLine}
+use Rattle.scenario_text.specs.Print.{print}
+use Rattle.command_defs.specs.declared.CommonEnd.TheVariants.{ReadFault, WriteFault, Memory}
+use Rattle.command_defs.specs.Outside.{OutsideAt, NoWriteFailed, LastWriteFailed}
+use Rattle.command_defs.specs.Output.{Prints, PrintsFront}
+use Rattle.command_output.specs.Writes.{WritesAll, WritesFront}
+use Rattle.command_run.specs.declared.end.RunEnd.{RunEnd}
+use Rattle.command_run.specs.declared.end.RunEnd.TheVariants.{Common}
+use Rattle.command_run.specs.Ends.{run_last_lines}
+use Rattle.command_run.specs.Run.{AreScript, RunEndMeets, run_text}
+
+-- the run's text was written, or a front of it
+abbrev pub PrintsTo : SinkAt → SinkAt → List StaticEvent → RunEnd → Type 0
+PrintsTo before after events (Common WriteFault) = PrintsFront before after (run_text events)
+PrintsTo before after events (Common Memory) = PrintsFront before after (run_text events)
+PrintsTo before after events end = Prints before after (run_text events)
+
+abbrev pub ReadsUntil : SourceAt → SourceAt → RunEnd → Type 0
+ReadsUntil before after (Common (ReadFault taken)) = LastReadFailed before after
+ReadsUntil before after end = NoReadFailed before after
+
+abbrev pub WritesUntil : SinkAt → SinkAt → RunEnd → Type 0
+WritesUntil before after (Common WriteFault) = LastWriteFailed before after
+WritesUntil before after end = NoWriteFailed before after
+
+pub record RunsTo (before after : OutsideAt) (end : RunEnd) : Type 0 where
+  pub split : InputSplit
+  pub events : List StaticEvent
+  pub input : TakesInput before.source after.source split
+  pub script : AreScript split.lines events
+  pub ends : RunEndMeets (rest_of before.source after.source) split events end
+  pub prints : PrintsTo before.sink after.sink events end
+  pub reads : ReadsUntil before.source after.source end
+  pub writes : WritesUntil before.sink after.sink end
+
+-- There is no last line; or it was written; or a front of it where a write failed; or nothing, out of memory.
+pub data Finishes (before after : SinkAt) (end result : RunEnd) : Type 0 where
+  Silent : run_last_lines end ≡ [] → result ≡ end → after ≡ before → Finishes before after end result
+  Written : (line : OutLine) → run_last_lines end ≡ line ∷ [] → result ≡ end → WritesAll before after (print (line ∷ []))
+      → Finishes before after end result
+  Cut : (line : OutLine) → run_last_lines end ≡ line ∷ [] → result ≡ Common WriteFault → WritesFront before after (print (line ∷ []))
+      → Finishes before after end result
+  Unwritten : (line : OutLine) → run_last_lines end ≡ line ∷ [] → result ≡ Common Memory → after ≡ before → Finishes before after end result

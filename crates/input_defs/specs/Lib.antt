@@ -1,0 +1,5 @@
+pub mod Split
+pub mod Ends
+pub mod Near
+pub mod Faults
+pub mod Standing

@@ -1,6 +1,0 @@
-pub mod Blank
-pub mod Steps
-pub mod Joining
-pub mod Gathering
-pub mod Checked
-pub mod Whole

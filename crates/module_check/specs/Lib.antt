@@ -1,4 +1,0 @@
-pub mod Header
-pub mod Text
-pub mod Check
-pub mod Steps

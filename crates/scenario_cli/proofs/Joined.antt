@@ -1,0 +1,156 @@
+-- What each word promises, joined to what the program does.
+use Rattle.std.proofs.Common.{◌≡◌, ◌⊎◌, ℕ, List, [], ◌∷◌, refl, sym, ap, ◌∙◌, subst, inl, inr, arith, Result, Ok, Err}
+use Rattle.gnb_base.specs.Outside.{SourceAt, SinkAt, Rose}
+use Rattle.input_lines.proofs.Sources.{none_failed as no_read_failed}
+use Rattle.scenario_text.specs.declared.line.OutLine.{OutLine}
+use Rattle.scenario_text.specs.Print.{print}
+use Rattle.command_defs.specs.declared.CommonEnd.{CommonEnd}
+use Rattle.command_defs.specs.declared.CommonEnd.TheVariants.{ReadFault, TooLong, WriteFault, Memory}
+use Rattle.command_defs.specs.declared.Status.{Status}
+use Rattle.command_defs.specs.Ends.{StopsAtLine, UsagePrints, Written, Cut, Unwritten, UsageMeets}
+use Rattle.command_defs.specs.Outside.{OutsideAt, outside, ReadsTo, AllRead, ReadStopped, WritesTo, AllWritten, WriteStopped, CallsTo, NoWriteFailed}
+use Rattle.command_defs.specs.Output.{Prints, PrintsFront}
+use Rattle.command_defs.specs.Statuses.{usage_status, common_status, stop_line}
+use Rattle.command_output.specs.Writes.{WritesAll, WritesFront, WritesLines}
+use Rattle.command_output.proofs.Written.{none_failed}
+use Rattle.command_run.specs.declared.end.RunEnd.{RunEnd}
+use Rattle.command_run.specs.Ends.{run_status}
+use Rattle.command_run.specs.Run.{RunMeets}
+use Rattle.command_run.specs.Whole.{RunsWholly}
+use Rattle.command_check.specs.declared.end.CheckEnd.{CheckEnd}
+use Rattle.command_check.specs.Report.{check_status, CheckMeets}
+use Rattle.command_check.specs.Whole.{ChecksWholly}
+use Rattle.scenario_cli.specs.declared.top.Form.{Form}
+use Rattle.scenario_cli.specs.declared.top.Form.TheVariants.{Run, Check, Other}
+use Rattle.scenario_cli.specs.Gnb.{FormMeets}
+
+-- ---- with words that are no form
+
+pub usage_reported : (source : SourceAt) (a b : SinkAt) (line : OutLine) → line ≡ stop_line usage_status → WritesAll a b (print (line ∷ []))
+    → UsageMeets (outside source a) (outside source b) usage_status
+usage_reported source a b line e w =
+    let all = subst (λ (l : OutLine). WritesAll a b (print (l ∷ []))) e w in
+    record { unread = refl; prints = Written refl all.prints all.none }
+
+by_end : (source : SourceAt) (a b : SinkAt) (end : CommonEnd) → WritesLines a b (stop_line usage_status ∷ []) (Err end)
+    → UsageMeets (outside source a) (outside source b) (common_status end)
+by_end source a b (ReadFault taken) w = absurd w
+by_end source a b TooLong w = absurd w
+by_end source a b WriteFault w = record { unread = refl; prints = Cut refl w.prints w.last }
+by_end source a b Memory w = record { unread = refl; prints = Unwritten refl w }
+
+pub usage_stopped : (source : SourceAt) (a b : SinkAt) (line : OutLine) (end : CommonEnd) (status : Status) → line ≡ stop_line usage_status
+    → WritesLines a b (line ∷ []) (Err end)
+    → status ≡ common_status end → UsageMeets (outside source a) (outside source b) status
+usage_stopped source a b line end status e w same =
+    subst (λ (s : Status). UsageMeets (outside source a) (outside source b) s) (sym same) (by_end source a b end (subst (λ (l : OutLine). WritesLines a b (l ∷ []) (Err end)) e w))
+
+usage_writes : (a b : SinkAt) (status : Status) → UsagePrints a b status → WritesTo a b status.code
+usage_writes a b status (Written same all none) =
+    AllWritten none (λ (e : status.code ≡ 7). (let clash : 2 ≡ 7 = sym (ap (λ (s : Status). s.code) same) ∙ e in omega arith))
+usage_writes a b status (Cut same part last) = WriteStopped last (ap (λ (s : Status). s.code) same)
+usage_writes a b status (Unwritten same kept) =
+    AllWritten (subst (λ (s : SinkAt). NoWriteFailed a s) (sym kept) (none_failed a)) (λ (e : status.code ≡ 7). (let clash : 9 ≡ 7 = sym (ap (λ (s : Status). s.code) same) ∙ e in omega arith))
+
+usage_code : (a b : SinkAt) (status : Status) → UsagePrints a b status → (status.code ≡ 2) ⊎ ((status.code ≡ 7) ⊎ (status.code ≡ 9))
+usage_code a b status (Written same all none) = inl (ap (λ (s : Status). s.code) same)
+usage_code a b status (Cut same part last) = inr (inl (ap (λ (s : Status). s.code) same))
+usage_code a b status (Unwritten same kept) = inr (inr (ap (λ (s : Status). s.code) same))
+
+other_code : (code n : ℕ) → (code ≡ 2) ⊎ ((code ≡ 7) ⊎ (code ≡ 9)) → (n ≡ 4) ⊎ (n ≡ 6) → code ≡ n → ⊥
+other_code code n (inl e) (inl f) g = omega arith
+other_code code n (inl e) (inr f) g = omega arith
+other_code code n (inr (inl e)) (inl f) g = omega arith
+other_code code n (inr (inl e)) (inr f) g = omega arith
+other_code code n (inr (inr e)) (inl f) g = omega arith
+other_code code n (inr (inr e)) (inr f) g = omega arith
+
+usage_calls : (before after : OutsideAt) (status : Status) → UsageMeets before after status → CallsTo before after status.code
+usage_calls before after status u = record {
+  reads = subst (λ (s : SourceAt). ReadsTo before.source s status.code) (sym u.unread)
+      (AllRead (no_read_failed before.source) (other_code status.code 6 (usage_code _ _ status u.prints) (inr refl)));
+  writes = usage_writes _ _ status u.prints;
+}
+
+-- ---- all that is promised
+
+pub record Holds (form : Form) (before after : OutsideAt) (status : Status) : Type 0 where
+  pub headline : FormMeets form before after status
+  pub read : status.code ≡ 6 → Rose before.source.faults after.source.faults
+  pub write : status.code ≡ 7 → Rose before.sink.faults after.sink.faults
+  pub calls : CallsTo before after status.code
+  pub near : StopsAtLine before.source after.source status
+  pub complete : form ≡ Run → RunsWholly before after status
+  pub checks : form ≡ Check → ChecksWholly before after status
+
+read_rose : {before after : SourceAt} {code : ℕ} → ReadsTo before after code → code ≡ 6 → Rose before.faults after.faults
+read_rose (AllRead h other) e = absurd (other e)
+read_rose (ReadStopped h is) e = h.faults
+
+write_rose : {before after : SinkAt} {code : ℕ} → WritesTo before after code → code ≡ 7 → Rose before.faults after.faults
+write_rose (AllWritten h other) e = absurd (other e)
+write_rose (WriteStopped h is) e = h.faults
+
+run_holds : (before after : OutsideAt) (end : RunEnd) → RunMeets before after end → StopsAtLine before.source after.source (run_status end)
+    → RunsWholly before after (run_status end)
+    → Holds Run before after (run_status end)
+run_holds before after end meets near complete = record {
+  headline = record { end = end; status_is = refl; meets = meets };
+  read = read_rose meets.calls.reads;
+  write = write_rose meets.calls.writes;
+  calls = meets.calls;
+  near = near;
+  complete = λ (e : Run ≡ Run). complete;
+  checks = λ (e : Run ≡ Check). absurd (cc);
+}
+
+check_holds : (before after : OutsideAt) (end : CheckEnd) → CheckMeets before after end
+    → StopsAtLine before.source after.source (check_status end) → ChecksWholly before after (check_status end)
+    → Holds Check before after (check_status end)
+check_holds before after end meets near complete = record {
+  headline = record { end = end; status_is = refl; meets = meets };
+  read = read_rose meets.calls.reads;
+  write = write_rose meets.calls.writes;
+  calls = meets.calls;
+  near = near;
+  complete = λ (e : Check ≡ Run). absurd (cc);
+  checks = λ (e : Check ≡ Check). complete;
+}
+
+usage_holds : (before after : OutsideAt) (status : Status) → UsageMeets before after status → Holds Other before after status
+usage_holds before after status u =
+    let calls = usage_calls before after status u in
+    record {
+      headline = u;
+      read = read_rose calls.reads;
+      write = write_rose calls.writes;
+      calls = calls;
+      near = λ bytes known stop. absurd (other_code status.code 4 (usage_code _ _ status u.prints) (inl refl) stop);
+      complete = λ (e : Other ≡ Run). absurd (cc);
+      checks = λ (e : Other ≡ Check). absurd (cc);
+    }
+
+-- ---- by the form of the words
+
+holds_at : {before after : OutsideAt} (form found kind : Form) (status is : Status) → found ≡ form → found ≡ kind → status ≡ is
+    → Holds kind before after is → Holds form before after status
+holds_at {before = before} {after = after} form found kind status is e f same h =
+    subst (λ (s : Status). Holds form before after s) (sym same) (subst (λ (x : Form). Holds x before after is) (sym f ∙ e) h)
+
+pub runs : {before after : OutsideAt} (form found : Form) (end : RunEnd) (status : Status) → found ≡ form → found ≡ Run
+    → status ≡ run_status end → RunMeets before after end
+    → StopsAtLine before.source after.source (run_status end) → RunsWholly before after (run_status end) → Holds form before after status
+runs {before = before} {after = after} form found end status e f same meets near complete =
+    holds_at form found Run status (run_status end) e f same (run_holds before after end meets near complete)
+
+pub checks_at : {before after : OutsideAt} (form found : Form) (end : CheckEnd) (status : Status) → found ≡ form → found ≡ Check
+    → status ≡ check_status end → CheckMeets before after end
+    → StopsAtLine before.source after.source (check_status end) → ChecksWholly before after (check_status end)
+    → Holds form before after status
+checks_at {before = before} {after = after} form found end status e f same meets near complete =
+    holds_at form found Check status (check_status end) e f same (check_holds before after end meets near complete)
+
+pub reports : {before after : OutsideAt} (form found : Form) (status : Status) → found ≡ form → found ≡ Other
+    → UsageMeets before after status → Holds form before after status
+reports {before = before} {after = after} form found status e f u =
+    holds_at form found Other status status e f refl (usage_holds before after status u)
