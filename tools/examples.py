@@ -1,0 +1,35 @@
+#!/usr/bin/env python3
+"""Runs each example, and compares what the program prints with the transcript beside it (`NAME.script` or `NAME.check`, and `NAME.out`).
+
+The last line of a transcript tells the status: it is `stop STATUS ..`, or the status is 0.
+
+Usage: tools/examples.py
+"""
+
+import pathlib
+import subprocess
+import sys
+
+TOP = pathlib.Path(__file__).resolve().parents[1]
+WORDS = {".script": "run", ".check": "check"}
+
+
+def status_of(transcript):
+    last = transcript.decode().splitlines()[-1].split()
+    return int(last[1]) if last[0] == "stop" else 0
+
+
+def main():
+    paths = sorted(path for path in (TOP / "examples").iterdir() if path.suffix in WORDS)
+    for path in paths:
+        expected = path.with_suffix(".out").read_bytes()
+        ran = subprocess.run([TOP / "gnb", WORDS[path.suffix]], input=path.read_bytes(), stdout=subprocess.PIPE, check=False)
+        if ran.stdout != expected or ran.returncode != status_of(expected):
+            print(f"{path.name}: status {ran.returncode}, and this in place of {path.stem}.out:\n{ran.stdout.decode()}")
+            return 1
+    print(f"{len(paths)} examples print their transcripts")
+    return 0
+
+
+if __name__ == "__main__":
+    sys.exit(main())

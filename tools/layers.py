@@ -1,0 +1,97 @@
+#!/usr/bin/env python3
+"""Checks that the crates keep to their layers, by crates.txt and the imports of their definitions.
+
+- A crate stands after the crates that it lists, so crates.txt is in layer order.
+- No crate of code lists a crate of laws (`law_..`), and no crate of definitions does.
+- A crate of definitions (`.._defs`) lists definitions, and crates of which its definitions cite a type.
+- docs/architecture.md has the same headings, with the same crates in the same order.
+
+The family `asn1_` keeps its old names, and so do `run_model`, `run_laws` and `static_runner`: of them the order alone is checked.
+
+Usage: tools/layers.py
+"""
+
+import pathlib
+import re
+import sys
+
+TOP = pathlib.Path(__file__).resolve().parents[1]
+OLD_NAMES = re.compile(r"asn1_|run_model$|run_laws$|static_runner$")
+
+
+def layers():
+    """The headings of crates.txt, each with its crates and what they list; a heading is a comment line after a blank one."""
+    found = []
+    for line in (TOP / "crates.txt").read_text().splitlines():
+        if line.startswith("# == "):
+            found.append((line[len("# == "):].strip(), {}))
+        elif line and not line.startswith("#"):
+            name, listed = line.split(":", 1)
+            if not found:
+                found.append(("", {}))
+            found[-1][1][name.split()[0]] = listed.split()
+    return found
+
+
+def documented():
+    """The headings of the map of crates, each with the crates of its table."""
+    found = []
+    for line in (TOP / "docs/architecture.md").read_text().splitlines():
+        if line.startswith("### "):
+            found.append((line[len("### "):].strip(), []))
+        elif found and (row := re.match(r"\| `([a-z0-9_]+)` \|", line)):
+            found[-1][1].append(row[1])
+        elif line.startswith("## "):
+            if found:
+                break
+    return found
+
+
+def is_law(name):
+    return name.startswith("law_")
+
+
+def is_definitions(name):
+    return name.endswith("_defs")
+
+
+def cites_a_type(name, of):
+    files = (TOP / "crates" / name / "specs").rglob("*.antt")
+    return any(f"Rattle.{of}.specs.declared." in path.read_text() for path in files)
+
+
+def faults():
+    listed = layers()
+    crates = [(name, uses) for _, members in listed for name, uses in members.items()]
+    known = {name for name, _ in crates}
+    on_disk = {path.name for path in (TOP / "crates").iterdir() if (path / "src").is_dir()}
+    for name in sorted(known ^ on_disk):
+        yield f"{name}: stands in one of crates.txt and crates/ alone"
+    before = set()
+    for name, uses in crates:
+        for use in uses:
+            if use in known and use not in before:
+                yield f"{name}: lists {use}, which stands after it"
+            if OLD_NAMES.match(name):
+                continue
+            if is_law(use) and not is_law(name):
+                yield f"{name}: lists {use}, a crate of laws"
+            if is_definitions(name) and use in known and not is_definitions(use) and not cites_a_type(name, use):
+                yield f"{name}: lists {use}, of which it cites no type"
+        before.add(name)
+    ours = [(heading, list(members)) for heading, members in listed]
+    if ours != documented():
+        yield "docs/architecture.md: other headings or crates than crates.txt, or in another order"
+
+
+def main():
+    found = list(faults())
+    for fault in found:
+        print(fault)
+    if not found:
+        print(f"{sum(len(members) for _, members in layers())} crates keep to their layers")
+    return 1 if found else 0
+
+
+if __name__ == "__main__":
+    sys.exit(main())
