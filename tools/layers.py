@@ -3,7 +3,7 @@
 
 - A crate stands after the crates that it lists, so crates.txt is in layer order.
 - No crate of code lists a crate of laws (`law_..`), and no crate of definitions does.
-- A crate of definitions (`.._defs`) lists definitions, and crates of which its definitions cite a type.
+- A crate of definitions (`.._defs`) lists only crates of which its definitions cite something, and has no code: its `src/` has types alone.
 - docs/architecture.md has the same headings, with the same crates in the same order.
 
 The family `asn1_` keeps its old names, and so do `run_model`, `run_laws` and `static_runner`: of them the order alone is checked.
@@ -55,9 +55,14 @@ def is_definitions(name):
     return name.endswith("_defs")
 
 
-def cites_a_type(name, of):
+def cites(name, of):
     files = (TOP / "crates" / name / "specs").rglob("*.antt")
-    return any(f"Rattle.{of}.specs.declared." in path.read_text() for path in files)
+    return any(f"Rattle.{of}.specs." in path.read_text() for path in files)
+
+
+def has_code(name):
+    files = (TOP / "crates" / name / "src").rglob("*.rt")
+    return any(re.search(r"^\s*(pub )?fn ", path.read_text(), re.MULTILINE) for path in files)
 
 
 def faults():
@@ -76,8 +81,10 @@ def faults():
                 continue
             if is_law(use) and not is_law(name):
                 yield f"{name}: lists {use}, a crate of laws"
-            if is_definitions(name) and use in known and not is_definitions(use) and not cites_a_type(name, use):
-                yield f"{name}: lists {use}, of which it cites no type"
+            if is_definitions(name) and use in known and not cites(name, use):
+                yield f"{name}: lists {use}, of which it cites nothing"
+        if is_definitions(name) and has_code(name):
+            yield f"{name}: has code beside its definitions"
         before.add(name)
     ours = [(heading, list(members)) for heading, members in listed]
     if ours != documented():
