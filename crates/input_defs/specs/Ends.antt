@@ -1,5 +1,5 @@
 -- How reading an input ends, after the lines that were handed out.
-use Rattle.std.specs.Prelude.{◌≡◌, ◌≢◌, ◌+◌, ◌<◌, ◌⊎◌, ℕ, List, [], ◌∷◌, ◌++◌, length, Option}
+use Rattle.std.specs.Prelude.{◌≡◌, ◌≢◌, ◌+◌, ◌<◌, ℕ, List, [], ◌∷◌, ◌++◌, length, Option}
 use Rattle.std.specs.Io.KnownBytes.{IsAtEnd}
 use Rattle.gnb_base.specs.Lines.{line_feed, HasNoLf}
 use Rattle.gnb_base.specs.Reading.{input_limit, piece_size}

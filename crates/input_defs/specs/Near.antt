@@ -1,5 +1,5 @@
 -- A stop at a line: how far past it the source was read.
-use Rattle.std.specs.Prelude.{◌≡◌, ◌+◌, ◌<◌, min, ℕ, List, length, take, Option, Some}
+use Rattle.std.specs.Prelude.{◌+◌, ◌<◌, min, ℕ, List, length, take, Option, Some}
 use Rattle.std.specs.Io.KnownBytes.{Consumes}
 use Rattle.gnb_base.specs.Lines.{lines_of}
 use Rattle.gnb_base.specs.Reading.{piece_size}

@@ -1,5 +1,5 @@
 -- How far past a line the source was read where a word stops at it.
-use Rattle.std.proofs.Common.{◌≡◌, ◌<◌, ◌≤◌, ◌+◌, min, ℕ, List, [], ◌∷◌, ◌++◌, length, take, Option, Some, None, refl, sym, ap, ◌∙◌, subst, append_assoc, length-append, arith}
+use Rattle.std.proofs.Common.{◌≡◌, ◌<◌, ◌≤◌, ◌+◌, ℕ, List, [], ◌∷◌, ◌++◌, length, take, Option, Some, None, sym, ap, ◌∙◌, subst, append_assoc, length-append, arith}
 use Rattle.std.proofs.lemmas.List.{take_all, take_at}
 use Rattle.std.specs.Io.KnownBytes.{Consumes, IsAtEnd}
 use Rattle.gnb_base.specs.Lines.{line_feed, lines_of}
@@ -7,7 +7,7 @@ use Rattle.gnb_base.specs.Outside.{SourceAt}
 use Rattle.gnb_base.specs.Reading.{piece_size}
 use Rattle.input_defs.specs.Split.{InputSplit, rest_of, joined, Divides, Whole, Bare, TakesInput}
 use Rattle.input_defs.specs.Ends.{IsNext, WithLf, AsLast, ComesNext, IsEmptyInput}
-use Rattle.input_defs.specs.Near.{end_of_line, StopsNear}
+use Rattle.input_defs.specs.Near.{StopsNear}
 use Rattle.input_lines.proofs.Sources.{rest_known}
 use Rattle.input_lines.proofs.Standing.{joined-more, line_more}
 use Rattle.input_lines.proofs.Wholes.{TakesOf, takes_known, taken_is, all_lines, lines_of-joined, next_of, some_next}

@@ -1,5 +1,5 @@
 -- What is left of a source, and its count of faults, over calls one after another.
-use Rattle.std.proofs.Common.{◌≡◌, ℕ, List, [], ◌++◌, Option, Some, None, refl, sym, ap, ◌∙◌, true}
+use Rattle.std.proofs.Common.{◌≡◌, ℕ, List, [], Option, Some, None, refl, sym, ap, ◌∙◌}
 use Rattle.std.specs.Io.KnownBytes.{Consumes, IsAtEnd}
 use Rattle.gnb_base.specs.Outside.{SourceAt, one_more}
 use Rattle.input_defs.specs.Split.{left_of, rest_of}

@@ -1,18 +1,16 @@
 -- The lines that a reader hands out of the bytes that it takes.
-use Rattle.std.proofs.Common.{◌≡◌, ◌≤◌, ◌<◌, ◌⊎◌, ℕ, ◌+◌, List, [], ◌∷◌, ◌++◌, length, Option, Some, None, Result, Ok, Err, refl, sym, ap, ◌∙◌, subst, inl, inr, append_assoc, append-nil, length-append, arith}
+use Rattle.std.proofs.Common.{◌≡◌, ◌≤◌, ◌<◌, ◌⊎◌, ℕ, ◌+◌, List, [], ◌∷◌, ◌++◌, length, Option, Some, None, Ok, refl, sym, ap, ◌∙◌, subst, inl, inr, append_assoc, append-nil, length-append, arith}
 use Rattle.std.proofs.lemmas.Grind.{flat_map-append}
 use Rattle.std.proofs.KnownBytes.{Consumes-nil, Consumes-trans}
 use Rattle.std.specs.List.{AllByRecursion}
 use Rattle.std.specs.Io.KnownBytes.{Consumes, IsAtEnd}
 use Rattle.gnb_base.specs.declared.lines.Line.{Line}
-use Rattle.gnb_base.specs.declared.lines.ReadError.{ReadError}
 use Rattle.gnb_base.specs.declared.lines.ReadPhase.TheVariants.{Going, Ended}
 use Rattle.gnb_base.specs.Lines.{line_feed, HasNoLf, past_line}
 use Rattle.gnb_base.specs.Outside.{SourceAt}
 use Rattle.gnb_base.specs.Reading.{Reading, fresh, piece_size, NextMeets, EndsInLf, EndsInput}
 use Rattle.input_defs.specs.Split.{InputSplit, input_split, left_of, rest_of, joined, Divides, Whole, Bare, TakesInput}
 use Rattle.input_defs.specs.Ends.{ComesNext, WithLf, AsLast}
-use Rattle.input_defs.specs.Faults.{NoReadFailed}
 use Rattle.input_defs.specs.Standing.{split_of, Stands, Within, AtEnd, StandsAfter}
 use Rattle.input_lines.proofs.Sources.{at_end_of, end_stays, none_failed, none_then_none}
 

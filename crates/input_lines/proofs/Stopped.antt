@@ -1,5 +1,5 @@
 -- A reader that can't hand out a line.
-use Rattle.std.proofs.Common.{◌≡◌, ◌⊎◌, ℕ, ◌+◌, List, ◌++◌, length, Option, Some, Result, Ok, Err, refl, sym, ap, ◌∙◌, subst, inl, inr, length-append}
+use Rattle.std.proofs.Common.{◌≡◌, ◌⊎◌, ℕ, ◌+◌, List, ◌++◌, length, Option, Result, Err, refl, sym, ap, ◌∙◌, subst, inl, inr, length-append}
 use Rattle.std.proofs.KnownBytes.{Consumes-trans}
 use Rattle.gnb_base.specs.declared.lines.Line.{Line}
 use Rattle.gnb_base.specs.declared.lines.ReadError.{ReadError}
@@ -9,10 +9,9 @@ use Rattle.gnb_base.specs.Lines.{HasNoLf}
 use Rattle.gnb_base.specs.Outside.{SourceAt}
 use Rattle.gnb_base.specs.Reading.{Reading, IsUntouched, NextMeets}
 use Rattle.input_defs.specs.declared.InputEnd.{InputEnd}
-use Rattle.input_defs.specs.declared.InputEnd.TheVariants.{ReadFault, TooLong, Memory}
-use Rattle.input_defs.specs.Split.{InputSplit, input_split, rest_of, joined, Divides, Whole, TakesInput}
+use Rattle.input_defs.specs.Split.{InputSplit, input_split, Whole, TakesInput}
 use Rattle.input_defs.specs.Ends.{IsReadFault, IsTooLong, EndsReading}
-use Rattle.input_defs.specs.Faults.{NoReadFailed, FaultsOfEnd}
+use Rattle.input_defs.specs.Faults.{FaultsOfEnd}
 use Rattle.input_defs.specs.Standing.{Stands, Within, AtEnd, StandsAfter}
 use Rattle.input_lines.specs.ReadsLine.{StopsReading, end_of_read}
 use Rattle.input_lines.proofs.Sources.{none_then_none, none_then_last}
