@@ -1,0 +1,2 @@
+//! Definitions alone: the sending and the receiving entity of PDCP, with their COUNTs in full.
+#![tactic(auto)]

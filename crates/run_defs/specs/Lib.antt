@@ -1,0 +1,10 @@
+pub mod Lines
+pub mod Printing
+pub mod Units
+pub mod Links
+pub mod States
+pub mod Steps
+pub mod Events
+pub mod Settling
+pub mod Runs
+pub mod Said

@@ -1,0 +1,85 @@
+-- The links (TS 38.401, 6.1.2): every control message ever put, with those in flight; the open tunnels; the radios with what was
+-- carried. Beside each item stands its COUNT, if it shows one. What stands on a link is a parameter.
+use Rattle.std.specs.Prelude.{◌==◌, ℕ, ◌+◌, ◌-◌, Bool, false, not, ◌&&◌, if◌then◌else◌, List, [], ◌∷◌, ◌++◌, length, filter, count_by, min, Option, Some, None}
+use Rattle.std.specs.List.{flat_map}
+use Rattle.std.specs.Ordering.{nat_cmp, eq_by_cmp}
+use Rattle.gnb_types.specs.declared.names.UeId.{UeId}
+use Rattle.gnb_types.specs.declared.names.BearerId.{BearerId}
+use Rattle.gnb_types.specs.declared.keys.TunnelEnd.{TunnelEnd}
+use Rattle.gnb_types.specs.declared.keys.EntityKey.{EntityKey}
+use Rattle.gnb_types.specs.Orders.{entity_cmp}
+use Rattle.tables.specs.Tables.{find}
+use Rattle.run_defs.specs.Lines.{Letter}
+
+pub record Item (X : Type 0) : Type 0 where
+  pub key : EntityKey
+  pub count : Option ℕ
+  pub content : X
+
+-- ---- control messages: message n is the n-th put
+
+pub record Bag (M : Type 0) : Type 0 where
+  pub letters : List (ℕ × Letter M)
+  pub flight : List ℕ
+
+abbrev pub no_letters : {M : Type 0} → Bag M
+no_letters = record { letters = []; flight = [] }
+
+-- how many may be put
+abbrev pub most_letters : ℕ
+most_letters = 1000000
+
+unfoldable pub put_letter : {M : Type 0} → Bag M → Letter M → Bag M
+put_letter bag l =
+    let number = length bag.letters + 1 in record { letters = bag.letters ++ (number, l) ∷ []; flight = bag.flight ++ number ∷ [] }
+
+unfoldable pub letter : {M : Type 0} → Bag M → ℕ → Option (Letter M)
+letter bag number = find nat_cmp bag.letters number
+
+-- it is no longer in flight
+unfoldable pub landed : {M : Type 0} → Bag M → ℕ → Bag M
+landed bag number = record bag { flight = filter (λ n. not (n == number)) bag.flight }
+
+abbrev pub is_of : {M : Type 0} → ℕ → Option (Letter M) → Bool
+is_of ue None = false
+is_of ue (Some l) = l.ue == ue
+
+unfoldable pub in_flight_of : {M : Type 0} → Bag M → ℕ → ℕ
+in_flight_of bag ue = count_by (λ n. is_of ue (letter bag n)) bag.flight
+
+-- ---- radios: those of a bearer and direction, with how many of its items were carried and aren't confirmed
+
+pub record Radio (P : Type 0) : Type 0 where
+  pub items : List (Item P)
+  pub carried : ℕ
+
+abbrev pub silent : {P : Type 0} → Radio P
+silent = record { items = []; carried = 0 }
+
+abbrev pub nth : {X : Type 0} → List X → ℕ → Option X
+nth [] n = None
+nth (x ∷ xs) n = if n == 0 then Some x else nth xs (n - 1)
+
+-- ---- COUNTs that items of a bearer and direction show, on all links
+
+abbrev pub count_in : Option ℕ → List ℕ
+count_in None = []
+count_in (Some count) = count ∷ []
+
+abbrev pub counts_of : {X : Type 0} → EntityKey → Item X → List ℕ
+counts_of key item = if eq_by_cmp entity_cmp item.key key then count_in item.count else []
+
+abbrev pub tunnel_counts : {L : Type 0} → EntityKey → List (TunnelEnd × List (Item L)) → List ℕ
+tunnel_counts key tunnels = flat_map (λ e. flat_map (counts_of key) e.1) tunnels
+
+abbrev pub radio_counts : {P : Type 0} → EntityKey → List (EntityKey × Radio P) → List ℕ
+radio_counts key radios = flat_map (λ e. flat_map (counts_of key) e.1.items) radios
+
+-- the least of numbers, and this one
+abbrev pub least : ℕ → List ℕ → ℕ
+least n [] = n
+least n (m ∷ ms) = least (min n m) ms
+
+-- an item of a bearer stands there
+abbrev pub is_of_bearer : {X : Type 0} → UeId → BearerId → Item X → Bool
+is_of_bearer ue bearer item = item.key.ue.0 == ue.0 && item.key.bearer.0 == bearer.0

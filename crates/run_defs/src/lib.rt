@@ -1,0 +1,2 @@
+//! Definitions alone: the links, the events and the run of the whole base station.
+#![tactic(auto)]

@@ -1,0 +1,15 @@
+pub mod Ways
+pub mod Transactions
+pub mod Messages
+pub mod Teids
+pub mod UpRecords
+pub mod UpBearers
+pub mod UpItems
+pub mod CuUp
+pub mod Du
+pub mod Ue
+pub mod CpRecords
+pub mod CpRows
+pub mod CuCp
+pub mod Core
+pub mod Static
