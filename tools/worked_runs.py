@@ -1,9 +1,10 @@
 #!/usr/bin/env python3
-"""Writes the theorems of crates/law_worked_runs: for each script of its folder scripts/, that the run which the definitions give has
-the lines of another reading of the same specification.
+"""Writes the data of crates/law_worked_runs: for each script of its folder scripts/, its events with the lines that another reading of
+the same specification gives. The crate's law is that the run of the definitions has these lines.
 
 The other reading is a Python program beside this repository. Without one this is said, and nothing is written. With --random COUNT the
-scripts are random ones of the whole language, and the crate is written to --into FOLDER, for a check outside the gate.
+scripts are random ones of the whole language, and the data is written to --into FOLDER, a copy of this repository, for a check outside
+the gate.
 
 Usage: tools/worked_runs.py [--random COUNT --length L --seed S --into FOLDER]
 """
@@ -265,18 +266,17 @@ def line(world, kind, *values):
 
 
 class Worked:
-    """The events of a script, the lines of each by the other reading, how the run stops, and what octets from outside are."""
+    """The events of a script with their lines by the other reading, how the run stops, and what octets from outside are."""
 
     def __init__(self, texts):
-        self.events, self.shows, self.stop, self.faults, self.items = [], [], "None", [], []
+        self.steps, self.stop, self.faults, self.items = [], "None", [], []
         world = W.World(text=False)
         for text in texts:
             made = S.read_event(text.encode())
             term = event(*made)
             lines = self.apply(world, made)
             self.outside(made, lines)
-            self.events.append(f"({term})")
-            self.shows.append(f"(step ({term}) {listed(line(world, *one) for one in lines)})")
+            self.steps.append(f"(step ({term}) {listed(line(world, *one) for one in lines)})")
             if self.stop != "None":
                 break
 
@@ -330,81 +330,7 @@ use Rattle.scenario_text.specs.declared.event.Event.{Event}
 use Rattle.scenario_text.specs.declared.event.Event.TheVariants as events
 use Rattle.run_defs.specs.Lines.{RunLine, put_item, got_item, put_message, got_message, delivers, lost_items, lost_message, drops_input, held_at, procedure_failed, is_quiet, is_busy, has_settled, has_not_settled, was_refused, tunnel_link, radio_link, shown}
 use Rattle.run_defs.specs.States.{Stop, outstanding, spent_counter}
-use Rattle.law_worked_runs.specs.Short.{ue, be, te, en, tn, ss, pe, plan, le, Shown, step}
-'''
-
-SHORT = '''-- Short words for the values of the worked scripts.
-use Rattle.std.specs.Prelude.{ℕ, List, [], ◌∷◌, Option, Some, None, Bool, true, false, map, if◌then◌else◌}
-use Rattle.std.specs.Str.{bytes_eq}
-use Rattle.gnb_types.specs.declared.names.Gnb.{Gnb}
-use Rattle.gnb_types.specs.declared.names.NodeId.{NodeId}
-use Rattle.gnb_types.specs.declared.names.UeId.{UeId}
-use Rattle.gnb_types.specs.declared.names.BearerId.{BearerId}
-use Rattle.gnb_types.specs.declared.names.Dir.{Dir}
-use Rattle.gnb_types.specs.declared.names.SnBits.{SnBits}
-use Rattle.gnb_types.specs.declared.keys.TunnelEnd.{TunnelEnd}
-use Rattle.gnb_types.specs.declared.keys.EntityKey.{EntityKey}
-use Rattle.gnb_types.specs.declared.plans.Plan.{Plan}
-use Rattle.gnb_types.specs.declared.plans.Peer.{Peer}
-use Rattle.gnb_types.specs.declared.plans.Tunnel.{Tunnel}
-use Rattle.gnb_types.specs.declared.plans.SnStatus.{SnStatus}
-use Rattle.gnb_types.specs.declared.reasons.DropReason.{DropReason}
-use Rattle.message_types.specs.declared.rrc.Token.{Token}
-use Rattle.unit_defs.specs.Ways.{Message}
-use Rattle.scenario_text.specs.declared.event.Event.{Event}
-use Rattle.run_defs.specs.Lines.{RunLine, Letter}
-use Rattle.run_defs.specs.States.{Stop}
-use Rattle.run_defs.specs.Runs.{Reading, Run, Happened, Transcript, lines_of, plain_world}
-
-abbrev pub ue : ℕ → UeId
-ue n = record { 0 = n }
-abbrev pub be : ℕ → BearerId
-be n = record { 0 = n }
-abbrev pub te : NodeId → ℕ → TunnelEnd
-te node teid = record { node = node; teid = teid }
-abbrev pub en : ℕ → ℕ → Dir → EntityKey
-en u b d = record { ue = ue u; bearer = be b; dir = d }
-abbrev pub tn : ℕ → ℕ → Tunnel
-tn b teid = record { bearer = be b; teid = teid }
-abbrev pub ss : ℕ → ℕ → ℕ → Option (List Bool) → SnStatus
-ss b down up bits = record { bearer = be b; dl_next = down; ul_first = up; ul_received = bits }
-abbrev pub pe : Gnb → ℕ → Peer
-pe gnb up = record { gnb = gnb; up = up }
-abbrev pub plan : ℕ → Gnb → ℕ → ℕ → SnBits → ℕ → ℕ → Plan
-plan u gnb up du sn bearers quota = record { ue = ue u; gnb = gnb; up = up; du = du; sn = sn; bearers = bearers; quota = quota }
-abbrev pub le : NodeId → NodeId → ℕ → Message Token → Letter (Message Token)
-le from to u message = record { from = from; to = to; ue = u; message = message }
-
--- a step as it is shown
-pub record Shown : Type 0 where
-  pub event : Event
-  pub lines : List (RunLine (Message Token))
-abbrev pub step : Event → List (RunLine (Message Token)) → Shown
-step event lines = record { event = event; lines = lines }
-
-pub record Told : Type 0 where
-  pub steps : List Shown
-  pub stop : Option Stop
-
--- octets from outside: why they are no message, or that they are one
-abbrev pub fault_of : List (List ℕ × Option DropReason) → List ℕ → Option DropReason
-fault_of [] octets = None
-fault_of (e ∷ es) octets = if bytes_eq e.0 octets then e.1 else fault_of es octets
-
-abbrev pub is_item_of : List (List ℕ × Bool) → List ℕ → Bool
-is_item_of [] octets = false
-is_item_of (e ∷ es) octets = if bytes_eq e.0 octets then e.1 else is_item_of es octets
-
-abbrev pub reading : List (List ℕ × Option DropReason) → List (List ℕ × Bool) → Reading
-reading faults items = record {
-    message_fault = λ from to octets. fault_of faults octets;
-    is_item = λ units end octets. is_item_of items octets;
-  }
-
-abbrev pub told : List (List ℕ × Option DropReason) → List (List ℕ × Bool) → List Event → Told
-told faults items events =
-    let t = Run (reading faults items) events in
-    record { steps = map (λ h. step h.event (lines_of (plain_world (reading faults items)) h)) t.events; stop = t.stop }
+use Rattle.law_worked_runs.specs.Short.{ue, be, te, en, tn, ss, pe, plan, le, step, Worked}
 '''
 
 # ---- the crate's files
@@ -431,43 +357,36 @@ def opened_words(top):
 
 
 def specs_of(worked):
-    def defined(name, kind, terms):
-        return f"\nabbrev pub {name} : {kind}\n{name} = " + "\n  ∷ ".join([*terms, "[]"]) + "\n"
+    def listed_below(terms):
+        return "\n    ∷ ".join([*terms, "[]"])
 
     return (
         HEAD
-        + defined("script", "List Event", worked.events)
-        + defined("shows", "List Shown", worked.shows)
-        + f"\nabbrev pub stop : Option Stop\nstop = {worked.stop}\n"
-        + defined("faults", "List (List ℕ × Option DropReason)", worked.faults)
-        + defined("items", "List (List ℕ × Bool)", worked.items)
+        + "\nabbrev pub worked : Worked\nworked = record {\n"
+        + f"  steps = {listed_below(worked.steps)};\n"
+        + f"  stop = {worked.stop};\n"
+        + f"  faults = {listed_below(worked.faults)};\n"
+        + f"  items = {listed_below(worked.items)};\n"
+        + "}\n"
     )
 
 
 def write_crate(top, scripts):
+    """Writes what depends on the scripts: a module of each, the list of all, and the answer of the one law on them."""
     crate = top / "crates" / CRATE
-    for folder in ("src", "specs", "proofs"):
-        (crate / folder).mkdir(parents=True, exist_ok=True)
-    imports, opened = opened_words(TOP)
-    (crate / "specs/Short.antt").write_text(SHORT)
-    modules, uses, functions = ["pub mod Short"], [], []
+    modules = {name: "".join(word.capitalize() for word in name.split("_")) for name, _ in scripts}
     for name, texts in scripts:
-        module = "".join(word.capitalize() for word in name.split("_"))
-        modules.append(f"pub mod {module}")
-        (crate / f"specs/{module}.antt").write_text(specs_of(Worked(texts)))
-        answers = crate / "proofs" / name
-        answers.mkdir(exist_ok=True)
-        (answers / "Answers.antt").write_text(
-            f"use Rattle.std.proofs.Common.{{refl}}\n{imports}\nuse Rattle.{CRATE}.proofs.{name}.Goals as goal\n\n"
-            f"pub returns : goal.returns\nunfolding {opened}\nreturns c = refl\n")
-        words = ", ".join(f"{word} as {name}_{word}" for word in ("script", "shows", "stop", "faults", "items"))
-        uses.append(f"ghost use Rattle.{CRATE}.specs.{module}.{{{words}}};")
-        functions.append(
-            f"pub fn {name}()\n    ensures {{ told {name}_faults {name}_items {name}_script ≡ record {{ steps = {name}_shows; stop = {name}_stop }} }}\n{{}}\n")
-    (crate / "specs/Lib.antt").write_text("\n".join(modules) + "\n")
-    (crate / "src/lib.rt").write_text("\n".join([
-        "//! Worked scripts as theorems: the run that the definitions give has the lines that were worked out. Written by tools/worked_runs.py.",
-        "#![tactic(auto)]", "", "ghost use Rattle.std.specs.Prelude.{◌≡◌};", f"ghost use Rattle.{CRATE}.specs.Short.{{told}};", *uses, "", *functions]))
+        (crate / f"specs/{modules[name]}.antt").write_text(specs_of(Worked(texts)))
+    uses = "".join(f"use Rattle.{CRATE}.specs.{module}.{{worked as {name}}}\n" for name, module in modules.items())
+    (crate / "specs/All.antt").write_text(
+        "-- Written by tools/worked_runs.py: the worked scripts.\nuse Rattle.std.specs.Prelude.{List, [], ◌∷◌}\n"
+        f"use Rattle.{CRATE}.specs.Short.{{Worked}}\n{uses}\n"
+        "abbrev pub all : List Worked\nall = " + "\n  ∷ ".join([*modules, "[]"]) + "\n")
+    (crate / "specs/Lib.antt").write_text("".join(f"pub mod {module}\n" for module in ["Short", "All", *modules.values()]))
+    imports, opened = opened_words(TOP)
+    (crate / "proofs/worked_runs/Answers.antt").write_text(
+        f"use Rattle.std.proofs.Common.{{refl}}\n{imports}\nuse Rattle.{CRATE}.proofs.worked_runs.Goals as goal\n\n"
+        f"pub returns : goal.returns\nunfolding {opened}\nreturns c = refl\n")
 
 
 def random_scripts(count, length, seed):

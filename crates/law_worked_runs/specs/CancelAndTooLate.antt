@@ -22,26 +22,11 @@ use Rattle.scenario_text.specs.declared.event.Event.{Event}
 use Rattle.scenario_text.specs.declared.event.Event.TheVariants as events
 use Rattle.run_defs.specs.Lines.{RunLine, put_item, got_item, put_message, got_message, delivers, lost_items, lost_message, drops_input, held_at, procedure_failed, is_quiet, is_busy, has_settled, has_not_settled, was_refused, tunnel_link, radio_link, shown}
 use Rattle.run_defs.specs.States.{Stop, outstanding, spent_counter}
-use Rattle.law_worked_runs.specs.Short.{ue, be, te, en, tn, ss, pe, plan, le, Shown, step}
+use Rattle.law_worked_runs.specs.Short.{ue, be, te, en, tn, ss, pe, plan, le, step, Worked}
 
-abbrev pub script : List Event
-script = (events.Static (plan 1 A 1 1 Len12 1 64))
-    ∷ (events.Offer (ue 1) (be 1) Dl (1 ∷ []))
-    ∷ (events.Get (CuUp A 1) 1)
-    ∷ (events.Handover (ue 1) B 1 1)
-    ∷ (events.Pump)
-    ∷ (events.Cancel (ue 1))
-    ∷ (events.Pump)
-    ∷ (events.Get (Du A 1) 1)
-    ∷ (events.Air (ue 1) (be 1) Dl)
-    ∷ (events.Handover (ue 1) B 1 1)
-    ∷ (events.Pump)
-    ∷ (events.Tick)
-    ∷ (events.Cancel (ue 1))
-    ∷ []
-
-abbrev pub shows : List Shown
-shows = (step (events.Static (plan 1 A 1 1 Len12 1 64)) ([]))
+abbrev pub worked : Worked
+worked = record {
+  steps = (step (events.Static (plan 1 A 1 1 Len12 1 64)) ([]))
     ∷ (step (events.Offer (ue 1) (be 1) Dl (1 ∷ [])) (put_item (tunnel_link (te (CuUp A 1) 1)) (shown (en 1 1 Dl) None (48 ∷ 255 ∷ 0 ∷ 1 ∷ 0 ∷ 0 ∷ 0 ∷ 1 ∷ 1 ∷ [])) ∷ []))
     ∷ (step (events.Get (CuUp A 1) 1) (got_item (tunnel_link (te (CuUp A 1) 1)) (shown (en 1 1 Dl) None (48 ∷ 255 ∷ 0 ∷ 1 ∷ 0 ∷ 0 ∷ 0 ∷ 1 ∷ 1 ∷ [])) ∷ put_item (tunnel_link (te (Du A 1) 1)) (shown (en 1 1 Dl) (Some 0) (52 ∷ 255 ∷ 0 ∷ 15 ∷ 0 ∷ 0 ∷ 0 ∷ 1 ∷ 0 ∷ 0 ∷ 0 ∷ 132 ∷ 2 ∷ 0 ∷ 0 ∷ 0 ∷ 0 ∷ 0 ∷ 0 ∷ 0 ∷ 128 ∷ 0 ∷ 1 ∷ [])) ∷ []))
     ∷ (step (events.Handover (ue 1) B 1 1) (put_message 1 (le (CuCp A) (CuCp B) 1 (xn (xns.HandoverRequest (ue 1) 1 2 1 Len12 64 (pe B 1) 1 None))) ∷ []))
@@ -54,13 +39,8 @@ shows = (step (events.Static (plan 1 A 1 1 Len12 1 64)) ([]))
     ∷ (step (events.Pump) (got_message 21 (le (CuCp A) (CuCp B) 1 (xn (xns.HandoverRequest (ue 1) 4 2 1 Len12 64 (pe B 1) 1 None))) ∷ put_message 22 (le (CuCp B) (CuUp B 1) 1 (e1 (e1s.BearerContextSetupRequest (ue 1) 4 1 Len12 64 true))) ∷ got_message 22 (le (CuCp B) (CuUp B 1) 1 (e1 (e1s.BearerContextSetupRequest (ue 1) 4 1 Len12 64 true))) ∷ put_message 23 (le (CuUp B 1) (CuCp B) 1 (e1 (e1s.BearerContextSetupResponse (ue 1) 4 ((tn 1 6) ∷ []) ((tn 1 5) ∷ []) (Some ((tn 1 7) ∷ [])) (Some ((tn 1 8) ∷ []))))) ∷ got_message 23 (le (CuUp B 1) (CuCp B) 1 (e1 (e1s.BearerContextSetupResponse (ue 1) 4 ((tn 1 6) ∷ []) ((tn 1 5) ∷ []) (Some ((tn 1 7) ∷ [])) (Some ((tn 1 8) ∷ []))))) ∷ put_message 24 (le (CuCp B) (Du B 1) 1 (f1 (f1s.UeContextSetupRequest (ue 1) 3 2 ((tn 1 6) ∷ []) Len12 (pe B 1)))) ∷ got_message 24 (le (CuCp B) (Du B 1) 1 (f1 (f1s.UeContextSetupRequest (ue 1) 3 2 ((tn 1 6) ∷ []) Len12 (pe B 1)))) ∷ put_message 25 (le (Du B 1) (CuCp B) 1 (f1 (f1s.UeContextSetupResponse (ue 1) 3 ((tn 1 2) ∷ [])))) ∷ got_message 25 (le (Du B 1) (CuCp B) 1 (f1 (f1s.UeContextSetupResponse (ue 1) 3 ((tn 1 2) ∷ [])))) ∷ put_message 26 (le (CuCp B) (CuCp A) 1 (xn (xns.HandoverRequestAcknowledge (ue 1) 4 (pe B 1) ((tn 1 7) ∷ []) ((tn 1 8) ∷ [])))) ∷ got_message 26 (le (CuCp B) (CuCp A) 1 (xn (xns.HandoverRequestAcknowledge (ue 1) 4 (pe B 1) ((tn 1 7) ∷ []) ((tn 1 8) ∷ [])))) ∷ put_message 27 (le (CuCp A) (CuUp A 1) 1 (e1 (e1s.BearerContextModificationRequest (ue 1) 3 None 2 (Some (pe B 1)) (Some ((tn 1 7) ∷ [])) (Some ((tn 1 8) ∷ [])) None None))) ∷ got_message 27 (le (CuCp A) (CuUp A 1) 1 (e1 (e1s.BearerContextModificationRequest (ue 1) 3 None 2 (Some (pe B 1)) (Some ((tn 1 7) ∷ [])) (Some ((tn 1 8) ∷ [])) None None))) ∷ put_item (tunnel_link (te (CuUp B 1) 7)) (shown (en 1 1 Dl) (Some 0) (52 ∷ 255 ∷ 0 ∷ 9 ∷ 0 ∷ 0 ∷ 0 ∷ 7 ∷ 0 ∷ 0 ∷ 0 ∷ 192 ∷ 1 ∷ 0 ∷ 0 ∷ 0 ∷ 1 ∷ [])) ∷ put_message 28 (le (CuUp A 1) (CuCp A) 1 (e1 (e1s.BearerContextModificationResponse (ue 1) 3 None (Some ((ss 1 1 0 None) ∷ []))))) ∷ got_message 28 (le (CuUp A 1) (CuCp A) 1 (e1 (e1s.BearerContextModificationResponse (ue 1) 3 None (Some ((ss 1 1 0 None) ∷ []))))) ∷ put_message 29 (le (CuCp A) (CuCp B) 1 (xn (xns.SnStatusTransfer (ue 1) 5 ((ss 1 1 0 None) ∷ [])))) ∷ got_message 29 (le (CuCp A) (CuCp B) 1 (xn (xns.SnStatusTransfer (ue 1) 5 ((ss 1 1 0 None) ∷ [])))) ∷ put_message 30 (le (CuCp B) (CuCp A) 1 (xn (xns.TransportConfirm (ue 1) 5))) ∷ put_message 31 (le (CuCp B) (CuUp B 1) 1 (e1 (e1s.BearerContextModificationRequest (ue 1) 5 None 3 None None None (Some ((ss 1 1 0 None) ∷ [])) None))) ∷ got_message 30 (le (CuCp B) (CuCp A) 1 (xn (xns.TransportConfirm (ue 1) 5))) ∷ got_message 31 (le (CuCp B) (CuUp B 1) 1 (e1 (e1s.BearerContextModificationRequest (ue 1) 5 None 3 None None None (Some ((ss 1 1 0 None) ∷ [])) None))) ∷ put_message 32 (le (CuUp B 1) (CuCp B) 1 (e1 (e1s.BearerContextModificationResponse (ue 1) 5 None None))) ∷ got_message 32 (le (CuUp B 1) (CuCp B) 1 (e1 (e1s.BearerContextModificationResponse (ue 1) 5 None None))) ∷ []))
     ∷ (step (events.Tick) (put_message 33 (le (CuCp A) (Du A 1) 1 (f1 (f1s.DlRrcMessageTransfer (ue 1) (toks.Command (ue 1) 2 B 1)))) ∷ []))
     ∷ (step (events.Cancel (ue 1)) (was_refused refusals.TooLate ∷ []))
-    ∷ []
-
-abbrev pub stop : Option Stop
-stop = None
-
-abbrev pub faults : List (List ℕ × Option DropReason)
-faults = []
-
-abbrev pub items : List (List ℕ × Bool)
-items = []
+    ∷ [];
+  stop = None;
+  faults = [];
+  items = [];
+}

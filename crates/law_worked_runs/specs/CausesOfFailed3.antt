@@ -22,23 +22,14 @@ use Rattle.scenario_text.specs.declared.event.Event.{Event}
 use Rattle.scenario_text.specs.declared.event.Event.TheVariants as events
 use Rattle.run_defs.specs.Lines.{RunLine, put_item, got_item, put_message, got_message, delivers, lost_items, lost_message, drops_input, held_at, procedure_failed, is_quiet, is_busy, has_settled, has_not_settled, was_refused, tunnel_link, radio_link, shown}
 use Rattle.run_defs.specs.States.{Stop, outstanding, spent_counter}
-use Rattle.law_worked_runs.specs.Short.{ue, be, te, en, tn, ss, pe, plan, le, Shown, step}
+use Rattle.law_worked_runs.specs.Short.{ue, be, te, en, tn, ss, pe, plan, le, step, Worked}
 
-abbrev pub script : List Event
-script = (events.Static (plan 2 B 1 1 Len12 1 4096))
-    ∷ (events.Static (plan 3 B 1 1 Len12 1 4))
-    ∷ []
-
-abbrev pub shows : List Shown
-shows = (step (events.Static (plan 2 B 1 1 Len12 1 4096)) ([]))
+abbrev pub worked : Worked
+worked = record {
+  steps = (step (events.Static (plan 2 B 1 1 Len12 1 4096)) ([]))
     ∷ (step (events.Static (plan 3 B 1 1 Len12 1 4)) (was_refused refusals.Quota ∷ []))
-    ∷ []
-
-abbrev pub stop : Option Stop
-stop = None
-
-abbrev pub faults : List (List ℕ × Option DropReason)
-faults = []
-
-abbrev pub items : List (List ℕ × Bool)
-items = []
+    ∷ [];
+  stop = None;
+  faults = [];
+  items = [];
+}

@@ -22,33 +22,11 @@ use Rattle.scenario_text.specs.declared.event.Event.{Event}
 use Rattle.scenario_text.specs.declared.event.Event.TheVariants as events
 use Rattle.run_defs.specs.Lines.{RunLine, put_item, got_item, put_message, got_message, delivers, lost_items, lost_message, drops_input, held_at, procedure_failed, is_quiet, is_busy, has_settled, has_not_settled, was_refused, tunnel_link, radio_link, shown}
 use Rattle.run_defs.specs.States.{Stop, outstanding, spent_counter}
-use Rattle.law_worked_runs.specs.Short.{ue, be, te, en, tn, ss, pe, plan, le, Shown, step}
+use Rattle.law_worked_runs.specs.Short.{ue, be, te, en, tn, ss, pe, plan, le, step, Worked}
 
-abbrev pub script : List Event
-script = (events.Start)
-    ∷ (events.Give 1)
-    ∷ (events.Give 3)
-    ∷ (events.Attach (plan 1 A 1 1 Len12 1 64))
-    ∷ (events.Give 11)
-    ∷ (events.Give 12)
-    ∷ (events.Give 13)
-    ∷ (events.Give 14)
-    ∷ (events.Give 15)
-    ∷ (events.Give 16)
-    ∷ (events.Arrive (ue 1))
-    ∷ (events.Give 17)
-    ∷ (events.Give 18)
-    ∷ (events.Give 19)
-    ∷ (events.Give 20)
-    ∷ (events.Give 21)
-    ∷ (events.Give 22)
-    ∷ (events.Handover (ue 1) B 1 1)
-    ∷ (events.Give 24)
-    ∷ (events.Give 25)
-    ∷ []
-
-abbrev pub shows : List Shown
-shows = (step (events.Start) (put_message 1 (le (CuUp A 1) (CuCp A) 0 (e1 (e1s.E1SetupRequest 1 (node_text (CuUp A 1))))) ∷ put_message 2 (le (CuUp A 2) (CuCp A) 0 (e1 (e1s.E1SetupRequest 1 (node_text (CuUp A 2))))) ∷ put_message 3 (le (Du A 1) (CuCp A) 0 (f1 (f1s.F1SetupRequest 1 (node_text (Du A 1))))) ∷ put_message 4 (le (Du A 2) (CuCp A) 0 (f1 (f1s.F1SetupRequest 1 (node_text (Du A 2))))) ∷ put_message 5 (le (CuUp B 1) (CuCp B) 0 (e1 (e1s.E1SetupRequest 1 (node_text (CuUp B 1))))) ∷ put_message 6 (le (CuUp B 2) (CuCp B) 0 (e1 (e1s.E1SetupRequest 1 (node_text (CuUp B 2))))) ∷ put_message 7 (le (Du B 1) (CuCp B) 0 (f1 (f1s.F1SetupRequest 1 (node_text (Du B 1))))) ∷ put_message 8 (le (Du B 2) (CuCp B) 0 (f1 (f1s.F1SetupRequest 1 (node_text (Du B 2))))) ∷ []))
+abbrev pub worked : Worked
+worked = record {
+  steps = (step (events.Start) (put_message 1 (le (CuUp A 1) (CuCp A) 0 (e1 (e1s.E1SetupRequest 1 (node_text (CuUp A 1))))) ∷ put_message 2 (le (CuUp A 2) (CuCp A) 0 (e1 (e1s.E1SetupRequest 1 (node_text (CuUp A 2))))) ∷ put_message 3 (le (Du A 1) (CuCp A) 0 (f1 (f1s.F1SetupRequest 1 (node_text (Du A 1))))) ∷ put_message 4 (le (Du A 2) (CuCp A) 0 (f1 (f1s.F1SetupRequest 1 (node_text (Du A 2))))) ∷ put_message 5 (le (CuUp B 1) (CuCp B) 0 (e1 (e1s.E1SetupRequest 1 (node_text (CuUp B 1))))) ∷ put_message 6 (le (CuUp B 2) (CuCp B) 0 (e1 (e1s.E1SetupRequest 1 (node_text (CuUp B 2))))) ∷ put_message 7 (le (Du B 1) (CuCp B) 0 (f1 (f1s.F1SetupRequest 1 (node_text (Du B 1))))) ∷ put_message 8 (le (Du B 2) (CuCp B) 0 (f1 (f1s.F1SetupRequest 1 (node_text (Du B 2))))) ∷ []))
     ∷ (step (events.Give 1) (got_message 1 (le (CuUp A 1) (CuCp A) 0 (e1 (e1s.E1SetupRequest 1 (node_text (CuUp A 1))))) ∷ put_message 9 (le (CuCp A) (CuUp A 1) 0 (e1 (e1s.E1SetupResponse 1))) ∷ []))
     ∷ (step (events.Give 3) (got_message 3 (le (Du A 1) (CuCp A) 0 (f1 (f1s.F1SetupRequest 1 (node_text (Du A 1))))) ∷ put_message 10 (le (CuCp A) (Du A 1) 0 (f1 (f1s.F1SetupResponse 1))) ∷ []))
     ∷ (step (events.Attach (plan 1 A 1 1 Len12 1 64)) (put_message 11 (le (CuCp A) (CuUp A 1) 1 (e1 (e1s.BearerContextSetupRequest (ue 1) 1 1 Len12 64 false))) ∷ []))
@@ -68,13 +46,8 @@ shows = (step (events.Start) (put_message 1 (le (CuUp A 1) (CuCp A) 0 (e1 (e1s.E
     ∷ (step (events.Handover (ue 1) B 1 1) (put_message 24 (le (CuCp A) (CuCp B) 1 (xn (xns.HandoverRequest (ue 1) 1 2 1 Len12 64 (pe B 1) 1 None))) ∷ []))
     ∷ (step (events.Give 24) (got_message 24 (le (CuCp A) (CuCp B) 1 (xn (xns.HandoverRequest (ue 1) 1 2 1 Len12 64 (pe B 1) 1 None))) ∷ put_message 25 (le (CuCp B) (CuCp A) 1 (xn (xns.HandoverPreparationFailure (ue 1) 1 2))) ∷ []))
     ∷ (step (events.Give 25) (got_message 25 (le (CuCp B) (CuCp A) 1 (xn (xns.HandoverPreparationFailure (ue 1) 1 2))) ∷ procedure_failed (CuCp A) (ue 1) causes.Unit ∷ []))
-    ∷ []
-
-abbrev pub stop : Option Stop
-stop = None
-
-abbrev pub faults : List (List ℕ × Option DropReason)
-faults = []
-
-abbrev pub items : List (List ℕ × Bool)
-items = []
+    ∷ [];
+  stop = None;
+  faults = [];
+  items = [];
+}

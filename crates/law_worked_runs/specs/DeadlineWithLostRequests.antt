@@ -22,31 +22,11 @@ use Rattle.scenario_text.specs.declared.event.Event.{Event}
 use Rattle.scenario_text.specs.declared.event.Event.TheVariants as events
 use Rattle.run_defs.specs.Lines.{RunLine, put_item, got_item, put_message, got_message, delivers, lost_items, lost_message, drops_input, held_at, procedure_failed, is_quiet, is_busy, has_settled, has_not_settled, was_refused, tunnel_link, radio_link, shown}
 use Rattle.run_defs.specs.States.{Stop, outstanding, spent_counter}
-use Rattle.law_worked_runs.specs.Short.{ue, be, te, en, tn, ss, pe, plan, le, Shown, step}
+use Rattle.law_worked_runs.specs.Short.{ue, be, te, en, tn, ss, pe, plan, le, step, Worked}
 
-abbrev pub script : List Event
-script = (events.Static (plan 1 A 1 1 Len12 1 64))
-    ∷ (events.Handover (ue 1) B 1 1)
-    ∷ (events.LoseMessage 1)
-    ∷ (events.Tick)
-    ∷ (events.LoseMessage 2)
-    ∷ (events.Tick)
-    ∷ (events.LoseMessage 3)
-    ∷ (events.Tick)
-    ∷ (events.LoseMessage 4)
-    ∷ (events.Tick)
-    ∷ (events.LoseMessage 5)
-    ∷ (events.Tick)
-    ∷ (events.LoseMessage 6)
-    ∷ (events.Tick)
-    ∷ (events.LoseMessage 7)
-    ∷ (events.Tick)
-    ∷ (events.LoseMessage 8)
-    ∷ (events.Tick)
-    ∷ []
-
-abbrev pub shows : List Shown
-shows = (step (events.Static (plan 1 A 1 1 Len12 1 64)) ([]))
+abbrev pub worked : Worked
+worked = record {
+  steps = (step (events.Static (plan 1 A 1 1 Len12 1 64)) ([]))
     ∷ (step (events.Handover (ue 1) B 1 1) (put_message 1 (le (CuCp A) (CuCp B) 1 (xn (xns.HandoverRequest (ue 1) 1 2 1 Len12 64 (pe B 1) 1 None))) ∷ []))
     ∷ (step (events.LoseMessage 1) (lost_message 1 ∷ []))
     ∷ (step (events.Tick) (put_message 2 (le (CuCp A) (CuCp B) 1 (xn (xns.HandoverRequest (ue 1) 1 2 1 Len12 64 (pe B 1) 1 None))) ∷ []))
@@ -64,13 +44,8 @@ shows = (step (events.Static (plan 1 A 1 1 Len12 1 64)) ([]))
     ∷ (step (events.Tick) (put_message 8 (le (CuCp A) (CuCp B) 1 (xn (xns.HandoverRequest (ue 1) 1 2 1 Len12 64 (pe B 1) 1 None))) ∷ []))
     ∷ (step (events.LoseMessage 8) (lost_message 8 ∷ []))
     ∷ (step (events.Tick) (put_message 9 (le (CuCp A) (CuCp B) 1 (xn (xns.HandoverCancel (ue 1) 2))) ∷ procedure_failed (CuCp A) (ue 1) causes.Timeout ∷ []))
-    ∷ []
-
-abbrev pub stop : Option Stop
-stop = None
-
-abbrev pub faults : List (List ℕ × Option DropReason)
-faults = []
-
-abbrev pub items : List (List ℕ × Bool)
-items = []
+    ∷ [];
+  stop = None;
+  faults = [];
+  items = [];
+}

@@ -22,51 +22,11 @@ use Rattle.scenario_text.specs.declared.event.Event.{Event}
 use Rattle.scenario_text.specs.declared.event.Event.TheVariants as events
 use Rattle.run_defs.specs.Lines.{RunLine, put_item, got_item, put_message, got_message, delivers, lost_items, lost_message, drops_input, held_at, procedure_failed, is_quiet, is_busy, has_settled, has_not_settled, was_refused, tunnel_link, radio_link, shown}
 use Rattle.run_defs.specs.States.{Stop, outstanding, spent_counter}
-use Rattle.law_worked_runs.specs.Short.{ue, be, te, en, tn, ss, pe, plan, le, Shown, step}
+use Rattle.law_worked_runs.specs.Short.{ue, be, te, en, tn, ss, pe, plan, le, step, Worked}
 
-abbrev pub script : List Event
-script = (events.Static (plan 1 A 1 1 Len12 1 4))
-    ∷ (events.Offer (ue 1) (be 1) Ul (0 ∷ []))
-    ∷ (events.Air (ue 1) (be 1) Ul)
-    ∷ (events.Ack (ue 1) (be 1) Ul)
-    ∷ (events.Handover (ue 1) A 1 2)
-    ∷ (events.Pump)
-    ∷ (events.Tick)
-    ∷ (events.Pump)
-    ∷ (events.Arrive (ue 1))
-    ∷ (events.Pump)
-    ∷ (events.Air (ue 1) (be 1) Ul)
-    ∷ (events.Ack (ue 1) (be 1) Ul)
-    ∷ (events.Offer (ue 1) (be 1) Ul (1 ∷ []))
-    ∷ (events.Offer (ue 1) (be 1) Ul (2 ∷ []))
-    ∷ (events.Offer (ue 1) (be 1) Ul (3 ∷ []))
-    ∷ (events.Offer (ue 1) (be 1) Ul (4 ∷ []))
-    ∷ (events.Air (ue 1) (be 1) Ul)
-    ∷ (events.Air (ue 1) (be 1) Ul)
-    ∷ (events.Air (ue 1) (be 1) Ul)
-    ∷ (events.Air (ue 1) (be 1) Ul)
-    ∷ (events.Ack (ue 1) (be 1) Ul)
-    ∷ (events.Ack (ue 1) (be 1) Ul)
-    ∷ (events.Ack (ue 1) (be 1) Ul)
-    ∷ (events.Ack (ue 1) (be 1) Ul)
-    ∷ (events.Get (CuUp A 1) 3)
-    ∷ (events.Get (CuUp A 1) 3)
-    ∷ (events.Get (CuUp A 1) 3)
-    ∷ (events.Get (CuUp A 1) 3)
-    ∷ (events.Get (CuUp A 1) 3)
-    ∷ (events.Handover (ue 1) B 1 1)
-    ∷ (events.Pump)
-    ∷ (events.Tick)
-    ∷ (events.Pump)
-    ∷ (events.Arrive (ue 1))
-    ∷ (events.Pump)
-    ∷ (events.Get (CuUp A 1) 3)
-    ∷ (events.Get (CuUp A 1) 2)
-    ∷ (events.Settle)
-    ∷ []
-
-abbrev pub shows : List Shown
-shows = (step (events.Static (plan 1 A 1 1 Len12 1 4)) ([]))
+abbrev pub worked : Worked
+worked = record {
+  steps = (step (events.Static (plan 1 A 1 1 Len12 1 4)) ([]))
     ∷ (step (events.Offer (ue 1) (be 1) Ul (0 ∷ [])) (put_item (radio_link (en 1 1 Ul) 1) (shown (en 1 1 Ul) (Some 0) (128 ∷ 0 ∷ 0 ∷ [])) ∷ []))
     ∷ (step (events.Air (ue 1) (be 1) Ul) (got_item (radio_link (en 1 1 Ul) 1) (shown (en 1 1 Ul) (Some 0) (128 ∷ 0 ∷ 0 ∷ [])) ∷ put_item (tunnel_link (te (CuUp A 1) 2)) (shown (en 1 1 Ul) (Some 0) (48 ∷ 255 ∷ 0 ∷ 3 ∷ 0 ∷ 0 ∷ 0 ∷ 2 ∷ 128 ∷ 0 ∷ 0 ∷ [])) ∷ []))
     ∷ (step (events.Ack (ue 1) (be 1) Ul) ([]))
@@ -104,13 +64,8 @@ shows = (step (events.Static (plan 1 A 1 1 Len12 1 4)) ([]))
     ∷ (step (events.Get (CuUp A 1) 3) (got_item (tunnel_link (te (CuUp A 1) 3)) (shown (en 1 1 Ul) (Some 4) (48 ∷ 255 ∷ 0 ∷ 3 ∷ 0 ∷ 0 ∷ 0 ∷ 3 ∷ 128 ∷ 4 ∷ 4 ∷ [])) ∷ put_item (tunnel_link (te (CuUp B 1) 4)) (shown (en 1 1 Ul) (Some 4) (52 ∷ 255 ∷ 0 ∷ 9 ∷ 0 ∷ 0 ∷ 0 ∷ 4 ∷ 0 ∷ 0 ∷ 0 ∷ 192 ∷ 1 ∷ 0 ∷ 4 ∷ 0 ∷ 4 ∷ [])) ∷ []))
     ∷ (step (events.Get (CuUp A 1) 2) (got_item (tunnel_link (te (CuUp A 1) 2)) (shown (en 1 1 Ul) (Some 0) (48 ∷ 255 ∷ 0 ∷ 3 ∷ 0 ∷ 0 ∷ 0 ∷ 2 ∷ 128 ∷ 0 ∷ 0 ∷ [])) ∷ put_item (tunnel_link (te (CuUp B 1) 4)) (shown (en 1 1 Ul) (Some 0) (52 ∷ 255 ∷ 0 ∷ 9 ∷ 0 ∷ 0 ∷ 0 ∷ 4 ∷ 0 ∷ 0 ∷ 0 ∷ 192 ∷ 1 ∷ 0 ∷ 0 ∷ 0 ∷ 0 ∷ [])) ∷ []))
     ∷ (step (events.Settle) (got_item (tunnel_link (te (CuUp A 1) 1)) (shown (en 1 1 Dl) None (48 ∷ 254 ∷ 0 ∷ 0 ∷ 0 ∷ 0 ∷ 0 ∷ 1 ∷ [])) ∷ put_item (tunnel_link (te (CuUp B 1) 3)) (shown (en 1 1 Dl) None (48 ∷ 254 ∷ 0 ∷ 0 ∷ 0 ∷ 0 ∷ 0 ∷ 3 ∷ [])) ∷ got_item (tunnel_link (te (CuUp A 1) 2)) (shown (en 1 1 Ul) None (48 ∷ 254 ∷ 0 ∷ 0 ∷ 0 ∷ 0 ∷ 0 ∷ 2 ∷ [])) ∷ got_item (tunnel_link (te (CuUp A 1) 3)) (shown (en 1 1 Ul) None (48 ∷ 254 ∷ 0 ∷ 0 ∷ 0 ∷ 0 ∷ 0 ∷ 3 ∷ [])) ∷ put_item (tunnel_link (te (CuUp B 1) 4)) (shown (en 1 1 Ul) None (48 ∷ 254 ∷ 0 ∷ 0 ∷ 0 ∷ 0 ∷ 0 ∷ 4 ∷ [])) ∷ got_item (tunnel_link (te (CuUp B 1) 3)) (shown (en 1 1 Dl) None (48 ∷ 254 ∷ 0 ∷ 0 ∷ 0 ∷ 0 ∷ 0 ∷ 3 ∷ [])) ∷ got_item (tunnel_link (te (CuUp B 1) 4)) (shown (en 1 1 Ul) (Some 1) (52 ∷ 255 ∷ 0 ∷ 9 ∷ 0 ∷ 0 ∷ 0 ∷ 4 ∷ 0 ∷ 0 ∷ 0 ∷ 192 ∷ 1 ∷ 0 ∷ 1 ∷ 0 ∷ 1 ∷ [])) ∷ got_item (tunnel_link (te (CuUp B 1) 4)) (shown (en 1 1 Ul) (Some 2) (52 ∷ 255 ∷ 0 ∷ 9 ∷ 0 ∷ 0 ∷ 0 ∷ 4 ∷ 0 ∷ 0 ∷ 0 ∷ 192 ∷ 1 ∷ 0 ∷ 2 ∷ 0 ∷ 2 ∷ [])) ∷ got_item (tunnel_link (te (CuUp B 1) 4)) (shown (en 1 1 Ul) (Some 3) (52 ∷ 255 ∷ 0 ∷ 9 ∷ 0 ∷ 0 ∷ 0 ∷ 4 ∷ 0 ∷ 0 ∷ 0 ∷ 192 ∷ 1 ∷ 0 ∷ 3 ∷ 0 ∷ 3 ∷ [])) ∷ held_at (tunnel_link (te (CuUp B 1) 4)) holds.Ahead ∷ got_item (tunnel_link (te (Du B 1) 1)) (shown (en 1 1 Dl) None (52 ∷ 255 ∷ 0 ∷ 17 ∷ 0 ∷ 0 ∷ 0 ∷ 1 ∷ 0 ∷ 0 ∷ 0 ∷ 132 ∷ 2 ∷ 0 ∷ 0 ∷ 0 ∷ 0 ∷ 0 ∷ 0 ∷ 0 ∷ 0 ∷ 0 ∷ 0 ∷ 0 ∷ 0 ∷ [])) ∷ put_item (radio_link (en 1 1 Dl) 3) (shown (en 1 1 Dl) None (0 ∷ 0 ∷ 0 ∷ 0 ∷ 0 ∷ [])) ∷ got_item (radio_link (en 1 1 Dl) 3) (shown (en 1 1 Dl) None (0 ∷ 0 ∷ 0 ∷ 0 ∷ 0 ∷ [])) ∷ got_item (radio_link (en 1 1 Ul) 3) (shown (en 1 1 Ul) None (0 ∷ 0 ∷ 0 ∷ 0 ∷ 0 ∷ [])) ∷ put_item (tunnel_link (te (CuUp B 1) 2)) (shown (en 1 1 Ul) None (48 ∷ 255 ∷ 0 ∷ 5 ∷ 0 ∷ 0 ∷ 0 ∷ 2 ∷ 0 ∷ 0 ∷ 0 ∷ 0 ∷ 0 ∷ [])) ∷ got_item (tunnel_link (te (CuUp B 1) 2)) (shown (en 1 1 Ul) None (48 ∷ 255 ∷ 0 ∷ 5 ∷ 0 ∷ 0 ∷ 0 ∷ 2 ∷ 0 ∷ 0 ∷ 0 ∷ 0 ∷ 0 ∷ [])) ∷ held_at (tunnel_link (te (CuUp B 1) 4)) holds.Ahead ∷ held_at (tunnel_link (te (CuUp B 1) 4)) holds.Ahead ∷ held_at (tunnel_link (te (CuUp B 1) 4)) holds.Ahead ∷ held_at (tunnel_link (te (CuUp B 1) 4)) holds.Ahead ∷ held_at (tunnel_link (te (CuUp B 1) 4)) holds.Ahead ∷ held_at (tunnel_link (te (CuUp B 1) 4)) holds.Ahead ∷ held_at (tunnel_link (te (CuUp B 1) 4)) holds.Ahead ∷ held_at (tunnel_link (te (CuUp B 1) 4)) holds.Ahead ∷ held_at (tunnel_link (te (CuUp B 1) 4)) holds.Ahead ∷ held_at (tunnel_link (te (CuUp B 1) 4)) holds.Ahead ∷ held_at (tunnel_link (te (CuUp B 1) 4)) holds.Ahead ∷ held_at (tunnel_link (te (CuUp B 1) 4)) holds.Ahead ∷ held_at (tunnel_link (te (CuUp B 1) 4)) holds.Ahead ∷ held_at (tunnel_link (te (CuUp B 1) 4)) holds.Ahead ∷ held_at (tunnel_link (te (CuUp B 1) 4)) holds.Ahead ∷ held_at (tunnel_link (te (CuUp B 1) 4)) holds.Ahead ∷ held_at (tunnel_link (te (CuUp B 1) 4)) holds.Ahead ∷ held_at (tunnel_link (te (CuUp B 1) 4)) holds.Ahead ∷ held_at (tunnel_link (te (CuUp B 1) 4)) holds.Ahead ∷ held_at (tunnel_link (te (CuUp B 1) 4)) holds.Ahead ∷ held_at (tunnel_link (te (CuUp B 1) 4)) holds.Ahead ∷ held_at (tunnel_link (te (CuUp B 1) 4)) holds.Ahead ∷ held_at (tunnel_link (te (CuUp B 1) 4)) holds.Ahead ∷ held_at (tunnel_link (te (CuUp B 1) 4)) holds.Ahead ∷ held_at (tunnel_link (te (CuUp B 1) 4)) holds.Ahead ∷ held_at (tunnel_link (te (CuUp B 1) 4)) holds.Ahead ∷ held_at (tunnel_link (te (CuUp B 1) 4)) holds.Ahead ∷ held_at (tunnel_link (te (CuUp B 1) 4)) holds.Ahead ∷ held_at (tunnel_link (te (CuUp B 1) 4)) holds.Ahead ∷ held_at (tunnel_link (te (CuUp B 1) 4)) holds.Ahead ∷ held_at (tunnel_link (te (CuUp B 1) 4)) holds.Ahead ∷ held_at (tunnel_link (te (CuUp B 1) 4)) holds.Ahead ∷ held_at (tunnel_link (te (CuUp B 1) 4)) holds.Ahead ∷ held_at (tunnel_link (te (CuUp B 1) 4)) holds.Ahead ∷ held_at (tunnel_link (te (CuUp B 1) 4)) holds.Ahead ∷ held_at (tunnel_link (te (CuUp B 1) 4)) holds.Ahead ∷ held_at (tunnel_link (te (CuUp B 1) 4)) holds.Ahead ∷ held_at (tunnel_link (te (CuUp B 1) 4)) holds.Ahead ∷ held_at (tunnel_link (te (CuUp B 1) 4)) holds.Ahead ∷ held_at (tunnel_link (te (CuUp B 1) 4)) holds.Ahead ∷ held_at (tunnel_link (te (CuUp B 1) 4)) holds.Ahead ∷ held_at (tunnel_link (te (CuUp B 1) 4)) holds.Ahead ∷ held_at (tunnel_link (te (CuUp B 1) 4)) holds.Ahead ∷ held_at (tunnel_link (te (CuUp B 1) 4)) holds.Ahead ∷ held_at (tunnel_link (te (CuUp B 1) 4)) holds.Ahead ∷ held_at (tunnel_link (te (CuUp B 1) 4)) holds.Ahead ∷ held_at (tunnel_link (te (CuUp B 1) 4)) holds.Ahead ∷ held_at (tunnel_link (te (CuUp B 1) 4)) holds.Ahead ∷ held_at (tunnel_link (te (CuUp B 1) 4)) holds.Ahead ∷ held_at (tunnel_link (te (CuUp B 1) 4)) holds.Ahead ∷ held_at (tunnel_link (te (CuUp B 1) 4)) holds.Ahead ∷ held_at (tunnel_link (te (CuUp B 1) 4)) holds.Ahead ∷ held_at (tunnel_link (te (CuUp B 1) 4)) holds.Ahead ∷ held_at (tunnel_link (te (CuUp B 1) 4)) holds.Ahead ∷ held_at (tunnel_link (te (CuUp B 1) 4)) holds.Ahead ∷ held_at (tunnel_link (te (CuUp B 1) 4)) holds.Ahead ∷ held_at (tunnel_link (te (CuUp B 1) 4)) holds.Ahead ∷ held_at (tunnel_link (te (CuUp B 1) 4)) holds.Ahead ∷ held_at (tunnel_link (te (CuUp B 1) 4)) holds.Ahead ∷ held_at (tunnel_link (te (CuUp B 1) 4)) holds.Ahead ∷ held_at (tunnel_link (te (CuUp B 1) 4)) holds.Ahead ∷ held_at (tunnel_link (te (CuUp B 1) 4)) holds.Ahead ∷ held_at (tunnel_link (te (CuUp B 1) 4)) holds.Ahead ∷ held_at (tunnel_link (te (CuUp B 1) 4)) holds.Ahead ∷ held_at (tunnel_link (te (CuUp B 1) 4)) holds.Ahead ∷ held_at (tunnel_link (te (CuUp B 1) 4)) holds.Ahead ∷ held_at (tunnel_link (te (CuUp B 1) 4)) holds.Ahead ∷ held_at (tunnel_link (te (CuUp B 1) 4)) holds.Ahead ∷ held_at (tunnel_link (te (CuUp B 1) 4)) holds.Ahead ∷ held_at (tunnel_link (te (CuUp B 1) 4)) holds.Ahead ∷ held_at (tunnel_link (te (CuUp B 1) 4)) holds.Ahead ∷ held_at (tunnel_link (te (CuUp B 1) 4)) holds.Ahead ∷ held_at (tunnel_link (te (CuUp B 1) 4)) holds.Ahead ∷ held_at (tunnel_link (te (CuUp B 1) 4)) holds.Ahead ∷ held_at (tunnel_link (te (CuUp B 1) 4)) holds.Ahead ∷ held_at (tunnel_link (te (CuUp B 1) 4)) holds.Ahead ∷ held_at (tunnel_link (te (CuUp B 1) 4)) holds.Ahead ∷ held_at (tunnel_link (te (CuUp B 1) 4)) holds.Ahead ∷ held_at (tunnel_link (te (CuUp B 1) 4)) holds.Ahead ∷ held_at (tunnel_link (te (CuUp B 1) 4)) holds.Ahead ∷ held_at (tunnel_link (te (CuUp B 1) 4)) holds.Ahead ∷ held_at (tunnel_link (te (CuUp B 1) 4)) holds.Ahead ∷ held_at (tunnel_link (te (CuUp B 1) 4)) holds.Ahead ∷ held_at (tunnel_link (te (CuUp B 1) 4)) holds.Ahead ∷ held_at (tunnel_link (te (CuUp B 1) 4)) holds.Ahead ∷ held_at (tunnel_link (te (CuUp B 1) 4)) holds.Ahead ∷ held_at (tunnel_link (te (CuUp B 1) 4)) holds.Ahead ∷ held_at (tunnel_link (te (CuUp B 1) 4)) holds.Ahead ∷ held_at (tunnel_link (te (CuUp B 1) 4)) holds.Ahead ∷ held_at (tunnel_link (te (CuUp B 1) 4)) holds.Ahead ∷ held_at (tunnel_link (te (CuUp B 1) 4)) holds.Ahead ∷ held_at (tunnel_link (te (CuUp B 1) 4)) holds.Ahead ∷ held_at (tunnel_link (te (CuUp B 1) 4)) holds.Ahead ∷ held_at (tunnel_link (te (CuUp B 1) 4)) holds.Ahead ∷ held_at (tunnel_link (te (CuUp B 1) 4)) holds.Ahead ∷ held_at (tunnel_link (te (CuUp B 1) 4)) holds.Ahead ∷ held_at (tunnel_link (te (CuUp B 1) 4)) holds.Ahead ∷ held_at (tunnel_link (te (CuUp B 1) 4)) holds.Ahead ∷ held_at (tunnel_link (te (CuUp B 1) 4)) holds.Ahead ∷ held_at (tunnel_link (te (CuUp B 1) 4)) holds.Ahead ∷ held_at (tunnel_link (te (CuUp B 1) 4)) holds.Ahead ∷ held_at (tunnel_link (te (CuUp B 1) 4)) holds.Ahead ∷ held_at (tunnel_link (te (CuUp B 1) 4)) holds.Ahead ∷ held_at (tunnel_link (te (CuUp B 1) 4)) holds.Ahead ∷ held_at (tunnel_link (te (CuUp B 1) 4)) holds.Ahead ∷ held_at (tunnel_link (te (CuUp B 1) 4)) holds.Ahead ∷ held_at (tunnel_link (te (CuUp B 1) 4)) holds.Ahead ∷ held_at (tunnel_link (te (CuUp B 1) 4)) holds.Ahead ∷ held_at (tunnel_link (te (CuUp B 1) 4)) holds.Ahead ∷ held_at (tunnel_link (te (CuUp B 1) 4)) holds.Ahead ∷ held_at (tunnel_link (te (CuUp B 1) 4)) holds.Ahead ∷ held_at (tunnel_link (te (CuUp B 1) 4)) holds.Ahead ∷ held_at (tunnel_link (te (CuUp B 1) 4)) holds.Ahead ∷ held_at (tunnel_link (te (CuUp B 1) 4)) holds.Ahead ∷ held_at (tunnel_link (te (CuUp B 1) 4)) holds.Ahead ∷ held_at (tunnel_link (te (CuUp B 1) 4)) holds.Ahead ∷ held_at (tunnel_link (te (CuUp B 1) 4)) holds.Ahead ∷ held_at (tunnel_link (te (CuUp B 1) 4)) holds.Ahead ∷ held_at (tunnel_link (te (CuUp B 1) 4)) holds.Ahead ∷ held_at (tunnel_link (te (CuUp B 1) 4)) holds.Ahead ∷ held_at (tunnel_link (te (CuUp B 1) 4)) holds.Ahead ∷ held_at (tunnel_link (te (CuUp B 1) 4)) holds.Ahead ∷ held_at (tunnel_link (te (CuUp B 1) 4)) holds.Ahead ∷ held_at (tunnel_link (te (CuUp B 1) 4)) holds.Ahead ∷ held_at (tunnel_link (te (CuUp B 1) 4)) holds.Ahead ∷ held_at (tunnel_link (te (CuUp B 1) 4)) holds.Ahead ∷ held_at (tunnel_link (te (CuUp B 1) 4)) holds.Ahead ∷ held_at (tunnel_link (te (CuUp B 1) 4)) holds.Ahead ∷ held_at (tunnel_link (te (CuUp B 1) 4)) holds.Ahead ∷ held_at (tunnel_link (te (CuUp B 1) 4)) holds.Ahead ∷ held_at (tunnel_link (te (CuUp B 1) 4)) holds.Ahead ∷ held_at (tunnel_link (te (CuUp B 1) 4)) holds.Ahead ∷ held_at (tunnel_link (te (CuUp B 1) 4)) holds.Ahead ∷ held_at (tunnel_link (te (CuUp B 1) 4)) holds.Ahead ∷ held_at (tunnel_link (te (CuUp B 1) 4)) holds.Ahead ∷ held_at (tunnel_link (te (CuUp B 1) 4)) holds.Ahead ∷ held_at (tunnel_link (te (CuUp B 1) 4)) holds.Ahead ∷ held_at (tunnel_link (te (CuUp B 1) 4)) holds.Ahead ∷ held_at (tunnel_link (te (CuUp B 1) 4)) holds.Ahead ∷ held_at (tunnel_link (te (CuUp B 1) 4)) holds.Ahead ∷ held_at (tunnel_link (te (CuUp B 1) 4)) holds.Ahead ∷ held_at (tunnel_link (te (CuUp B 1) 4)) holds.Ahead ∷ held_at (tunnel_link (te (CuUp B 1) 4)) holds.Ahead ∷ held_at (tunnel_link (te (CuUp B 1) 4)) holds.Ahead ∷ held_at (tunnel_link (te (CuUp B 1) 4)) holds.Ahead ∷ held_at (tunnel_link (te (CuUp B 1) 4)) holds.Ahead ∷ held_at (tunnel_link (te (CuUp B 1) 4)) holds.Ahead ∷ held_at (tunnel_link (te (CuUp B 1) 4)) holds.Ahead ∷ held_at (tunnel_link (te (CuUp B 1) 4)) holds.Ahead ∷ has_not_settled 150 ∷ is_busy (ue 1) (be 1) ∷ []))
-    ∷ []
-
-abbrev pub stop : Option Stop
-stop = None
-
-abbrev pub faults : List (List ℕ × Option DropReason)
-faults = []
-
-abbrev pub items : List (List ℕ × Bool)
-items = []
+    ∷ [];
+  stop = None;
+  faults = [];
+  items = [];
+}

@@ -22,54 +22,11 @@ use Rattle.scenario_text.specs.declared.event.Event.{Event}
 use Rattle.scenario_text.specs.declared.event.Event.TheVariants as events
 use Rattle.run_defs.specs.Lines.{RunLine, put_item, got_item, put_message, got_message, delivers, lost_items, lost_message, drops_input, held_at, procedure_failed, is_quiet, is_busy, has_settled, has_not_settled, was_refused, tunnel_link, radio_link, shown}
 use Rattle.run_defs.specs.States.{Stop, outstanding, spent_counter}
-use Rattle.law_worked_runs.specs.Short.{ue, be, te, en, tn, ss, pe, plan, le, Shown, step}
+use Rattle.law_worked_runs.specs.Short.{ue, be, te, en, tn, ss, pe, plan, le, step, Worked}
 
-abbrev pub script : List Event
-script = (events.Static (plan 1 A 1 1 Len12 1 64))
-    ∷ (events.Offer (ue 1) (be 1) Dl (1 ∷ []))
-    ∷ (events.Offer (ue 1) (be 1) Dl (2 ∷ []))
-    ∷ (events.Offer (ue 1) (be 1) Dl (3 ∷ []))
-    ∷ (events.Get (CuUp A 1) 1)
-    ∷ (events.Get (CuUp A 1) 1)
-    ∷ (events.Get (CuUp A 1) 1)
-    ∷ (events.Handover (ue 1) B 1 1)
-    ∷ (events.Pump)
-    ∷ (events.Offer (ue 1) (be 1) Dl (4 ∷ []))
-    ∷ (events.Offer (ue 1) (be 1) Dl (5 ∷ []))
-    ∷ (events.Get (CuUp A 1) 1)
-    ∷ (events.Get (CuUp A 1) 1)
-    ∷ (events.Tick)
-    ∷ (events.Pump)
-    ∷ (events.Arrive (ue 1))
-    ∷ (events.Pump)
-    ∷ (events.Offer (ue 1) (be 1) Dl (6 ∷ []))
-    ∷ (events.Get (CuUp B 1) 1)
-    ∷ (events.Get (CuUp A 1) 1)
-    ∷ (events.Get (CuUp B 1) 3)
-    ∷ (events.Get (CuUp B 1) 3)
-    ∷ (events.Get (CuUp B 1) 3)
-    ∷ (events.Get (CuUp B 1) 3)
-    ∷ (events.Get (CuUp B 1) 3)
-    ∷ (events.Get (CuUp B 1) 3)
-    ∷ (events.Get (CuUp B 1) 1)
-    ∷ (events.Get (Du B 1) 1)
-    ∷ (events.Air (ue 1) (be 1) Dl)
-    ∷ (events.Get (Du B 1) 1)
-    ∷ (events.Air (ue 1) (be 1) Dl)
-    ∷ (events.Get (Du B 1) 1)
-    ∷ (events.Air (ue 1) (be 1) Dl)
-    ∷ (events.Get (Du B 1) 1)
-    ∷ (events.Air (ue 1) (be 1) Dl)
-    ∷ (events.Get (Du B 1) 1)
-    ∷ (events.Air (ue 1) (be 1) Dl)
-    ∷ (events.Get (Du B 1) 1)
-    ∷ (events.Air (ue 1) (be 1) Dl)
-    ∷ (events.Get (Du B 1) 1)
-    ∷ (events.Air (ue 1) (be 1) Dl)
-    ∷ []
-
-abbrev pub shows : List Shown
-shows = (step (events.Static (plan 1 A 1 1 Len12 1 64)) ([]))
+abbrev pub worked : Worked
+worked = record {
+  steps = (step (events.Static (plan 1 A 1 1 Len12 1 64)) ([]))
     ∷ (step (events.Offer (ue 1) (be 1) Dl (1 ∷ [])) (put_item (tunnel_link (te (CuUp A 1) 1)) (shown (en 1 1 Dl) None (48 ∷ 255 ∷ 0 ∷ 1 ∷ 0 ∷ 0 ∷ 0 ∷ 1 ∷ 1 ∷ [])) ∷ []))
     ∷ (step (events.Offer (ue 1) (be 1) Dl (2 ∷ [])) (put_item (tunnel_link (te (CuUp A 1) 1)) (shown (en 1 1 Dl) None (48 ∷ 255 ∷ 0 ∷ 1 ∷ 0 ∷ 0 ∷ 0 ∷ 1 ∷ 2 ∷ [])) ∷ []))
     ∷ (step (events.Offer (ue 1) (be 1) Dl (3 ∷ [])) (put_item (tunnel_link (te (CuUp A 1) 1)) (shown (en 1 1 Dl) None (48 ∷ 255 ∷ 0 ∷ 1 ∷ 0 ∷ 0 ∷ 0 ∷ 1 ∷ 3 ∷ [])) ∷ []))
@@ -110,13 +67,8 @@ shows = (step (events.Static (plan 1 A 1 1 Len12 1 64)) ([]))
     ∷ (step (events.Air (ue 1) (be 1) Dl) (got_item (radio_link (en 1 1 Dl) 2) (shown (en 1 1 Dl) (Some 4) (128 ∷ 4 ∷ 5 ∷ [])) ∷ delivers (en 1 1 Dl) 4 (5 ∷ []) ∷ []))
     ∷ (step (events.Get (Du B 1) 1) (got_item (tunnel_link (te (Du B 1) 1)) (shown (en 1 1 Dl) (Some 5) (52 ∷ 255 ∷ 0 ∷ 15 ∷ 0 ∷ 0 ∷ 0 ∷ 1 ∷ 0 ∷ 0 ∷ 0 ∷ 132 ∷ 2 ∷ 0 ∷ 0 ∷ 0 ∷ 0 ∷ 6 ∷ 0 ∷ 0 ∷ 128 ∷ 5 ∷ 6 ∷ [])) ∷ put_item (radio_link (en 1 1 Dl) 2) (shown (en 1 1 Dl) (Some 5) (128 ∷ 5 ∷ 6 ∷ [])) ∷ []))
     ∷ (step (events.Air (ue 1) (be 1) Dl) (got_item (radio_link (en 1 1 Dl) 2) (shown (en 1 1 Dl) (Some 5) (128 ∷ 5 ∷ 6 ∷ [])) ∷ delivers (en 1 1 Dl) 5 (6 ∷ []) ∷ []))
-    ∷ []
-
-abbrev pub stop : Option Stop
-stop = None
-
-abbrev pub faults : List (List ℕ × Option DropReason)
-faults = []
-
-abbrev pub items : List (List ℕ × Bool)
-items = []
+    ∷ [];
+  stop = None;
+  faults = [];
+  items = [];
+}

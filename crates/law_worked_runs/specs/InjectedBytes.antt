@@ -22,35 +22,22 @@ use Rattle.scenario_text.specs.declared.event.Event.{Event}
 use Rattle.scenario_text.specs.declared.event.Event.TheVariants as events
 use Rattle.run_defs.specs.Lines.{RunLine, put_item, got_item, put_message, got_message, delivers, lost_items, lost_message, drops_input, held_at, procedure_failed, is_quiet, is_busy, has_settled, has_not_settled, was_refused, tunnel_link, radio_link, shown}
 use Rattle.run_defs.specs.States.{Stop, outstanding, spent_counter}
-use Rattle.law_worked_runs.specs.Short.{ue, be, te, en, tn, ss, pe, plan, le, Shown, step}
+use Rattle.law_worked_runs.specs.Short.{ue, be, te, en, tn, ss, pe, plan, le, step, Worked}
 
-abbrev pub script : List Event
-script = (events.Static (plan 1 A 1 1 Len12 1 64))
-    ∷ (events.InjectMessage (Du A 1) (CuCp A) (0 ∷ []))
-    ∷ (events.InjectItem (CuUp A 1) 1 (64 ∷ 255 ∷ 0 ∷ 0 ∷ 0 ∷ 0 ∷ 0 ∷ 1 ∷ []))
-    ∷ (events.InjectItem (CuUp A 1) 1 (48 ∷ 255 ∷ 0 ∷ 1 ∷ 0 ∷ 0 ∷ 0 ∷ 1 ∷ 69 ∷ []))
-    ∷ (events.InjectMessage (CuUp A 1) (Du B 1) (0 ∷ []))
-    ∷ (events.InjectItem (CuUp A 1) 9 (0 ∷ []))
-    ∷ []
-
-abbrev pub shows : List Shown
-shows = (step (events.Static (plan 1 A 1 1 Len12 1 64)) ([]))
+abbrev pub worked : Worked
+worked = record {
+  steps = (step (events.Static (plan 1 A 1 1 Len12 1 64)) ([]))
     ∷ (step (events.InjectMessage (Du A 1) (CuCp A) (0 ∷ [])) (drops_input (CuCp A) drops.Undecodable ∷ []))
     ∷ (step (events.InjectItem (CuUp A 1) 1 (64 ∷ 255 ∷ 0 ∷ 0 ∷ 0 ∷ 0 ∷ 0 ∷ 1 ∷ [])) (drops_input (CuUp A 1) drops.Undecodable ∷ []))
     ∷ (step (events.InjectItem (CuUp A 1) 1 (48 ∷ 255 ∷ 0 ∷ 1 ∷ 0 ∷ 0 ∷ 0 ∷ 1 ∷ 69 ∷ [])) (was_refused refusals.Decodable ∷ []))
     ∷ (step (events.InjectMessage (CuUp A 1) (Du B 1) (0 ∷ [])) (was_refused refusals.NoLink ∷ []))
     ∷ (step (events.InjectItem (CuUp A 1) 9 (0 ∷ [])) (was_refused refusals.NoSuch ∷ []))
-    ∷ []
-
-abbrev pub stop : Option Stop
-stop = None
-
-abbrev pub faults : List (List ℕ × Option DropReason)
-faults = ((0 ∷ []), Some drops.Undecodable)
-    ∷ []
-
-abbrev pub items : List (List ℕ × Bool)
-items = ((64 ∷ 255 ∷ 0 ∷ 0 ∷ 0 ∷ 0 ∷ 0 ∷ 1 ∷ []), false)
+    ∷ [];
+  stop = None;
+  faults = ((0 ∷ []), Some drops.Undecodable)
+    ∷ [];
+  items = ((64 ∷ 255 ∷ 0 ∷ 0 ∷ 0 ∷ 0 ∷ 0 ∷ 1 ∷ []), false)
     ∷ ((48 ∷ 255 ∷ 0 ∷ 1 ∷ 0 ∷ 0 ∷ 0 ∷ 1 ∷ 69 ∷ []), true)
     ∷ ((0 ∷ []), false)
-    ∷ []
+    ∷ [];
+}

@@ -22,40 +22,11 @@ use Rattle.scenario_text.specs.declared.event.Event.{Event}
 use Rattle.scenario_text.specs.declared.event.Event.TheVariants as events
 use Rattle.run_defs.specs.Lines.{RunLine, put_item, got_item, put_message, got_message, delivers, lost_items, lost_message, drops_input, held_at, procedure_failed, is_quiet, is_busy, has_settled, has_not_settled, was_refused, tunnel_link, radio_link, shown}
 use Rattle.run_defs.specs.States.{Stop, outstanding, spent_counter}
-use Rattle.law_worked_runs.specs.Short.{ue, be, te, en, tn, ss, pe, plan, le, Shown, step}
+use Rattle.law_worked_runs.specs.Short.{ue, be, te, en, tn, ss, pe, plan, le, step, Worked}
 
-abbrev pub script : List Event
-script = (events.Static (plan 1 A 1 1 Len12 1 64))
-    ∷ (events.Offer (ue 1) (be 1) Dl (1 ∷ []))
-    ∷ (events.Get (CuUp A 1) 1)
-    ∷ (events.Handover (ue 1) B 1 1)
-    ∷ (events.Give 1)
-    ∷ (events.Give 2)
-    ∷ (events.Give 3)
-    ∷ (events.Give 4)
-    ∷ (events.Give 5)
-    ∷ (events.Give 6)
-    ∷ (events.Give 7)
-    ∷ (events.Give 8)
-    ∷ (events.LoseMessage 9)
-    ∷ (events.Tick)
-    ∷ (events.LoseMessage 10)
-    ∷ (events.Give 11)
-    ∷ (events.Give 12)
-    ∷ (events.Arrive (ue 1))
-    ∷ (events.Give 13)
-    ∷ (events.Give 14)
-    ∷ (events.Give 15)
-    ∷ (events.Give 17)
-    ∷ (events.Get (CuUp B 1) 3)
-    ∷ (events.Tick)
-    ∷ (events.Give 19)
-    ∷ (events.Give 24)
-    ∷ (events.Get (CuUp B 1) 3)
-    ∷ []
-
-abbrev pub shows : List Shown
-shows = (step (events.Static (plan 1 A 1 1 Len12 1 64)) ([]))
+abbrev pub worked : Worked
+worked = record {
+  steps = (step (events.Static (plan 1 A 1 1 Len12 1 64)) ([]))
     ∷ (step (events.Offer (ue 1) (be 1) Dl (1 ∷ [])) (put_item (tunnel_link (te (CuUp A 1) 1)) (shown (en 1 1 Dl) None (48 ∷ 255 ∷ 0 ∷ 1 ∷ 0 ∷ 0 ∷ 0 ∷ 1 ∷ 1 ∷ [])) ∷ []))
     ∷ (step (events.Get (CuUp A 1) 1) (got_item (tunnel_link (te (CuUp A 1) 1)) (shown (en 1 1 Dl) None (48 ∷ 255 ∷ 0 ∷ 1 ∷ 0 ∷ 0 ∷ 0 ∷ 1 ∷ 1 ∷ [])) ∷ put_item (tunnel_link (te (Du A 1) 1)) (shown (en 1 1 Dl) (Some 0) (52 ∷ 255 ∷ 0 ∷ 15 ∷ 0 ∷ 0 ∷ 0 ∷ 1 ∷ 0 ∷ 0 ∷ 0 ∷ 132 ∷ 2 ∷ 0 ∷ 0 ∷ 0 ∷ 0 ∷ 0 ∷ 0 ∷ 0 ∷ 128 ∷ 0 ∷ 1 ∷ [])) ∷ []))
     ∷ (step (events.Handover (ue 1) B 1 1) (put_message 1 (le (CuCp A) (CuCp B) 1 (xn (xns.HandoverRequest (ue 1) 1 2 1 Len12 64 (pe B 1) 1 None))) ∷ []))
@@ -82,13 +53,8 @@ shows = (step (events.Static (plan 1 A 1 1 Len12 1 64)) ([]))
     ∷ (step (events.Give 19) (got_message 19 (le (CuCp A) (CuCp B) 1 (xn (xns.SnStatusTransfer (ue 1) 2 ((ss 1 1 0 None) ∷ [])))) ∷ put_message 23 (le (CuCp B) (CuCp A) 1 (xn (xns.TransportConfirm (ue 1) 2))) ∷ put_message 24 (le (CuCp B) (CuUp B 1) 1 (e1 (e1s.BearerContextModificationRequest (ue 1) 3 None 3 None None None (Some ((ss 1 1 0 None) ∷ [])) None))) ∷ []))
     ∷ (step (events.Give 24) (got_message 24 (le (CuCp B) (CuUp B 1) 1 (e1 (e1s.BearerContextModificationRequest (ue 1) 3 None 3 None None None (Some ((ss 1 1 0 None) ∷ [])) None))) ∷ put_item (tunnel_link (te (Du B 1) 1)) (shown (en 1 1 Dl) None (52 ∷ 255 ∷ 0 ∷ 17 ∷ 0 ∷ 0 ∷ 0 ∷ 1 ∷ 0 ∷ 0 ∷ 0 ∷ 132 ∷ 2 ∷ 0 ∷ 0 ∷ 0 ∷ 0 ∷ 0 ∷ 0 ∷ 0 ∷ 0 ∷ 0 ∷ 0 ∷ 0 ∷ 0 ∷ [])) ∷ put_message 25 (le (CuUp B 1) (CuCp B) 1 (e1 (e1s.BearerContextModificationResponse (ue 1) 3 None None))) ∷ []))
     ∷ (step (events.Get (CuUp B 1) 3) (got_item (tunnel_link (te (CuUp B 1) 3)) (shown (en 1 1 Dl) (Some 0) (52 ∷ 255 ∷ 0 ∷ 9 ∷ 0 ∷ 0 ∷ 0 ∷ 3 ∷ 0 ∷ 0 ∷ 0 ∷ 192 ∷ 1 ∷ 0 ∷ 0 ∷ 0 ∷ 1 ∷ [])) ∷ put_item (tunnel_link (te (Du B 1) 1)) (shown (en 1 1 Dl) (Some 0) (52 ∷ 255 ∷ 0 ∷ 15 ∷ 0 ∷ 0 ∷ 0 ∷ 1 ∷ 0 ∷ 0 ∷ 0 ∷ 132 ∷ 2 ∷ 0 ∷ 0 ∷ 0 ∷ 0 ∷ 1 ∷ 0 ∷ 0 ∷ 128 ∷ 0 ∷ 1 ∷ [])) ∷ []))
-    ∷ []
-
-abbrev pub stop : Option Stop
-stop = None
-
-abbrev pub faults : List (List ℕ × Option DropReason)
-faults = []
-
-abbrev pub items : List (List ℕ × Bool)
-items = []
+    ∷ [];
+  stop = None;
+  faults = [];
+  items = [];
+}

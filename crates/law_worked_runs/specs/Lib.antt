@@ -1,4 +1,5 @@
 pub mod Short
+pub mod All
 pub mod CancelAndTooLate
 pub mod CausesOfFailed
 pub mod CausesOfFailed2

@@ -22,24 +22,11 @@ use Rattle.scenario_text.specs.declared.event.Event.{Event}
 use Rattle.scenario_text.specs.declared.event.Event.TheVariants as events
 use Rattle.run_defs.specs.Lines.{RunLine, put_item, got_item, put_message, got_message, delivers, lost_items, lost_message, drops_input, held_at, procedure_failed, is_quiet, is_busy, has_settled, has_not_settled, was_refused, tunnel_link, radio_link, shown}
 use Rattle.run_defs.specs.States.{Stop, outstanding, spent_counter}
-use Rattle.law_worked_runs.specs.Short.{ue, be, te, en, tn, ss, pe, plan, le, Shown, step}
+use Rattle.law_worked_runs.specs.Short.{ue, be, te, en, tn, ss, pe, plan, le, step, Worked}
 
-abbrev pub script : List Event
-script = (events.Static (plan 1 A 1 1 Len12 1 64))
-    ∷ (events.Handover (ue 1) A 1 2)
-    ∷ (events.Pump)
-    ∷ (events.Tick)
-    ∷ (events.Give 5)
-    ∷ (events.Pump)
-    ∷ (events.Arrive (ue 1))
-    ∷ (events.Pump)
-    ∷ (events.Release (ue 1))
-    ∷ (events.Give 6)
-    ∷ (events.Tick)
-    ∷ []
-
-abbrev pub shows : List Shown
-shows = (step (events.Static (plan 1 A 1 1 Len12 1 64)) ([]))
+abbrev pub worked : Worked
+worked = record {
+  steps = (step (events.Static (plan 1 A 1 1 Len12 1 64)) ([]))
     ∷ (step (events.Handover (ue 1) A 1 2) (put_message 1 (le (CuCp A) (CuUp A 1) 1 (e1 (e1s.BearerContextModificationRequest (ue 1) 1 None 0 None None None None None))) ∷ []))
     ∷ (step (events.Pump) (got_message 1 (le (CuCp A) (CuUp A 1) 1 (e1 (e1s.BearerContextModificationRequest (ue 1) 1 None 0 None None None None None))) ∷ put_message 2 (le (CuUp A 1) (CuCp A) 1 (e1 (e1s.BearerContextModificationResponse (ue 1) 1 (Some ((tn 1 3) ∷ [])) None))) ∷ got_message 2 (le (CuUp A 1) (CuCp A) 1 (e1 (e1s.BearerContextModificationResponse (ue 1) 1 (Some ((tn 1 3) ∷ [])) None))) ∷ put_message 3 (le (CuCp A) (Du A 2) 1 (f1 (f1s.UeContextSetupRequest (ue 1) 1 2 ((tn 1 3) ∷ []) Len12 (pe A 1)))) ∷ got_message 3 (le (CuCp A) (Du A 2) 1 (f1 (f1s.UeContextSetupRequest (ue 1) 1 2 ((tn 1 3) ∷ []) Len12 (pe A 1)))) ∷ put_message 4 (le (Du A 2) (CuCp A) 1 (f1 (f1s.UeContextSetupResponse (ue 1) 1 ((tn 1 1) ∷ [])))) ∷ got_message 4 (le (Du A 2) (CuCp A) 1 (f1 (f1s.UeContextSetupResponse (ue 1) 1 ((tn 1 1) ∷ [])))) ∷ []))
     ∷ (step (events.Tick) (put_message 5 (le (CuCp A) (Du A 1) 1 (f1 (f1s.DlRrcMessageTransfer (ue 1) (toks.Command (ue 1) 2 A 2)))) ∷ []))
@@ -50,13 +37,8 @@ shows = (step (events.Static (plan 1 A 1 1 Len12 1 64)) ([]))
     ∷ (step (events.Release (ue 1)) (lost_items (radio_link (en 1 1 Ul) 2) 1 ∷ put_message 15 (le (CuCp A) (Du A 2) 1 (f1 (f1s.UeContextReleaseCommand (ue 1) 2))) ∷ put_message 16 (le (CuCp A) (CuUp A 1) 1 (e1 (e1s.BearerContextReleaseCommand (ue 1) 3 true))) ∷ []))
     ∷ (step (events.Give 6) (got_message 6 (le (Du A 1) (Ue 1) 1 (rrc (toks.Command (ue 1) 2 A 2))) ∷ []))
     ∷ (step (events.Tick) (put_message 17 (le (CuCp A) (CuUp A 1) 1 (e1 (e1s.BearerContextReleaseCommand (ue 1) 3 true))) ∷ put_message 18 (le (CuCp A) (Du A 2) 1 (f1 (f1s.UeContextReleaseCommand (ue 1) 2))) ∷ []))
-    ∷ []
-
-abbrev pub stop : Option Stop
-stop = None
-
-abbrev pub faults : List (List ℕ × Option DropReason)
-faults = []
-
-abbrev pub items : List (List ℕ × Bool)
-items = []
+    ∷ [];
+  stop = None;
+  faults = [];
+  items = [];
+}

@@ -22,35 +22,11 @@ use Rattle.scenario_text.specs.declared.event.Event.{Event}
 use Rattle.scenario_text.specs.declared.event.Event.TheVariants as events
 use Rattle.run_defs.specs.Lines.{RunLine, put_item, got_item, put_message, got_message, delivers, lost_items, lost_message, drops_input, held_at, procedure_failed, is_quiet, is_busy, has_settled, has_not_settled, was_refused, tunnel_link, radio_link, shown}
 use Rattle.run_defs.specs.States.{Stop, outstanding, spent_counter}
-use Rattle.law_worked_runs.specs.Short.{ue, be, te, en, tn, ss, pe, plan, le, Shown, step}
+use Rattle.law_worked_runs.specs.Short.{ue, be, te, en, tn, ss, pe, plan, le, step, Worked}
 
-abbrev pub script : List Event
-script = (events.Static (plan 1 A 1 1 Len12 1 64))
-    ∷ (events.Offer (ue 1) (be 1) Dl (1 ∷ []))
-    ∷ (events.Get (CuUp A 1) 1)
-    ∷ (events.Handover (ue 1) B 1 1)
-    ∷ (events.Give 1)
-    ∷ (events.Give 2)
-    ∷ (events.Give 3)
-    ∷ (events.Give 4)
-    ∷ (events.Give 5)
-    ∷ (events.Give 6)
-    ∷ (events.Give 7)
-    ∷ (events.Give 8)
-    ∷ (events.Tick)
-    ∷ (events.Give 11)
-    ∷ (events.Give 12)
-    ∷ (events.Return (ue 1))
-    ∷ (events.Pump)
-    ∷ (events.Settle)
-    ∷ (events.Give 6)
-    ∷ (events.Give 20)
-    ∷ (events.Settle)
-    ∷ (events.Ask (ue 1) (be 1))
-    ∷ []
-
-abbrev pub shows : List Shown
-shows = (step (events.Static (plan 1 A 1 1 Len12 1 64)) ([]))
+abbrev pub worked : Worked
+worked = record {
+  steps = (step (events.Static (plan 1 A 1 1 Len12 1 64)) ([]))
     ∷ (step (events.Offer (ue 1) (be 1) Dl (1 ∷ [])) (put_item (tunnel_link (te (CuUp A 1) 1)) (shown (en 1 1 Dl) None (48 ∷ 255 ∷ 0 ∷ 1 ∷ 0 ∷ 0 ∷ 0 ∷ 1 ∷ 1 ∷ [])) ∷ []))
     ∷ (step (events.Get (CuUp A 1) 1) (got_item (tunnel_link (te (CuUp A 1) 1)) (shown (en 1 1 Dl) None (48 ∷ 255 ∷ 0 ∷ 1 ∷ 0 ∷ 0 ∷ 0 ∷ 1 ∷ 1 ∷ [])) ∷ put_item (tunnel_link (te (Du A 1) 1)) (shown (en 1 1 Dl) (Some 0) (52 ∷ 255 ∷ 0 ∷ 15 ∷ 0 ∷ 0 ∷ 0 ∷ 1 ∷ 0 ∷ 0 ∷ 0 ∷ 132 ∷ 2 ∷ 0 ∷ 0 ∷ 0 ∷ 0 ∷ 0 ∷ 0 ∷ 0 ∷ 128 ∷ 0 ∷ 1 ∷ [])) ∷ []))
     ∷ (step (events.Handover (ue 1) B 1 1) (put_message 1 (le (CuCp A) (CuCp B) 1 (xn (xns.HandoverRequest (ue 1) 1 2 1 Len12 64 (pe B 1) 1 None))) ∷ []))
@@ -72,13 +48,8 @@ shows = (step (events.Static (plan 1 A 1 1 Len12 1 64)) ([]))
     ∷ (step (events.Give 20) (got_message 20 (le (CuCp A) (CuCp B) 1 (xn (xns.HandoverCancel (ue 1) 3))) ∷ put_message 31 (le (CuCp B) (CuCp A) 1 (xn (xns.TransportConfirm (ue 1) 3))) ∷ []))
     ∷ (step (events.Settle) (got_message 31 (le (CuCp B) (CuCp A) 1 (xn (xns.TransportConfirm (ue 1) 3))) ∷ drops_input (CuCp A) drops.Stale ∷ has_settled 1 ∷ is_quiet (ue 1) (be 1) 1 0 ∷ []))
     ∷ (step (events.Ask (ue 1) (be 1)) (is_quiet (ue 1) (be 1) 1 0 ∷ []))
-    ∷ []
-
-abbrev pub stop : Option Stop
-stop = None
-
-abbrev pub faults : List (List ℕ × Option DropReason)
-faults = []
-
-abbrev pub items : List (List ℕ × Bool)
-items = []
+    ∷ [];
+  stop = None;
+  faults = [];
+  items = [];
+}

@@ -22,27 +22,11 @@ use Rattle.scenario_text.specs.declared.event.Event.{Event}
 use Rattle.scenario_text.specs.declared.event.Event.TheVariants as events
 use Rattle.run_defs.specs.Lines.{RunLine, put_item, got_item, put_message, got_message, delivers, lost_items, lost_message, drops_input, held_at, procedure_failed, is_quiet, is_busy, has_settled, has_not_settled, was_refused, tunnel_link, radio_link, shown}
 use Rattle.run_defs.specs.States.{Stop, outstanding, spent_counter}
-use Rattle.law_worked_runs.specs.Short.{ue, be, te, en, tn, ss, pe, plan, le, Shown, step}
+use Rattle.law_worked_runs.specs.Short.{ue, be, te, en, tn, ss, pe, plan, le, step, Worked}
 
-abbrev pub script : List Event
-script = (events.Static (plan 1 A 1 1 Len12 1 64))
-    ∷ (events.Offer (ue 1) (be 1) Dl (1 ∷ []))
-    ∷ (events.Get (CuUp A 1) 1)
-    ∷ (events.Handover (ue 1) B 1 1)
-    ∷ (events.Pump)
-    ∷ (events.Tick)
-    ∷ (events.Pump)
-    ∷ (events.Arrive (ue 1))
-    ∷ (events.Pump)
-    ∷ (events.Handover (ue 1) A 2 2)
-    ∷ (events.Pump)
-    ∷ (events.Cancel (ue 1))
-    ∷ (events.Pump)
-    ∷ (events.Get (CuUp B 1) 3)
-    ∷ []
-
-abbrev pub shows : List Shown
-shows = (step (events.Static (plan 1 A 1 1 Len12 1 64)) ([]))
+abbrev pub worked : Worked
+worked = record {
+  steps = (step (events.Static (plan 1 A 1 1 Len12 1 64)) ([]))
     ∷ (step (events.Offer (ue 1) (be 1) Dl (1 ∷ [])) (put_item (tunnel_link (te (CuUp A 1) 1)) (shown (en 1 1 Dl) None (48 ∷ 255 ∷ 0 ∷ 1 ∷ 0 ∷ 0 ∷ 0 ∷ 1 ∷ 1 ∷ [])) ∷ []))
     ∷ (step (events.Get (CuUp A 1) 1) (got_item (tunnel_link (te (CuUp A 1) 1)) (shown (en 1 1 Dl) None (48 ∷ 255 ∷ 0 ∷ 1 ∷ 0 ∷ 0 ∷ 0 ∷ 1 ∷ 1 ∷ [])) ∷ put_item (tunnel_link (te (Du A 1) 1)) (shown (en 1 1 Dl) (Some 0) (52 ∷ 255 ∷ 0 ∷ 15 ∷ 0 ∷ 0 ∷ 0 ∷ 1 ∷ 0 ∷ 0 ∷ 0 ∷ 132 ∷ 2 ∷ 0 ∷ 0 ∷ 0 ∷ 0 ∷ 0 ∷ 0 ∷ 0 ∷ 128 ∷ 0 ∷ 1 ∷ [])) ∷ []))
     ∷ (step (events.Handover (ue 1) B 1 1) (put_message 1 (le (CuCp A) (CuCp B) 1 (xn (xns.HandoverRequest (ue 1) 1 2 1 Len12 64 (pe B 1) 1 None))) ∷ []))
@@ -56,13 +40,8 @@ shows = (step (events.Static (plan 1 A 1 1 Len12 1 64)) ([]))
     ∷ (step (events.Cancel (ue 1)) (put_message 41 (le (CuCp B) (CuCp A) 1 (xn (xns.HandoverCancel (ue 1) 4))) ∷ put_message 42 (le (CuCp B) (CuUp B 1) 1 (e1 (e1s.BearerContextModificationRequest (ue 1) 5 None 4 None None None None None))) ∷ []))
     ∷ (step (events.Pump) (got_message 41 (le (CuCp B) (CuCp A) 1 (xn (xns.HandoverCancel (ue 1) 4))) ∷ put_message 43 (le (CuCp A) (CuCp B) 1 (xn (xns.TransportConfirm (ue 1) 4))) ∷ put_message 44 (le (CuCp A) (Du A 2) 1 (f1 (f1s.UeContextReleaseCommand (ue 1) 2))) ∷ put_message 45 (le (CuCp A) (CuUp A 2) 1 (e1 (e1s.BearerContextReleaseCommand (ue 1) 3 true))) ∷ got_message 42 (le (CuCp B) (CuUp B 1) 1 (e1 (e1s.BearerContextModificationRequest (ue 1) 5 None 4 None None None None None))) ∷ put_message 46 (le (CuUp B 1) (CuCp B) 1 (e1 (e1s.BearerContextModificationResponse (ue 1) 5 None None))) ∷ got_message 43 (le (CuCp A) (CuCp B) 1 (xn (xns.TransportConfirm (ue 1) 4))) ∷ got_message 44 (le (CuCp A) (Du A 2) 1 (f1 (f1s.UeContextReleaseCommand (ue 1) 2))) ∷ put_message 47 (le (Du A 2) (CuCp A) 1 (f1 (f1s.UeContextReleaseComplete (ue 1) 2))) ∷ put_item (tunnel_link (te (CuUp A 2) 2)) (shown (en 1 1 Ul) None (48 ∷ 254 ∷ 0 ∷ 0 ∷ 0 ∷ 0 ∷ 0 ∷ 2 ∷ [])) ∷ got_message 45 (le (CuCp A) (CuUp A 2) 1 (e1 (e1s.BearerContextReleaseCommand (ue 1) 3 true))) ∷ put_message 48 (le (CuUp A 2) (CuCp A) 1 (e1 (e1s.BearerContextReleaseComplete (ue 1) 3))) ∷ lost_items (tunnel_link (te (CuUp A 2) 2)) 1 ∷ got_message 46 (le (CuUp B 1) (CuCp B) 1 (e1 (e1s.BearerContextModificationResponse (ue 1) 5 None None))) ∷ got_message 47 (le (Du A 2) (CuCp A) 1 (f1 (f1s.UeContextReleaseComplete (ue 1) 2))) ∷ got_message 48 (le (CuUp A 2) (CuCp A) 1 (e1 (e1s.BearerContextReleaseComplete (ue 1) 3))) ∷ []))
     ∷ (step (events.Get (CuUp B 1) 3) (got_item (tunnel_link (te (CuUp B 1) 3)) (shown (en 1 1 Dl) (Some 0) (52 ∷ 255 ∷ 0 ∷ 9 ∷ 0 ∷ 0 ∷ 0 ∷ 3 ∷ 0 ∷ 0 ∷ 0 ∷ 192 ∷ 1 ∷ 0 ∷ 0 ∷ 0 ∷ 1 ∷ [])) ∷ put_item (tunnel_link (te (Du B 1) 1)) (shown (en 1 1 Dl) (Some 0) (52 ∷ 255 ∷ 0 ∷ 15 ∷ 0 ∷ 0 ∷ 0 ∷ 1 ∷ 0 ∷ 0 ∷ 0 ∷ 132 ∷ 2 ∷ 0 ∷ 0 ∷ 0 ∷ 0 ∷ 1 ∷ 0 ∷ 0 ∷ 128 ∷ 0 ∷ 1 ∷ [])) ∷ []))
-    ∷ []
-
-abbrev pub stop : Option Stop
-stop = None
-
-abbrev pub faults : List (List ℕ × Option DropReason)
-faults = []
-
-abbrev pub items : List (List ℕ × Bool)
-items = []
+    ∷ [];
+  stop = None;
+  faults = [];
+  items = [];
+}

@@ -22,21 +22,13 @@ use Rattle.scenario_text.specs.declared.event.Event.{Event}
 use Rattle.scenario_text.specs.declared.event.Event.TheVariants as events
 use Rattle.run_defs.specs.Lines.{RunLine, put_item, got_item, put_message, got_message, delivers, lost_items, lost_message, drops_input, held_at, procedure_failed, is_quiet, is_busy, has_settled, has_not_settled, was_refused, tunnel_link, radio_link, shown}
 use Rattle.run_defs.specs.States.{Stop, outstanding, spent_counter}
-use Rattle.law_worked_runs.specs.Short.{ue, be, te, en, tn, ss, pe, plan, le, Shown, step}
+use Rattle.law_worked_runs.specs.Short.{ue, be, te, en, tn, ss, pe, plan, le, step, Worked}
 
-abbrev pub script : List Event
-script = (events.Settle)
-    ∷ []
-
-abbrev pub shows : List Shown
-shows = (step (events.Settle) (has_settled 0 ∷ []))
-    ∷ []
-
-abbrev pub stop : Option Stop
-stop = None
-
-abbrev pub faults : List (List ℕ × Option DropReason)
-faults = []
-
-abbrev pub items : List (List ℕ × Bool)
-items = []
+abbrev pub worked : Worked
+worked = record {
+  steps = (step (events.Settle) (has_settled 0 ∷ []))
+    ∷ [];
+  stop = None;
+  faults = [];
+  items = [];
+}

@@ -48,7 +48,7 @@ plan u gnb up du sn bearers quota = record { ue = ue u; gnb = gnb; up = up; du =
 abbrev pub le : NodeId → NodeId → ℕ → Message Token → Letter (Message Token)
 le from to u message = record { from = from; to = to; ue = u; message = message }
 
--- a step as it is shown
+-- an event with its lines
 pub record Shown : Type 0 where
   pub event : Event
   pub lines : List (RunLine (Message Token))
@@ -56,11 +56,14 @@ pub record Shown : Type 0 where
 abbrev pub step : Event → List (RunLine (Message Token)) → Shown
 step event lines = record { event = event; lines = lines }
 
-pub record Told : Type 0 where
+-- A worked script: its events with the lines that were worked out, how the run stops, and what the octets from outside are: why they are
+-- no message, and whether they are a tunnel's item.
+pub record Worked : Type 0 where
   pub steps : List Shown
   pub stop : Option Stop
+  pub faults : List (List ℕ × Option DropReason)
+  pub items : List (List ℕ × Bool)
 
--- octets from outside: why they are no message, or that they are one
 abbrev pub fault_of : List (List ℕ × Option DropReason) → List ℕ → Option DropReason
 fault_of [] octets = None
 fault_of (e ∷ es) octets = if bytes_eq e.0 octets then e.1 else fault_of es octets
@@ -69,13 +72,23 @@ abbrev pub is_item_of : List (List ℕ × Bool) → List ℕ → Bool
 is_item_of [] octets = false
 is_item_of (e ∷ es) octets = if bytes_eq e.0 octets then e.1 else is_item_of es octets
 
-abbrev pub reading : List (List ℕ × Option DropReason) → List (List ℕ × Bool) → Reading
-reading faults items = record {
-  message_fault = λ from to octets. fault_of faults octets;
-  is_item = λ units end octets. is_item_of items octets;
+abbrev pub reading : Worked → Reading
+reading w = record {
+  message_fault = λ from to octets. fault_of w.faults octets;
+  is_item = λ units end octets. is_item_of w.items octets;
 }
 
-abbrev pub told : List (List ℕ × Option DropReason) → List (List ℕ × Bool) → List Event → Told
-told faults items events =
-    let t = Run (reading faults items) events in
-    record { steps = map (λ h. step h.event (lines_of (plain_world (reading faults items)) h)) t.events; stop = t.stop }
+-- what a run shows: its steps, and how it stopped
+pub record Told : Type 0 where
+  pub steps : List Shown
+  pub stop : Option Stop
+
+-- what the run of a worked script's events shows, by the definitions
+abbrev pub told : Worked → Told
+told w =
+    let t = Run (reading w) (map (λ s. s.event) w.steps) in
+    record { steps = map (λ h. step h.event (lines_of (plain_world (reading w)) h)) t.events; stop = t.stop }
+
+-- what was worked out for it
+abbrev pub worked_out : Worked → Told
+worked_out w = record { steps = w.steps; stop = w.stop }

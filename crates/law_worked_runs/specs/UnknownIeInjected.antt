@@ -22,27 +22,17 @@ use Rattle.scenario_text.specs.declared.event.Event.{Event}
 use Rattle.scenario_text.specs.declared.event.Event.TheVariants as events
 use Rattle.run_defs.specs.Lines.{RunLine, put_item, got_item, put_message, got_message, delivers, lost_items, lost_message, drops_input, held_at, procedure_failed, is_quiet, is_busy, has_settled, has_not_settled, was_refused, tunnel_link, radio_link, shown}
 use Rattle.run_defs.specs.States.{Stop, outstanding, spent_counter}
-use Rattle.law_worked_runs.specs.Short.{ue, be, te, en, tn, ss, pe, plan, le, Shown, step}
+use Rattle.law_worked_runs.specs.Short.{ue, be, te, en, tn, ss, pe, plan, le, step, Worked}
 
-abbrev pub script : List Event
-script = (events.Static (plan 1 A 1 1 Len12 1 64))
-    ∷ (events.InjectMessage (Du A 1) (CuCp A) (0 ∷ 6 ∷ 0 ∷ 21 ∷ 0 ∷ 0 ∷ 3 ∷ 0 ∷ 1 ∷ 0 ∷ 1 ∷ 0 ∷ 0 ∷ 7 ∷ 0 ∷ 4 ∷ 3 ∷ 64 ∷ 0 ∷ 2 ∷ 0 ∷ 99 ∷ 64 ∷ 1 ∷ 170 ∷ []))
-    ∷ (events.InjectMessage (Du A 1) (CuCp A) (0 ∷ 6 ∷ 0 ∷ 21 ∷ 0 ∷ 0 ∷ 3 ∷ 0 ∷ 1 ∷ 0 ∷ 1 ∷ 0 ∷ 0 ∷ 7 ∷ 0 ∷ 4 ∷ 3 ∷ 64 ∷ 0 ∷ 2 ∷ 0 ∷ 99 ∷ 0 ∷ 1 ∷ 170 ∷ []))
-    ∷ []
-
-abbrev pub shows : List Shown
-shows = (step (events.Static (plan 1 A 1 1 Len12 1 64)) ([]))
+abbrev pub worked : Worked
+worked = record {
+  steps = (step (events.Static (plan 1 A 1 1 Len12 1 64)) ([]))
     ∷ (step (events.InjectMessage (Du A 1) (CuCp A) (0 ∷ 6 ∷ 0 ∷ 21 ∷ 0 ∷ 0 ∷ 3 ∷ 0 ∷ 1 ∷ 0 ∷ 1 ∷ 0 ∷ 0 ∷ 7 ∷ 0 ∷ 4 ∷ 3 ∷ 64 ∷ 0 ∷ 2 ∷ 0 ∷ 99 ∷ 64 ∷ 1 ∷ 170 ∷ [])) (was_refused refusals.Decodable ∷ []))
     ∷ (step (events.InjectMessage (Du A 1) (CuCp A) (0 ∷ 6 ∷ 0 ∷ 21 ∷ 0 ∷ 0 ∷ 3 ∷ 0 ∷ 1 ∷ 0 ∷ 1 ∷ 0 ∷ 0 ∷ 7 ∷ 0 ∷ 4 ∷ 3 ∷ 64 ∷ 0 ∷ 2 ∷ 0 ∷ 99 ∷ 0 ∷ 1 ∷ 170 ∷ [])) (drops_input (CuCp A) drops.Criticality ∷ []))
-    ∷ []
-
-abbrev pub stop : Option Stop
-stop = None
-
-abbrev pub faults : List (List ℕ × Option DropReason)
-faults = ((0 ∷ 6 ∷ 0 ∷ 21 ∷ 0 ∷ 0 ∷ 3 ∷ 0 ∷ 1 ∷ 0 ∷ 1 ∷ 0 ∷ 0 ∷ 7 ∷ 0 ∷ 4 ∷ 3 ∷ 64 ∷ 0 ∷ 2 ∷ 0 ∷ 99 ∷ 64 ∷ 1 ∷ 170 ∷ []), None)
+    ∷ [];
+  stop = None;
+  faults = ((0 ∷ 6 ∷ 0 ∷ 21 ∷ 0 ∷ 0 ∷ 3 ∷ 0 ∷ 1 ∷ 0 ∷ 1 ∷ 0 ∷ 0 ∷ 7 ∷ 0 ∷ 4 ∷ 3 ∷ 64 ∷ 0 ∷ 2 ∷ 0 ∷ 99 ∷ 64 ∷ 1 ∷ 170 ∷ []), None)
     ∷ ((0 ∷ 6 ∷ 0 ∷ 21 ∷ 0 ∷ 0 ∷ 3 ∷ 0 ∷ 1 ∷ 0 ∷ 1 ∷ 0 ∷ 0 ∷ 7 ∷ 0 ∷ 4 ∷ 3 ∷ 64 ∷ 0 ∷ 2 ∷ 0 ∷ 99 ∷ 0 ∷ 1 ∷ 170 ∷ []), Some drops.Criticality)
-    ∷ []
-
-abbrev pub items : List (List ℕ × Bool)
-items = []
+    ∷ [];
+  items = [];
+}
