@@ -1,7 +1,7 @@
 #!/usr/bin/env python3
 """Runs each example, and compares what the program prints with the transcript beside it (`NAME.script` or `NAME.check`, and `NAME.out`).
 
-The last line of a transcript tells the status: it is `stop STATUS ..`, or the status is 0.
+The last line of a transcript has the status: it is `stop STATUS ..`, or the status is 0.
 
 Usage: tools/examples.py
 """
