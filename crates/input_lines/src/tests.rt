@@ -17,9 +17,11 @@ fn a_read_fault(rt: HostRuntime) -> Result<(), Fail> {
         Vec::from_slice(alloc, &[2])?,
     );
     let mut reader = LineReader::new(alloc)?;
-    let line = next_line(&mut reader, &mut source);
-    assert!(rt; matches!(line, Ok(Some(line)) if line.text.as_slice() == b"one".as_slice()));
-    let line = next_line(&mut reader, &mut source);
-    assert!(rt; matches!(line, Err(InputEnd::ReadFault { taken: 5 })));
+    let first = next_line(&mut reader, &mut source);
+    let is_one = matches!(&first, Ok(Some(line)) if line.text.as_slice() == b"one".as_slice());
+    assert!(rt; is_one);
+    let end = next_line(&mut reader, &mut source);
+    let is_fault = matches!(&end, Err(InputEnd::ReadFault { taken: 5 }));
+    assert!(rt; is_fault);
     Ok(())
 }

@@ -27,11 +27,11 @@ use Rattle.law_worked_runs.specs.Short.{ue, be, te, en, tn, ss, pe, plan, le, st
 abbrev pub worked : Worked
 worked = record {
   steps = (step (events.Start) (put_message 1 (le (CuUp A 1) (CuCp A) 0 (e1 (e1s.E1SetupRequest 1 (node_text (CuUp A 1))))) ∷ put_message 2 (le (CuUp A 2) (CuCp A) 0 (e1 (e1s.E1SetupRequest 1 (node_text (CuUp A 2))))) ∷ put_message 3 (le (Du A 1) (CuCp A) 0 (f1 (f1s.F1SetupRequest 1 (node_text (Du A 1))))) ∷ put_message 4 (le (Du A 2) (CuCp A) 0 (f1 (f1s.F1SetupRequest 1 (node_text (Du A 2))))) ∷ put_message 5 (le (CuUp B 1) (CuCp B) 0 (e1 (e1s.E1SetupRequest 1 (node_text (CuUp B 1))))) ∷ put_message 6 (le (CuUp B 2) (CuCp B) 0 (e1 (e1s.E1SetupRequest 1 (node_text (CuUp B 2))))) ∷ put_message 7 (le (Du B 1) (CuCp B) 0 (f1 (f1s.F1SetupRequest 1 (node_text (Du B 1))))) ∷ put_message 8 (le (Du B 2) (CuCp B) 0 (f1 (f1s.F1SetupRequest 1 (node_text (Du B 2))))) ∷ []))
-    ∷ (step (events.Pump) (got_message 1 (le (CuUp A 1) (CuCp A) 0 (e1 (e1s.E1SetupRequest 1 (node_text (CuUp A 1))))) ∷ put_message 9 (le (CuCp A) (CuUp A 1) 0 (e1 (e1s.E1SetupResponse 1))) ∷ got_message 2 (le (CuUp A 2) (CuCp A) 0 (e1 (e1s.E1SetupRequest 1 (node_text (CuUp A 2))))) ∷ put_message 10 (le (CuCp A) (CuUp A 2) 0 (e1 (e1s.E1SetupResponse 1))) ∷ got_message 3 (le (Du A 1) (CuCp A) 0 (f1 (f1s.F1SetupRequest 1 (node_text (Du A 1))))) ∷ put_message 11 (le (CuCp A) (Du A 1) 0 (f1 (f1s.F1SetupResponse 1))) ∷ got_message 4 (le (Du A 2) (CuCp A) 0 (f1 (f1s.F1SetupRequest 1 (node_text (Du A 2))))) ∷ put_message 12 (le (CuCp A) (Du A 2) 0 (f1 (f1s.F1SetupResponse 1))) ∷ got_message 5 (le (CuUp B 1) (CuCp B) 0 (e1 (e1s.E1SetupRequest 1 (node_text (CuUp B 1))))) ∷ put_message 13 (le (CuCp B) (CuUp B 1) 0 (e1 (e1s.E1SetupResponse 1))) ∷ got_message 6 (le (CuUp B 2) (CuCp B) 0 (e1 (e1s.E1SetupRequest 1 (node_text (CuUp B 2))))) ∷ put_message 14 (le (CuCp B) (CuUp B 2) 0 (e1 (e1s.E1SetupResponse 1))) ∷ got_message 7 (le (Du B 1) (CuCp B) 0 (f1 (f1s.F1SetupRequest 1 (node_text (Du B 1))))) ∷ put_message 15 (le (CuCp B) (Du B 1) 0 (f1 (f1s.F1SetupResponse 1))) ∷ got_message 8 (le (Du B 2) (CuCp B) 0 (f1 (f1s.F1SetupRequest 1 (node_text (Du B 2))))) ∷ put_message 16 (le (CuCp B) (Du B 2) 0 (f1 (f1s.F1SetupResponse 1))) ∷ got_message 9 (le (CuCp A) (CuUp A 1) 0 (e1 (e1s.E1SetupResponse 1))) ∷ got_message 10 (le (CuCp A) (CuUp A 2) 0 (e1 (e1s.E1SetupResponse 1))) ∷ got_message 11 (le (CuCp A) (Du A 1) 0 (f1 (f1s.F1SetupResponse 1))) ∷ got_message 12 (le (CuCp A) (Du A 2) 0 (f1 (f1s.F1SetupResponse 1))) ∷ got_message 13 (le (CuCp B) (CuUp B 1) 0 (e1 (e1s.E1SetupResponse 1))) ∷ got_message 14 (le (CuCp B) (CuUp B 2) 0 (e1 (e1s.E1SetupResponse 1))) ∷ got_message 15 (le (CuCp B) (Du B 1) 0 (f1 (f1s.F1SetupResponse 1))) ∷ got_message 16 (le (CuCp B) (Du B 2) 0 (f1 (f1s.F1SetupResponse 1))) ∷ []))
-    ∷ (step (events.Static (plan 2 A 1 1 Len12 1 4096)) ([]))
-    ∷ (step (events.Attach (plan 1 A 1 1 Len12 1 4)) (put_message 17 (le (CuCp A) (CuUp A 1) 1 (e1 (e1s.BearerContextSetupRequest (ue 1) 1 1 Len12 4 false))) ∷ []))
-    ∷ (step (events.Pump) (got_message 17 (le (CuCp A) (CuUp A 1) 1 (e1 (e1s.BearerContextSetupRequest (ue 1) 1 1 Len12 4 false))) ∷ put_message 18 (le (CuUp A 1) (CuCp A) 1 (e1 (e1s.BearerContextSetupFailure (ue 1) 1 0))) ∷ got_message 18 (le (CuUp A 1) (CuCp A) 1 (e1 (e1s.BearerContextSetupFailure (ue 1) 1 0))) ∷ procedure_failed (CuCp A) (ue 1) causes.Quota ∷ []))
-    ∷ [];
+      ∷ (step (events.Pump) (got_message 1 (le (CuUp A 1) (CuCp A) 0 (e1 (e1s.E1SetupRequest 1 (node_text (CuUp A 1))))) ∷ put_message 9 (le (CuCp A) (CuUp A 1) 0 (e1 (e1s.E1SetupResponse 1))) ∷ got_message 2 (le (CuUp A 2) (CuCp A) 0 (e1 (e1s.E1SetupRequest 1 (node_text (CuUp A 2))))) ∷ put_message 10 (le (CuCp A) (CuUp A 2) 0 (e1 (e1s.E1SetupResponse 1))) ∷ got_message 3 (le (Du A 1) (CuCp A) 0 (f1 (f1s.F1SetupRequest 1 (node_text (Du A 1))))) ∷ put_message 11 (le (CuCp A) (Du A 1) 0 (f1 (f1s.F1SetupResponse 1))) ∷ got_message 4 (le (Du A 2) (CuCp A) 0 (f1 (f1s.F1SetupRequest 1 (node_text (Du A 2))))) ∷ put_message 12 (le (CuCp A) (Du A 2) 0 (f1 (f1s.F1SetupResponse 1))) ∷ got_message 5 (le (CuUp B 1) (CuCp B) 0 (e1 (e1s.E1SetupRequest 1 (node_text (CuUp B 1))))) ∷ put_message 13 (le (CuCp B) (CuUp B 1) 0 (e1 (e1s.E1SetupResponse 1))) ∷ got_message 6 (le (CuUp B 2) (CuCp B) 0 (e1 (e1s.E1SetupRequest 1 (node_text (CuUp B 2))))) ∷ put_message 14 (le (CuCp B) (CuUp B 2) 0 (e1 (e1s.E1SetupResponse 1))) ∷ got_message 7 (le (Du B 1) (CuCp B) 0 (f1 (f1s.F1SetupRequest 1 (node_text (Du B 1))))) ∷ put_message 15 (le (CuCp B) (Du B 1) 0 (f1 (f1s.F1SetupResponse 1))) ∷ got_message 8 (le (Du B 2) (CuCp B) 0 (f1 (f1s.F1SetupRequest 1 (node_text (Du B 2))))) ∷ put_message 16 (le (CuCp B) (Du B 2) 0 (f1 (f1s.F1SetupResponse 1))) ∷ got_message 9 (le (CuCp A) (CuUp A 1) 0 (e1 (e1s.E1SetupResponse 1))) ∷ got_message 10 (le (CuCp A) (CuUp A 2) 0 (e1 (e1s.E1SetupResponse 1))) ∷ got_message 11 (le (CuCp A) (Du A 1) 0 (f1 (f1s.F1SetupResponse 1))) ∷ got_message 12 (le (CuCp A) (Du A 2) 0 (f1 (f1s.F1SetupResponse 1))) ∷ got_message 13 (le (CuCp B) (CuUp B 1) 0 (e1 (e1s.E1SetupResponse 1))) ∷ got_message 14 (le (CuCp B) (CuUp B 2) 0 (e1 (e1s.E1SetupResponse 1))) ∷ got_message 15 (le (CuCp B) (Du B 1) 0 (f1 (f1s.F1SetupResponse 1))) ∷ got_message 16 (le (CuCp B) (Du B 2) 0 (f1 (f1s.F1SetupResponse 1))) ∷ []))
+      ∷ (step (events.Static (plan 2 A 1 1 Len12 1 4096)) ([]))
+      ∷ (step (events.Attach (plan 1 A 1 1 Len12 1 4)) (put_message 17 (le (CuCp A) (CuUp A 1) 1 (e1 (e1s.BearerContextSetupRequest (ue 1) 1 1 Len12 4 false))) ∷ []))
+      ∷ (step (events.Pump) (got_message 17 (le (CuCp A) (CuUp A 1) 1 (e1 (e1s.BearerContextSetupRequest (ue 1) 1 1 Len12 4 false))) ∷ put_message 18 (le (CuUp A 1) (CuCp A) 1 (e1 (e1s.BearerContextSetupFailure (ue 1) 1 0))) ∷ got_message 18 (le (CuUp A 1) (CuCp A) 1 (e1 (e1s.BearerContextSetupFailure (ue 1) 1 0))) ∷ procedure_failed (CuCp A) (ue 1) causes.Quota ∷ []))
+      ∷ [];
   stop = None;
   faults = [];
   items = [];

@@ -27,10 +27,10 @@ use Rattle.law_worked_runs.specs.Short.{ue, be, te, en, tn, ss, pe, plan, le, st
 abbrev pub worked : Worked
 worked = record {
   steps = (step (events.Static (plan 2 B 1 1 Len12 1 4096)) ([]))
-    ∷ (step (events.Static (plan 1 A 1 1 Len12 1 64)) ([]))
-    ∷ (step (events.Handover (ue 1) B 1 2) (put_message 1 (le (CuCp A) (CuCp B) 1 (xn (xns.HandoverRequest (ue 1) 1 2 1 Len12 64 (pe B 1) 2 None))) ∷ []))
-    ∷ (step (events.Pump) (got_message 1 (le (CuCp A) (CuCp B) 1 (xn (xns.HandoverRequest (ue 1) 1 2 1 Len12 64 (pe B 1) 2 None))) ∷ put_message 2 (le (CuCp B) (CuUp B 1) 1 (e1 (e1s.BearerContextSetupRequest (ue 1) 1 1 Len12 64 true))) ∷ got_message 2 (le (CuCp B) (CuUp B 1) 1 (e1 (e1s.BearerContextSetupRequest (ue 1) 1 1 Len12 64 true))) ∷ put_message 3 (le (CuUp B 1) (CuCp B) 1 (e1 (e1s.BearerContextSetupFailure (ue 1) 1 0))) ∷ got_message 3 (le (CuUp B 1) (CuCp B) 1 (e1 (e1s.BearerContextSetupFailure (ue 1) 1 0))) ∷ put_message 4 (le (CuCp B) (CuCp A) 1 (xn (xns.HandoverPreparationFailure (ue 1) 1 0))) ∷ got_message 4 (le (CuCp B) (CuCp A) 1 (xn (xns.HandoverPreparationFailure (ue 1) 1 0))) ∷ procedure_failed (CuCp A) (ue 1) causes.Quota ∷ []))
-    ∷ [];
+      ∷ (step (events.Static (plan 1 A 1 1 Len12 1 64)) ([]))
+      ∷ (step (events.Handover (ue 1) B 1 2) (put_message 1 (le (CuCp A) (CuCp B) 1 (xn (xns.HandoverRequest (ue 1) 1 2 1 Len12 64 (pe B 1) 2 None))) ∷ []))
+      ∷ (step (events.Pump) (got_message 1 (le (CuCp A) (CuCp B) 1 (xn (xns.HandoverRequest (ue 1) 1 2 1 Len12 64 (pe B 1) 2 None))) ∷ put_message 2 (le (CuCp B) (CuUp B 1) 1 (e1 (e1s.BearerContextSetupRequest (ue 1) 1 1 Len12 64 true))) ∷ got_message 2 (le (CuCp B) (CuUp B 1) 1 (e1 (e1s.BearerContextSetupRequest (ue 1) 1 1 Len12 64 true))) ∷ put_message 3 (le (CuUp B 1) (CuCp B) 1 (e1 (e1s.BearerContextSetupFailure (ue 1) 1 0))) ∷ got_message 3 (le (CuUp B 1) (CuCp B) 1 (e1 (e1s.BearerContextSetupFailure (ue 1) 1 0))) ∷ put_message 4 (le (CuCp B) (CuCp A) 1 (xn (xns.HandoverPreparationFailure (ue 1) 1 0))) ∷ got_message 4 (le (CuCp B) (CuCp A) 1 (xn (xns.HandoverPreparationFailure (ue 1) 1 0))) ∷ procedure_failed (CuCp A) (ue 1) causes.Quota ∷ []))
+      ∷ [];
   stop = None;
   faults = [];
   items = [];

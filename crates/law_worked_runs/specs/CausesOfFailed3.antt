@@ -27,8 +27,8 @@ use Rattle.law_worked_runs.specs.Short.{ue, be, te, en, tn, ss, pe, plan, le, st
 abbrev pub worked : Worked
 worked = record {
   steps = (step (events.Static (plan 2 B 1 1 Len12 1 4096)) ([]))
-    ∷ (step (events.Static (plan 3 B 1 1 Len12 1 4)) (was_refused refusals.Quota ∷ []))
-    ∷ [];
+      ∷ (step (events.Static (plan 3 B 1 1 Len12 1 4)) (was_refused refusals.Quota ∷ []))
+      ∷ [];
   stop = None;
   faults = [];
   items = [];

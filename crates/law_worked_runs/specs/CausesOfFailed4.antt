@@ -27,15 +27,15 @@ use Rattle.law_worked_runs.specs.Short.{ue, be, te, en, tn, ss, pe, plan, le, st
 abbrev pub worked : Worked
 worked = record {
   steps = (step (events.Static (plan 1 A 1 1 Len12 1 64)) ([]))
-    ∷ (step (events.Handover (ue 1) B 1 1) (put_message 1 (le (CuCp A) (CuCp B) 1 (xn (xns.HandoverRequest (ue 1) 1 2 1 Len12 64 (pe B 1) 1 None))) ∷ []))
-    ∷ (step (events.Pump) (got_message 1 (le (CuCp A) (CuCp B) 1 (xn (xns.HandoverRequest (ue 1) 1 2 1 Len12 64 (pe B 1) 1 None))) ∷ put_message 2 (le (CuCp B) (CuUp B 1) 1 (e1 (e1s.BearerContextSetupRequest (ue 1) 1 1 Len12 64 true))) ∷ got_message 2 (le (CuCp B) (CuUp B 1) 1 (e1 (e1s.BearerContextSetupRequest (ue 1) 1 1 Len12 64 true))) ∷ put_message 3 (le (CuUp B 1) (CuCp B) 1 (e1 (e1s.BearerContextSetupResponse (ue 1) 1 ((tn 1 2) ∷ []) ((tn 1 1) ∷ []) (Some ((tn 1 3) ∷ [])) (Some ((tn 1 4) ∷ []))))) ∷ got_message 3 (le (CuUp B 1) (CuCp B) 1 (e1 (e1s.BearerContextSetupResponse (ue 1) 1 ((tn 1 2) ∷ []) ((tn 1 1) ∷ []) (Some ((tn 1 3) ∷ [])) (Some ((tn 1 4) ∷ []))))) ∷ put_message 4 (le (CuCp B) (Du B 1) 1 (f1 (f1s.UeContextSetupRequest (ue 1) 1 2 ((tn 1 2) ∷ []) Len12 (pe B 1)))) ∷ got_message 4 (le (CuCp B) (Du B 1) 1 (f1 (f1s.UeContextSetupRequest (ue 1) 1 2 ((tn 1 2) ∷ []) Len12 (pe B 1)))) ∷ put_message 5 (le (Du B 1) (CuCp B) 1 (f1 (f1s.UeContextSetupResponse (ue 1) 1 ((tn 1 1) ∷ [])))) ∷ got_message 5 (le (Du B 1) (CuCp B) 1 (f1 (f1s.UeContextSetupResponse (ue 1) 1 ((tn 1 1) ∷ [])))) ∷ put_message 6 (le (CuCp B) (CuCp A) 1 (xn (xns.HandoverRequestAcknowledge (ue 1) 1 (pe B 1) ((tn 1 3) ∷ []) ((tn 1 4) ∷ [])))) ∷ got_message 6 (le (CuCp B) (CuCp A) 1 (xn (xns.HandoverRequestAcknowledge (ue 1) 1 (pe B 1) ((tn 1 3) ∷ []) ((tn 1 4) ∷ [])))) ∷ put_message 7 (le (CuCp A) (CuUp A 1) 1 (e1 (e1s.BearerContextModificationRequest (ue 1) 1 None 2 (Some (pe B 1)) (Some ((tn 1 3) ∷ [])) (Some ((tn 1 4) ∷ [])) None None))) ∷ got_message 7 (le (CuCp A) (CuUp A 1) 1 (e1 (e1s.BearerContextModificationRequest (ue 1) 1 None 2 (Some (pe B 1)) (Some ((tn 1 3) ∷ [])) (Some ((tn 1 4) ∷ [])) None None))) ∷ put_message 8 (le (CuUp A 1) (CuCp A) 1 (e1 (e1s.BearerContextModificationResponse (ue 1) 1 None (Some ((ss 1 0 0 None) ∷ []))))) ∷ got_message 8 (le (CuUp A 1) (CuCp A) 1 (e1 (e1s.BearerContextModificationResponse (ue 1) 1 None (Some ((ss 1 0 0 None) ∷ []))))) ∷ put_message 9 (le (CuCp A) (CuCp B) 1 (xn (xns.SnStatusTransfer (ue 1) 2 ((ss 1 0 0 None) ∷ [])))) ∷ got_message 9 (le (CuCp A) (CuCp B) 1 (xn (xns.SnStatusTransfer (ue 1) 2 ((ss 1 0 0 None) ∷ [])))) ∷ put_message 10 (le (CuCp B) (CuCp A) 1 (xn (xns.TransportConfirm (ue 1) 2))) ∷ put_message 11 (le (CuCp B) (CuUp B 1) 1 (e1 (e1s.BearerContextModificationRequest (ue 1) 2 None 3 None None None (Some ((ss 1 0 0 None) ∷ [])) None))) ∷ got_message 10 (le (CuCp B) (CuCp A) 1 (xn (xns.TransportConfirm (ue 1) 2))) ∷ got_message 11 (le (CuCp B) (CuUp B 1) 1 (e1 (e1s.BearerContextModificationRequest (ue 1) 2 None 3 None None None (Some ((ss 1 0 0 None) ∷ [])) None))) ∷ put_message 12 (le (CuUp B 1) (CuCp B) 1 (e1 (e1s.BearerContextModificationResponse (ue 1) 2 None None))) ∷ got_message 12 (le (CuUp B 1) (CuCp B) 1 (e1 (e1s.BearerContextModificationResponse (ue 1) 2 None None))) ∷ []))
-    ∷ (step (events.Tick) (put_message 13 (le (CuCp A) (Du A 1) 1 (f1 (f1s.DlRrcMessageTransfer (ue 1) (toks.Command (ue 1) 2 B 1)))) ∷ []))
-    ∷ (step (events.Pump) (got_message 13 (le (CuCp A) (Du A 1) 1 (f1 (f1s.DlRrcMessageTransfer (ue 1) (toks.Command (ue 1) 2 B 1)))) ∷ put_message 14 (le (Du A 1) (Ue 1) 1 (rrc (toks.Command (ue 1) 2 B 1))) ∷ got_message 14 (le (Du A 1) (Ue 1) 1 (rrc (toks.Command (ue 1) 2 B 1))) ∷ []))
-    ∷ (step (events.Arrive (ue 1)) (put_message 15 (le (Ue 1) (Du B 1) 1 (rrc (toks.Complete (ue 1) 2))) ∷ put_item (radio_link (en 1 1 Ul) 2) (shown (en 1 1 Ul) None (0 ∷ 0 ∷ 0 ∷ 0 ∷ 0 ∷ [])) ∷ []))
-    ∷ (step (events.Pump) (got_message 15 (le (Ue 1) (Du B 1) 1 (rrc (toks.Complete (ue 1) 2))) ∷ put_message 16 (le (Du B 1) (CuCp B) 1 (f1 (f1s.UlRrcMessageTransfer (ue 1) (toks.Complete (ue 1) 2)))) ∷ got_message 16 (le (Du B 1) (CuCp B) 1 (f1 (f1s.UlRrcMessageTransfer (ue 1) (toks.Complete (ue 1) 2)))) ∷ put_message 17 (le (CuCp B) (CuUp B 1) 1 (e1 (e1s.BearerContextModificationRequest (ue 1) 3 (Some ((tn 1 1) ∷ [])) 1 None None None None (Some 1)))) ∷ put_message 18 (le (CuCp B) Core 1 (core (cores.PathSwitchRequest (ue 1) 1 (pe B 1) ((tn 1 1) ∷ [])))) ∷ got_message 17 (le (CuCp B) (CuUp B 1) 1 (e1 (e1s.BearerContextModificationRequest (ue 1) 3 (Some ((tn 1 1) ∷ [])) 1 None None None None (Some 1)))) ∷ put_item (tunnel_link (te (Du B 1) 1)) (shown (en 1 1 Dl) None (52 ∷ 255 ∷ 0 ∷ 17 ∷ 0 ∷ 0 ∷ 0 ∷ 1 ∷ 0 ∷ 0 ∷ 0 ∷ 132 ∷ 2 ∷ 0 ∷ 0 ∷ 0 ∷ 0 ∷ 0 ∷ 0 ∷ 0 ∷ 0 ∷ 0 ∷ 0 ∷ 0 ∷ 0 ∷ [])) ∷ put_message 19 (le (CuUp B 1) (CuCp B) 1 (e1 (e1s.BearerContextModificationResponse (ue 1) 3 None None))) ∷ got_message 18 (le (CuCp B) Core 1 (core (cores.PathSwitchRequest (ue 1) 1 (pe B 1) ((tn 1 1) ∷ [])))) ∷ put_message 20 (le Core (CuCp B) 1 (core (cores.PathSwitchAcknowledge (ue 1) 1))) ∷ put_item (tunnel_link (te (CuUp A 1) 1)) (shown (en 1 1 Dl) None (48 ∷ 254 ∷ 0 ∷ 0 ∷ 0 ∷ 0 ∷ 0 ∷ 1 ∷ [])) ∷ got_message 19 (le (CuUp B 1) (CuCp B) 1 (e1 (e1s.BearerContextModificationResponse (ue 1) 3 None None))) ∷ put_message 21 (le (CuCp B) (Du B 1) 1 (f1 (f1s.DlRrcMessageTransfer (ue 1) (toks.Accepted (ue 1) 2)))) ∷ got_message 20 (le Core (CuCp B) 1 (core (cores.PathSwitchAcknowledge (ue 1) 1))) ∷ put_message 22 (le (CuCp B) (CuCp A) 1 (xn (xns.UeContextRelease (ue 1) 1))) ∷ got_message 21 (le (CuCp B) (Du B 1) 1 (f1 (f1s.DlRrcMessageTransfer (ue 1) (toks.Accepted (ue 1) 2)))) ∷ put_message 23 (le (Du B 1) (Ue 1) 1 (rrc (toks.Accepted (ue 1) 2))) ∷ got_message 22 (le (CuCp B) (CuCp A) 1 (xn (xns.UeContextRelease (ue 1) 1))) ∷ put_message 24 (le (CuCp A) (CuCp B) 1 (xn (xns.TransportConfirm (ue 1) 1))) ∷ put_message 25 (le (CuCp A) (Du A 1) 1 (f1 (f1s.UeContextReleaseCommand (ue 1) 1))) ∷ put_message 26 (le (CuCp A) (CuUp A 1) 1 (e1 (e1s.BearerContextReleaseCommand (ue 1) 2 false))) ∷ got_message 23 (le (Du B 1) (Ue 1) 1 (rrc (toks.Accepted (ue 1) 2))) ∷ got_message 24 (le (CuCp A) (CuCp B) 1 (xn (xns.TransportConfirm (ue 1) 1))) ∷ got_message 25 (le (CuCp A) (Du A 1) 1 (f1 (f1s.UeContextReleaseCommand (ue 1) 1))) ∷ put_message 27 (le (Du A 1) (CuCp A) 1 (f1 (f1s.UeContextReleaseComplete (ue 1) 1))) ∷ put_item (tunnel_link (te (CuUp A 1) 2)) (shown (en 1 1 Ul) None (48 ∷ 254 ∷ 0 ∷ 0 ∷ 0 ∷ 0 ∷ 0 ∷ 2 ∷ [])) ∷ got_message 26 (le (CuCp A) (CuUp A 1) 1 (e1 (e1s.BearerContextReleaseCommand (ue 1) 2 false))) ∷ put_message 28 (le (CuUp A 1) (CuCp A) 1 (e1 (e1s.BearerContextReleaseComplete (ue 1) 2))) ∷ got_message 27 (le (Du A 1) (CuCp A) 1 (f1 (f1s.UeContextReleaseComplete (ue 1) 1))) ∷ got_message 28 (le (CuUp A 1) (CuCp A) 1 (e1 (e1s.BearerContextReleaseComplete (ue 1) 2))) ∷ []))
-    ∷ (step (events.Handover (ue 1) A 1 1) (put_message 29 (le (CuCp B) (CuCp A) 1 (xn (xns.HandoverRequest (ue 1) 2 3 1 Len12 64 (pe A 1) 1 None))) ∷ []))
-    ∷ (step (events.Pump) (got_message 29 (le (CuCp B) (CuCp A) 1 (xn (xns.HandoverRequest (ue 1) 2 3 1 Len12 64 (pe A 1) 1 None))) ∷ put_message 30 (le (CuCp A) (CuUp A 1) 1 (e1 (e1s.BearerContextSetupRequest (ue 1) 3 1 Len12 64 true))) ∷ got_message 30 (le (CuCp A) (CuUp A 1) 1 (e1 (e1s.BearerContextSetupRequest (ue 1) 3 1 Len12 64 true))) ∷ put_message 31 (le (CuUp A 1) (CuCp A) 1 (e1 (e1s.BearerContextSetupFailure (ue 1) 3 1))) ∷ got_message 31 (le (CuUp A 1) (CuCp A) 1 (e1 (e1s.BearerContextSetupFailure (ue 1) 3 1))) ∷ put_message 32 (le (CuCp A) (CuCp B) 1 (xn (xns.HandoverPreparationFailure (ue 1) 2 1))) ∷ got_message 32 (le (CuCp A) (CuCp B) 1 (xn (xns.HandoverPreparationFailure (ue 1) 2 1))) ∷ procedure_failed (CuCp B) (ue 1) causes.Busy ∷ []))
-    ∷ [];
+      ∷ (step (events.Handover (ue 1) B 1 1) (put_message 1 (le (CuCp A) (CuCp B) 1 (xn (xns.HandoverRequest (ue 1) 1 2 1 Len12 64 (pe B 1) 1 None))) ∷ []))
+      ∷ (step (events.Pump) (got_message 1 (le (CuCp A) (CuCp B) 1 (xn (xns.HandoverRequest (ue 1) 1 2 1 Len12 64 (pe B 1) 1 None))) ∷ put_message 2 (le (CuCp B) (CuUp B 1) 1 (e1 (e1s.BearerContextSetupRequest (ue 1) 1 1 Len12 64 true))) ∷ got_message 2 (le (CuCp B) (CuUp B 1) 1 (e1 (e1s.BearerContextSetupRequest (ue 1) 1 1 Len12 64 true))) ∷ put_message 3 (le (CuUp B 1) (CuCp B) 1 (e1 (e1s.BearerContextSetupResponse (ue 1) 1 ((tn 1 2) ∷ []) ((tn 1 1) ∷ []) (Some ((tn 1 3) ∷ [])) (Some ((tn 1 4) ∷ []))))) ∷ got_message 3 (le (CuUp B 1) (CuCp B) 1 (e1 (e1s.BearerContextSetupResponse (ue 1) 1 ((tn 1 2) ∷ []) ((tn 1 1) ∷ []) (Some ((tn 1 3) ∷ [])) (Some ((tn 1 4) ∷ []))))) ∷ put_message 4 (le (CuCp B) (Du B 1) 1 (f1 (f1s.UeContextSetupRequest (ue 1) 1 2 ((tn 1 2) ∷ []) Len12 (pe B 1)))) ∷ got_message 4 (le (CuCp B) (Du B 1) 1 (f1 (f1s.UeContextSetupRequest (ue 1) 1 2 ((tn 1 2) ∷ []) Len12 (pe B 1)))) ∷ put_message 5 (le (Du B 1) (CuCp B) 1 (f1 (f1s.UeContextSetupResponse (ue 1) 1 ((tn 1 1) ∷ [])))) ∷ got_message 5 (le (Du B 1) (CuCp B) 1 (f1 (f1s.UeContextSetupResponse (ue 1) 1 ((tn 1 1) ∷ [])))) ∷ put_message 6 (le (CuCp B) (CuCp A) 1 (xn (xns.HandoverRequestAcknowledge (ue 1) 1 (pe B 1) ((tn 1 3) ∷ []) ((tn 1 4) ∷ [])))) ∷ got_message 6 (le (CuCp B) (CuCp A) 1 (xn (xns.HandoverRequestAcknowledge (ue 1) 1 (pe B 1) ((tn 1 3) ∷ []) ((tn 1 4) ∷ [])))) ∷ put_message 7 (le (CuCp A) (CuUp A 1) 1 (e1 (e1s.BearerContextModificationRequest (ue 1) 1 None 2 (Some (pe B 1)) (Some ((tn 1 3) ∷ [])) (Some ((tn 1 4) ∷ [])) None None))) ∷ got_message 7 (le (CuCp A) (CuUp A 1) 1 (e1 (e1s.BearerContextModificationRequest (ue 1) 1 None 2 (Some (pe B 1)) (Some ((tn 1 3) ∷ [])) (Some ((tn 1 4) ∷ [])) None None))) ∷ put_message 8 (le (CuUp A 1) (CuCp A) 1 (e1 (e1s.BearerContextModificationResponse (ue 1) 1 None (Some ((ss 1 0 0 None) ∷ []))))) ∷ got_message 8 (le (CuUp A 1) (CuCp A) 1 (e1 (e1s.BearerContextModificationResponse (ue 1) 1 None (Some ((ss 1 0 0 None) ∷ []))))) ∷ put_message 9 (le (CuCp A) (CuCp B) 1 (xn (xns.SnStatusTransfer (ue 1) 2 ((ss 1 0 0 None) ∷ [])))) ∷ got_message 9 (le (CuCp A) (CuCp B) 1 (xn (xns.SnStatusTransfer (ue 1) 2 ((ss 1 0 0 None) ∷ [])))) ∷ put_message 10 (le (CuCp B) (CuCp A) 1 (xn (xns.TransportConfirm (ue 1) 2))) ∷ put_message 11 (le (CuCp B) (CuUp B 1) 1 (e1 (e1s.BearerContextModificationRequest (ue 1) 2 None 3 None None None (Some ((ss 1 0 0 None) ∷ [])) None))) ∷ got_message 10 (le (CuCp B) (CuCp A) 1 (xn (xns.TransportConfirm (ue 1) 2))) ∷ got_message 11 (le (CuCp B) (CuUp B 1) 1 (e1 (e1s.BearerContextModificationRequest (ue 1) 2 None 3 None None None (Some ((ss 1 0 0 None) ∷ [])) None))) ∷ put_message 12 (le (CuUp B 1) (CuCp B) 1 (e1 (e1s.BearerContextModificationResponse (ue 1) 2 None None))) ∷ got_message 12 (le (CuUp B 1) (CuCp B) 1 (e1 (e1s.BearerContextModificationResponse (ue 1) 2 None None))) ∷ []))
+      ∷ (step (events.Tick) (put_message 13 (le (CuCp A) (Du A 1) 1 (f1 (f1s.DlRrcMessageTransfer (ue 1) (toks.Command (ue 1) 2 B 1)))) ∷ []))
+      ∷ (step (events.Pump) (got_message 13 (le (CuCp A) (Du A 1) 1 (f1 (f1s.DlRrcMessageTransfer (ue 1) (toks.Command (ue 1) 2 B 1)))) ∷ put_message 14 (le (Du A 1) (Ue 1) 1 (rrc (toks.Command (ue 1) 2 B 1))) ∷ got_message 14 (le (Du A 1) (Ue 1) 1 (rrc (toks.Command (ue 1) 2 B 1))) ∷ []))
+      ∷ (step (events.Arrive (ue 1)) (put_message 15 (le (Ue 1) (Du B 1) 1 (rrc (toks.Complete (ue 1) 2))) ∷ put_item (radio_link (en 1 1 Ul) 2) (shown (en 1 1 Ul) None (0 ∷ 0 ∷ 0 ∷ 0 ∷ 0 ∷ [])) ∷ []))
+      ∷ (step (events.Pump) (got_message 15 (le (Ue 1) (Du B 1) 1 (rrc (toks.Complete (ue 1) 2))) ∷ put_message 16 (le (Du B 1) (CuCp B) 1 (f1 (f1s.UlRrcMessageTransfer (ue 1) (toks.Complete (ue 1) 2)))) ∷ got_message 16 (le (Du B 1) (CuCp B) 1 (f1 (f1s.UlRrcMessageTransfer (ue 1) (toks.Complete (ue 1) 2)))) ∷ put_message 17 (le (CuCp B) (CuUp B 1) 1 (e1 (e1s.BearerContextModificationRequest (ue 1) 3 (Some ((tn 1 1) ∷ [])) 1 None None None None (Some 1)))) ∷ put_message 18 (le (CuCp B) Core 1 (core (cores.PathSwitchRequest (ue 1) 1 (pe B 1) ((tn 1 1) ∷ [])))) ∷ got_message 17 (le (CuCp B) (CuUp B 1) 1 (e1 (e1s.BearerContextModificationRequest (ue 1) 3 (Some ((tn 1 1) ∷ [])) 1 None None None None (Some 1)))) ∷ put_item (tunnel_link (te (Du B 1) 1)) (shown (en 1 1 Dl) None (52 ∷ 255 ∷ 0 ∷ 17 ∷ 0 ∷ 0 ∷ 0 ∷ 1 ∷ 0 ∷ 0 ∷ 0 ∷ 132 ∷ 2 ∷ 0 ∷ 0 ∷ 0 ∷ 0 ∷ 0 ∷ 0 ∷ 0 ∷ 0 ∷ 0 ∷ 0 ∷ 0 ∷ 0 ∷ [])) ∷ put_message 19 (le (CuUp B 1) (CuCp B) 1 (e1 (e1s.BearerContextModificationResponse (ue 1) 3 None None))) ∷ got_message 18 (le (CuCp B) Core 1 (core (cores.PathSwitchRequest (ue 1) 1 (pe B 1) ((tn 1 1) ∷ [])))) ∷ put_message 20 (le Core (CuCp B) 1 (core (cores.PathSwitchAcknowledge (ue 1) 1))) ∷ put_item (tunnel_link (te (CuUp A 1) 1)) (shown (en 1 1 Dl) None (48 ∷ 254 ∷ 0 ∷ 0 ∷ 0 ∷ 0 ∷ 0 ∷ 1 ∷ [])) ∷ got_message 19 (le (CuUp B 1) (CuCp B) 1 (e1 (e1s.BearerContextModificationResponse (ue 1) 3 None None))) ∷ put_message 21 (le (CuCp B) (Du B 1) 1 (f1 (f1s.DlRrcMessageTransfer (ue 1) (toks.Accepted (ue 1) 2)))) ∷ got_message 20 (le Core (CuCp B) 1 (core (cores.PathSwitchAcknowledge (ue 1) 1))) ∷ put_message 22 (le (CuCp B) (CuCp A) 1 (xn (xns.UeContextRelease (ue 1) 1))) ∷ got_message 21 (le (CuCp B) (Du B 1) 1 (f1 (f1s.DlRrcMessageTransfer (ue 1) (toks.Accepted (ue 1) 2)))) ∷ put_message 23 (le (Du B 1) (Ue 1) 1 (rrc (toks.Accepted (ue 1) 2))) ∷ got_message 22 (le (CuCp B) (CuCp A) 1 (xn (xns.UeContextRelease (ue 1) 1))) ∷ put_message 24 (le (CuCp A) (CuCp B) 1 (xn (xns.TransportConfirm (ue 1) 1))) ∷ put_message 25 (le (CuCp A) (Du A 1) 1 (f1 (f1s.UeContextReleaseCommand (ue 1) 1))) ∷ put_message 26 (le (CuCp A) (CuUp A 1) 1 (e1 (e1s.BearerContextReleaseCommand (ue 1) 2 false))) ∷ got_message 23 (le (Du B 1) (Ue 1) 1 (rrc (toks.Accepted (ue 1) 2))) ∷ got_message 24 (le (CuCp A) (CuCp B) 1 (xn (xns.TransportConfirm (ue 1) 1))) ∷ got_message 25 (le (CuCp A) (Du A 1) 1 (f1 (f1s.UeContextReleaseCommand (ue 1) 1))) ∷ put_message 27 (le (Du A 1) (CuCp A) 1 (f1 (f1s.UeContextReleaseComplete (ue 1) 1))) ∷ put_item (tunnel_link (te (CuUp A 1) 2)) (shown (en 1 1 Ul) None (48 ∷ 254 ∷ 0 ∷ 0 ∷ 0 ∷ 0 ∷ 0 ∷ 2 ∷ [])) ∷ got_message 26 (le (CuCp A) (CuUp A 1) 1 (e1 (e1s.BearerContextReleaseCommand (ue 1) 2 false))) ∷ put_message 28 (le (CuUp A 1) (CuCp A) 1 (e1 (e1s.BearerContextReleaseComplete (ue 1) 2))) ∷ got_message 27 (le (Du A 1) (CuCp A) 1 (f1 (f1s.UeContextReleaseComplete (ue 1) 1))) ∷ got_message 28 (le (CuUp A 1) (CuCp A) 1 (e1 (e1s.BearerContextReleaseComplete (ue 1) 2))) ∷ []))
+      ∷ (step (events.Handover (ue 1) A 1 1) (put_message 29 (le (CuCp B) (CuCp A) 1 (xn (xns.HandoverRequest (ue 1) 2 3 1 Len12 64 (pe A 1) 1 None))) ∷ []))
+      ∷ (step (events.Pump) (got_message 29 (le (CuCp B) (CuCp A) 1 (xn (xns.HandoverRequest (ue 1) 2 3 1 Len12 64 (pe A 1) 1 None))) ∷ put_message 30 (le (CuCp A) (CuUp A 1) 1 (e1 (e1s.BearerContextSetupRequest (ue 1) 3 1 Len12 64 true))) ∷ got_message 30 (le (CuCp A) (CuUp A 1) 1 (e1 (e1s.BearerContextSetupRequest (ue 1) 3 1 Len12 64 true))) ∷ put_message 31 (le (CuUp A 1) (CuCp A) 1 (e1 (e1s.BearerContextSetupFailure (ue 1) 3 1))) ∷ got_message 31 (le (CuUp A 1) (CuCp A) 1 (e1 (e1s.BearerContextSetupFailure (ue 1) 3 1))) ∷ put_message 32 (le (CuCp A) (CuCp B) 1 (xn (xns.HandoverPreparationFailure (ue 1) 2 1))) ∷ got_message 32 (le (CuCp A) (CuCp B) 1 (xn (xns.HandoverPreparationFailure (ue 1) 2 1))) ∷ procedure_failed (CuCp B) (ue 1) causes.Busy ∷ []))
+      ∷ [];
   stop = None;
   faults = [];
   items = [];

@@ -27,24 +27,24 @@ use Rattle.law_worked_runs.specs.Short.{ue, be, te, en, tn, ss, pe, plan, le, st
 abbrev pub worked : Worked
 worked = record {
   steps = (step (events.Static (plan 1 A 1 1 Len12 1 64)) ([]))
-    ∷ (step (events.Handover (ue 1) B 1 1) (put_message 1 (le (CuCp A) (CuCp B) 1 (xn (xns.HandoverRequest (ue 1) 1 2 1 Len12 64 (pe B 1) 1 None))) ∷ []))
-    ∷ (step (events.LoseMessage 1) (lost_message 1 ∷ []))
-    ∷ (step (events.Tick) (put_message 2 (le (CuCp A) (CuCp B) 1 (xn (xns.HandoverRequest (ue 1) 1 2 1 Len12 64 (pe B 1) 1 None))) ∷ []))
-    ∷ (step (events.LoseMessage 2) (lost_message 2 ∷ []))
-    ∷ (step (events.Tick) (put_message 3 (le (CuCp A) (CuCp B) 1 (xn (xns.HandoverRequest (ue 1) 1 2 1 Len12 64 (pe B 1) 1 None))) ∷ []))
-    ∷ (step (events.LoseMessage 3) (lost_message 3 ∷ []))
-    ∷ (step (events.Tick) (put_message 4 (le (CuCp A) (CuCp B) 1 (xn (xns.HandoverRequest (ue 1) 1 2 1 Len12 64 (pe B 1) 1 None))) ∷ []))
-    ∷ (step (events.LoseMessage 4) (lost_message 4 ∷ []))
-    ∷ (step (events.Tick) (put_message 5 (le (CuCp A) (CuCp B) 1 (xn (xns.HandoverRequest (ue 1) 1 2 1 Len12 64 (pe B 1) 1 None))) ∷ []))
-    ∷ (step (events.LoseMessage 5) (lost_message 5 ∷ []))
-    ∷ (step (events.Tick) (put_message 6 (le (CuCp A) (CuCp B) 1 (xn (xns.HandoverRequest (ue 1) 1 2 1 Len12 64 (pe B 1) 1 None))) ∷ []))
-    ∷ (step (events.LoseMessage 6) (lost_message 6 ∷ []))
-    ∷ (step (events.Tick) (put_message 7 (le (CuCp A) (CuCp B) 1 (xn (xns.HandoverRequest (ue 1) 1 2 1 Len12 64 (pe B 1) 1 None))) ∷ []))
-    ∷ (step (events.LoseMessage 7) (lost_message 7 ∷ []))
-    ∷ (step (events.Tick) (put_message 8 (le (CuCp A) (CuCp B) 1 (xn (xns.HandoverRequest (ue 1) 1 2 1 Len12 64 (pe B 1) 1 None))) ∷ []))
-    ∷ (step (events.LoseMessage 8) (lost_message 8 ∷ []))
-    ∷ (step (events.Tick) (put_message 9 (le (CuCp A) (CuCp B) 1 (xn (xns.HandoverCancel (ue 1) 2))) ∷ procedure_failed (CuCp A) (ue 1) causes.Timeout ∷ []))
-    ∷ [];
+      ∷ (step (events.Handover (ue 1) B 1 1) (put_message 1 (le (CuCp A) (CuCp B) 1 (xn (xns.HandoverRequest (ue 1) 1 2 1 Len12 64 (pe B 1) 1 None))) ∷ []))
+      ∷ (step (events.LoseMessage 1) (lost_message 1 ∷ []))
+      ∷ (step (events.Tick) (put_message 2 (le (CuCp A) (CuCp B) 1 (xn (xns.HandoverRequest (ue 1) 1 2 1 Len12 64 (pe B 1) 1 None))) ∷ []))
+      ∷ (step (events.LoseMessage 2) (lost_message 2 ∷ []))
+      ∷ (step (events.Tick) (put_message 3 (le (CuCp A) (CuCp B) 1 (xn (xns.HandoverRequest (ue 1) 1 2 1 Len12 64 (pe B 1) 1 None))) ∷ []))
+      ∷ (step (events.LoseMessage 3) (lost_message 3 ∷ []))
+      ∷ (step (events.Tick) (put_message 4 (le (CuCp A) (CuCp B) 1 (xn (xns.HandoverRequest (ue 1) 1 2 1 Len12 64 (pe B 1) 1 None))) ∷ []))
+      ∷ (step (events.LoseMessage 4) (lost_message 4 ∷ []))
+      ∷ (step (events.Tick) (put_message 5 (le (CuCp A) (CuCp B) 1 (xn (xns.HandoverRequest (ue 1) 1 2 1 Len12 64 (pe B 1) 1 None))) ∷ []))
+      ∷ (step (events.LoseMessage 5) (lost_message 5 ∷ []))
+      ∷ (step (events.Tick) (put_message 6 (le (CuCp A) (CuCp B) 1 (xn (xns.HandoverRequest (ue 1) 1 2 1 Len12 64 (pe B 1) 1 None))) ∷ []))
+      ∷ (step (events.LoseMessage 6) (lost_message 6 ∷ []))
+      ∷ (step (events.Tick) (put_message 7 (le (CuCp A) (CuCp B) 1 (xn (xns.HandoverRequest (ue 1) 1 2 1 Len12 64 (pe B 1) 1 None))) ∷ []))
+      ∷ (step (events.LoseMessage 7) (lost_message 7 ∷ []))
+      ∷ (step (events.Tick) (put_message 8 (le (CuCp A) (CuCp B) 1 (xn (xns.HandoverRequest (ue 1) 1 2 1 Len12 64 (pe B 1) 1 None))) ∷ []))
+      ∷ (step (events.LoseMessage 8) (lost_message 8 ∷ []))
+      ∷ (step (events.Tick) (put_message 9 (le (CuCp A) (CuCp B) 1 (xn (xns.HandoverCancel (ue 1) 2))) ∷ procedure_failed (CuCp A) (ue 1) causes.Timeout ∷ []))
+      ∷ [];
   stop = None;
   faults = [];
   items = [];

@@ -27,10 +27,10 @@ use Rattle.law_worked_runs.specs.Short.{ue, be, te, en, tn, ss, pe, plan, le, st
 abbrev pub worked : Worked
 worked = record {
   steps = (step (events.Static (plan 1 A 1 1 Len12 1 64)) ([]))
-    ∷ (step (events.Offer (ue 1) (be 1) Ul (69 ∷ [])) (put_item (radio_link (en 1 1 Ul) 1) (shown (en 1 1 Ul) (Some 0) (128 ∷ 0 ∷ 69 ∷ [])) ∷ []))
-    ∷ (step (events.Air (ue 1) (be 1) Ul) (got_item (radio_link (en 1 1 Ul) 1) (shown (en 1 1 Ul) (Some 0) (128 ∷ 0 ∷ 69 ∷ [])) ∷ put_item (tunnel_link (te (CuUp A 1) 2)) (shown (en 1 1 Ul) (Some 0) (48 ∷ 255 ∷ 0 ∷ 3 ∷ 0 ∷ 0 ∷ 0 ∷ 2 ∷ 128 ∷ 0 ∷ 69 ∷ [])) ∷ []))
-    ∷ (step (events.Get (CuUp A 1) 2) (got_item (tunnel_link (te (CuUp A 1) 2)) (shown (en 1 1 Ul) (Some 0) (48 ∷ 255 ∷ 0 ∷ 3 ∷ 0 ∷ 0 ∷ 0 ∷ 2 ∷ 128 ∷ 0 ∷ 69 ∷ [])) ∷ delivers (en 1 1 Ul) 0 (69 ∷ []) ∷ []))
-    ∷ [];
+      ∷ (step (events.Offer (ue 1) (be 1) Ul (69 ∷ [])) (put_item (radio_link (en 1 1 Ul) 1) (shown (en 1 1 Ul) (Some 0) (128 ∷ 0 ∷ 69 ∷ [])) ∷ []))
+      ∷ (step (events.Air (ue 1) (be 1) Ul) (got_item (radio_link (en 1 1 Ul) 1) (shown (en 1 1 Ul) (Some 0) (128 ∷ 0 ∷ 69 ∷ [])) ∷ put_item (tunnel_link (te (CuUp A 1) 2)) (shown (en 1 1 Ul) (Some 0) (48 ∷ 255 ∷ 0 ∷ 3 ∷ 0 ∷ 0 ∷ 0 ∷ 2 ∷ 128 ∷ 0 ∷ 69 ∷ [])) ∷ []))
+      ∷ (step (events.Get (CuUp A 1) 2) (got_item (tunnel_link (te (CuUp A 1) 2)) (shown (en 1 1 Ul) (Some 0) (48 ∷ 255 ∷ 0 ∷ 3 ∷ 0 ∷ 0 ∷ 0 ∷ 2 ∷ 128 ∷ 0 ∷ 69 ∷ [])) ∷ delivers (en 1 1 Ul) 0 (69 ∷ []) ∷ []))
+      ∷ [];
   stop = None;
   faults = [];
   items = [];

@@ -27,8 +27,8 @@ use Rattle.law_worked_runs.specs.Short.{ue, be, te, en, tn, ss, pe, plan, le, st
 abbrev pub worked : Worked
 worked = record {
   steps = (step (events.Static (plan 1 A 1 1 Len12 1 64)) ([]))
-    ∷ (step (events.Offer (ue 1) (be 1) Dl (171 ∷ 205 ∷ [])) (put_item (tunnel_link (te (CuUp A 1) 1)) (shown (en 1 1 Dl) None (48 ∷ 255 ∷ 0 ∷ 2 ∷ 0 ∷ 0 ∷ 0 ∷ 1 ∷ 171 ∷ 205 ∷ [])) ∷ []))
-    ∷ [];
+      ∷ (step (events.Offer (ue 1) (be 1) Dl (171 ∷ 205 ∷ [])) (put_item (tunnel_link (te (CuUp A 1) 1)) (shown (en 1 1 Dl) None (48 ∷ 255 ∷ 0 ∷ 2 ∷ 0 ∷ 0 ∷ 0 ∷ 1 ∷ 171 ∷ 205 ∷ [])) ∷ []))
+      ∷ [];
   stop = None;
   faults = [];
   items = [];

@@ -27,17 +27,17 @@ use Rattle.law_worked_runs.specs.Short.{ue, be, te, en, tn, ss, pe, plan, le, st
 abbrev pub worked : Worked
 worked = record {
   steps = (step (events.Static (plan 1 A 1 1 Len12 1 64)) ([]))
-    ∷ (step (events.InjectMessage (Du A 1) (CuCp A) (0 ∷ [])) (drops_input (CuCp A) drops.Undecodable ∷ []))
-    ∷ (step (events.InjectItem (CuUp A 1) 1 (64 ∷ 255 ∷ 0 ∷ 0 ∷ 0 ∷ 0 ∷ 0 ∷ 1 ∷ [])) (drops_input (CuUp A 1) drops.Undecodable ∷ []))
-    ∷ (step (events.InjectItem (CuUp A 1) 1 (48 ∷ 255 ∷ 0 ∷ 1 ∷ 0 ∷ 0 ∷ 0 ∷ 1 ∷ 69 ∷ [])) (was_refused refusals.Decodable ∷ []))
-    ∷ (step (events.InjectMessage (CuUp A 1) (Du B 1) (0 ∷ [])) (was_refused refusals.NoLink ∷ []))
-    ∷ (step (events.InjectItem (CuUp A 1) 9 (0 ∷ [])) (was_refused refusals.NoSuch ∷ []))
-    ∷ [];
+      ∷ (step (events.InjectMessage (Du A 1) (CuCp A) (0 ∷ [])) (drops_input (CuCp A) drops.Undecodable ∷ []))
+      ∷ (step (events.InjectItem (CuUp A 1) 1 (64 ∷ 255 ∷ 0 ∷ 0 ∷ 0 ∷ 0 ∷ 0 ∷ 1 ∷ [])) (drops_input (CuUp A 1) drops.Undecodable ∷ []))
+      ∷ (step (events.InjectItem (CuUp A 1) 1 (48 ∷ 255 ∷ 0 ∷ 1 ∷ 0 ∷ 0 ∷ 0 ∷ 1 ∷ 69 ∷ [])) (was_refused refusals.Decodable ∷ []))
+      ∷ (step (events.InjectMessage (CuUp A 1) (Du B 1) (0 ∷ [])) (was_refused refusals.NoLink ∷ []))
+      ∷ (step (events.InjectItem (CuUp A 1) 9 (0 ∷ [])) (was_refused refusals.NoSuch ∷ []))
+      ∷ [];
   stop = None;
   faults = ((0 ∷ []), Some drops.Undecodable)
-    ∷ [];
+      ∷ [];
   items = ((64 ∷ 255 ∷ 0 ∷ 0 ∷ 0 ∷ 0 ∷ 0 ∷ 1 ∷ []), false)
-    ∷ ((48 ∷ 255 ∷ 0 ∷ 1 ∷ 0 ∷ 0 ∷ 0 ∷ 1 ∷ 69 ∷ []), true)
-    ∷ ((0 ∷ []), false)
-    ∷ [];
+      ∷ ((48 ∷ 255 ∷ 0 ∷ 1 ∷ 0 ∷ 0 ∷ 0 ∷ 1 ∷ 69 ∷ []), true)
+      ∷ ((0 ∷ []), false)
+      ∷ [];
 }

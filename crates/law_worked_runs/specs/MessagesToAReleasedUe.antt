@@ -27,17 +27,17 @@ use Rattle.law_worked_runs.specs.Short.{ue, be, te, en, tn, ss, pe, plan, le, st
 abbrev pub worked : Worked
 worked = record {
   steps = (step (events.Static (plan 1 A 1 1 Len12 1 64)) ([]))
-    ∷ (step (events.Handover (ue 1) A 1 2) (put_message 1 (le (CuCp A) (CuUp A 1) 1 (e1 (e1s.BearerContextModificationRequest (ue 1) 1 None 0 None None None None None))) ∷ []))
-    ∷ (step (events.Pump) (got_message 1 (le (CuCp A) (CuUp A 1) 1 (e1 (e1s.BearerContextModificationRequest (ue 1) 1 None 0 None None None None None))) ∷ put_message 2 (le (CuUp A 1) (CuCp A) 1 (e1 (e1s.BearerContextModificationResponse (ue 1) 1 (Some ((tn 1 3) ∷ [])) None))) ∷ got_message 2 (le (CuUp A 1) (CuCp A) 1 (e1 (e1s.BearerContextModificationResponse (ue 1) 1 (Some ((tn 1 3) ∷ [])) None))) ∷ put_message 3 (le (CuCp A) (Du A 2) 1 (f1 (f1s.UeContextSetupRequest (ue 1) 1 2 ((tn 1 3) ∷ []) Len12 (pe A 1)))) ∷ got_message 3 (le (CuCp A) (Du A 2) 1 (f1 (f1s.UeContextSetupRequest (ue 1) 1 2 ((tn 1 3) ∷ []) Len12 (pe A 1)))) ∷ put_message 4 (le (Du A 2) (CuCp A) 1 (f1 (f1s.UeContextSetupResponse (ue 1) 1 ((tn 1 1) ∷ [])))) ∷ got_message 4 (le (Du A 2) (CuCp A) 1 (f1 (f1s.UeContextSetupResponse (ue 1) 1 ((tn 1 1) ∷ [])))) ∷ []))
-    ∷ (step (events.Tick) (put_message 5 (le (CuCp A) (Du A 1) 1 (f1 (f1s.DlRrcMessageTransfer (ue 1) (toks.Command (ue 1) 2 A 2)))) ∷ []))
-    ∷ (step (events.Give 5) (got_message 5 (le (CuCp A) (Du A 1) 1 (f1 (f1s.DlRrcMessageTransfer (ue 1) (toks.Command (ue 1) 2 A 2)))) ∷ put_message 6 (le (Du A 1) (Ue 1) 1 (rrc (toks.Command (ue 1) 2 A 2))) ∷ []))
-    ∷ (step (events.Pump) (got_message 6 (le (Du A 1) (Ue 1) 1 (rrc (toks.Command (ue 1) 2 A 2))) ∷ []))
-    ∷ (step (events.Arrive (ue 1)) (put_message 7 (le (Ue 1) (Du A 2) 1 (rrc (toks.Complete (ue 1) 2))) ∷ put_item (radio_link (en 1 1 Ul) 2) (shown (en 1 1 Ul) None (0 ∷ 0 ∷ 0 ∷ 0 ∷ 0 ∷ [])) ∷ []))
-    ∷ (step (events.Pump) (got_message 7 (le (Ue 1) (Du A 2) 1 (rrc (toks.Complete (ue 1) 2))) ∷ put_message 8 (le (Du A 2) (CuCp A) 1 (f1 (f1s.UlRrcMessageTransfer (ue 1) (toks.Complete (ue 1) 2)))) ∷ got_message 8 (le (Du A 2) (CuCp A) 1 (f1 (f1s.UlRrcMessageTransfer (ue 1) (toks.Complete (ue 1) 2)))) ∷ put_message 9 (le (CuCp A) (CuUp A 1) 1 (e1 (e1s.BearerContextModificationRequest (ue 1) 2 (Some ((tn 1 1) ∷ [])) 1 None None None None (Some 2)))) ∷ put_message 10 (le (CuCp A) (Du A 1) 1 (f1 (f1s.UeContextReleaseCommand (ue 1) 1))) ∷ got_message 9 (le (CuCp A) (CuUp A 1) 1 (e1 (e1s.BearerContextModificationRequest (ue 1) 2 (Some ((tn 1 1) ∷ [])) 1 None None None None (Some 2)))) ∷ put_item (tunnel_link (te (Du A 2) 1)) (shown (en 1 1 Dl) None (52 ∷ 255 ∷ 0 ∷ 17 ∷ 0 ∷ 0 ∷ 0 ∷ 1 ∷ 0 ∷ 0 ∷ 0 ∷ 132 ∷ 2 ∷ 0 ∷ 0 ∷ 0 ∷ 0 ∷ 0 ∷ 0 ∷ 0 ∷ 0 ∷ 0 ∷ 0 ∷ 0 ∷ 0 ∷ [])) ∷ put_message 11 (le (CuUp A 1) (CuCp A) 1 (e1 (e1s.BearerContextModificationResponse (ue 1) 2 None None))) ∷ got_message 10 (le (CuCp A) (Du A 1) 1 (f1 (f1s.UeContextReleaseCommand (ue 1) 1))) ∷ put_message 12 (le (Du A 1) (CuCp A) 1 (f1 (f1s.UeContextReleaseComplete (ue 1) 1))) ∷ put_item (tunnel_link (te (CuUp A 1) 2)) (shown (en 1 1 Ul) None (48 ∷ 254 ∷ 0 ∷ 0 ∷ 0 ∷ 0 ∷ 0 ∷ 2 ∷ [])) ∷ got_message 11 (le (CuUp A 1) (CuCp A) 1 (e1 (e1s.BearerContextModificationResponse (ue 1) 2 None None))) ∷ put_message 13 (le (CuCp A) (Du A 2) 1 (f1 (f1s.DlRrcMessageTransfer (ue 1) (toks.Accepted (ue 1) 2)))) ∷ got_message 12 (le (Du A 1) (CuCp A) 1 (f1 (f1s.UeContextReleaseComplete (ue 1) 1))) ∷ got_message 13 (le (CuCp A) (Du A 2) 1 (f1 (f1s.DlRrcMessageTransfer (ue 1) (toks.Accepted (ue 1) 2)))) ∷ put_message 14 (le (Du A 2) (Ue 1) 1 (rrc (toks.Accepted (ue 1) 2))) ∷ got_message 14 (le (Du A 2) (Ue 1) 1 (rrc (toks.Accepted (ue 1) 2))) ∷ []))
-    ∷ (step (events.Release (ue 1)) (lost_items (radio_link (en 1 1 Ul) 2) 1 ∷ put_message 15 (le (CuCp A) (Du A 2) 1 (f1 (f1s.UeContextReleaseCommand (ue 1) 2))) ∷ put_message 16 (le (CuCp A) (CuUp A 1) 1 (e1 (e1s.BearerContextReleaseCommand (ue 1) 3 true))) ∷ []))
-    ∷ (step (events.Give 6) (got_message 6 (le (Du A 1) (Ue 1) 1 (rrc (toks.Command (ue 1) 2 A 2))) ∷ []))
-    ∷ (step (events.Tick) (put_message 17 (le (CuCp A) (CuUp A 1) 1 (e1 (e1s.BearerContextReleaseCommand (ue 1) 3 true))) ∷ put_message 18 (le (CuCp A) (Du A 2) 1 (f1 (f1s.UeContextReleaseCommand (ue 1) 2))) ∷ []))
-    ∷ [];
+      ∷ (step (events.Handover (ue 1) A 1 2) (put_message 1 (le (CuCp A) (CuUp A 1) 1 (e1 (e1s.BearerContextModificationRequest (ue 1) 1 None 0 None None None None None))) ∷ []))
+      ∷ (step (events.Pump) (got_message 1 (le (CuCp A) (CuUp A 1) 1 (e1 (e1s.BearerContextModificationRequest (ue 1) 1 None 0 None None None None None))) ∷ put_message 2 (le (CuUp A 1) (CuCp A) 1 (e1 (e1s.BearerContextModificationResponse (ue 1) 1 (Some ((tn 1 3) ∷ [])) None))) ∷ got_message 2 (le (CuUp A 1) (CuCp A) 1 (e1 (e1s.BearerContextModificationResponse (ue 1) 1 (Some ((tn 1 3) ∷ [])) None))) ∷ put_message 3 (le (CuCp A) (Du A 2) 1 (f1 (f1s.UeContextSetupRequest (ue 1) 1 2 ((tn 1 3) ∷ []) Len12 (pe A 1)))) ∷ got_message 3 (le (CuCp A) (Du A 2) 1 (f1 (f1s.UeContextSetupRequest (ue 1) 1 2 ((tn 1 3) ∷ []) Len12 (pe A 1)))) ∷ put_message 4 (le (Du A 2) (CuCp A) 1 (f1 (f1s.UeContextSetupResponse (ue 1) 1 ((tn 1 1) ∷ [])))) ∷ got_message 4 (le (Du A 2) (CuCp A) 1 (f1 (f1s.UeContextSetupResponse (ue 1) 1 ((tn 1 1) ∷ [])))) ∷ []))
+      ∷ (step (events.Tick) (put_message 5 (le (CuCp A) (Du A 1) 1 (f1 (f1s.DlRrcMessageTransfer (ue 1) (toks.Command (ue 1) 2 A 2)))) ∷ []))
+      ∷ (step (events.Give 5) (got_message 5 (le (CuCp A) (Du A 1) 1 (f1 (f1s.DlRrcMessageTransfer (ue 1) (toks.Command (ue 1) 2 A 2)))) ∷ put_message 6 (le (Du A 1) (Ue 1) 1 (rrc (toks.Command (ue 1) 2 A 2))) ∷ []))
+      ∷ (step (events.Pump) (got_message 6 (le (Du A 1) (Ue 1) 1 (rrc (toks.Command (ue 1) 2 A 2))) ∷ []))
+      ∷ (step (events.Arrive (ue 1)) (put_message 7 (le (Ue 1) (Du A 2) 1 (rrc (toks.Complete (ue 1) 2))) ∷ put_item (radio_link (en 1 1 Ul) 2) (shown (en 1 1 Ul) None (0 ∷ 0 ∷ 0 ∷ 0 ∷ 0 ∷ [])) ∷ []))
+      ∷ (step (events.Pump) (got_message 7 (le (Ue 1) (Du A 2) 1 (rrc (toks.Complete (ue 1) 2))) ∷ put_message 8 (le (Du A 2) (CuCp A) 1 (f1 (f1s.UlRrcMessageTransfer (ue 1) (toks.Complete (ue 1) 2)))) ∷ got_message 8 (le (Du A 2) (CuCp A) 1 (f1 (f1s.UlRrcMessageTransfer (ue 1) (toks.Complete (ue 1) 2)))) ∷ put_message 9 (le (CuCp A) (CuUp A 1) 1 (e1 (e1s.BearerContextModificationRequest (ue 1) 2 (Some ((tn 1 1) ∷ [])) 1 None None None None (Some 2)))) ∷ put_message 10 (le (CuCp A) (Du A 1) 1 (f1 (f1s.UeContextReleaseCommand (ue 1) 1))) ∷ got_message 9 (le (CuCp A) (CuUp A 1) 1 (e1 (e1s.BearerContextModificationRequest (ue 1) 2 (Some ((tn 1 1) ∷ [])) 1 None None None None (Some 2)))) ∷ put_item (tunnel_link (te (Du A 2) 1)) (shown (en 1 1 Dl) None (52 ∷ 255 ∷ 0 ∷ 17 ∷ 0 ∷ 0 ∷ 0 ∷ 1 ∷ 0 ∷ 0 ∷ 0 ∷ 132 ∷ 2 ∷ 0 ∷ 0 ∷ 0 ∷ 0 ∷ 0 ∷ 0 ∷ 0 ∷ 0 ∷ 0 ∷ 0 ∷ 0 ∷ 0 ∷ [])) ∷ put_message 11 (le (CuUp A 1) (CuCp A) 1 (e1 (e1s.BearerContextModificationResponse (ue 1) 2 None None))) ∷ got_message 10 (le (CuCp A) (Du A 1) 1 (f1 (f1s.UeContextReleaseCommand (ue 1) 1))) ∷ put_message 12 (le (Du A 1) (CuCp A) 1 (f1 (f1s.UeContextReleaseComplete (ue 1) 1))) ∷ put_item (tunnel_link (te (CuUp A 1) 2)) (shown (en 1 1 Ul) None (48 ∷ 254 ∷ 0 ∷ 0 ∷ 0 ∷ 0 ∷ 0 ∷ 2 ∷ [])) ∷ got_message 11 (le (CuUp A 1) (CuCp A) 1 (e1 (e1s.BearerContextModificationResponse (ue 1) 2 None None))) ∷ put_message 13 (le (CuCp A) (Du A 2) 1 (f1 (f1s.DlRrcMessageTransfer (ue 1) (toks.Accepted (ue 1) 2)))) ∷ got_message 12 (le (Du A 1) (CuCp A) 1 (f1 (f1s.UeContextReleaseComplete (ue 1) 1))) ∷ got_message 13 (le (CuCp A) (Du A 2) 1 (f1 (f1s.DlRrcMessageTransfer (ue 1) (toks.Accepted (ue 1) 2)))) ∷ put_message 14 (le (Du A 2) (Ue 1) 1 (rrc (toks.Accepted (ue 1) 2))) ∷ got_message 14 (le (Du A 2) (Ue 1) 1 (rrc (toks.Accepted (ue 1) 2))) ∷ []))
+      ∷ (step (events.Release (ue 1)) (lost_items (radio_link (en 1 1 Ul) 2) 1 ∷ put_message 15 (le (CuCp A) (Du A 2) 1 (f1 (f1s.UeContextReleaseCommand (ue 1) 2))) ∷ put_message 16 (le (CuCp A) (CuUp A 1) 1 (e1 (e1s.BearerContextReleaseCommand (ue 1) 3 true))) ∷ []))
+      ∷ (step (events.Give 6) (got_message 6 (le (Du A 1) (Ue 1) 1 (rrc (toks.Command (ue 1) 2 A 2))) ∷ []))
+      ∷ (step (events.Tick) (put_message 17 (le (CuCp A) (CuUp A 1) 1 (e1 (e1s.BearerContextReleaseCommand (ue 1) 3 true))) ∷ put_message 18 (le (CuCp A) (Du A 2) 1 (f1 (f1s.UeContextReleaseCommand (ue 1) 2))) ∷ []))
+      ∷ [];
   stop = None;
   faults = [];
   items = [];

@@ -27,17 +27,17 @@ use Rattle.law_worked_runs.specs.Short.{ue, be, te, en, tn, ss, pe, plan, le, st
 abbrev pub worked : Worked
 worked = record {
   steps = (step (events.Static (plan 1 A 1 1 Len12 1 64)) ([]))
-    ∷ (step (events.Offer (ue 1) (be 1) Dl (1 ∷ [])) (put_item (tunnel_link (te (CuUp A 1) 1)) (shown (en 1 1 Dl) None (48 ∷ 255 ∷ 0 ∷ 1 ∷ 0 ∷ 0 ∷ 0 ∷ 1 ∷ 1 ∷ [])) ∷ []))
-    ∷ (step (events.Get (CuUp A 1) 1) (got_item (tunnel_link (te (CuUp A 1) 1)) (shown (en 1 1 Dl) None (48 ∷ 255 ∷ 0 ∷ 1 ∷ 0 ∷ 0 ∷ 0 ∷ 1 ∷ 1 ∷ [])) ∷ put_item (tunnel_link (te (Du A 1) 1)) (shown (en 1 1 Dl) (Some 0) (52 ∷ 255 ∷ 0 ∷ 15 ∷ 0 ∷ 0 ∷ 0 ∷ 1 ∷ 0 ∷ 0 ∷ 0 ∷ 132 ∷ 2 ∷ 0 ∷ 0 ∷ 0 ∷ 0 ∷ 0 ∷ 0 ∷ 0 ∷ 128 ∷ 0 ∷ 1 ∷ [])) ∷ []))
-    ∷ (step (events.Get (Du A 1) 1) (got_item (tunnel_link (te (Du A 1) 1)) (shown (en 1 1 Dl) (Some 0) (52 ∷ 255 ∷ 0 ∷ 15 ∷ 0 ∷ 0 ∷ 0 ∷ 1 ∷ 0 ∷ 0 ∷ 0 ∷ 132 ∷ 2 ∷ 0 ∷ 0 ∷ 0 ∷ 0 ∷ 0 ∷ 0 ∷ 0 ∷ 128 ∷ 0 ∷ 1 ∷ [])) ∷ put_item (radio_link (en 1 1 Dl) 1) (shown (en 1 1 Dl) (Some 0) (128 ∷ 0 ∷ 1 ∷ [])) ∷ []))
-    ∷ (step (events.Fail (ue 1)) (lost_items (radio_link (en 1 1 Dl) 1) 1 ∷ []))
-    ∷ (step (events.Return (ue 1)) (put_message 1 (le (Ue 1) (Du A 1) 1 (rrc (toks.Reestablish (ue 1) 2))) ∷ []))
-    ∷ (step (events.Pump) (got_message 1 (le (Ue 1) (Du A 1) 1 (rrc (toks.Reestablish (ue 1) 2))) ∷ put_message 2 (le (Du A 1) (CuCp A) 1 (f1 (f1s.UlRrcMessageTransfer (ue 1) (toks.Reestablish (ue 1) 2)))) ∷ got_message 2 (le (Du A 1) (CuCp A) 1 (f1 (f1s.UlRrcMessageTransfer (ue 1) (toks.Reestablish (ue 1) 2)))) ∷ put_message 3 (le (CuCp A) (Du A 1) 1 (f1 (f1s.UeContextModificationRequest (ue 1) 1 2))) ∷ got_message 3 (le (CuCp A) (Du A 1) 1 (f1 (f1s.UeContextModificationRequest (ue 1) 1 2))) ∷ put_message 4 (le (Du A 1) (CuCp A) 1 (f1 (f1s.UeContextModificationResponse (ue 1) 1 ((tn 1 2) ∷ [])))) ∷ got_message 4 (le (Du A 1) (CuCp A) 1 (f1 (f1s.UeContextModificationResponse (ue 1) 1 ((tn 1 2) ∷ [])))) ∷ put_message 5 (le (CuCp A) (CuUp A 1) 1 (e1 (e1s.BearerContextModificationRequest (ue 1) 1 (Some ((tn 1 2) ∷ [])) 1 None None None None (Some 1)))) ∷ got_message 5 (le (CuCp A) (CuUp A 1) 1 (e1 (e1s.BearerContextModificationRequest (ue 1) 1 (Some ((tn 1 2) ∷ [])) 1 None None None None (Some 1)))) ∷ put_item (tunnel_link (te (Du A 1) 2)) (shown (en 1 1 Dl) None (52 ∷ 255 ∷ 0 ∷ 17 ∷ 0 ∷ 0 ∷ 0 ∷ 2 ∷ 0 ∷ 0 ∷ 0 ∷ 132 ∷ 2 ∷ 0 ∷ 0 ∷ 0 ∷ 0 ∷ 0 ∷ 0 ∷ 0 ∷ 0 ∷ 0 ∷ 0 ∷ 0 ∷ 0 ∷ [])) ∷ put_item (tunnel_link (te (Du A 1) 2)) (shown (en 1 1 Dl) (Some 0) (52 ∷ 255 ∷ 0 ∷ 15 ∷ 0 ∷ 0 ∷ 0 ∷ 2 ∷ 0 ∷ 0 ∷ 0 ∷ 132 ∷ 2 ∷ 0 ∷ 0 ∷ 0 ∷ 0 ∷ 1 ∷ 0 ∷ 0 ∷ 128 ∷ 0 ∷ 1 ∷ [])) ∷ put_message 6 (le (CuUp A 1) (CuCp A) 1 (e1 (e1s.BearerContextModificationResponse (ue 1) 1 None None))) ∷ got_message 6 (le (CuUp A 1) (CuCp A) 1 (e1 (e1s.BearerContextModificationResponse (ue 1) 1 None None))) ∷ put_message 7 (le (CuCp A) (Du A 1) 1 (f1 (f1s.DlRrcMessageTransfer (ue 1) (toks.Accepted (ue 1) 2)))) ∷ got_message 7 (le (CuCp A) (Du A 1) 1 (f1 (f1s.DlRrcMessageTransfer (ue 1) (toks.Accepted (ue 1) 2)))) ∷ put_message 8 (le (Du A 1) (Ue 1) 1 (rrc (toks.Accepted (ue 1) 2))) ∷ got_message 8 (le (Du A 1) (Ue 1) 1 (rrc (toks.Accepted (ue 1) 2))) ∷ put_item (radio_link (en 1 1 Ul) 2) (shown (en 1 1 Ul) None (0 ∷ 0 ∷ 0 ∷ 0 ∷ 0 ∷ [])) ∷ []))
-    ∷ (step (events.Get (Du A 1) 2) (got_item (tunnel_link (te (Du A 1) 2)) (shown (en 1 1 Dl) None (52 ∷ 255 ∷ 0 ∷ 17 ∷ 0 ∷ 0 ∷ 0 ∷ 2 ∷ 0 ∷ 0 ∷ 0 ∷ 132 ∷ 2 ∷ 0 ∷ 0 ∷ 0 ∷ 0 ∷ 0 ∷ 0 ∷ 0 ∷ 0 ∷ 0 ∷ 0 ∷ 0 ∷ 0 ∷ [])) ∷ put_item (radio_link (en 1 1 Dl) 2) (shown (en 1 1 Dl) None (0 ∷ 0 ∷ 0 ∷ 0 ∷ 0 ∷ [])) ∷ []))
-    ∷ (step (events.Get (Du A 1) 2) (got_item (tunnel_link (te (Du A 1) 2)) (shown (en 1 1 Dl) (Some 0) (52 ∷ 255 ∷ 0 ∷ 15 ∷ 0 ∷ 0 ∷ 0 ∷ 2 ∷ 0 ∷ 0 ∷ 0 ∷ 132 ∷ 2 ∷ 0 ∷ 0 ∷ 0 ∷ 0 ∷ 1 ∷ 0 ∷ 0 ∷ 128 ∷ 0 ∷ 1 ∷ [])) ∷ put_item (radio_link (en 1 1 Dl) 2) (shown (en 1 1 Dl) (Some 0) (128 ∷ 0 ∷ 1 ∷ [])) ∷ []))
-    ∷ (step (events.Air (ue 1) (be 1) Dl) (got_item (radio_link (en 1 1 Dl) 2) (shown (en 1 1 Dl) None (0 ∷ 0 ∷ 0 ∷ 0 ∷ 0 ∷ [])) ∷ []))
-    ∷ (step (events.Air (ue 1) (be 1) Dl) (got_item (radio_link (en 1 1 Dl) 2) (shown (en 1 1 Dl) (Some 0) (128 ∷ 0 ∷ 1 ∷ [])) ∷ delivers (en 1 1 Dl) 0 (1 ∷ []) ∷ []))
-    ∷ [];
+      ∷ (step (events.Offer (ue 1) (be 1) Dl (1 ∷ [])) (put_item (tunnel_link (te (CuUp A 1) 1)) (shown (en 1 1 Dl) None (48 ∷ 255 ∷ 0 ∷ 1 ∷ 0 ∷ 0 ∷ 0 ∷ 1 ∷ 1 ∷ [])) ∷ []))
+      ∷ (step (events.Get (CuUp A 1) 1) (got_item (tunnel_link (te (CuUp A 1) 1)) (shown (en 1 1 Dl) None (48 ∷ 255 ∷ 0 ∷ 1 ∷ 0 ∷ 0 ∷ 0 ∷ 1 ∷ 1 ∷ [])) ∷ put_item (tunnel_link (te (Du A 1) 1)) (shown (en 1 1 Dl) (Some 0) (52 ∷ 255 ∷ 0 ∷ 15 ∷ 0 ∷ 0 ∷ 0 ∷ 1 ∷ 0 ∷ 0 ∷ 0 ∷ 132 ∷ 2 ∷ 0 ∷ 0 ∷ 0 ∷ 0 ∷ 0 ∷ 0 ∷ 0 ∷ 128 ∷ 0 ∷ 1 ∷ [])) ∷ []))
+      ∷ (step (events.Get (Du A 1) 1) (got_item (tunnel_link (te (Du A 1) 1)) (shown (en 1 1 Dl) (Some 0) (52 ∷ 255 ∷ 0 ∷ 15 ∷ 0 ∷ 0 ∷ 0 ∷ 1 ∷ 0 ∷ 0 ∷ 0 ∷ 132 ∷ 2 ∷ 0 ∷ 0 ∷ 0 ∷ 0 ∷ 0 ∷ 0 ∷ 0 ∷ 128 ∷ 0 ∷ 1 ∷ [])) ∷ put_item (radio_link (en 1 1 Dl) 1) (shown (en 1 1 Dl) (Some 0) (128 ∷ 0 ∷ 1 ∷ [])) ∷ []))
+      ∷ (step (events.Fail (ue 1)) (lost_items (radio_link (en 1 1 Dl) 1) 1 ∷ []))
+      ∷ (step (events.Return (ue 1)) (put_message 1 (le (Ue 1) (Du A 1) 1 (rrc (toks.Reestablish (ue 1) 2))) ∷ []))
+      ∷ (step (events.Pump) (got_message 1 (le (Ue 1) (Du A 1) 1 (rrc (toks.Reestablish (ue 1) 2))) ∷ put_message 2 (le (Du A 1) (CuCp A) 1 (f1 (f1s.UlRrcMessageTransfer (ue 1) (toks.Reestablish (ue 1) 2)))) ∷ got_message 2 (le (Du A 1) (CuCp A) 1 (f1 (f1s.UlRrcMessageTransfer (ue 1) (toks.Reestablish (ue 1) 2)))) ∷ put_message 3 (le (CuCp A) (Du A 1) 1 (f1 (f1s.UeContextModificationRequest (ue 1) 1 2))) ∷ got_message 3 (le (CuCp A) (Du A 1) 1 (f1 (f1s.UeContextModificationRequest (ue 1) 1 2))) ∷ put_message 4 (le (Du A 1) (CuCp A) 1 (f1 (f1s.UeContextModificationResponse (ue 1) 1 ((tn 1 2) ∷ [])))) ∷ got_message 4 (le (Du A 1) (CuCp A) 1 (f1 (f1s.UeContextModificationResponse (ue 1) 1 ((tn 1 2) ∷ [])))) ∷ put_message 5 (le (CuCp A) (CuUp A 1) 1 (e1 (e1s.BearerContextModificationRequest (ue 1) 1 (Some ((tn 1 2) ∷ [])) 1 None None None None (Some 1)))) ∷ got_message 5 (le (CuCp A) (CuUp A 1) 1 (e1 (e1s.BearerContextModificationRequest (ue 1) 1 (Some ((tn 1 2) ∷ [])) 1 None None None None (Some 1)))) ∷ put_item (tunnel_link (te (Du A 1) 2)) (shown (en 1 1 Dl) None (52 ∷ 255 ∷ 0 ∷ 17 ∷ 0 ∷ 0 ∷ 0 ∷ 2 ∷ 0 ∷ 0 ∷ 0 ∷ 132 ∷ 2 ∷ 0 ∷ 0 ∷ 0 ∷ 0 ∷ 0 ∷ 0 ∷ 0 ∷ 0 ∷ 0 ∷ 0 ∷ 0 ∷ 0 ∷ [])) ∷ put_item (tunnel_link (te (Du A 1) 2)) (shown (en 1 1 Dl) (Some 0) (52 ∷ 255 ∷ 0 ∷ 15 ∷ 0 ∷ 0 ∷ 0 ∷ 2 ∷ 0 ∷ 0 ∷ 0 ∷ 132 ∷ 2 ∷ 0 ∷ 0 ∷ 0 ∷ 0 ∷ 1 ∷ 0 ∷ 0 ∷ 128 ∷ 0 ∷ 1 ∷ [])) ∷ put_message 6 (le (CuUp A 1) (CuCp A) 1 (e1 (e1s.BearerContextModificationResponse (ue 1) 1 None None))) ∷ got_message 6 (le (CuUp A 1) (CuCp A) 1 (e1 (e1s.BearerContextModificationResponse (ue 1) 1 None None))) ∷ put_message 7 (le (CuCp A) (Du A 1) 1 (f1 (f1s.DlRrcMessageTransfer (ue 1) (toks.Accepted (ue 1) 2)))) ∷ got_message 7 (le (CuCp A) (Du A 1) 1 (f1 (f1s.DlRrcMessageTransfer (ue 1) (toks.Accepted (ue 1) 2)))) ∷ put_message 8 (le (Du A 1) (Ue 1) 1 (rrc (toks.Accepted (ue 1) 2))) ∷ got_message 8 (le (Du A 1) (Ue 1) 1 (rrc (toks.Accepted (ue 1) 2))) ∷ put_item (radio_link (en 1 1 Ul) 2) (shown (en 1 1 Ul) None (0 ∷ 0 ∷ 0 ∷ 0 ∷ 0 ∷ [])) ∷ []))
+      ∷ (step (events.Get (Du A 1) 2) (got_item (tunnel_link (te (Du A 1) 2)) (shown (en 1 1 Dl) None (52 ∷ 255 ∷ 0 ∷ 17 ∷ 0 ∷ 0 ∷ 0 ∷ 2 ∷ 0 ∷ 0 ∷ 0 ∷ 132 ∷ 2 ∷ 0 ∷ 0 ∷ 0 ∷ 0 ∷ 0 ∷ 0 ∷ 0 ∷ 0 ∷ 0 ∷ 0 ∷ 0 ∷ 0 ∷ [])) ∷ put_item (radio_link (en 1 1 Dl) 2) (shown (en 1 1 Dl) None (0 ∷ 0 ∷ 0 ∷ 0 ∷ 0 ∷ [])) ∷ []))
+      ∷ (step (events.Get (Du A 1) 2) (got_item (tunnel_link (te (Du A 1) 2)) (shown (en 1 1 Dl) (Some 0) (52 ∷ 255 ∷ 0 ∷ 15 ∷ 0 ∷ 0 ∷ 0 ∷ 2 ∷ 0 ∷ 0 ∷ 0 ∷ 132 ∷ 2 ∷ 0 ∷ 0 ∷ 0 ∷ 0 ∷ 1 ∷ 0 ∷ 0 ∷ 128 ∷ 0 ∷ 1 ∷ [])) ∷ put_item (radio_link (en 1 1 Dl) 2) (shown (en 1 1 Dl) (Some 0) (128 ∷ 0 ∷ 1 ∷ [])) ∷ []))
+      ∷ (step (events.Air (ue 1) (be 1) Dl) (got_item (radio_link (en 1 1 Dl) 2) (shown (en 1 1 Dl) None (0 ∷ 0 ∷ 0 ∷ 0 ∷ 0 ∷ [])) ∷ []))
+      ∷ (step (events.Air (ue 1) (be 1) Dl) (got_item (radio_link (en 1 1 Dl) 2) (shown (en 1 1 Dl) (Some 0) (128 ∷ 0 ∷ 1 ∷ [])) ∷ delivers (en 1 1 Dl) 0 (1 ∷ []) ∷ []))
+      ∷ [];
   stop = None;
   faults = [];
   items = [];

@@ -27,12 +27,12 @@ use Rattle.law_worked_runs.specs.Short.{ue, be, te, en, tn, ss, pe, plan, le, st
 abbrev pub worked : Worked
 worked = record {
   steps = (step (events.Static (plan 1 A 1 1 Len12 1 64)) ([]))
-    ∷ (step (events.Offer (ue 1) (be 1) Dl (69 ∷ [])) (put_item (tunnel_link (te (CuUp A 1) 1)) (shown (en 1 1 Dl) None (48 ∷ 255 ∷ 0 ∷ 1 ∷ 0 ∷ 0 ∷ 0 ∷ 1 ∷ 69 ∷ [])) ∷ []))
-    ∷ (step (events.LoseItem (CuUp A 1) 1) (was_refused refusals.NotAllowed ∷ []))
-    ∷ (step (events.Get (CuUp A 1) 9) (was_refused refusals.NoSuch ∷ []))
-    ∷ (step (events.Air (ue 1) (be 1) Ul) (was_refused refusals.Empty ∷ []))
-    ∷ (step (events.Offer (ue 2) (be 1) Dl (69 ∷ [])) (was_refused refusals.NoBearer ∷ []))
-    ∷ [];
+      ∷ (step (events.Offer (ue 1) (be 1) Dl (69 ∷ [])) (put_item (tunnel_link (te (CuUp A 1) 1)) (shown (en 1 1 Dl) None (48 ∷ 255 ∷ 0 ∷ 1 ∷ 0 ∷ 0 ∷ 0 ∷ 1 ∷ 69 ∷ [])) ∷ []))
+      ∷ (step (events.LoseItem (CuUp A 1) 1) (was_refused refusals.NotAllowed ∷ []))
+      ∷ (step (events.Get (CuUp A 1) 9) (was_refused refusals.NoSuch ∷ []))
+      ∷ (step (events.Air (ue 1) (be 1) Ul) (was_refused refusals.Empty ∷ []))
+      ∷ (step (events.Offer (ue 2) (be 1) Dl (69 ∷ [])) (was_refused refusals.NoBearer ∷ []))
+      ∷ [];
   stop = None;
   faults = [];
   items = [];

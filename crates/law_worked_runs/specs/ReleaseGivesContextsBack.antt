@@ -27,12 +27,12 @@ use Rattle.law_worked_runs.specs.Short.{ue, be, te, en, tn, ss, pe, plan, le, st
 abbrev pub worked : Worked
 worked = record {
   steps = (step (events.Static (plan 1 A 1 1 Len12 1 64)) ([]))
-    ∷ (step (events.Release (ue 1)) (put_message 1 (le (CuCp A) (Du A 1) 1 (f1 (f1s.UeContextReleaseCommand (ue 1) 1))) ∷ put_message 2 (le (CuCp A) (CuUp A 1) 1 (e1 (e1s.BearerContextReleaseCommand (ue 1) 1 true))) ∷ []))
-    ∷ (step (events.Pump) (got_message 1 (le (CuCp A) (Du A 1) 1 (f1 (f1s.UeContextReleaseCommand (ue 1) 1))) ∷ put_message 3 (le (Du A 1) (CuCp A) 1 (f1 (f1s.UeContextReleaseComplete (ue 1) 1))) ∷ put_item (tunnel_link (te (CuUp A 1) 2)) (shown (en 1 1 Ul) None (48 ∷ 254 ∷ 0 ∷ 0 ∷ 0 ∷ 0 ∷ 0 ∷ 2 ∷ [])) ∷ got_message 2 (le (CuCp A) (CuUp A 1) 1 (e1 (e1s.BearerContextReleaseCommand (ue 1) 1 true))) ∷ put_message 4 (le (CuUp A 1) (CuCp A) 1 (e1 (e1s.BearerContextReleaseComplete (ue 1) 1))) ∷ lost_items (tunnel_link (te (CuUp A 1) 2)) 1 ∷ got_message 3 (le (Du A 1) (CuCp A) 1 (f1 (f1s.UeContextReleaseComplete (ue 1) 1))) ∷ got_message 4 (le (CuUp A 1) (CuCp A) 1 (e1 (e1s.BearerContextReleaseComplete (ue 1) 1))) ∷ []))
-    ∷ (step (events.Offer (ue 1) (be 1) Dl (69 ∷ [])) (was_refused refusals.NoBearer ∷ []))
-    ∷ (step (events.Get (CuUp A 1) 1) (was_refused refusals.NoSuch ∷ []))
-    ∷ (step (events.Get (Du A 1) 1) (was_refused refusals.NoSuch ∷ []))
-    ∷ [];
+      ∷ (step (events.Release (ue 1)) (put_message 1 (le (CuCp A) (Du A 1) 1 (f1 (f1s.UeContextReleaseCommand (ue 1) 1))) ∷ put_message 2 (le (CuCp A) (CuUp A 1) 1 (e1 (e1s.BearerContextReleaseCommand (ue 1) 1 true))) ∷ []))
+      ∷ (step (events.Pump) (got_message 1 (le (CuCp A) (Du A 1) 1 (f1 (f1s.UeContextReleaseCommand (ue 1) 1))) ∷ put_message 3 (le (Du A 1) (CuCp A) 1 (f1 (f1s.UeContextReleaseComplete (ue 1) 1))) ∷ put_item (tunnel_link (te (CuUp A 1) 2)) (shown (en 1 1 Ul) None (48 ∷ 254 ∷ 0 ∷ 0 ∷ 0 ∷ 0 ∷ 0 ∷ 2 ∷ [])) ∷ got_message 2 (le (CuCp A) (CuUp A 1) 1 (e1 (e1s.BearerContextReleaseCommand (ue 1) 1 true))) ∷ put_message 4 (le (CuUp A 1) (CuCp A) 1 (e1 (e1s.BearerContextReleaseComplete (ue 1) 1))) ∷ lost_items (tunnel_link (te (CuUp A 1) 2)) 1 ∷ got_message 3 (le (Du A 1) (CuCp A) 1 (f1 (f1s.UeContextReleaseComplete (ue 1) 1))) ∷ got_message 4 (le (CuUp A 1) (CuCp A) 1 (e1 (e1s.BearerContextReleaseComplete (ue 1) 1))) ∷ []))
+      ∷ (step (events.Offer (ue 1) (be 1) Dl (69 ∷ [])) (was_refused refusals.NoBearer ∷ []))
+      ∷ (step (events.Get (CuUp A 1) 1) (was_refused refusals.NoSuch ∷ []))
+      ∷ (step (events.Get (Du A 1) 1) (was_refused refusals.NoSuch ∷ []))
+      ∷ [];
   stop = None;
   faults = [];
   items = [];

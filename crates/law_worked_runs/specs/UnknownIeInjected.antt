@@ -27,12 +27,12 @@ use Rattle.law_worked_runs.specs.Short.{ue, be, te, en, tn, ss, pe, plan, le, st
 abbrev pub worked : Worked
 worked = record {
   steps = (step (events.Static (plan 1 A 1 1 Len12 1 64)) ([]))
-    ∷ (step (events.InjectMessage (Du A 1) (CuCp A) (0 ∷ 6 ∷ 0 ∷ 21 ∷ 0 ∷ 0 ∷ 3 ∷ 0 ∷ 1 ∷ 0 ∷ 1 ∷ 0 ∷ 0 ∷ 7 ∷ 0 ∷ 4 ∷ 3 ∷ 64 ∷ 0 ∷ 2 ∷ 0 ∷ 99 ∷ 64 ∷ 1 ∷ 170 ∷ [])) (was_refused refusals.Decodable ∷ []))
-    ∷ (step (events.InjectMessage (Du A 1) (CuCp A) (0 ∷ 6 ∷ 0 ∷ 21 ∷ 0 ∷ 0 ∷ 3 ∷ 0 ∷ 1 ∷ 0 ∷ 1 ∷ 0 ∷ 0 ∷ 7 ∷ 0 ∷ 4 ∷ 3 ∷ 64 ∷ 0 ∷ 2 ∷ 0 ∷ 99 ∷ 0 ∷ 1 ∷ 170 ∷ [])) (drops_input (CuCp A) drops.Criticality ∷ []))
-    ∷ [];
+      ∷ (step (events.InjectMessage (Du A 1) (CuCp A) (0 ∷ 6 ∷ 0 ∷ 21 ∷ 0 ∷ 0 ∷ 3 ∷ 0 ∷ 1 ∷ 0 ∷ 1 ∷ 0 ∷ 0 ∷ 7 ∷ 0 ∷ 4 ∷ 3 ∷ 64 ∷ 0 ∷ 2 ∷ 0 ∷ 99 ∷ 64 ∷ 1 ∷ 170 ∷ [])) (was_refused refusals.Decodable ∷ []))
+      ∷ (step (events.InjectMessage (Du A 1) (CuCp A) (0 ∷ 6 ∷ 0 ∷ 21 ∷ 0 ∷ 0 ∷ 3 ∷ 0 ∷ 1 ∷ 0 ∷ 1 ∷ 0 ∷ 0 ∷ 7 ∷ 0 ∷ 4 ∷ 3 ∷ 64 ∷ 0 ∷ 2 ∷ 0 ∷ 99 ∷ 0 ∷ 1 ∷ 170 ∷ [])) (drops_input (CuCp A) drops.Criticality ∷ []))
+      ∷ [];
   stop = None;
   faults = ((0 ∷ 6 ∷ 0 ∷ 21 ∷ 0 ∷ 0 ∷ 3 ∷ 0 ∷ 1 ∷ 0 ∷ 1 ∷ 0 ∷ 0 ∷ 7 ∷ 0 ∷ 4 ∷ 3 ∷ 64 ∷ 0 ∷ 2 ∷ 0 ∷ 99 ∷ 64 ∷ 1 ∷ 170 ∷ []), None)
-    ∷ ((0 ∷ 6 ∷ 0 ∷ 21 ∷ 0 ∷ 0 ∷ 3 ∷ 0 ∷ 1 ∷ 0 ∷ 1 ∷ 0 ∷ 0 ∷ 7 ∷ 0 ∷ 4 ∷ 3 ∷ 64 ∷ 0 ∷ 2 ∷ 0 ∷ 99 ∷ 0 ∷ 1 ∷ 170 ∷ []), Some drops.Criticality)
-    ∷ [];
+      ∷ ((0 ∷ 6 ∷ 0 ∷ 21 ∷ 0 ∷ 0 ∷ 3 ∷ 0 ∷ 1 ∷ 0 ∷ 1 ∷ 0 ∷ 0 ∷ 7 ∷ 0 ∷ 4 ∷ 3 ∷ 64 ∷ 0 ∷ 2 ∷ 0 ∷ 99 ∷ 0 ∷ 1 ∷ 170 ∷ []), Some drops.Criticality)
+      ∷ [];
   items = [];
 }

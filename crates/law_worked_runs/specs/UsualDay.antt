@@ -27,14 +27,14 @@ use Rattle.law_worked_runs.specs.Short.{ue, be, te, en, tn, ss, pe, plan, le, st
 abbrev pub worked : Worked
 worked = record {
   steps = (step (events.Start) (put_message 1 (le (CuUp A 1) (CuCp A) 0 (e1 (e1s.E1SetupRequest 1 (node_text (CuUp A 1))))) ∷ put_message 2 (le (CuUp A 2) (CuCp A) 0 (e1 (e1s.E1SetupRequest 1 (node_text (CuUp A 2))))) ∷ put_message 3 (le (Du A 1) (CuCp A) 0 (f1 (f1s.F1SetupRequest 1 (node_text (Du A 1))))) ∷ put_message 4 (le (Du A 2) (CuCp A) 0 (f1 (f1s.F1SetupRequest 1 (node_text (Du A 2))))) ∷ put_message 5 (le (CuUp B 1) (CuCp B) 0 (e1 (e1s.E1SetupRequest 1 (node_text (CuUp B 1))))) ∷ put_message 6 (le (CuUp B 2) (CuCp B) 0 (e1 (e1s.E1SetupRequest 1 (node_text (CuUp B 2))))) ∷ put_message 7 (le (Du B 1) (CuCp B) 0 (f1 (f1s.F1SetupRequest 1 (node_text (Du B 1))))) ∷ put_message 8 (le (Du B 2) (CuCp B) 0 (f1 (f1s.F1SetupRequest 1 (node_text (Du B 2))))) ∷ []))
-    ∷ (step (events.Pump) (got_message 1 (le (CuUp A 1) (CuCp A) 0 (e1 (e1s.E1SetupRequest 1 (node_text (CuUp A 1))))) ∷ put_message 9 (le (CuCp A) (CuUp A 1) 0 (e1 (e1s.E1SetupResponse 1))) ∷ got_message 2 (le (CuUp A 2) (CuCp A) 0 (e1 (e1s.E1SetupRequest 1 (node_text (CuUp A 2))))) ∷ put_message 10 (le (CuCp A) (CuUp A 2) 0 (e1 (e1s.E1SetupResponse 1))) ∷ got_message 3 (le (Du A 1) (CuCp A) 0 (f1 (f1s.F1SetupRequest 1 (node_text (Du A 1))))) ∷ put_message 11 (le (CuCp A) (Du A 1) 0 (f1 (f1s.F1SetupResponse 1))) ∷ got_message 4 (le (Du A 2) (CuCp A) 0 (f1 (f1s.F1SetupRequest 1 (node_text (Du A 2))))) ∷ put_message 12 (le (CuCp A) (Du A 2) 0 (f1 (f1s.F1SetupResponse 1))) ∷ got_message 5 (le (CuUp B 1) (CuCp B) 0 (e1 (e1s.E1SetupRequest 1 (node_text (CuUp B 1))))) ∷ put_message 13 (le (CuCp B) (CuUp B 1) 0 (e1 (e1s.E1SetupResponse 1))) ∷ got_message 6 (le (CuUp B 2) (CuCp B) 0 (e1 (e1s.E1SetupRequest 1 (node_text (CuUp B 2))))) ∷ put_message 14 (le (CuCp B) (CuUp B 2) 0 (e1 (e1s.E1SetupResponse 1))) ∷ got_message 7 (le (Du B 1) (CuCp B) 0 (f1 (f1s.F1SetupRequest 1 (node_text (Du B 1))))) ∷ put_message 15 (le (CuCp B) (Du B 1) 0 (f1 (f1s.F1SetupResponse 1))) ∷ got_message 8 (le (Du B 2) (CuCp B) 0 (f1 (f1s.F1SetupRequest 1 (node_text (Du B 2))))) ∷ put_message 16 (le (CuCp B) (Du B 2) 0 (f1 (f1s.F1SetupResponse 1))) ∷ got_message 9 (le (CuCp A) (CuUp A 1) 0 (e1 (e1s.E1SetupResponse 1))) ∷ got_message 10 (le (CuCp A) (CuUp A 2) 0 (e1 (e1s.E1SetupResponse 1))) ∷ got_message 11 (le (CuCp A) (Du A 1) 0 (f1 (f1s.F1SetupResponse 1))) ∷ got_message 12 (le (CuCp A) (Du A 2) 0 (f1 (f1s.F1SetupResponse 1))) ∷ got_message 13 (le (CuCp B) (CuUp B 1) 0 (e1 (e1s.E1SetupResponse 1))) ∷ got_message 14 (le (CuCp B) (CuUp B 2) 0 (e1 (e1s.E1SetupResponse 1))) ∷ got_message 15 (le (CuCp B) (Du B 1) 0 (f1 (f1s.F1SetupResponse 1))) ∷ got_message 16 (le (CuCp B) (Du B 2) 0 (f1 (f1s.F1SetupResponse 1))) ∷ []))
-    ∷ (step (events.Attach (plan 1 A 1 2 Len12 2 64)) (put_message 17 (le (CuCp A) (CuUp A 1) 1 (e1 (e1s.BearerContextSetupRequest (ue 1) 1 2 Len12 64 false))) ∷ []))
-    ∷ (step (events.Pump) (got_message 17 (le (CuCp A) (CuUp A 1) 1 (e1 (e1s.BearerContextSetupRequest (ue 1) 1 2 Len12 64 false))) ∷ put_message 18 (le (CuUp A 1) (CuCp A) 1 (e1 (e1s.BearerContextSetupResponse (ue 1) 1 ((tn 1 2) ∷ (tn 2 4) ∷ []) ((tn 1 1) ∷ (tn 2 3) ∷ []) None None))) ∷ got_message 18 (le (CuUp A 1) (CuCp A) 1 (e1 (e1s.BearerContextSetupResponse (ue 1) 1 ((tn 1 2) ∷ (tn 2 4) ∷ []) ((tn 1 1) ∷ (tn 2 3) ∷ []) None None))) ∷ put_message 19 (le (CuCp A) (Du A 2) 1 (f1 (f1s.UeContextSetupRequest (ue 1) 1 1 ((tn 1 2) ∷ (tn 2 4) ∷ []) Len12 (pe A 1)))) ∷ got_message 19 (le (CuCp A) (Du A 2) 1 (f1 (f1s.UeContextSetupRequest (ue 1) 1 1 ((tn 1 2) ∷ (tn 2 4) ∷ []) Len12 (pe A 1)))) ∷ put_message 20 (le (Du A 2) (CuCp A) 1 (f1 (f1s.UeContextSetupResponse (ue 1) 1 ((tn 1 1) ∷ (tn 2 2) ∷ [])))) ∷ got_message 20 (le (Du A 2) (CuCp A) 1 (f1 (f1s.UeContextSetupResponse (ue 1) 1 ((tn 1 1) ∷ (tn 2 2) ∷ [])))) ∷ put_message 21 (le (CuCp A) (Du A 2) 1 (f1 (f1s.DlRrcMessageTransfer (ue 1) (toks.Command (ue 1) 1 A 2)))) ∷ got_message 21 (le (CuCp A) (Du A 2) 1 (f1 (f1s.DlRrcMessageTransfer (ue 1) (toks.Command (ue 1) 1 A 2)))) ∷ put_message 22 (le (Du A 2) (Ue 1) 1 (rrc (toks.Command (ue 1) 1 A 2))) ∷ got_message 22 (le (Du A 2) (Ue 1) 1 (rrc (toks.Command (ue 1) 1 A 2))) ∷ []))
-    ∷ (step (events.Arrive (ue 1)) (put_message 23 (le (Ue 1) (Du A 2) 1 (rrc (toks.Complete (ue 1) 1))) ∷ put_item (radio_link (en 1 1 Ul) 1) (shown (en 1 1 Ul) None (0 ∷ 0 ∷ 0 ∷ 0 ∷ 0 ∷ [])) ∷ put_item (radio_link (en 1 2 Ul) 1) (shown (en 1 2 Ul) None (0 ∷ 0 ∷ 0 ∷ 0 ∷ 0 ∷ [])) ∷ []))
-    ∷ (step (events.Pump) (got_message 23 (le (Ue 1) (Du A 2) 1 (rrc (toks.Complete (ue 1) 1))) ∷ put_message 24 (le (Du A 2) (CuCp A) 1 (f1 (f1s.UlRrcMessageTransfer (ue 1) (toks.Complete (ue 1) 1)))) ∷ got_message 24 (le (Du A 2) (CuCp A) 1 (f1 (f1s.UlRrcMessageTransfer (ue 1) (toks.Complete (ue 1) 1)))) ∷ put_message 25 (le (CuCp A) (CuUp A 1) 1 (e1 (e1s.BearerContextModificationRequest (ue 1) 2 (Some ((tn 1 1) ∷ (tn 2 2) ∷ [])) 1 None None None None (Some 2)))) ∷ put_message 26 (le (CuCp A) Core 1 (core (cores.PathSwitchRequest (ue 1) 1 (pe A 1) ((tn 1 1) ∷ (tn 2 3) ∷ [])))) ∷ got_message 25 (le (CuCp A) (CuUp A 1) 1 (e1 (e1s.BearerContextModificationRequest (ue 1) 2 (Some ((tn 1 1) ∷ (tn 2 2) ∷ [])) 1 None None None None (Some 2)))) ∷ put_item (tunnel_link (te (Du A 2) 1)) (shown (en 1 1 Dl) None (52 ∷ 255 ∷ 0 ∷ 17 ∷ 0 ∷ 0 ∷ 0 ∷ 1 ∷ 0 ∷ 0 ∷ 0 ∷ 132 ∷ 2 ∷ 0 ∷ 0 ∷ 0 ∷ 0 ∷ 0 ∷ 0 ∷ 0 ∷ 0 ∷ 0 ∷ 0 ∷ 0 ∷ 0 ∷ [])) ∷ put_item (tunnel_link (te (Du A 2) 2)) (shown (en 1 2 Dl) None (52 ∷ 255 ∷ 0 ∷ 17 ∷ 0 ∷ 0 ∷ 0 ∷ 2 ∷ 0 ∷ 0 ∷ 0 ∷ 132 ∷ 2 ∷ 0 ∷ 0 ∷ 0 ∷ 0 ∷ 0 ∷ 0 ∷ 0 ∷ 0 ∷ 0 ∷ 0 ∷ 0 ∷ 0 ∷ [])) ∷ put_message 27 (le (CuUp A 1) (CuCp A) 1 (e1 (e1s.BearerContextModificationResponse (ue 1) 2 None None))) ∷ got_message 26 (le (CuCp A) Core 1 (core (cores.PathSwitchRequest (ue 1) 1 (pe A 1) ((tn 1 1) ∷ (tn 2 3) ∷ [])))) ∷ put_message 28 (le Core (CuCp A) 1 (core (cores.PathSwitchAcknowledge (ue 1) 1))) ∷ got_message 27 (le (CuUp A 1) (CuCp A) 1 (e1 (e1s.BearerContextModificationResponse (ue 1) 2 None None))) ∷ put_message 29 (le (CuCp A) (Du A 2) 1 (f1 (f1s.DlRrcMessageTransfer (ue 1) (toks.Accepted (ue 1) 1)))) ∷ got_message 28 (le Core (CuCp A) 1 (core (cores.PathSwitchAcknowledge (ue 1) 1))) ∷ got_message 29 (le (CuCp A) (Du A 2) 1 (f1 (f1s.DlRrcMessageTransfer (ue 1) (toks.Accepted (ue 1) 1)))) ∷ put_message 30 (le (Du A 2) (Ue 1) 1 (rrc (toks.Accepted (ue 1) 1))) ∷ got_message 30 (le (Du A 2) (Ue 1) 1 (rrc (toks.Accepted (ue 1) 1))) ∷ []))
-    ∷ (step (events.Offer (ue 1) (be 2) Ul (10 ∷ [])) (put_item (radio_link (en 1 2 Ul) 1) (shown (en 1 2 Ul) (Some 0) (128 ∷ 0 ∷ 10 ∷ [])) ∷ []))
-    ∷ (step (events.Settle) (got_item (tunnel_link (te (Du A 2) 1)) (shown (en 1 1 Dl) None (52 ∷ 255 ∷ 0 ∷ 17 ∷ 0 ∷ 0 ∷ 0 ∷ 1 ∷ 0 ∷ 0 ∷ 0 ∷ 132 ∷ 2 ∷ 0 ∷ 0 ∷ 0 ∷ 0 ∷ 0 ∷ 0 ∷ 0 ∷ 0 ∷ 0 ∷ 0 ∷ 0 ∷ 0 ∷ [])) ∷ put_item (radio_link (en 1 1 Dl) 1) (shown (en 1 1 Dl) None (0 ∷ 0 ∷ 0 ∷ 0 ∷ 0 ∷ [])) ∷ got_item (tunnel_link (te (Du A 2) 2)) (shown (en 1 2 Dl) None (52 ∷ 255 ∷ 0 ∷ 17 ∷ 0 ∷ 0 ∷ 0 ∷ 2 ∷ 0 ∷ 0 ∷ 0 ∷ 132 ∷ 2 ∷ 0 ∷ 0 ∷ 0 ∷ 0 ∷ 0 ∷ 0 ∷ 0 ∷ 0 ∷ 0 ∷ 0 ∷ 0 ∷ 0 ∷ [])) ∷ put_item (radio_link (en 1 2 Dl) 1) (shown (en 1 2 Dl) None (0 ∷ 0 ∷ 0 ∷ 0 ∷ 0 ∷ [])) ∷ got_item (radio_link (en 1 1 Dl) 1) (shown (en 1 1 Dl) None (0 ∷ 0 ∷ 0 ∷ 0 ∷ 0 ∷ [])) ∷ got_item (radio_link (en 1 1 Ul) 1) (shown (en 1 1 Ul) None (0 ∷ 0 ∷ 0 ∷ 0 ∷ 0 ∷ [])) ∷ put_item (tunnel_link (te (CuUp A 1) 2)) (shown (en 1 1 Ul) None (48 ∷ 255 ∷ 0 ∷ 5 ∷ 0 ∷ 0 ∷ 0 ∷ 2 ∷ 0 ∷ 0 ∷ 0 ∷ 0 ∷ 0 ∷ [])) ∷ got_item (radio_link (en 1 2 Dl) 1) (shown (en 1 2 Dl) None (0 ∷ 0 ∷ 0 ∷ 0 ∷ 0 ∷ [])) ∷ got_item (radio_link (en 1 2 Ul) 1) (shown (en 1 2 Ul) None (0 ∷ 0 ∷ 0 ∷ 0 ∷ 0 ∷ [])) ∷ put_item (tunnel_link (te (CuUp A 1) 4)) (shown (en 1 2 Ul) None (48 ∷ 255 ∷ 0 ∷ 5 ∷ 0 ∷ 0 ∷ 0 ∷ 4 ∷ 0 ∷ 0 ∷ 0 ∷ 0 ∷ 0 ∷ [])) ∷ got_item (radio_link (en 1 2 Ul) 1) (shown (en 1 2 Ul) (Some 0) (128 ∷ 0 ∷ 10 ∷ [])) ∷ put_item (tunnel_link (te (CuUp A 1) 4)) (shown (en 1 2 Ul) (Some 0) (48 ∷ 255 ∷ 0 ∷ 3 ∷ 0 ∷ 0 ∷ 0 ∷ 4 ∷ 128 ∷ 0 ∷ 10 ∷ [])) ∷ got_item (tunnel_link (te (CuUp A 1) 2)) (shown (en 1 1 Ul) None (48 ∷ 255 ∷ 0 ∷ 5 ∷ 0 ∷ 0 ∷ 0 ∷ 2 ∷ 0 ∷ 0 ∷ 0 ∷ 0 ∷ 0 ∷ [])) ∷ got_item (tunnel_link (te (CuUp A 1) 4)) (shown (en 1 2 Ul) None (48 ∷ 255 ∷ 0 ∷ 5 ∷ 0 ∷ 0 ∷ 0 ∷ 4 ∷ 0 ∷ 0 ∷ 0 ∷ 0 ∷ 0 ∷ [])) ∷ got_item (tunnel_link (te (CuUp A 1) 4)) (shown (en 1 2 Ul) (Some 0) (48 ∷ 255 ∷ 0 ∷ 3 ∷ 0 ∷ 0 ∷ 0 ∷ 4 ∷ 128 ∷ 0 ∷ 10 ∷ [])) ∷ delivers (en 1 2 Ul) 0 (10 ∷ []) ∷ has_settled 2 ∷ is_quiet (ue 1) (be 1) 0 0 ∷ is_quiet (ue 1) (be 2) 0 1 ∷ []))
-    ∷ [];
+      ∷ (step (events.Pump) (got_message 1 (le (CuUp A 1) (CuCp A) 0 (e1 (e1s.E1SetupRequest 1 (node_text (CuUp A 1))))) ∷ put_message 9 (le (CuCp A) (CuUp A 1) 0 (e1 (e1s.E1SetupResponse 1))) ∷ got_message 2 (le (CuUp A 2) (CuCp A) 0 (e1 (e1s.E1SetupRequest 1 (node_text (CuUp A 2))))) ∷ put_message 10 (le (CuCp A) (CuUp A 2) 0 (e1 (e1s.E1SetupResponse 1))) ∷ got_message 3 (le (Du A 1) (CuCp A) 0 (f1 (f1s.F1SetupRequest 1 (node_text (Du A 1))))) ∷ put_message 11 (le (CuCp A) (Du A 1) 0 (f1 (f1s.F1SetupResponse 1))) ∷ got_message 4 (le (Du A 2) (CuCp A) 0 (f1 (f1s.F1SetupRequest 1 (node_text (Du A 2))))) ∷ put_message 12 (le (CuCp A) (Du A 2) 0 (f1 (f1s.F1SetupResponse 1))) ∷ got_message 5 (le (CuUp B 1) (CuCp B) 0 (e1 (e1s.E1SetupRequest 1 (node_text (CuUp B 1))))) ∷ put_message 13 (le (CuCp B) (CuUp B 1) 0 (e1 (e1s.E1SetupResponse 1))) ∷ got_message 6 (le (CuUp B 2) (CuCp B) 0 (e1 (e1s.E1SetupRequest 1 (node_text (CuUp B 2))))) ∷ put_message 14 (le (CuCp B) (CuUp B 2) 0 (e1 (e1s.E1SetupResponse 1))) ∷ got_message 7 (le (Du B 1) (CuCp B) 0 (f1 (f1s.F1SetupRequest 1 (node_text (Du B 1))))) ∷ put_message 15 (le (CuCp B) (Du B 1) 0 (f1 (f1s.F1SetupResponse 1))) ∷ got_message 8 (le (Du B 2) (CuCp B) 0 (f1 (f1s.F1SetupRequest 1 (node_text (Du B 2))))) ∷ put_message 16 (le (CuCp B) (Du B 2) 0 (f1 (f1s.F1SetupResponse 1))) ∷ got_message 9 (le (CuCp A) (CuUp A 1) 0 (e1 (e1s.E1SetupResponse 1))) ∷ got_message 10 (le (CuCp A) (CuUp A 2) 0 (e1 (e1s.E1SetupResponse 1))) ∷ got_message 11 (le (CuCp A) (Du A 1) 0 (f1 (f1s.F1SetupResponse 1))) ∷ got_message 12 (le (CuCp A) (Du A 2) 0 (f1 (f1s.F1SetupResponse 1))) ∷ got_message 13 (le (CuCp B) (CuUp B 1) 0 (e1 (e1s.E1SetupResponse 1))) ∷ got_message 14 (le (CuCp B) (CuUp B 2) 0 (e1 (e1s.E1SetupResponse 1))) ∷ got_message 15 (le (CuCp B) (Du B 1) 0 (f1 (f1s.F1SetupResponse 1))) ∷ got_message 16 (le (CuCp B) (Du B 2) 0 (f1 (f1s.F1SetupResponse 1))) ∷ []))
+      ∷ (step (events.Attach (plan 1 A 1 2 Len12 2 64)) (put_message 17 (le (CuCp A) (CuUp A 1) 1 (e1 (e1s.BearerContextSetupRequest (ue 1) 1 2 Len12 64 false))) ∷ []))
+      ∷ (step (events.Pump) (got_message 17 (le (CuCp A) (CuUp A 1) 1 (e1 (e1s.BearerContextSetupRequest (ue 1) 1 2 Len12 64 false))) ∷ put_message 18 (le (CuUp A 1) (CuCp A) 1 (e1 (e1s.BearerContextSetupResponse (ue 1) 1 ((tn 1 2) ∷ (tn 2 4) ∷ []) ((tn 1 1) ∷ (tn 2 3) ∷ []) None None))) ∷ got_message 18 (le (CuUp A 1) (CuCp A) 1 (e1 (e1s.BearerContextSetupResponse (ue 1) 1 ((tn 1 2) ∷ (tn 2 4) ∷ []) ((tn 1 1) ∷ (tn 2 3) ∷ []) None None))) ∷ put_message 19 (le (CuCp A) (Du A 2) 1 (f1 (f1s.UeContextSetupRequest (ue 1) 1 1 ((tn 1 2) ∷ (tn 2 4) ∷ []) Len12 (pe A 1)))) ∷ got_message 19 (le (CuCp A) (Du A 2) 1 (f1 (f1s.UeContextSetupRequest (ue 1) 1 1 ((tn 1 2) ∷ (tn 2 4) ∷ []) Len12 (pe A 1)))) ∷ put_message 20 (le (Du A 2) (CuCp A) 1 (f1 (f1s.UeContextSetupResponse (ue 1) 1 ((tn 1 1) ∷ (tn 2 2) ∷ [])))) ∷ got_message 20 (le (Du A 2) (CuCp A) 1 (f1 (f1s.UeContextSetupResponse (ue 1) 1 ((tn 1 1) ∷ (tn 2 2) ∷ [])))) ∷ put_message 21 (le (CuCp A) (Du A 2) 1 (f1 (f1s.DlRrcMessageTransfer (ue 1) (toks.Command (ue 1) 1 A 2)))) ∷ got_message 21 (le (CuCp A) (Du A 2) 1 (f1 (f1s.DlRrcMessageTransfer (ue 1) (toks.Command (ue 1) 1 A 2)))) ∷ put_message 22 (le (Du A 2) (Ue 1) 1 (rrc (toks.Command (ue 1) 1 A 2))) ∷ got_message 22 (le (Du A 2) (Ue 1) 1 (rrc (toks.Command (ue 1) 1 A 2))) ∷ []))
+      ∷ (step (events.Arrive (ue 1)) (put_message 23 (le (Ue 1) (Du A 2) 1 (rrc (toks.Complete (ue 1) 1))) ∷ put_item (radio_link (en 1 1 Ul) 1) (shown (en 1 1 Ul) None (0 ∷ 0 ∷ 0 ∷ 0 ∷ 0 ∷ [])) ∷ put_item (radio_link (en 1 2 Ul) 1) (shown (en 1 2 Ul) None (0 ∷ 0 ∷ 0 ∷ 0 ∷ 0 ∷ [])) ∷ []))
+      ∷ (step (events.Pump) (got_message 23 (le (Ue 1) (Du A 2) 1 (rrc (toks.Complete (ue 1) 1))) ∷ put_message 24 (le (Du A 2) (CuCp A) 1 (f1 (f1s.UlRrcMessageTransfer (ue 1) (toks.Complete (ue 1) 1)))) ∷ got_message 24 (le (Du A 2) (CuCp A) 1 (f1 (f1s.UlRrcMessageTransfer (ue 1) (toks.Complete (ue 1) 1)))) ∷ put_message 25 (le (CuCp A) (CuUp A 1) 1 (e1 (e1s.BearerContextModificationRequest (ue 1) 2 (Some ((tn 1 1) ∷ (tn 2 2) ∷ [])) 1 None None None None (Some 2)))) ∷ put_message 26 (le (CuCp A) Core 1 (core (cores.PathSwitchRequest (ue 1) 1 (pe A 1) ((tn 1 1) ∷ (tn 2 3) ∷ [])))) ∷ got_message 25 (le (CuCp A) (CuUp A 1) 1 (e1 (e1s.BearerContextModificationRequest (ue 1) 2 (Some ((tn 1 1) ∷ (tn 2 2) ∷ [])) 1 None None None None (Some 2)))) ∷ put_item (tunnel_link (te (Du A 2) 1)) (shown (en 1 1 Dl) None (52 ∷ 255 ∷ 0 ∷ 17 ∷ 0 ∷ 0 ∷ 0 ∷ 1 ∷ 0 ∷ 0 ∷ 0 ∷ 132 ∷ 2 ∷ 0 ∷ 0 ∷ 0 ∷ 0 ∷ 0 ∷ 0 ∷ 0 ∷ 0 ∷ 0 ∷ 0 ∷ 0 ∷ 0 ∷ [])) ∷ put_item (tunnel_link (te (Du A 2) 2)) (shown (en 1 2 Dl) None (52 ∷ 255 ∷ 0 ∷ 17 ∷ 0 ∷ 0 ∷ 0 ∷ 2 ∷ 0 ∷ 0 ∷ 0 ∷ 132 ∷ 2 ∷ 0 ∷ 0 ∷ 0 ∷ 0 ∷ 0 ∷ 0 ∷ 0 ∷ 0 ∷ 0 ∷ 0 ∷ 0 ∷ 0 ∷ [])) ∷ put_message 27 (le (CuUp A 1) (CuCp A) 1 (e1 (e1s.BearerContextModificationResponse (ue 1) 2 None None))) ∷ got_message 26 (le (CuCp A) Core 1 (core (cores.PathSwitchRequest (ue 1) 1 (pe A 1) ((tn 1 1) ∷ (tn 2 3) ∷ [])))) ∷ put_message 28 (le Core (CuCp A) 1 (core (cores.PathSwitchAcknowledge (ue 1) 1))) ∷ got_message 27 (le (CuUp A 1) (CuCp A) 1 (e1 (e1s.BearerContextModificationResponse (ue 1) 2 None None))) ∷ put_message 29 (le (CuCp A) (Du A 2) 1 (f1 (f1s.DlRrcMessageTransfer (ue 1) (toks.Accepted (ue 1) 1)))) ∷ got_message 28 (le Core (CuCp A) 1 (core (cores.PathSwitchAcknowledge (ue 1) 1))) ∷ got_message 29 (le (CuCp A) (Du A 2) 1 (f1 (f1s.DlRrcMessageTransfer (ue 1) (toks.Accepted (ue 1) 1)))) ∷ put_message 30 (le (Du A 2) (Ue 1) 1 (rrc (toks.Accepted (ue 1) 1))) ∷ got_message 30 (le (Du A 2) (Ue 1) 1 (rrc (toks.Accepted (ue 1) 1))) ∷ []))
+      ∷ (step (events.Offer (ue 1) (be 2) Ul (10 ∷ [])) (put_item (radio_link (en 1 2 Ul) 1) (shown (en 1 2 Ul) (Some 0) (128 ∷ 0 ∷ 10 ∷ [])) ∷ []))
+      ∷ (step (events.Settle) (got_item (tunnel_link (te (Du A 2) 1)) (shown (en 1 1 Dl) None (52 ∷ 255 ∷ 0 ∷ 17 ∷ 0 ∷ 0 ∷ 0 ∷ 1 ∷ 0 ∷ 0 ∷ 0 ∷ 132 ∷ 2 ∷ 0 ∷ 0 ∷ 0 ∷ 0 ∷ 0 ∷ 0 ∷ 0 ∷ 0 ∷ 0 ∷ 0 ∷ 0 ∷ 0 ∷ [])) ∷ put_item (radio_link (en 1 1 Dl) 1) (shown (en 1 1 Dl) None (0 ∷ 0 ∷ 0 ∷ 0 ∷ 0 ∷ [])) ∷ got_item (tunnel_link (te (Du A 2) 2)) (shown (en 1 2 Dl) None (52 ∷ 255 ∷ 0 ∷ 17 ∷ 0 ∷ 0 ∷ 0 ∷ 2 ∷ 0 ∷ 0 ∷ 0 ∷ 132 ∷ 2 ∷ 0 ∷ 0 ∷ 0 ∷ 0 ∷ 0 ∷ 0 ∷ 0 ∷ 0 ∷ 0 ∷ 0 ∷ 0 ∷ 0 ∷ [])) ∷ put_item (radio_link (en 1 2 Dl) 1) (shown (en 1 2 Dl) None (0 ∷ 0 ∷ 0 ∷ 0 ∷ 0 ∷ [])) ∷ got_item (radio_link (en 1 1 Dl) 1) (shown (en 1 1 Dl) None (0 ∷ 0 ∷ 0 ∷ 0 ∷ 0 ∷ [])) ∷ got_item (radio_link (en 1 1 Ul) 1) (shown (en 1 1 Ul) None (0 ∷ 0 ∷ 0 ∷ 0 ∷ 0 ∷ [])) ∷ put_item (tunnel_link (te (CuUp A 1) 2)) (shown (en 1 1 Ul) None (48 ∷ 255 ∷ 0 ∷ 5 ∷ 0 ∷ 0 ∷ 0 ∷ 2 ∷ 0 ∷ 0 ∷ 0 ∷ 0 ∷ 0 ∷ [])) ∷ got_item (radio_link (en 1 2 Dl) 1) (shown (en 1 2 Dl) None (0 ∷ 0 ∷ 0 ∷ 0 ∷ 0 ∷ [])) ∷ got_item (radio_link (en 1 2 Ul) 1) (shown (en 1 2 Ul) None (0 ∷ 0 ∷ 0 ∷ 0 ∷ 0 ∷ [])) ∷ put_item (tunnel_link (te (CuUp A 1) 4)) (shown (en 1 2 Ul) None (48 ∷ 255 ∷ 0 ∷ 5 ∷ 0 ∷ 0 ∷ 0 ∷ 4 ∷ 0 ∷ 0 ∷ 0 ∷ 0 ∷ 0 ∷ [])) ∷ got_item (radio_link (en 1 2 Ul) 1) (shown (en 1 2 Ul) (Some 0) (128 ∷ 0 ∷ 10 ∷ [])) ∷ put_item (tunnel_link (te (CuUp A 1) 4)) (shown (en 1 2 Ul) (Some 0) (48 ∷ 255 ∷ 0 ∷ 3 ∷ 0 ∷ 0 ∷ 0 ∷ 4 ∷ 128 ∷ 0 ∷ 10 ∷ [])) ∷ got_item (tunnel_link (te (CuUp A 1) 2)) (shown (en 1 1 Ul) None (48 ∷ 255 ∷ 0 ∷ 5 ∷ 0 ∷ 0 ∷ 0 ∷ 2 ∷ 0 ∷ 0 ∷ 0 ∷ 0 ∷ 0 ∷ [])) ∷ got_item (tunnel_link (te (CuUp A 1) 4)) (shown (en 1 2 Ul) None (48 ∷ 255 ∷ 0 ∷ 5 ∷ 0 ∷ 0 ∷ 0 ∷ 4 ∷ 0 ∷ 0 ∷ 0 ∷ 0 ∷ 0 ∷ [])) ∷ got_item (tunnel_link (te (CuUp A 1) 4)) (shown (en 1 2 Ul) (Some 0) (48 ∷ 255 ∷ 0 ∷ 3 ∷ 0 ∷ 0 ∷ 0 ∷ 4 ∷ 128 ∷ 0 ∷ 10 ∷ [])) ∷ delivers (en 1 2 Ul) 0 (10 ∷ []) ∷ has_settled 2 ∷ is_quiet (ue 1) (be 1) 0 0 ∷ is_quiet (ue 1) (be 2) 0 1 ∷ []))
+      ∷ [];
   stop = None;
   faults = [];
   items = [];

@@ -27,7 +27,7 @@ use Rattle.law_worked_runs.specs.Short.{ue, be, te, en, tn, ss, pe, plan, le, st
 abbrev pub worked : Worked
 worked = record {
   steps = (step (events.Settle) (has_settled 0 ∷ []))
-    ∷ [];
+      ∷ [];
   stop = None;
   faults = [];
   items = [];
