@@ -4,10 +4,11 @@ use Rattle.std.specs.Prelude.{◌⊎◌, sum_by}
 use Rattle.std.proofs.lemmas.List.{length-replicate, get_or-replicate, get_or_past}
 use Rattle.std.proofs.lemmas.List.Sums.{sum_by-cons}
 use Rattle.std.proofs.lemmas.Bool.{cases_lt}
+use Rattle.gnb_types.proofs.Choices.{by_test}
 use Rattle.asn1_graph.specs.declared.graph.Edge.{Edge}
 use Rattle.asn1_graph.specs.Graph.{edge}
 use Rattle.asn1_graph.specs.Paths.{IsAmong, IsStep, Leads, first, further, raised, marks_of, marks_from, marks_to, trimmed, MarksLoops}
-use Rattle.asn1_graph.proofs.PathLemmas.{by_bool, inside, at_or_not, raised_cases, raised_fair, raised_false}
+use Rattle.asn1_graph.proofs.PathLemmas.{inside, at_or_not, raised_cases, raised_fair, raised_false}
 
 -- a path after a step
 before : (count : ℕ) (edges : List Edge) (a b c : ℕ) → IsStep count edges a b → Leads count edges b c → Leads count edges a c
@@ -48,7 +49,7 @@ raised_keeps t at v w = raised_cases (λ r. get_or t w 0 ≤ get_or r.1 w 0) t a
     (omega arith)
 
 raised_reaches : (t : List ℕ) (at v : ℕ) → at < length t → v ≤ get_or (raised t at v).1 at 0
-raised_reaches t at v h = by_bool (v ≤ get_or (raised t at v).1 at 0) (raised t at v).0
+raised_reaches t at v h = by_test (v ≤ get_or (raised t at v).1 at 0) (raised t at v).0
     (λ yes. raised_cases (λ r. r.0 ≡ true → v ≤ get_or r.1 at 0) t at v (λ lt less _. omega (arith, get_or-set_same t at v 0 lt)) (λ e. cc) yes)
     (λ no. omega (arith, raised_false t at v no h, raised_keeps t at v at))
 

@@ -4,17 +4,10 @@ use Rattle.std.specs.Prelude.{◌⊎◌, sum_by}
 use Rattle.std.proofs.lemmas.List.{length-set, length-replicate, get_or-replicate, get_or_past}
 use Rattle.std.proofs.lemmas.List.Sums.{sum_by-set}
 use Rattle.std.proofs.lemmas.Bool.{ltb-true, ltb-false, lt-ltb, eqb-true, cases_lt}
+use Rattle.gnb_types.proofs.Choices.{by_choice, by_test}
 use Rattle.asn1_graph.specs.declared.graph.Edge.{Edge}
 use Rattle.asn1_graph.specs.Graph.{edge}
 use Rattle.asn1_graph.specs.Paths.{IsAmong, Leads, first, further, raised, mark_step, depth_step, depth_cap, round_of, IsReach, IsDepth, Nests, alone, around}
-
-by_choice : {X : Type 0} (P : X → Type 0) (b : Bool) (x y : X) → (b ≡ true → P x) → (b ≡ false → P y) → P (cond b x y)
-by_choice P true x y p q = p refl
-by_choice P false x y p q = q refl
-
-pub by_bool : (P : Type 0) (b : Bool) → (b ≡ true → P) → (b ≡ false → P) → P
-by_bool P true p q = p refl
-by_bool P false p q = q refl
 
 or_cases : (a b : Bool) → a || b ≡ true → (a ≡ true) ⊎ (b ≡ true)
 or_cases true b h = inl refl
@@ -33,7 +26,7 @@ neither true b h = cc
 neither false b h = (refl, h)
 
 eqb-refl : (n : ℕ) → eqb n n ≡ true
-eqb-refl n = by_bool (eqb n n ≡ true) (eqb n n) (λ h. h) (λ h. grind arith)
+eqb-refl n = by_test (eqb n n ≡ true) (eqb n n) (λ h. h) (λ h. grind arith)
 
 -- a value above 0 stands inside its table
 pub inside : (t : List ℕ) (v : ℕ) → 0 < get_or t v 0 → v < length t
@@ -72,7 +65,7 @@ raised_fair cap t at v most = raised_cases (Fair cap t) t at v
 -- where it didn't change, the value was as great before
 pub raised_false : (t : List ℕ) (at v : ℕ) → (raised t at v).0 ≡ false → at < length t → v ≤ get_or t at 0
 raised_false t at v h lt =
-    by_bool (v ≤ get_or t at 0) (ltb (get_or t at 0) v)
+    by_test (v ≤ get_or t at 0) (ltb (get_or t at 0) v)
     (λ less. absurd (clash (ltb at (length t)) (ltb (get_or t at 0) v) (lt-ltb _ _ lt) less h))
     (λ more. ltb-false _ _ more)
   where
@@ -114,7 +107,7 @@ unfolding round_of
 round_slack cap act fair c t [] = (omega arith, λ p q. cc)
 round_slack cap act fair c t (e ∷ es) =
     let rest = round_slack cap act fair (c || (act t e).0) (act t e).1 es in
-    by_bool ((slack cap (round_of act (c || (act t e).0) (act t e).1 es).1 ≤ slack cap t) × (c ≡ false → (round_of act (c || (act t e).0) (act t e).1 es).0 ≡ true → slack cap (round_of act (c || (act t e).0) (act t e).1 es).1 < slack cap t)) (act t e).0
+    by_test ((slack cap (round_of act (c || (act t e).0) (act t e).1 es).1 ≤ slack cap t) × (c ≡ false → (round_of act (c || (act t e).0) (act t e).1 es).0 ≡ true → slack cap (round_of act (c || (act t e).0) (act t e).1 es).1 < slack cap t)) (act t e).0
     (λ yes. (omega (arith, rest.0, (fair t e).less yes), λ _ _. omega (arith, rest.0, (fair t e).less yes)))
     (λ no.
     let same : slack cap (act t e).1 ≡ slack cap t = ap (slack cap) ((fair t e).still no) in
@@ -140,7 +133,7 @@ pub record MarksWell (count : ℕ) (edges : List Edge) (start : ℕ) (t : List �
   pub marked : (v : ℕ) → 0 < get_or t v 0 → Leads count edges start v
 
 pub at_or_not : (P : ℕ → Type 0) (at v : ℕ) → P at → (v ≢ at → P v) → P v
-at_or_not P at v here there = by_bool (P v) (eqb v at) (λ h. subst P (sym (eqb-true v at h)) here) (λ h. there (λ same. clash (eqb v at) (ap (λ (n : ℕ). eqb n at) same ∙ eqb-refl at) h))
+at_or_not P at v here there = by_test (P v) (eqb v at) (λ h. subst P (sym (eqb-true v at h)) here) (λ h. there (λ same. clash (eqb v at) (ap (λ (n : ℕ). eqb n at) same ∙ eqb-refl at) h))
   where
     clash : (b : Bool) → b ≡ true → b ≡ false → ⊥
     clash true p q = cc

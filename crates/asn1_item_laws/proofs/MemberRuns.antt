@@ -2,6 +2,7 @@
 use Rattle.std.proofs.Common.{◌≡◌, ℕ, List, ◌∷◌, ◌++◌, map, Bool, true, false, cond, ◌&&◌, refl, sym, ap, ◌∙◌, subst, Option, Some, None}
 use Rattle.std.specs.Prelude.{Result, Ok, nat_le}
 use Rattle.std.proofs.lemmas.List.{length-map, map-append}
+use Rattle.gnb_types.proofs.Choices.{by_choice}
 use Rattle.asn1_tokens.specs.declared.token.Word.TheVariants as words
 use Rattle.asn1_tokens.specs.declared.token.Sign.TheVariants as signs
 use Rattle.asn1_tokens.specs.declared.token.Token.{Token}
@@ -22,7 +23,6 @@ use Rattle.asn1_types.specs.Members.{no_parts, put_part, with_part, extended, ca
 use Rattle.asn1_item_laws.specs.Ranges.{is_wide, is_one_size}
 use Rattle.asn1_item_laws.specs.Given.{begins_entry, listed, numbers_behind, begins_assignment, assigned, types_assigned}
 use Rattle.asn1_item_laws.specs.Fine.{passes_bound, is_repeated, bounds, twice}
-use Rattle.asn1_syntax_laws.proofs.Sim.{by_choice}
 use Rattle.asn1_item_laws.proofs.Runs.{Run, and_then, done, wrong, took, word_then, sign_then, lower_first, Turned, repeat_run}
 use Rattle.asn1_item_laws.proofs.Views.{Same, not_one_size, not_wide, map_snoc, any_map}
 use Rattle.asn1_item_laws.proofs.Insides.{Inside, inside_then, ended, comma_inside, ellipsis_inside, name_inside, brace_ends}

@@ -2,6 +2,7 @@
 use Rattle.std.proofs.Common.{◌≡◌, ℕ, ◌+◌, List, [], ◌∷◌, ◌++◌, map, suc, zero, Bool, true, false, cond, ◌&&◌, refl, sym, ap, ◌∙◌, subst, arith, nat_le}
 use Rattle.std.specs.Prelude.{Result, Ok}
 use Rattle.std.specs.List.{count_by}
+use Rattle.gnb_types.proofs.Choices.{by_choice}
 use Rattle.asn1_tokens.specs.declared.token.Word.TheVariants as words
 use Rattle.asn1_tokens.specs.declared.token.Sign.TheVariants as signs
 use Rattle.asn1_tokens.specs.declared.token.Token.{Token}
@@ -19,7 +20,6 @@ use Rattle.asn1_grammar.specs.Open.{tokens_of}
 use Rattle.asn1_item_laws.specs.Given.{begins_assignment, assigned, types_assigned}
 use Rattle.asn1_item_laws.specs.Fine.{defines_type, passes_bound, is_repeated, bounds, twice}
 use Rattle.asn1_item_laws.proofs.Views.{Same, map_snoc, any_map, count_snoc}
-use Rattle.asn1_syntax_laws.proofs.Sim.{by_choice}
 use Rattle.asn1_item_laws.proofs.Runs.{Run, and_then, done, wrong, refused, took, word_then, sign_then, upper_first, upper_then}
 use Rattle.asn1_item_laws.proofs.TypeRuns.{type_run}
 use Rattle.asn1_item_laws.proofs.RowRuns.{bind_assoc, Shut, ie_set_run, procedure_set_run}

@@ -1,6 +1,7 @@
 -- The rows of information object sets, and the sets.
 use Rattle.std.proofs.Common.{◌≡◌, ℕ, List, [], ◌∷◌, ◌++◌, map, Bool, true, false, cond, refl, sym, ap, ◌∙◌, subst, Option, Some, None}
 use Rattle.std.specs.Prelude.{Result, Ok, Err, ℤ, pos}
+use Rattle.gnb_types.proofs.Choices.{by_choice}
 use Rattle.asn1_tokens.specs.declared.token.Word.{Word}
 use Rattle.asn1_tokens.specs.declared.token.Word.TheVariants as words
 use Rattle.asn1_tokens.specs.declared.token.Sign.{Sign}
@@ -23,7 +24,6 @@ use Rattle.asn1_item_laws.specs.Ranges.{from_to, range_behind}
 use Rattle.asn1_item_laws.specs.Given.{begins_entry, numbers_behind, ids, codes_given, is_among, is_given, begins_assignment, assigned, types_assigned}
 use Rattle.asn1_item_laws.specs.Fine.{sign_passes, passes_bound, is_repeated, twice}
 use Rattle.asn1_item_laws.proofs.Views.{Same, not_one_size, not_wide, map_snoc, any_map}
-use Rattle.asn1_syntax_laws.proofs.Sim.{by_choice}
 use Rattle.asn1_item_laws.proofs.Runs.{Run, and_then, done, wrong, refused, took, word_then, sign_then, lower_first, natural_first, no_first, Turned, repeat_run}
 use Rattle.asn1_item_laws.proofs.TypeRuns.{type_run}
 

@@ -2,6 +2,7 @@
 use Rattle.std.proofs.Common.{◌≡◌, ℕ, List, [], ◌∷◌, zero, suc, Bool, true, false, cond, not, ◌&&◌, refl, sym, ap, ◌∙◌, subst}
 use Rattle.std.specs.Prelude.{Result, Ok, Err, ℤ, pos}
 use Rattle.std.specs.Int.Signed.{le_z}
+use Rattle.gnb_types.proofs.Choices.{by_choice}
 use Rattle.asn1_tokens.specs.declared.token.Word.{Word}
 use Rattle.asn1_tokens.specs.declared.token.Sign.{Sign}
 use Rattle.asn1_tokens.specs.declared.token.Token.{Token}
@@ -12,7 +13,6 @@ use Rattle.asn1_types.specs.declared.fault.Fault.{Fault}
 use Rattle.asn1_types.specs.Reading.{◌>>=◌, Left, fault_at, unexpected, begins_with, begins_with_sign, word_at, sign_at, upper_of, upper_at, lower_of, lower_at, number_of, number_at, repeat_at}
 use Rattle.asn1_types.specs.Sizes.{bounded_at, natural, natural_at}
 use Rattle.asn1_grammar.specs.Open.{tokens_of}
-use Rattle.asn1_syntax_laws.proofs.Sim.{by_choice}
 use Rattle.asn1_syntax_laws.proofs.Exact.{a_word, a_sign}
 use Rattle.asn1_item_laws.specs.Ranges.{from_to, range_behind, is_outside}
 use Rattle.asn1_item_laws.specs.Given.{begins_assignment, is_given}

@@ -2,6 +2,7 @@
 use Rattle.std.proofs.Common.{◌≡◌, ℕ, ◌-◌, ◌^◌, suc, List, ◌∷◌, Bool, true, false, not, ◌||◌, ◌&&◌, refl, sym, ap, ◌∙◌, Option, Some, None}
 use Rattle.std.specs.Prelude.{Err, ℤ, pos}
 use Rattle.std.specs.Int.Signed.{le_z}
+use Rattle.gnb_types.proofs.Choices.{by_test, by_choice}
 use Rattle.asn1_tokens.specs.declared.token.Word.TheVariants as words
 use Rattle.asn1_tokens.specs.declared.token.Sign.TheVariants as signs
 use Rattle.asn1_tokens.specs.declared.token.Token.{Token}
@@ -15,7 +16,6 @@ use Rattle.asn1_item_laws.specs.Ranges.{from_to, range_behind, sizes_text, is_wi
 use Rattle.asn1_item_laws.specs.Given.{listed, numbers_behind, begins_assignment, assigned, types_assigned}
 use Rattle.asn1_item_laws.specs.Fine.{passes_bound, is_repeated, bounds}
 use Rattle.asn1_syntax_laws.proofs.Exact.{a_sign}
-use Rattle.asn1_syntax_laws.proofs.Sim.{by_choice, by_test}
 use Rattle.asn1_item_laws.proofs.Runs.{Run, and_then, done, wrong, took, sign_first, sign_when, sign_then, word_then, bounded_then, natural_then}
 use Rattle.asn1_item_laws.proofs.Views.{Same}
 use Rattle.asn1_item_laws.proofs.Insides.{Inside, ended, nowhere, comma_inside, ellipsis_inside, bracket_ends}

@@ -1,6 +1,7 @@
 -- Types, with those inside them.
 use Rattle.std.proofs.Common.{◌≡◌, ℕ, zero, suc, List, [], ◌∷◌, Bool, true, false, cond, refl, Option, Some, None}
 use Rattle.std.specs.Prelude.{Result}
+use Rattle.gnb_types.proofs.Choices.{by_choice}
 use Rattle.asn1_tokens.specs.declared.token.Word.{Word}
 use Rattle.asn1_tokens.specs.declared.token.Word.TheVariants as words
 use Rattle.asn1_tokens.specs.declared.token.Sign.TheVariants as signs
@@ -22,7 +23,6 @@ use Rattle.asn1_types.specs.Reading.{Left, first_word, begins_with_sign}
 use Rattle.asn1_types.specs.Members.{no_parts, node}
 use Rattle.asn1_types.specs.Types.{enumerated_at, bit_string_at, octet_string_at, printable_string_at, simple_rest_at, is_simple, simple_at, list_head_at, components_head_at, sequence_head_at, choice_head_at, set_name_at, container_at, pdu_at, reference_at, head_by, head_at, Risen, risen, rise_at, type_turn_at, type_goes_on, type_within_at, type_at}
 use Rattle.asn1_item_laws.specs.Given.{listed, numbers_behind, begins_assignment, assigned, types_assigned}
-use Rattle.asn1_syntax_laws.proofs.Sim.{by_choice}
 use Rattle.asn1_item_laws.proofs.Runs.{Run, goes, fails, and_then, done, refused, word_then, sign_then, upper_then}
 use Rattle.asn1_item_laws.proofs.Views.{Same}
 use Rattle.asn1_item_laws.proofs.Insides.{Inside, inside_then, inside_both, same_behind, ended, nowhere, word_inside}

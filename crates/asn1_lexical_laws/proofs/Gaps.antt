@@ -2,19 +2,11 @@
 use Rattle.std.proofs.Common.{◌≡◌, ℕ, List, [], ◌∷◌, Bool, true, false, cond, ◌&&◌, refl, sym, ap, ◌∙◌, subst, Some, None}
 use Rattle.std.specs.Prelude.{◌==◌}
 use Rattle.std.proofs.lemmas.Bool.{eqb-true}
+use Rattle.gnb_types.proofs.Choices.{by_choice, both}
 use Rattle.asn1_tokens.specs.declared.scan.Gap.{Gap}
 use Rattle.asn1_tokens.specs.declared.scan.Gap.TheVariants as gaps
 use Rattle.asn1_tokens.specs.Scan.{is_white, begins, is_mark, gap_rest, after_gap}
 use Rattle.asn1_lexical_laws.specs.Lexical.{begins_comment, Comment, closed, line, ended, goes_on, IsGap, ends, white, comment}
-
-pub by_choice : {X : Type 0} (P : X → Type 0) (b : Bool) (x y : X) → (b ≡ true → P x) → (b ≡ false → P y) → P (cond b x y)
-by_choice P true x y p q = p refl
-by_choice P false x y p q = q refl
-
-pub both : (a b : Bool) → (a && b) ≡ true → (a ≡ true) × (b ≡ true)
-both true true h = (refl, refl)
-both true false h = cc
-both false b h = cc
 
 no_second : (a : Bool) → (a && false) ≡ true → ⊥
 no_second true h = cc

@@ -5,14 +5,14 @@ use Rattle.std.specs.List.{starts_with}
 use Rattle.std.proofs.lemmas.Bool.{eqb-true}
 use Rattle.std.proofs.lemmas.Bool.Decides.{Decides-eqb}
 use Rattle.std.proofs.lemmas.Slice.Eq.{starts_is}
+use Rattle.gnb_types.proofs.Choices.{by_test, by_choice, both}
 use Rattle.asn1_tokens.specs.declared.token.Sign.TheVariants as signs
 use Rattle.asn1_tokens.specs.declared.token.Token.{Token}
 use Rattle.asn1_tokens.specs.declared.token.Token.TheVariants as tokens
 use Rattle.asn1_tokens.specs.Scan.{is_upper, is_lower, is_digit, begins, after_name, after_number, before, magnitude, Lexeme, lexeme, name_token, lexeme_or, long_sign, short_sign, number_lexeme, lexeme_at}
 use Rattle.asn1_lexical_laws.specs.Lexical.{IsName, IsNumber, IsLongest, is_short, begins_item, IsItem}
 use Rattle.asn1_lexical_laws.specs.Lexical as item
-use Rattle.asn1_lexical_laws.proofs.LexicalLemmas.{by_test, name_longest, number_longest}
-use Rattle.asn1_lexical_laws.proofs.Gaps.{by_choice, both}
+use Rattle.asn1_lexical_laws.proofs.LexicalLemmas.{name_longest, number_longest}
 use Rattle.asn1_lexical_laws.proofs.Longest.{front_before}
 
 -- what is found is the item at the front

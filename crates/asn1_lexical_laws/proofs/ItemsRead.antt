@@ -3,13 +3,14 @@ use Rattle.std.proofs.Common.{◌≡◌, ℕ, ◌≤◌, List, [], ◌∷◌, dr
 use Rattle.std.specs.Prelude.{◌==◌, nat_eq, nat_le, codes, pos, Option, Some, None}
 use Rattle.std.specs.List.{starts_with}
 use Rattle.std.proofs.lemmas.Bool.{eq-eqb, leb-true, cond-true, cond-false}
+use Rattle.gnb_types.proofs.Choices.{by_test, clash}
 use Rattle.asn1_tokens.specs.declared.token.Sign.TheVariants as signs
 use Rattle.asn1_tokens.specs.declared.token.Token.{Token}
 use Rattle.asn1_tokens.specs.declared.token.Token.TheVariants as tokens
 use Rattle.asn1_tokens.specs.Scan.{is_upper, is_lower, is_digit, begins, after_name, before, magnitude, Lexeme, lexeme, name_token, lexeme_or, long_sign, short_sign, number_lexeme, lexeme_at}
 use Rattle.asn1_lexical_laws.specs.Lexical.{IsName, IsNumber, IsLongest, is_short, begins_item, IsItem}
 use Rattle.asn1_lexical_laws.specs.Lexical as item
-use Rattle.asn1_lexical_laws.proofs.LexicalLemmas.{by_test, clash, name_longest, number_longest}
+use Rattle.asn1_lexical_laws.proofs.LexicalLemmas.{name_longest, number_longest}
 use Rattle.asn1_lexical_laws.proofs.Items.{sign_front}
 use Rattle.asn1_lexical_laws.proofs.Longest.{one_longest, front_before, name_begins, no_name, number_begins, no_number}
 

@@ -2,16 +2,9 @@
 use Rattle.std.proofs.Common.{◌≡◌, ℕ, ◌≤◌, List, [], ◌∷◌, ◌++◌, length, Bool, true, false, cond, ◌||◌, ◌&&◌, eqb, refl, sym, ap, ◌∙◌, subst, inl, inr, arith}
 use Rattle.std.specs.Prelude.{◌⊎◌, ◌==◌}
 use Rattle.std.proofs.lemmas.Bool.{eqb-true}
+use Rattle.gnb_types.proofs.Choices.{by_test, clash}
 use Rattle.asn1_tokens.specs.Scan.{is_upper, is_lower, is_digit, is_name_part, begins, goes_on, after_name, after_digits, after_number}
 use Rattle.asn1_lexical_laws.specs.Lexical.{IsNameRest, IsName, AreDigits, IsNumber, IsLongest}
-
-pub by_test : (P : Type 0) (b : Bool) → (b ≡ true → P) → (b ≡ false → P) → P
-by_test P true p q = p refl
-by_test P false p q = q refl
-
-pub clash : {P : Type 0} (b : Bool) → b ≡ true → b ≡ false → P
-clash true p q = cc
-clash false p q = cc
 
 eqb-refl : (n : ℕ) → eqb n n ≡ true
 eqb-refl n = by_test (eqb n n ≡ true) (eqb n n) (λ h. h) (λ h. grind arith)

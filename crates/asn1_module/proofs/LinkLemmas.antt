@@ -1,6 +1,7 @@
 -- The numbers in a module that is read are those of its types.
 use Rattle.std.proofs.Common.{◌≡◌, ℕ, zero, suc, ◌+◌, ◌<◌, ◌≤◌, List, [], ◌∷◌, ◌++◌, length, Bool, true, false, cond, ◌&&◌, refl, subst, arith, length-append}
 use Rattle.std.specs.Prelude.{Result, Ok, Err, Option, Some, None}
+use Rattle.gnb_types.proofs.Choices.{chosen}
 use Rattle.asn1_tokens.specs.declared.token.Word.{Word}
 use Rattle.asn1_tokens.specs.declared.token.Word.TheVariants as words
 use Rattle.asn1_tokens.specs.declared.token.Sign.TheVariants as signs
@@ -26,10 +27,6 @@ use Rattle.asn1_module.specs.Links.{AreBelow, PartsBelow, IsInside, AreOrdered, 
 pub bind_ok : {A B : Type 0} (r : Result A Fault) (f : A → Result B Fault) (y : B) → (r >>= f) ≡ Ok y → (x : A) × (r ≡ Ok x) × (f x ≡ Ok y)
 bind_ok (Ok x) f y h = (x, refl, h)
 bind_ok (Err e) f y h = cc
-
-pub chosen : {X : Type 0} (b : Bool) (x y z : X) → cond b x y ≡ z → (P : Type 0) → (b ≡ true → x ≡ z → P) → (b ≡ false → y ≡ z → P) → P
-chosen true x y z h P p q = p refl h
-chosen false x y z h P p q = q refl h
 
 abbrev pub Read : Type 0 → Type 0
 Read A = Result A Fault

@@ -1,6 +1,7 @@
 -- The numbers in the rows and assignments of a module that is read are those of its types.
 use Rattle.std.proofs.Common.{◌≡◌, ℕ, ◌+◌, ◌<◌, ◌≤◌, List, [], ◌∷◌, ◌++◌, length, Bool, subst, arith}
 use Rattle.std.specs.Prelude.{Ok, Option, Some, None}
+use Rattle.gnb_types.proofs.Choices.{chosen}
 use Rattle.asn1_tokens.specs.declared.token.Word.{Word}
 use Rattle.asn1_tokens.specs.declared.token.Word.TheVariants as words
 use Rattle.asn1_tokens.specs.declared.token.Sign.TheVariants as signs
@@ -19,7 +20,7 @@ use Rattle.asn1_assignments.specs.Rows.{new_number_at, criticality_at, presence_
 use Rattle.asn1_assignments.specs.Sets.{Rows, rows_with, set_goes_on_at, ie_turn_at, procedure_turn_at, set_start_at, ie_set_at, procedure_set_at}
 use Rattle.asn1_assignments.specs.Module.{Parts, new_assignment_at, ie_body_at, procedure_body_at, type_body_at, body_at, assignment_at, module_turn_at, header_at, no_assignments, assignments_at, syntax_at, syntax_of}
 use Rattle.asn1_module.specs.Links.{AreOrdered, OptionBelow, IesBelow, ProceduresBelow, BodyBelow, BodiesBelow, IsLinked}
-use Rattle.asn1_module.proofs.LinkLemmas.{type_ok, bind_ok, chosen, ok_same}
+use Rattle.asn1_module.proofs.LinkLemmas.{type_ok, bind_ok, ok_same}
 use Rattle.asn1_module.proofs.TypeCount.{repeat_keeps}
 
 option_up : (n m : ℕ) (o : Option TypeId) → n ≤ m → OptionBelow n o → OptionBelow m o

@@ -3,6 +3,7 @@ use Rattle.std.proofs.Common.{◌≡◌, ℕ, zero, suc, ◌+◌, ◌<◌, ◌�
 use Rattle.std.proofs.lemmas.Bool.{leb-false}
 use Rattle.std.proofs.lemmas.List.Sums.{sum_by-append}
 use Rattle.std.specs.Prelude.{Result, Ok, Err, count_by}
+use Rattle.gnb_types.proofs.Choices.{by_test, chosen, clash}
 use Rattle.asn1_tokens.specs.declared.token.Word.TheVariants as words
 use Rattle.asn1_tokens.specs.declared.token.Sign.TheVariants as signs
 use Rattle.asn1_tokens.specs.Stream.{items_of, first_place, others}
@@ -21,14 +22,6 @@ use Rattle.asn1_module.specs.Module.{type_of, put_type, type_ids}
 bind_ok : {A B : Type 0} (r : Result A Fault) (f : A → Result B Fault) (y : B) → (r >>= f) ≡ Ok y → (x : A) × (r ≡ Ok x) × (f x ≡ Ok y)
 bind_ok (Ok x) f y h = (x, refl, h)
 bind_ok (Err e) f y h = cc
-
-by_bool : (P : Type 0) (b : Bool) → (b ≡ true → P) → (b ≡ false → P) → P
-by_bool P true p q = p refl
-by_bool P false p q = q refl
-
-chosen : {X : Type 0} (b : Bool) (x y z : X) → cond b x y ≡ z → (P : Type 0) → (b ≡ true → x ≡ z → P) → (b ≡ false → y ≡ z → P) → P
-chosen true x y z h P p q = p refl h
-chosen false x y z h P p q = q refl h
 
 abbrev Read : Type 0 → Type 0
 Read A = Result A Fault
@@ -49,10 +42,6 @@ repeat_keeps {S} turn Q keeps (suc n) s ts r h q =
 -- a body that adds no type, or finds room for one
 record HasRoom (assignments : List Assignment) (body : Body) : Type 0 where
   room : is_type_body body ≡ true → count_by is_type assignments < 1000
-
-clash : (b : Bool) → b ≡ true → b ≡ false → ⊥
-clash true p q = cc
-clash false p q = cc
 
 ie_room : (assignments : List Assignment) (turns : ℕ) (nodes : List Node) (ts : Left) (r : Body × List Node × Left) → ie_body_at turns nodes ts ≡ Ok r → HasRoom assignments r.0
 unfolding ie_body_at
@@ -107,7 +96,7 @@ IsBounded parts = count_by is_type parts.assignments ≤ 1000
 
 one_more : (assignments : List Assignment) (a : Assignment) → count_by is_type assignments ≤ 1000 → HasRoom assignments a.body → count_by is_type (assignments ++ a ∷ []) ≤ 1000
 one_more assignments a bound room =
-    by_bool (count_by is_type (assignments ++ a ∷ []) ≤ 1000) (is_type a)
+    by_test (count_by is_type (assignments ++ a ∷ []) ≤ 1000) (is_type a)
     (λ is. omega (arith, sum_by-append (λ x. cond (is_type x) 1 0) assignments (a ∷ []), room.room is, ap (λ (b : Bool). cond {A = ℕ} b 1 0) is))
     (λ not. omega (arith, sum_by-append (λ x. cond (is_type x) 1 0) assignments (a ∷ []), ap (λ (b : Bool). cond {A = ℕ} b 1 0) not))
 

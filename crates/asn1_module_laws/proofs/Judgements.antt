@@ -3,6 +3,7 @@ use Rattle.std.proofs.Common.{◌≡◌, ℕ, zero, suc, ◌+◌, ◌<◌, ◌�
 use Rattle.std.specs.Prelude.{◌⊎◌, Option, Some, None, slice_get}
 use Rattle.std.proofs.lemmas.Bool.{cases_lt}
 use Rattle.std.proofs.lemmas.Option.{slice_get-get_or}
+use Rattle.gnb_types.proofs.Choices.{by_test}
 use Rattle.asn1_types.specs.declared.fault.Fault.{Fault}
 use Rattle.asn1_types.specs.declared.fault.ModuleReason.{ModuleReason}
 use Rattle.asn1_types.specs.declared.fault.ModuleReason.TheVariants as reasons
@@ -65,10 +66,6 @@ fault_same s f g (recursive a) (deep b) = absurd (first_clash (IsRecursive s) (l
 fault_same s f g (deep a) (unknown b) = absurd (some_none b.place _ b.unknown a.known)
 fault_same s f g (deep a) (recursive b) = absurd (first_clash (IsRecursive s) (length s.assignments) b.number a.finite b.recursive)
 fault_same s f g (deep a) (deep b) = at_same s a.number b.number reasons.Deep f g (first_same (IsTooDeep s) (length s.assignments) a.number b.number a.deep b.deep) a.is b.is
-
-by_test : (P : Type 0) (b : Bool) → (b ≡ true → P) → (b ≡ false → P) → P
-by_test P true p q = p refl
-by_test P false p q = q refl
 
 -- rounds come to an end
 reach_from : (count : ℕ) (edges : List Edge) (start : ℕ) → start < count → (fuel : ℕ) (t : List ℕ) → slack 1 t ≤ fuel → MarksWell count edges start t → (u : List ℕ) × IsReach count edges start u

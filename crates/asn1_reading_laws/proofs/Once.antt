@@ -2,6 +2,7 @@
 use mathlib.Core.List.{reverse_aux}
 use Rattle.std.proofs.lemmas.List.{append_assoc, append-nil}
 use Rattle.std.proofs.Common.{◌≡◌, ℕ, List, [], ◌∷◌, ◌++◌, reverse, Bool, true, false, refl, sym, ap, ◌∙◌, subst}
+use Rattle.gnb_types.proofs.Choices.{clash}
 use Rattle.asn1_tokens.specs.declared.token.Token.{Token}
 use Rattle.asn1_tokens.specs.Stream.{Placed}
 use Rattle.asn1_types.specs.declared.fault.ModuleReason.{ModuleReason}
@@ -24,9 +25,6 @@ tokens_apart (x ∷ f) p mid = ap (λ (l : List Token). x.token ∷ l) (tokens_a
 fine_there : (before f : List Token) (t : Token) (mid behind : List Token) → AreFine before (f ++ t ∷ mid) behind → IsFine (reverse_aux f before) t (mid ++ behind)
 fine_there before [] t mid behind fine = fine.0
 fine_there before (x ∷ f) t mid behind fine = fine_there (x ∷ before) f t mid behind fine.1
-
-clash : (b : Bool) → b ≡ true → b ≡ false → ⊥
-clash b e f = cc
 
 open_front : (f : List Token) (t : Token) (mid : List Token) → IsOpen (f ++ t ∷ mid) → IsOpen (f ++ t ∷ [])
 open_front f t mid (more, spelled) = (mid ++ more, subst IsModuleText (append_assoc f (t ∷ mid) more ∙ sym (append_assoc f (t ∷ []) (mid ++ more))) spelled)

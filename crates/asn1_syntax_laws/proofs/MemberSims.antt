@@ -1,6 +1,7 @@
 -- The lists in braces.
 use Rattle.std.proofs.Common.{◌≡◌, ℕ, ◌<◌, List, [], ◌∷◌, ◌++◌, length, Bool, true, false, cond, ◌&&◌, refl, sym, ap, ◌∙◌, subst, inl, inr, arith, Option, Some, None}
 use Rattle.std.specs.Prelude.{◌⊎◌, Result, Ok, Err, is_none, nat_le}
+use Rattle.gnb_types.proofs.Choices.{by_test, by_choice}
 use Rattle.asn1_tokens.specs.declared.token.Word.TheVariants as words
 use Rattle.asn1_tokens.specs.declared.token.Sign.TheVariants as signs
 use Rattle.asn1_tokens.specs.declared.token.Token.{Token}
@@ -20,7 +21,7 @@ use Rattle.asn1_types.specs.Reading.{◌>>=◌, Left, fault_at, begins_with, beg
 use Rattle.asn1_types.specs.Members.{no_parts, put_part, with_part, extended, can_extend, all_parts, is_full, has_name, has_component, new_name_at, list_goes_on_at, name_entry_at, names_turn_at, names_at, least_members, composed, node, named_at, entry_at, optional_at, component, member_end_at, close_at}
 use Rattle.asn1_grammar.specs.Grammar.{ALower, TheSign, fits, Part, AType, NextComponent, AfterComponent, AfterAddition, OptionalWord, NextAlternative, AfterAlternative, AfterAlternativeAddition, NextName, AfterName, AfterNameAddition, Symbol, Item, Whole, word, comma, ellipsis, close_brace, productions}
 use Rattle.asn1_grammar.proofs.Predict.{chosen}
-use Rattle.asn1_syntax_laws.proofs.Sim.{Sim, goes, and_then, and_so, first, next, maybe, fits_sign, fits_word, chosen_one, chosen_other, by_test, by_choice, word_sim, sign_sim, lower_sim, weaker, done, expands, misused, part_of, repeat_sim, by_flag}
+use Rattle.asn1_syntax_laws.proofs.Sim.{Sim, goes, and_then, and_so, first, next, maybe, fits_sign, fits_word, chosen_one, chosen_other, word_sim, sign_sim, lower_sim, weaker, done, expands, misused, part_of, repeat_sim, by_flag}
 
 pub new_name_sim : (taken : List ℕ → Bool) (full : Bool) (symbols : List Symbol) (ts : List Placed) → Sim 1 (Item ALower ∷ symbols) ts (λ _. symbols) (λ a. a.1) (new_name_at taken full ts)
 unfolding new_name_at

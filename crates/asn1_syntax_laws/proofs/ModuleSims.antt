@@ -1,6 +1,7 @@
 -- Modules and their assignments.
 use Rattle.std.proofs.Common.{◌≡◌, ℕ, ◌<◌, List, [], ◌∷◌, length, Bool, true, false, cond, ◌&&◌, refl, ap, ◌∙◌, inl, inr, arith, Some, None}
 use Rattle.std.specs.Prelude.{Result, Ok}
+use Rattle.gnb_types.proofs.Choices.{by_test, by_choice}
 use Rattle.asn1_tokens.specs.declared.token.Word.TheVariants as words
 use Rattle.asn1_tokens.specs.declared.token.Sign.TheVariants as signs
 use Rattle.asn1_tokens.specs.declared.token.Token.{Token}
@@ -15,7 +16,7 @@ use Rattle.asn1_assignments.specs.declared.assignment.Assignment.{Assignment}
 use Rattle.asn1_assignments.specs.Module.{Parts, has_all_types, is_assigned, new_assignment_at, ie_body_at, procedure_body_at, type_body_at, body_at, assignment_at, module_turn_at, header_at, no_assignments, assignments_at}
 use Rattle.asn1_grammar.specs.Grammar.{AnUpper, TheWord, TheSign, fits, Assignments, Meaning, IeRows, ProcedureRows, AType, Symbol, Item, Whole, word, sign, open_brace, productions}
 use Rattle.asn1_grammar.proofs.Predict.{chosen}
-use Rattle.asn1_syntax_laws.proofs.Sim.{Sim, goes, and_so, first, next, fits_word, chosen_one, chosen_other, by_test, by_choice, word_sim, sign_sim, upper_sim, done, expands, misused, part_of, repeat_sim, Turns}
+use Rattle.asn1_syntax_laws.proofs.Sim.{Sim, goes, and_so, first, next, fits_word, chosen_one, chosen_other, word_sim, sign_sim, upper_sim, done, expands, misused, part_of, repeat_sim, Turns}
 use Rattle.asn1_syntax_laws.proofs.TypeSims.{type_sim}
 use Rattle.asn1_syntax_laws.proofs.RowSims.{ie_set_sim, procedure_set_sim}
 

@@ -1,6 +1,7 @@
 -- The rows of information object sets, and the sets.
 use Rattle.std.proofs.Common.{◌≡◌, ℕ, ◌<◌, List, [], ◌∷◌, length, Bool, true, false, cond, ◌||◌, refl, ap, ◌∙◌, inl, inr, arith, Option, Some, None}
 use Rattle.std.specs.Prelude.{codes, is_some}
+use Rattle.gnb_types.proofs.Choices.{by_choice}
 use Rattle.asn1_tokens.specs.declared.token.Word.{Word}
 use Rattle.asn1_tokens.specs.declared.token.Word.TheVariants as words
 use Rattle.asn1_tokens.specs.declared.token.Sign.TheVariants as signs
@@ -20,7 +21,7 @@ use Rattle.asn1_assignments.specs.Sets.{set_goes_on_at, Rows, rows_with, ie_turn
 use Rattle.asn1_grammar.specs.Grammar.{Terminal, ANumber, ACriticality, APresence, TheWord, TheSign, fits, Part, AType, IeRows, MoreIeRows, ProcedureRows, MoreProcedureRows, SuccessfulOutcome, UnsuccessfulOutcome, Symbol, Item, Whole, word, sign, set_end, ellipsis, open_brace, close_brace, productions}
 use Rattle.asn1_grammar.proofs.Predict.{chosen}
 use Rattle.asn1_grammar.proofs.Steps.{at_item}
-use Rattle.asn1_syntax_laws.proofs.Sim.{Sim, goes, and_so, first, next, maybe, fits_sign, fits_word, chosen_one, chosen_other, by_choice, word_sim, sign_sim, taken, weaker, done, expands, misused, refused, part_of, repeat_sim}
+use Rattle.asn1_syntax_laws.proofs.Sim.{Sim, goes, and_so, first, next, maybe, fits_sign, fits_word, chosen_one, chosen_other, word_sim, sign_sim, taken, weaker, done, expands, misused, refused, part_of, repeat_sim}
 use Rattle.asn1_syntax_laws.proofs.SizeSims.{natural_sim}
 use Rattle.asn1_syntax_laws.proofs.TypeSims.{type_sim}
 

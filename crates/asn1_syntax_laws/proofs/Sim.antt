@@ -1,6 +1,7 @@
 -- A reading function takes what the grammar wants, and fails where the grammar does not go on, or at an item with which it does.
 use Rattle.std.proofs.Common.{◌≡◌, ℕ, ◌+◌, ◌≤◌, ◌<◌, List, [], ◌∷◌, ◌++◌, zero, suc, length, Bool, true, false, cond, refl, sym, ap, ◌∙◌, subst, inl, inr, arith, Some, None}
 use Rattle.std.specs.Prelude.{◌⊎◌, Result, Ok, Err}
+use Rattle.gnb_types.proofs.Choices.{by_test, by_choice}
 use Rattle.asn1_tokens.specs.declared.token.Word.{Word}
 use Rattle.asn1_tokens.specs.declared.token.Sign.{Sign}
 use Rattle.asn1_tokens.specs.declared.token.Token.{Token}
@@ -49,15 +50,6 @@ and_then (fails late) on = fails late
 pub and_so : {A B : Type 0} {least : ℕ} {symbols : List Symbol} {ts : List Placed} {mid : A → List Symbol} {rest : A → List Placed} {left : B → List Symbol} {last : B → List Placed} {r : Result A Fault} {g : A → Result B Fault} → Sim least symbols ts mid rest r → ((a : A) → r ≡ Ok a → Steps symbols ts (mid a) (rest a) → least + length (rest a) ≤ length ts → Sim least symbols ts left last (g a)) → Sim least symbols ts left last (r >>= g)
 and_so (goes {a} steps le) on = on a refl steps le
 and_so (fails late) on = fails late
-
-pub by_test : (P : Type 0) (b : Bool) → (b ≡ true → P) → (b ≡ false → P) → P
-by_test P true p q = p refl
-by_test P false p q = q refl
-
--- a choice has a property that each side has in its case
-pub by_choice : {X : Type 0} (P : X → Type 0) (b : Bool) (x y : X) → (b ≡ true → P x) → (b ≡ false → P y) → P (cond b x y)
-by_choice P true x y p q = p refl
-by_choice P false x y p q = q refl
 
 -- ---- single items
 

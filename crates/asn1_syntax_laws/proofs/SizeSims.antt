@@ -2,6 +2,7 @@
 use Rattle.std.proofs.Common.{◌≡◌, ℕ, ◌-◌, ◌^◌, List, [], ◌∷◌, Bool, true, false, ◌||◌, ◌&&◌, refl, inl, inr, Some, None}
 use Rattle.std.specs.Prelude.{Ok, Err, ℤ, pos}
 use Rattle.std.specs.Int.Signed.{le_z}
+use Rattle.gnb_types.proofs.Choices.{by_test, by_choice}
 use Rattle.asn1_tokens.specs.declared.token.Word.TheVariants as words
 use Rattle.asn1_tokens.specs.declared.token.Sign.TheVariants as signs
 use Rattle.asn1_tokens.specs.Stream.{Placed, first_token}
@@ -11,7 +12,7 @@ use Rattle.asn1_types.specs.Sizes.{bounded_at, natural, natural_at, ellipsis_at,
 use Rattle.asn1_grammar.specs.Grammar.{ANumber, Mark, OptionalSize, HighSize, Symbol, Item, Whole, sign, size, comma, ellipsis, open_bracket, close_bracket, productions}
 use Rattle.asn1_grammar.proofs.Predict.{chosen}
 use Rattle.asn1_grammar.proofs.Steps.{here}
-use Rattle.asn1_syntax_laws.proofs.Sim.{Sim, goes, fails, fit, and_then, and_so, first, next, maybe, fits_sign, chosen_one, chosen_other, by_test, by_choice, word_sim, sign_sim, number_sim, weaker, done, expands, misused}
+use Rattle.asn1_syntax_laws.proofs.Sim.{Sim, goes, fails, fit, and_then, and_so, first, next, maybe, fits_sign, chosen_one, chosen_other, word_sim, sign_sim, number_sim, weaker, done, expands, misused}
 
 pub bounded_sim : (low high : ℤ) (symbols : List Symbol) (ts : List Placed) → Sim 1 (Item ANumber ∷ symbols) ts (λ _. symbols) (λ a. a.1) (bounded_at low high ts)
 unfolding bounded_at

@@ -1,6 +1,7 @@
 -- Types, with those inside them.
 use Rattle.std.proofs.Common.{◌≡◌, ℕ, ◌≤◌, ◌<◌, List, [], ◌∷◌, ◌++◌, zero, suc, length, Bool, true, false, cond, refl, sym, ap, ◌∙◌, subst, arith, Option, Some, None}
 use Rattle.std.specs.Prelude.{Result}
+use Rattle.gnb_types.proofs.Choices.{by_choice}
 use Rattle.asn1_tokens.specs.declared.token.Word.{Word}
 use Rattle.asn1_tokens.specs.declared.token.Word.TheVariants as words
 use Rattle.asn1_tokens.specs.declared.token.Sign.TheVariants as signs
@@ -23,7 +24,7 @@ use Rattle.asn1_types.specs.Types.{enumerated_at, bit_string_at, octet_string_at
 use Rattle.asn1_grammar.specs.Grammar.{AnUpper, ALower, ANumber, TheWord, fits, AType, FirstComponent, AfterAddition, OptionalSize, SequenceRest, Mark, AfterName, AfterAlternative, Symbol, Item, Whole, word, sign, size, set_name, ellipsis, open_brace, close_brace, open_bracket, close_bracket, productions}
 use Rattle.asn1_grammar.proofs.Predict.{chosen}
 use Rattle.asn1_grammar.proofs.Steps.{at_part}
-use Rattle.asn1_syntax_laws.proofs.Sim.{Sim, first, next, maybe, fits_sign, chosen_one, chosen_other, by_choice, word_sim, sign_sim, upper_sim, weaker, done, expands, refused, part_of}
+use Rattle.asn1_syntax_laws.proofs.Sim.{Sim, first, next, maybe, fits_sign, chosen_one, chosen_other, word_sim, sign_sim, upper_sim, weaker, done, expands, refused, part_of}
 use Rattle.asn1_syntax_laws.proofs.SizeSims.{size_sim, optional_size_sim, integer_sim}
 use Rattle.asn1_syntax_laws.proofs.MemberSims.{names_sim, entry_sim, entry_from, frame_symbols, head_symbols, close_sim, member_symbols}
 

@@ -1,6 +1,7 @@
 -- Modules and their assignments.
 use Rattle.std.proofs.Common.{◌≡◌, ℕ, ◌+◌, List, [], ◌∷◌, ◌++◌, length, true, ◌&&◌, refl, ap, ◌∙◌, subst}
 use Rattle.std.specs.Prelude.{Result, Ok}
+use Rattle.gnb_types.proofs.Choices.{by_choice}
 use Rattle.asn1_tokens.specs.declared.token.Word.TheVariants as words
 use Rattle.asn1_tokens.specs.declared.token.Sign.TheVariants as signs
 use Rattle.asn1_tokens.specs.declared.token.Token.{Token}
@@ -16,7 +17,6 @@ use Rattle.asn1_assignments.specs.Module.{Parts, has_all_types, is_assigned, new
 use Rattle.asn1_module.specs.Links.{AreOrdered}
 use Rattle.asn1_module.proofs.RowLinks.{linked}
 use Rattle.asn1_text_laws.specs.Written.{Written, upper, texts_of, body_text, assignment_text, assignments_text, header_text, IsWrittenSo}
-use Rattle.asn1_syntax_laws.proofs.Sim.{by_choice}
 use Rattle.asn1_syntax_laws.proofs.Gives.{Gives, ok, no_value, and_gives}
 use Rattle.asn1_syntax_laws.proofs.Exact.{a_word}
 use Rattle.asn1_text_laws.proofs.Taken.{Taken, ◌then◌, nothing_taken, written_as, word_gives, sign_gives, upper_gives}

@@ -4,6 +4,7 @@ use Rattle.std.proofs.Common.{◌≡◌, ℕ, List, [], ◌∷◌, ◌++◌, map
 use Rattle.std.specs.Prelude.{codes, nat_eq}
 use Rattle.std.specs.Cmp.Lexicographic.{pointwise}
 use Rattle.std.proofs.lemmas.Bool.{eqb-true}
+use Rattle.gnb_types.proofs.Choices.{by_choice}
 use Rattle.asn1_tokens.specs.declared.token.Word.{Word}
 use Rattle.asn1_tokens.specs.declared.token.Word.TheVariants as words
 use Rattle.asn1_tokens.specs.declared.token.Sign.TheVariants as signs
@@ -22,7 +23,6 @@ use Rattle.asn1_assignments.specs.Rows.{new_number_at, found_or, criticality_of,
 use Rattle.asn1_assignments.specs.Sets.{set_goes_on_at, Rows, rows_with, ie_turn_at, procedure_turn_at, set_start_at, ie_set_at, procedure_set_at}
 use Rattle.asn1_module.specs.Links.{AreOrdered}
 use Rattle.asn1_text_laws.specs.Written.{Written, word, sign, natural, lower, separated, type_text, texts_of, criticality_name, presence_name, ie_row_text, outcome_text, procedure_row_text, rows_text}
-use Rattle.asn1_syntax_laws.proofs.Sim.{by_choice}
 use Rattle.asn1_syntax_laws.proofs.Gives.{Gives, ok, no_value, and_gives, gives_so, and_parts}
 use Rattle.asn1_text_laws.proofs.Taken.{Taken, ◌then◌, nothing_taken, written_as, word_gives, sign_gives, lower_gives}
 use Rattle.asn1_text_laws.proofs.SizeTexts.{natural_gives}

@@ -2,6 +2,7 @@
 use Rattle.std.proofs.Common.{◌≡◌, ℕ, ◌-◌, ◌^◌, List, ◌∷◌, Bool, true, false, cond, ◌&&◌, refl, sym, ap, ◌∙◌, subst, arith, Option}
 use Rattle.std.specs.Prelude.{Ok, Err, ℤ, pos, negsuc, nat_le, ◌==◌}
 use Rattle.std.specs.Int.Signed.{le_z}
+use Rattle.gnb_types.proofs.Choices.{by_choice}
 use Rattle.asn1_tokens.specs.declared.token.Word.TheVariants as words
 use Rattle.asn1_tokens.specs.declared.token.Sign.TheVariants as signs
 use Rattle.asn1_tokens.specs.declared.token.Token.{Token}
@@ -13,7 +14,6 @@ use Rattle.asn1_types.specs.declared.definition.Definition.{Definition}
 use Rattle.asn1_types.specs.Reading.{Left, fault_at, begins_with_sign}
 use Rattle.asn1_types.specs.Sizes.{natural as natural_of, bounded_at, natural_at, ellipsis_at, size_end_at, least_high, size_rest_at, size_at, optional_size_at, integer_ellipsis_at, integer_least, integer_greatest, greatest_beside, integer_at}
 use Rattle.asn1_text_laws.specs.Written.{Written, word, sign, natural, mark_text, high_text, size_text, optional_size_text, definition_text}
-use Rattle.asn1_syntax_laws.proofs.Sim.{by_choice}
 use Rattle.asn1_syntax_laws.proofs.Gives.{Gives, ok, no_value, and_gives, gives_so, and_parts}
 use Rattle.asn1_text_laws.proofs.Taken.{Taken, ◌then◌, nothing_taken, written_as, word_gives, sign_gives, number_gives}
 

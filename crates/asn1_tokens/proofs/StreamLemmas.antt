@@ -2,16 +2,12 @@
 use Rattle.std.proofs.Common.{◌≡◌, ℕ, zero, suc, ◌<◌, ◌≤◌, List, [], ◌∷◌, length, Bool, true, false, cond, ◌||◌, ◌&&◌, refl, sym, ap, ◌∙◌, subst, arith, length-drop, Option, Some, None}
 use Rattle.std.specs.Prelude.{nat_eq, ◌==◌, codes}
 use Rattle.std.specs.List.{starts_with}
+use Rattle.gnb_types.proofs.Choices.{by_choice}
 use Rattle.asn1_tokens.specs.declared.token.Token.{Token}
 use Rattle.asn1_tokens.specs.declared.scan.Gap.{Gap}
 use Rattle.asn1_tokens.specs.declared.scan.Gap.TheVariants.{Between}
 use Rattle.asn1_tokens.specs.Scan.{is_upper, is_lower, is_digit, begins, next_gap, gap_rest, after_gap, goes_on, after_name, after_digits, after_number, Lexeme, lexeme, lexeme_or, long_sign, short_sign, number_lexeme, lexeme_at}
 use Rattle.asn1_tokens.specs.Stream.{Placed, placed, is_last, scan, after}
-
--- a choice has a property that each side has in its case
-by_choice : {X : Type 0} (P : X → Type 0) (b : Bool) (x y : X) → (b ≡ true → P x) → (b ≡ false → P y) → P (cond b x y)
-by_choice P true x y p q = p refl
-by_choice P false x y p q = q refl
 
 after_name-le : (text : List ℕ) → length (after_name text) ≤ length text
 unfolding after_name

@@ -1,5 +1,6 @@
 -- What the beginnings of types mean that were read.
 use Rattle.std.proofs.Common.{ℕ, List, true, false, cond, Option, Some, None}
+use Rattle.gnb_types.proofs.Choices.{by_choice}
 use Rattle.asn1_tokens.specs.declared.token.Word.{Word}
 use Rattle.asn1_tokens.specs.declared.token.Word.TheVariants as words
 use Rattle.asn1_tokens.specs.declared.token.Sign.TheVariants as signs
@@ -15,7 +16,6 @@ use Rattle.asn1_types.specs.Reading.{◌>>=◌, Left, first_word, begins_with_si
 use Rattle.asn1_types.specs.Sizes.{integer_least, integer_greatest, greatest_beside, integer_at}
 use Rattle.asn1_types.specs.Members.{no_parts, node}
 use Rattle.asn1_types.specs.Types.{enumerated_at, bit_string_at, octet_string_at, printable_string_at, simple_rest_at, is_simple, simple_at, list_head_at, components_head_at, sequence_head_at, choice_head_at, container_at, pdu_at, reference_at, head_by, head_at}
-use Rattle.asn1_syntax_laws.proofs.Sim.{by_choice}
 use Rattle.asn1_syntax_laws.proofs.Gives.{Gives, ok, no_value, and_gives, gives_so}
 use Rattle.asn1_value_laws.specs.Items.{The, start_of, OptionalSize, sized, unsized}
 use Rattle.asn1_value_laws.specs.Types.{Plain, boolean, integer, enumerated, bit_string, octet_string, printable_string, ie_container, pdu, AType, Behind, Means, reference, worded, plain, sequence_of, empty_sequence, sequence, choice}

@@ -1,6 +1,7 @@
 -- What stands in and behind the lists of components and alternatives, where a type inside them is awaited.
 use Rattle.std.proofs.Common.{◌≡◌, ℕ, List, Bool, true, false, cond, ◌&&◌, Option}
 use Rattle.std.specs.Prelude.{Result, Ok}
+use Rattle.gnb_types.proofs.Choices.{by_choice}
 use Rattle.asn1_tokens.specs.declared.token.Word.TheVariants as words
 use Rattle.asn1_tokens.specs.declared.token.Sign.TheVariants as signs
 use Rattle.asn1_tokens.specs.declared.token.Token.TheVariants as tokens
@@ -20,7 +21,6 @@ use Rattle.asn1_types.specs.declared.members.Head.TheVariants as heads
 use Rattle.asn1_types.specs.Reading.{Left, begins_with, begins_with_sign}
 use Rattle.asn1_types.specs.Members.{no_parts, with_part, extended, can_extend, all_parts, is_full, has_component, least_members, composed, node, named_at, entry_at, optional_at, component, member_end_at, close_at}
 use Rattle.asn1_types.specs.Types.{next_id}
-use Rattle.asn1_syntax_laws.proofs.Sim.{by_choice}
 use Rattle.asn1_syntax_laws.proofs.Gives.{Gives, ok, and_gives, gives_so, and_parts}
 use Rattle.asn1_value_laws.specs.Items.{The}
 use Rattle.asn1_value_laws.specs.Types.{MayBeOptional, optional, required, alternative, AType, AMember, Members, Added, with_type, Means, member, mark, last, more, no_more, one_more}

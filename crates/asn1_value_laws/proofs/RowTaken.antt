@@ -1,6 +1,7 @@
 -- What rows of sets mean that were read.
 use Rattle.std.proofs.Common.{◌≡◌, ℕ, List, Bool, refl, Option, Some, None}
 use Rattle.std.specs.Prelude.{Ok, pos}
+use Rattle.gnb_types.proofs.Choices.{by_choice}
 use Rattle.asn1_tokens.specs.declared.token.Word.{Word}
 use Rattle.asn1_tokens.specs.declared.token.Word.TheVariants as words
 use Rattle.asn1_tokens.specs.declared.token.Sign.TheVariants as signs
@@ -13,7 +14,6 @@ use Rattle.asn1_assignments.specs.declared.assignment.Presence.{Presence}
 use Rattle.asn1_assignments.specs.declared.assignment.IeRow.{IeRow}
 use Rattle.asn1_assignments.specs.declared.assignment.ProcedureRow.{ProcedureRow}
 use Rattle.asn1_assignments.specs.Rows.{new_number_at, found_or, criticality_of, criticality_at, presence_of, presence_at, has_id, ie_row_at, outcome_at, has_code, messages_at, procedure_row_at}
-use Rattle.asn1_syntax_laws.proofs.Sim.{by_choice}
 use Rattle.asn1_syntax_laws.proofs.Gives.{Gives, ok, no_value, and_gives}
 use Rattle.asn1_value_laws.specs.Items.{The}
 use Rattle.asn1_value_laws.specs.Types.{AType, Means}

@@ -2,6 +2,7 @@
 use Rattle.std.proofs.Common.{◌≡◌, ℕ, ◌^◌, ◌-◌, List, [], ◌∷◌, Bool, true, ◌&&◌, ◌||◌, refl, Option}
 use Rattle.std.specs.Prelude.{Ok, Err, ℤ, pos, negsuc}
 use Rattle.std.specs.Int.Signed.{le_z}
+use Rattle.gnb_types.proofs.Choices.{by_choice}
 use Rattle.asn1_tokens.specs.declared.token.Word.{Word}
 use Rattle.asn1_tokens.specs.declared.token.Word.TheVariants as words
 use Rattle.asn1_tokens.specs.declared.token.Sign.{Sign}
@@ -13,7 +14,6 @@ use Rattle.asn1_types.specs.declared.definition.Size.{Size}
 use Rattle.asn1_types.specs.declared.fault.ModuleReason.TheVariants as reasons
 use Rattle.asn1_types.specs.Reading.{Left, fault_at, unexpected, begins_with, begins_with_sign, word_at, sign_at, upper_of, upper_at, lower_of, lower_at, number_of, number_at}
 use Rattle.asn1_types.specs.Sizes.{natural, bounded_at, natural_at, ellipsis_at, size_end_at, least_high, size_rest_at, size_at, optional_size_at, integer_ellipsis_at}
-use Rattle.asn1_syntax_laws.proofs.Sim.{by_choice}
 use Rattle.asn1_syntax_laws.proofs.Gives.{Gives, ok, no_value, and_gives, gives_so, and_parts}
 use Rattle.asn1_syntax_laws.proofs.Exact.{a_word, a_sign}
 use Rattle.asn1_value_laws.specs.Items.{The, is, Extends, extends, doesn't, HighBound, given, same, ASize, size, OptionalSize, sized, unsized}

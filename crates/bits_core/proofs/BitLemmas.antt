@@ -82,7 +82,7 @@ pub bits_of-mod : (width n : ℕ) → bits_of width (n % 2 ^ width) ≡ bits_of 
 bits_of-mod width n =
     sym (bits_of-above width (n / 2 ^ width) (n % 2 ^ width)) ∙ ap (bits_of width) (div-add-mod' n (2 ^ width))
 
--- bits behind bits
+-- bits after bits
 pub bits_of-join : (high low n part : ℕ) → part < 2 ^ low → bits_of (high + low) (n * 2 ^ low + part) ≡ bits_of high n ++ bits_of low part
 bits_of-join high low n part small =
     bits_of-add high low (n * 2 ^ low + part)
@@ -139,7 +139,8 @@ within_octet octets q used count h fits =
     ∙ take-append-le count (drop used (bits_of 8 o)) (octet_bits (drop (q + 1) octets)) (omega (arith, length-drop used (bits_of 8 o)))
 
 -- they are the bits of a part of the octet
-pub part_of_octet : (o used count rest : ℕ) → used + (count + rest) ≡ 8 → take count (drop used (bits_of 8 o)) ≡ bits_of count (o / 2 ^ rest)
+pub part_of_octet : (o used count rest : ℕ) → used + (count + rest) ≡ 8
+    → take count (drop used (bits_of 8 o)) ≡ bits_of count (o / 2 ^ rest)
 part_of_octet o used count rest size =
     ap (λ (w : ℕ). take count (drop used (bits_of w o))) (sym size)
     ∙ ap (λ (bits : List Bool). take count (drop used bits)) (bits_of-add used (count + rest) o)

@@ -30,8 +30,9 @@ number_here octets place count h fits =
 pub left_after : (r : Reading) (count : ℕ) → bits_left (moved r count) ≡ drop count (bits_left r)
 left_after r count = sym (drop-drop count r.place (octet_bits r.octets))
 
--- a further part behind the bits taken so far
-pub part_taken : (r : Reading) (done count number part : ℕ) → done + count ≤ length (bits_left r) → number ≡ number_of (take done (bits_left r))
+-- a further part after the bits taken so far
+pub part_taken : (r : Reading) (done count number part : ℕ) → done + count ≤ length (bits_left r)
+    → number ≡ number_of (take done (bits_left r))
     → part ≡ number_of (take count (bits_left (moved r done))) → number * 2 ^ count + part ≡ number_of (take (done + count) (bits_left r))
 part_taken r done count number part enough so_far e =
     let bits = bits_left r in
@@ -49,21 +50,24 @@ pub ahead : (octets : List ℕ) (place most : ℕ) (r : Reading) → record { oc
 ahead octets place most r is enough =
     omega (arith, left_length (record { octets = octets; place = place }), ap (λ (s : Reading). length (bits_left s)) is, enough)
 
-pub part_is : (octets : List ℕ) (place count rest part : ℕ) (r : Reading) → record { octets = octets; place = place } ≡ r → place / 8 < length octets
+pub part_is : (octets : List ℕ) (place count rest part : ℕ) (r : Reading) → record { octets = octets; place = place } ≡ r
+    → place / 8 < length octets
     → place % 8 + count ≤ 8 → rest ≡ 8 - place % 8 - count → part ≡ get_or octets (place / 8) 0 / 2 ^ rest % 2 ^ count
     → part ≡ number_of (take count (bits_left r))
 part_is octets place count rest part r is h fits shift e =
     e ∙ ap (λ (n : ℕ). get_or octets (place / 8) 0 / 2 ^ n % 2 ^ count) shift ∙ sym (number_here octets place count h fits)
     ∙ ap (λ (s : Reading). number_of (take count (bits_left s))) is
 
-pub bits_left_of : (octets : List ℕ) (place : ℕ) (r : Reading) → record { octets = octets; place = place } ≡ r → length (bits_left r) ≡ 8 * length octets - place
+pub bits_left_of : (octets : List ℕ) (place : ℕ) (r : Reading) → record { octets = octets; place = place } ≡ r
+    → length (bits_left r) ≡ 8 * length octets - place
 bits_left_of octets place r is =
     sym (ap (λ (s : Reading). length (bits_left s)) is) ∙ left_length (record { octets = octets; place = place })
 
 pub moved_none : (r : Reading) (n : ℕ) → n ≡ 0 → r ≡ moved r n
 moved_none r n none = let same : r.place ≡ r.place + n = omega (arith, none) in ap (λ (p : ℕ). record { octets = r.octets; place = p }) same
 
-pub moved_more : (old mid new : Reading) (done count total : ℕ) → mid ≡ moved old done → new ≡ moved mid count → total ≡ done + count → new ≡ moved old total
+pub moved_more : (old mid new : Reading) (done count total : ℕ) → mid ≡ moved old done → new ≡ moved mid count → total ≡ done + count
+    → new ≡ moved old total
 moved_more old mid new done count total first second sum =
     let there : old.place + done + count ≡ old.place + total = omega (arith, sum) in
     second ∙ ap (λ (r : Reading). moved r count) first ∙ ap (λ (p : ℕ). record { octets = old.octets; place = p }) there
@@ -78,7 +82,8 @@ taken_small bits n =
     omega (arith, number_small (take n bits), pow-le-pow_right {n = 2} (omega arith) short)
 
 -- the number so far with a further part, as the code computes it
-pub number_more : (r mid : Reading) (done count total number part : ℕ) → mid ≡ moved r done → done + count ≤ length (bits_left r) → done + count ≤ 64
+pub number_more : (r mid : Reading) (done count total number part : ℕ) → mid ≡ moved r done → done + count ≤ length (bits_left r)
+    → done + count ≤ 64
     → number ≡ number_of (take done (bits_left r)) → part ≡ number_of (take count (bits_left mid)) → total ≡ done + count
     → number * 2 ^ count % 2 ^ 64 + part ≡ number_of (take total (bits_left r))
 number_more r mid done count total number part there enough fits so_far e sum =
@@ -91,7 +96,8 @@ pub number_fits : (bits : List Bool) (total number : ℕ) → number ≡ number_
 number_fits bits total number e fits = omega (arith, e, taken_small bits total, pow-le-pow_right {n = 2} (omega arith) fits)
 
 -- ---- pads
-pad_bits : (octets : List ℕ) (place pad : ℕ) (r : Reading) → record { octets = octets; place = place } ≡ r → place / 8 < length octets → place % 8 + pad ≡ 8
+pad_bits : (octets : List ℕ) (place pad : ℕ) (r : Reading) → record { octets = octets; place = place } ≡ r → place / 8 < length octets
+    → place % 8 + pad ≡ 8
     → pad ≡ pad_of place → pad_left r ≡ bits_of pad (get_or octets (place / 8) 0)
 pad_bits octets place pad r is h size e =
     let none : 8 - place % 8 - pad ≡ 0 = omega (arith, size) in
@@ -107,13 +113,15 @@ only_zero_bits : (o pad : ℕ) → bits_of pad o ≡ zeros pad → o % 2 ^ pad �
 only_zero_bits o pad e =
     sym (number_of-bits_of pad o) ∙ ap number_of (e ∙ sym (bits_of-zero pad)) ∙ number_is pad 0 (pow_pos pad)
 
-pub pad_is_zeros : (octets : List ℕ) (place pad : ℕ) (r : Reading) → record { octets = octets; place = place } ≡ r → place / 8 < length octets → place % 8 + pad ≡ 8
+pub pad_is_zeros : (octets : List ℕ) (place pad : ℕ) (r : Reading) → record { octets = octets; place = place } ≡ r
+    → place / 8 < length octets → place % 8 + pad ≡ 8
     → pad ≡ pad_of place → get_or octets (place / 8) 0 % 2 ^ pad ≡ 0 → pad_left r ≡ zeros (pad_of r.place)
 pad_is_zeros octets place pad r is h size e none =
     pad_bits octets place pad r is h size e ∙ zero_bits (get_or octets (place / 8) 0) pad none
     ∙ ap zeros (e ∙ ap (λ (s : Reading). pad_of s.place) is)
 
-pub pad_is_no_zeros : (octets : List ℕ) (place pad : ℕ) (r : Reading) → record { octets = octets; place = place } ≡ r → place / 8 < length octets → place % 8 + pad ≡ 8
+pub pad_is_no_zeros : (octets : List ℕ) (place pad : ℕ) (r : Reading) → record { octets = octets; place = place } ≡ r
+    → place / 8 < length octets → place % 8 + pad ≡ 8
     → pad ≡ pad_of place → get_or octets (place / 8) 0 % 2 ^ pad ≢ 0 → pad_left r ≢ zeros (pad_of r.place)
 pad_is_no_zeros octets place pad r is h size e some = λ (zero : pad_left r ≡ zeros (pad_of r.place)).
     some (only_zero_bits (get_or octets (place / 8) 0) pad

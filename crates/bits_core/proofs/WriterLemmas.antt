@@ -12,7 +12,7 @@ pub no_bits : (n : ℕ) → bits_of 0 n ≡ []
 unfolding bits_of
 no_bits n = refl
 
--- bits put behind those of a begun octet fit it
+-- bits put after those of a begun octet fit it
 pub part_below : (last used count part : ℕ) → last < 2 ^ used → part < 2 ^ count → last * 2 ^ count + part < 2 ^ (used + count)
 part_below last used count part h k = omega (arith, mul-add-lt last (2 ^ count) part (2 ^ used) h k, pow-add 2 used count, swap (2 ^ count) (2 ^ used))
   where
@@ -23,7 +23,7 @@ part_below last used count part h k = omega (arith, mul-add-lt last (2 ^ count) 
 pub shifted : (last used count : ℕ) → last < 2 ^ used → used + count ≤ 8 → last * 2 ^ count % 2 ^ 32 ≡ last * 2 ^ count
 shifted last used count h fits = shl_whole last used count 32 h (omega arith)
 
--- a part of a value behind the bits of a begun octet, and what is left of the value
+-- a part of a value after the bits of a begun octet, and what is left of the value
 pub parts_put : (octets : List ℕ) (last used count rest left value part : ℕ) → part ≡ value / 2 ^ rest % 2 ^ count → count + rest ≡ left
     → (octet_bits octets ++ bits_of (used + count) (last * 2 ^ count + part)) ++ bits_of rest value ≡ (octet_bits octets ++ bits_of used last) ++ bits_of left value
 parts_put octets last used count rest left value part e size =
@@ -38,7 +38,8 @@ parts_put octets last used count rest left value part e size =
     regroup a b c d = simp append_assoc
 
 -- the begun octet with a part of a value, as the code computes it
-pub begun_is : (last used count part rest value : ℕ) → last < 2 ^ used → used + count ≤ 8 → last * 2 ^ count % 2 ^ 32 + part ≡ last * 2 ^ count + part
+pub begun_is : (last used count part rest value : ℕ) → last < 2 ^ used → used + count ≤ 8
+    → last * 2 ^ count % 2 ^ 32 + part ≡ last * 2 ^ count + part
 begun_is last used count part rest value h fits = ap (λ (m : ℕ). m + part) (shifted last used count h fits)
 
 pub begun_below : (last used count part rest value : ℕ) → last < 2 ^ used → used + count ≤ 8 → part ≡ value / 2 ^ rest % 2 ^ count
@@ -48,22 +49,25 @@ begun_below last used count part rest value h fits e =
     omega (arith, begun_is last used count part rest value h fits, part_below last used count part h small)
 
 -- what was written, where the octet isn't full, and where it is
-pub put_behind : (w : Inside) (old : Written) (octets : List ℕ) (count rest left value part : ℕ) → written_of w ≡ old → octets ≡ w.octets.items
+pub put_after : (w : Inside) (old : Written) (octets : List ℕ) (count rest left value part : ℕ) → written_of w ≡ old
+    → octets ≡ w.octets.items
     → w.last < 2 ^ w.used → w.used + count ≤ 8 → part ≡ value / 2 ^ rest % 2 ^ count → count + rest ≡ left
     → (octet_bits octets ++ bits_of (w.used + count) (w.last * 2 ^ count % 2 ^ 32 + part)) ++ bits_of rest value ≡ old.bits ++ bits_of left value
-put_behind w old octets count rest left value part is same h fits e size =
+put_after w old octets count rest left value part is same h fits e size =
     ap (λ (os : List ℕ). (octet_bits os ++ bits_of (w.used + count) (w.last * 2 ^ count % 2 ^ 32 + part)) ++ bits_of rest value) same
     ∙ ap (λ (n : ℕ). (octet_bits w.octets.items ++ bits_of (w.used + count) n) ++ bits_of rest value) (begun_is w.last w.used count part rest value h fits)
     ∙ parts_put w.octets.items w.last w.used count rest left value part e size
     ∙ ap (λ (o : Written). o.bits ++ bits_of left value) is
 
-pub full_octet : (octets new : List ℕ) (o used : ℕ) → new ≡ octets ++ o ∷ [] → used ≡ 8 → octet_bits new ++ bits_of 0 0 ≡ octet_bits octets ++ bits_of used o
+pub full_octet : (octets new : List ℕ) (o used : ℕ) → new ≡ octets ++ o ∷ [] → used ≡ 8
+    → octet_bits new ++ bits_of 0 0 ≡ octet_bits octets ++ bits_of used o
 full_octet octets new o used e full =
     ap (λ (bits : List Bool). octet_bits new ++ bits) (no_bits 0) ∙ append-nil (octet_bits new)
     ∙ ap octet_bits e ∙ octet_bits-push octets o ∙ ap (λ (w : ℕ). octet_bits octets ++ bits_of w o) (sym full)
 
 -- nothing is left to put
-pub all_put : (old new : Written) (width left value : ℕ) → new.failed ≡ false → left ≡ 0 → new.bits ++ bits_of left value ≡ old.bits ++ bits_of width value
+pub all_put : (old new : Written) (width left value : ℕ) → new.failed ≡ false → left ≡ 0
+    → new.bits ++ bits_of left value ≡ old.bits ++ bits_of width value
     → new ≡ record { bits = old.bits ++ bits_of width value; failed = false }
 all_put old new width left value going none puts =
     let bits : new.bits ≡ old.bits ++ bits_of width value =

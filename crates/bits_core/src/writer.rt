@@ -48,7 +48,7 @@ impl BitWriter {
         }
     }
 
-    /// Puts a value in so many bits. From want of memory on, each call answers it.
+    /// Puts a value in so many bits. Once it is out of memory, each call answers that.
     pub fn put_bits(&mut self, value: u64, width: u32) -> Result<(), Memory>
         requires width { width ≤ 64 }
         requires fits { value < 2 ^ width }
@@ -72,7 +72,7 @@ impl BitWriter {
         self.put_bits(0, pad)
     }
 
-    /// The octets, the last one filled up by zero bits. No earlier call answered want of memory.
+    /// The octets, the last one filled up by zero bits. No earlier call ran out of memory.
     pub fn finish(self) -> Octets
         requires { self.failed ≡ false }
         ensures { octet_bits result ≡ self.bits ++ zeros (pad_of (length self.bits)) }

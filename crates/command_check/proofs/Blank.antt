@@ -1,5 +1,6 @@
 -- The first item of a text is its end exactly where the text is a gap.
 use Rattle.std.proofs.Common.{◌≡◌, ℕ, List, [], ◌∷◌, Bool, true, false, cond, refl, sym, ap, ◌∙◌, subst, Option, Some, None}
+use Rattle.gnb_types.proofs.Choices.{by_choice}
 use Rattle.asn1_tokens.specs.declared.token.Token.{Token}
 use Rattle.asn1_tokens.specs.declared.token.Token.TheVariants as tokens
 use Rattle.asn1_tokens.specs.declared.token.Word.{Word}
@@ -9,7 +10,7 @@ use Rattle.asn1_tokens.specs.Scan.{is_upper, begins, after_gap, name_token, word
 use Rattle.asn1_tokens.specs.Stream.{items_of, scan, first_token}
 use Rattle.asn1_lexical_laws.specs.Lexical.{IsGap, IsItem}
 use Rattle.asn1_lexical_laws.specs.Lexical as item
-use Rattle.asn1_lexical_laws.proofs.Gaps.{by_choice, told, gap_passed}
+use Rattle.asn1_lexical_laws.proofs.Gaps.{told, gap_passed}
 use Rattle.asn1_lexical_laws.proofs.Items.{item_here}
 use Rattle.command_check.specs.Text.{is_end_of_text, is_blank, IsBlank}
 

@@ -99,16 +99,16 @@ refusal_ends text (Input (inputs.ReadFault taken)) t e h = absurd h
 refusal_ends text (Input inputs.TooLong) t e h = absurd h
 refusal_ends text (Input inputs.Memory) t e h = (tt, t.stands.reads)
 
-gathered_so : (reading : Reading) (gathered : Gathered) (text : List ℕ) (taken : ℕ) → taken ≡ reading.taken
+taken_text : (reading : Reading) (gathered : Gathered) (text : List ℕ) (taken : ℕ) → taken ≡ reading.taken
     → text ≡ take (taken - (gathered.header + 1)) gathered.octets → IsGathered reading gathered text
-gathered_so reading gathered text taken n e = e ∙ ap (λ (k : ℕ). take (k - (gathered.header + 1)) gathered.octets) n
+taken_text reading gathered text taken n e = e ∙ ap (λ (k : ℕ). take (k - (gathered.header + 1)) gathered.octets) n
 
 pub module_stops : {s0 s1 : SourceAt} {reading : Reading} {gathered : Gathered} (text : List ℕ) (taken : ℕ) (stop : CheckStop) (result : Result CheckedModule CheckStop)
     → result ≡ Err stop
     → TakesText s0 s1 reading gathered → taken ≡ reading.taken → text ≡ take (taken - (gathered.header + 1)) gathered.octets
     → ModuleMeets text gathered.last (Err stop) → ChecksInput s0 s1 result
 module_stops {s0 = s0} {s1 = s1} {reading = reading} {gathered = gathered} text taken stop result r t n e h =
-    let ends = refusal_ends text stop t (gathered_so reading gathered text taken n e) h in
+    let ends = refusal_ends text stop t (taken_text reading gathered text taken n e) h in
     subst (λ (x : Result CheckedModule CheckStop). ChecksInput s0 s1 x) (sym r)
     (record { split = split_of reading t.taken (t.header ∷ t.body); input = takes_of t.stands; answers = ends.0; reads = ends.1 })
 
@@ -143,7 +143,7 @@ pub end_stops : {s0 s1 s2 : SourceAt} {old : Reading} {gathered : Gathered} (new
     → IsAlone text checked → EndStops old new s1 s2 why → ChecksInput s0 s2 result
 end_stops {s0 = s0} {s2 = s2} {old = old} {gathered = gathered} new text taken checked stop why result r f t n e h s =
     subst (λ (x : Result CheckedModule CheckStop). ChecksInput s0 s2 x) (sym (r ∙ ap (λ (x : CheckStop). Err x) f))
-    (further new text checked why t (gathered_so old gathered text taken n e) h s)
+    (further new text checked why t (taken_text old gathered text taken n e) h s)
 
 whole_end : (body : List (List ℕ)) (X Y : Type 0) → Y → IsClosed body ⊎ (IsUnclosed body × X) → IsClosed body ⊎ (IsUnclosed body × Y)
 whole_end body X Y y (inl closed) = inl closed
@@ -157,7 +157,7 @@ unfolding has_text
 end_done {s0 = s0} {s1 = s1} {s2 = s2} {old = old} {gathered = gathered} new text taken checked t n e h m =
     let end = ends_at t.stands m in
     let none = both_nil old.kept m.taken m.answers.nothing in
-    let has = has_text text t (gathered_so old gathered text taken n e) in
+    let has = has_text text t (taken_text old gathered text taken n e) in
     let all : IsReadToEnd (rest_of s0 s2) (input_split (t.taken ++ m.taken) (t.header ∷ t.body) []) = record { nothing = refl; at_end = end.at_end } in
     record {
       split = input_split (t.taken ++ m.taken) (t.header ∷ t.body) [];

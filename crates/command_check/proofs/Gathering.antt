@@ -31,11 +31,11 @@ use Rattle.command_check.specs.inside.Steps.{HasHeader, HeaderStops, HeaderUnrea
 abbrev pub PassesOn : Option (List ℕ) → Reading → List ℕ → List (List ℕ) → Type 0
 PassesOn left old taken lines = old.phase ≡ Going → (more : List ℕ) → Passes left (input_split (taken ++ more) lines (old.kept ++ more))
 
-answers_so : (left : Option (List ℕ)) (split : InputSplit) (why : InputEnd) → Passes left split → EndsReading split why
+answers_input : (left : Option (List ℕ)) (split : InputSplit) (why : InputEnd) → Passes left split → EndsReading split why
     → CheckAnswers left split (Err (Input why))
-answers_so left split (inputs.ReadFault taken) passes h = (passes, h)
-answers_so left split inputs.TooLong passes h = (passes, h)
-answers_so left split inputs.Memory passes h = tt
+answers_input left split (inputs.ReadFault taken) passes h = (passes, h)
+answers_input left split inputs.TooLong passes h = (passes, h)
+answers_input left split inputs.Memory passes h = tt
 
 pub unread : {s0 s1 s2 : SourceAt} {old new : Reading} {taken : List ℕ} {lines : List (List ℕ)} (why : InputEnd) (stop : CheckStop)
     → StandsAfter s0 s1 old taken lines
@@ -46,7 +46,7 @@ unread {s0 = s0} {s2 = s2} {old = old} {taken = taken} {lines = lines} why stop 
     (record {
       split = input_split (taken ++ s.meets.taken) lines (old.kept ++ s.meets.taken);
       input = found.takes;
-      answers = answers_so (rest_of s0 s2) _ why (passes (going_at h s.error s.meets) s.meets.taken) found.ends;
+      answers = answers_input (rest_of s0 s2) _ why (passes (going_at h s.error s.meets) s.meets.taken) found.ends;
       reads = found.reads;
     })
 

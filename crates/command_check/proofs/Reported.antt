@@ -1,5 +1,6 @@
 -- A module was checked, and what it came to is written.
 use Rattle.std.proofs.Common.{◌≡◌, ◌⊎◌, ◌+◌, ℕ, List, length, Option, Some, None, Result, Ok, Err, refl, sym, ap, ◌∙◌, subst, inl, inr, append-nil, arith}
+use Rattle.command_output.proofs.Faults.{no_read_fault, no_write_fault}
 use Rattle.gnb_base.specs.Outside.{SourceAt, SinkAt, Rose}
 use Rattle.input_defs.specs.declared.InputEnd.TheVariants as inputs
 use Rattle.input_defs.specs.Split.{InputSplit, rest_of, TakesInput}
@@ -92,14 +93,6 @@ written {a = a} {b = b} {c = c} {d = d} answer text end h e w same =
     })
 
 -- ---- a whole module
-
-no_read_fault : {before after : SourceAt} {code : ℕ} → code ≡ 6 → (Rose before.faults after.faults → ⊥) → ReadsTo before after code → ⊥
-no_read_fault e none (AllRead h other) = other e
-no_read_fault e none (ReadStopped h is) = none h.faults
-
-no_write_fault : {before after : SinkAt} {code : ℕ} → code ≡ 7 → (Rose before.faults after.faults → ⊥) → WritesTo before after code → ⊥
-no_write_fault e none (AllWritten h other) = other e
-no_write_fault e none (WriteStopped h is) = none h.faults
 
 found_reported : (c d : SinkAt) (m : Syntax) (answer : Result CheckedModule CheckStop) → Prints c d (check_text answer)
     → FindsModule m answer → ReportsModule c d m (check_status (end_of answer))

@@ -66,7 +66,7 @@ abbrev pub fault_line : ℕ → ℕ → ModuleReason → List ℕ
 fault_line line column reason =
     codes "module" then decimal line then decimal column then decimal (module_reason_code reason) ++ 10 ∷ []
 
--- the line of a module or of its fault; there is none of another end
+-- the line of a module or of its fault; another end has none
 unfoldable pub report_of : Result CheckedModule CheckStop → List ℕ
 report_of (Ok checked) = module_line checked.name checked.types
 report_of (Err (stops.NoModule line column reason)) = fault_line line column reason

@@ -42,7 +42,7 @@ fn module_line(alloc: Global, checked: &CheckedModule) -> Result<Octets, Memory>
     Ok(text)
 }
 
-/// The line of a module or of its fault; there is none of another end.
+/// The line of a module or of its fault; another end has none.
 #[tactic(auto, unfolding(crate::specs::Report::report_of))]
 fn report_of(alloc: Global, answer: &Result<CheckedModule, CheckStop>) -> Result<Octets, Memory>
     ensures { IfOk result (λ text. text ≡ report_text answer.now) }

@@ -50,7 +50,8 @@ is_refused line text error reason e same skip gives =
 
 -- ---- an event
 
-pub text_of_event : (event : StaticEvent) (printed : List OutLine) (first more text : List ℕ) → first ≡ print (lines.Happens (whole_event event) ∷ [])
+pub text_of_event : (event : StaticEvent) (printed : List OutLine) (first more text : List ℕ)
+    → first ≡ print (lines.Happens (whole_event event) ∷ [])
     → more ≡ print printed → text ≡ first ++ more
     → text ≡ print (lines.Happens (whole_event event) ∷ printed)
 text_of_event event printed first more text e f g =
@@ -63,7 +64,8 @@ pub event_written : (old new : RunnerAt) (event : StaticEvent) (printed : List O
 event_written old new event printed text goes e w =
     record { printed = printed; goes = goes; writes = subst (λ (t : List ℕ). WritesAll old.sink new.sink t) e w }
 
-pub event_cut : (old new : RunnerAt) (event : StaticEvent) (printed : List OutLine) (text : List ℕ) → GoesOn old.runner new.runner event printed
+pub event_cut : (old new : RunnerAt) (event : StaticEvent) (printed : List OutLine) (text : List ℕ)
+    → GoesOn old.runner new.runner event printed
     → text ≡ print (lines.Happens (whole_event event) ∷ printed)
     → WritesFront old.sink new.sink text → ApplyStops old new event (Common WriteFault)
 event_cut old new event printed text goes e w = Faulty refl printed goes (subst (λ (t : List ℕ). WritesFront old.sink new.sink t) e w)

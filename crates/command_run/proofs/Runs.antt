@@ -30,7 +30,8 @@ skip_means line e = rw e refl
 pub event_means : (line : List ℕ) (event : StaticEvent) → IsEvent line event → meanings line ≡ Ok event ∷ []
 event_means line event e = rw (e.one, e.read) refl
 
-pub script_skips : (lines : List (List ℕ)) (line : List ℕ) (events : List StaticEvent) → flat_map meanings lines ≡ map (λ event. Ok event) events
+pub script_skips : (lines : List (List ℕ)) (line : List ℕ) (events : List StaticEvent)
+    → flat_map meanings lines ≡ map (λ event. Ok event) events
     → is_skipped line ≡ true
     → flat_map meanings (lines ++ line ∷ []) ≡ map (λ event. Ok event) events
 script_skips lines line events h e =
@@ -67,7 +68,8 @@ print-append a b = flat_map-append (λ (line : OutLine). line_text line ++ 10 �
 text_is : (events : List StaticEvent) → run_text events ≡ print (lines_of (one_run events).steps)
 text_is events = ap (λ (steps : List Step). print (lines_of steps)) (run_agrees events).steps
 
-pub text-more : (events : List StaticEvent) (event : StaticEvent) (printed : List OutLine) → printed ≡ (one_happens (one_run events).bearer event).lines
+pub text-more : (events : List StaticEvent) (event : StaticEvent) (printed : List OutLine)
+    → printed ≡ (one_happens (one_run events).bearer event).lines
     → run_text (events ++ event ∷ []) ≡ run_text events ++ print (lines.Happens (whole_event event) ∷ printed)
 text-more events event printed e =
     text_is (events ++ event ∷ [])

@@ -166,28 +166,28 @@ ends_done {first = first} new s t =
 
 -- ---- no line could be read
 
-reads_so : (before after : SourceAt) (why : InputEnd) → FaultsOfEnd before after why → ReadsUntil before after (Common (end_of_input why))
-reads_so before after (inputs.ReadFault taken) h = h
-reads_so before after inputs.TooLong h = h
-reads_so before after inputs.Memory h = h
+reads_input : (before after : SourceAt) (why : InputEnd) → FaultsOfEnd before after why → ReadsUntil before after (Common (end_of_input why))
+reads_input before after (inputs.ReadFault taken) h = h
+reads_input before after inputs.TooLong h = h
+reads_input before after inputs.Memory h = h
 
-meets_so : (left : Option (List ℕ)) (split : InputSplit) (events : List StaticEvent) (why : InputEnd) → EndsReading split why
+meets_input : (left : Option (List ℕ)) (split : InputSplit) (events : List StaticEvent) (why : InputEnd) → EndsReading split why
     → RunEndMeets left split events (Common (end_of_input why))
-meets_so left split events (inputs.ReadFault taken) h = h
-meets_so left split events inputs.TooLong h = h
-meets_so left split events inputs.Memory h = h
+meets_input left split events (inputs.ReadFault taken) h = h
+meets_input left split events inputs.TooLong h = h
+meets_input left split events inputs.Memory h = h
 
-prints_so : {before after : SinkAt} (events : List StaticEvent) (why : InputEnd) → WritesAll before after (run_text events)
+prints_input : {before after : SinkAt} (events : List StaticEvent) (why : InputEnd) → WritesAll before after (run_text events)
     → PrintsTo before after events (Common (end_of_input why))
-prints_so events (inputs.ReadFault taken) h = h.prints
-prints_so events inputs.TooLong h = h.prints
-prints_so events inputs.Memory h = front_all h.prints
+prints_input events (inputs.ReadFault taken) h = h.prints
+prints_input events inputs.TooLong h = h.prints
+prints_input events inputs.Memory h = front_all h.prints
 
-writes_so : {before after : SinkAt} {text : List ℕ} (why : InputEnd) → WritesAll before after text
+writes_input : {before after : SinkAt} {text : List ℕ} (why : InputEnd) → WritesAll before after text
     → WritesUntil before after (Common (end_of_input why))
-writes_so (inputs.ReadFault taken) h = h.none
-writes_so inputs.TooLong h = h.none
-writes_so inputs.Memory h = h.none
+writes_input (inputs.ReadFault taken) h = h.none
+writes_input inputs.TooLong h = h.none
+writes_input inputs.Memory h = h.none
 
 unread : {first : OutsideAt} {old : Reading} {source : SourceAt} {sink : SinkAt} (new : Reading) (after : SourceAt) (end : RunEnd) (why : InputEnd)
     → Before first old source sink
@@ -200,10 +200,10 @@ unread {first = first} {old = old} {source = source} {sink = sink} new after end
       events = b.events;
       input = stop.takes;
       script = b.script;
-      ends = meets_so (rest_of first.source after) _ b.events why stop.ends;
-      prints = prints_so b.events why b.writes;
-      reads = reads_so _ _ why stop.reads;
-      writes = writes_so why b.writes;
+      ends = meets_input (rest_of first.source after) _ b.events why stop.ends;
+      prints = prints_input b.events why b.writes;
+      reads = reads_input _ _ why stop.reads;
+      writes = writes_input why b.writes;
     })
 
 -- ---- the header
@@ -272,7 +272,8 @@ by_stop {first = first} {old = old} new line end s m (NoMemory e) =
       writes = s.writes.none;
     })
 
-by_apply : {first : OutsideAt} {old : RunAt} (new : RunAt) {count : ℕ} (line : Line) (event : StaticEvent) (end : RunEnd) → SoFar first old count
+by_apply : {first : OutsideAt} {old : RunAt} (new : RunAt) {count : ℕ} (line : Line) (event : StaticEvent) (end : RunEnd)
+    → SoFar first old count
     → NextMeets old.reading new.reading old.source new.source (Ok (Some line)) → IsEvent line.text event
     → ApplyStops old.work new.work event end → RunsTo first (outside_of new) end
 by_apply {first = first} {old = old} new line event end s m is (Faulty e printed goes cut) =

@@ -3,6 +3,7 @@ use Rattle.std.proofs.Common.{◌≡◌, ◌⊎◌, ℕ, List, [], ◌∷◌, �
 use Rattle.std.proofs.lemmas.Grind.{flat_map-append}
 use Rattle.std.specs.List.{flat_map}
 use Rattle.std.specs.Io.KnownBytes.{Consumes}
+use Rattle.command_output.proofs.Faults.{no_read_fault, no_write_fault}
 use Rattle.gnb_base.specs.Lines.{lines_of}
 use Rattle.gnb_base.specs.Outside.{SourceAt, SinkAt, Rose}
 use Rattle.input_defs.specs.Split.{InputSplit, rest_of}
@@ -36,7 +37,8 @@ no_error [] ys reason (event ∷ events) e = cc
 no_error (x ∷ xs) ys reason [] e = cc
 no_error (x ∷ xs) ys reason (event ∷ events) e = no_error xs ys reason events (cc)
 
-wrong_means : (line : List ℕ) (reason : TextReason) → is_skipped line ≡ false → runnable_event_of line ≡ Err reason → meanings line ≡ Err reason ∷ []
+wrong_means : (line : List ℕ) (reason : TextReason) → is_skipped line ≡ false → runnable_event_of line ≡ Err reason
+    → meanings line ≡ Err reason ∷ []
 wrong_means line reason skip read = rw (skip, read) refl
 
 wrong_line : (lines : List (List ℕ)) (line : List ℕ) (more : List (List ℕ)) (reason : TextReason) (events : List StaticEvent)
@@ -78,21 +80,14 @@ long_by : (input : List ℕ) (left : Option (List ℕ)) (events : List StaticEve
 long_by input None events split w h e = h
 long_by input (Some ys) events split w h e = omega (arith, w.within, ap length h, length-append split.taken ys, e.at)
 
-of_done : {input : List ℕ} {events others : List StaticEvent} {left : Option (List ℕ)} {split : InputSplit} {count : ℕ} → IsWhole input events
+of_done : {input : List ℕ} {events others : List StaticEvent} {left : Option (List ℕ)} {split : InputSplit} {count : ℕ}
+    → IsWhole input events
     → TakesOf input left split → AreScript split.lines others
     → IsDone left split others count → (others ≡ events) × (count ≡ length events)
 of_done {events = events} {others = others} {split = split} w t script e =
     let same = all_lines t e.all.nothing e.all.at_end in
     let one = one_script split.lines others events script (subst (λ (ls : List (List ℕ)). AreScript ls events) same w.script) in
     (one, e.counted ∙ ap length one)
-
-no_read_fault : {before after : SourceAt} {code : ℕ} → code ≡ 6 → (Rose before.faults after.faults → ⊥) → ReadsTo before after code → ⊥
-no_read_fault e none (AllRead h other) = other e
-no_read_fault e none (ReadStopped h is) = none h.faults
-
-no_write_fault : {before after : SinkAt} {code : ℕ} → code ≡ 7 → (Rose before.faults after.faults → ⊥) → WritesTo before after code → ⊥
-no_write_fault e none (AllWritten h other) = other e
-no_write_fault e none (WriteStopped h is) = none h.faults
 
 by_end : (before after : OutsideAt) (end : RunEnd) → RunMeets before after end → (input : List ℕ) (events : List StaticEvent)
     → before.source.left ≡ Some input → IsWhole input events

@@ -16,7 +16,8 @@ pub onto_nil : (read : Option (List ℕ)) → onto [] read ≡ read
 onto_nil None = refl
 onto_nil (Some bytes) = refl
 
-pub onto_byte : (front : List ℕ) (byte : ℕ) (read : Option (List ℕ)) → onto front (byte_before (Some byte) read) ≡ onto (front ++ byte ∷ []) read
+pub onto_byte : (front : List ℕ) (byte : ℕ) (read : Option (List ℕ))
+    → onto front (byte_before (Some byte) read) ≡ onto (front ++ byte ∷ []) read
 onto_byte front byte None = refl
 onto_byte front byte (Some bytes) = ap Some (sym (append_assoc front (byte ∷ []) bytes))
 
@@ -49,7 +50,8 @@ pub hex_stop : (text front : List ℕ) (i : ℕ) → 2 * i + 1 < length text
 hex_stop text front i h e so_far =
     sym so_far ∙ ap (onto front) (hex_step text i h ∙ ap (λ (b : Option ℕ). byte_before b (read_hex (drop (2 * (i + 1)) text))) (sym e))
 
-pub hex_all : (text front : List ℕ) (i : ℕ) → length text ≤ 2 * i → onto front (read_hex (drop (2 * i) text)) ≡ read_hex text → read_hex text ≡ Some front
+pub hex_all : (text front : List ℕ) (i : ℕ) → length text ≤ 2 * i → onto front (read_hex (drop (2 * i) text)) ≡ read_hex text
+    → read_hex text ≡ Some front
 hex_all text front i h so_far =
     sym so_far ∙ ap (λ (rest : List ℕ). onto front (read_hex rest)) (drop_all (2 * i) text h) ∙ ap Some (append-nil' front)
   where
@@ -130,5 +132,6 @@ pub gives_found : (text : List ℕ) (r : Result (List ℕ) HexError) → GivesHe
 gives_found text (Ok bytes) h = read_is_hex text bytes h
 gives_found text (Err e) h = tt
 
-pub gives_only : (text : List ℕ) (r : Result (List ℕ) HexError) → GivesHex r (read_hex text) → (bytes : List ℕ) → IsHexOf text bytes → GivesHex r (Some bytes)
+pub gives_only : (text : List ℕ) (r : Result (List ℕ) HexError) → GivesHex r (read_hex text) → (bytes : List ℕ) → IsHexOf text bytes
+    → GivesHex r (Some bytes)
 gives_only text r h bytes is = subst (GivesHex r) (hex_is_read text bytes is) h

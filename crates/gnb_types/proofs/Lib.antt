@@ -1,3 +1,4 @@
+pub mod Choices
 pub mod HexLemmas
 pub mod OrderLemmas
 pub mod Refusals

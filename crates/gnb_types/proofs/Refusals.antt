@@ -58,6 +58,7 @@ module _ {E : Type 0} where
     refused_first (Ok x) h = tt
     refused_first (Err e) h = tested_first ts cs e are h
 
-    pub first_refused : (r : Result X E) → IfOk r (λ x. first_reason ts ≡ None) → IfErr r (λ e. first_reason ts ≡ Some e) → (e : E) → IsFirst cs e → r ≡ Err e
+    pub first_refused : (r : Result X E) → IfOk r (λ x. first_reason ts ≡ None) → IfErr r (λ e. first_reason ts ≡ Some e) → (e : E)
+        → IsFirst cs e → r ≡ Err e
     first_refused (Ok x) none h e k = absurd (none_first cs e (tested_none ts cs are none) k)
     first_refused (Err r) none h e k = ap Err (one_first cs r e (tested_first ts cs r are h) k)

@@ -1,4 +1,4 @@
--- Internal: proofs of the laws that the order of nodes has. It is total, and tells all nodes apart as `==` does.
+-- Internal: proofs of the laws that the order of nodes has. It is total, and distinguishes all nodes as `==` does.
 use Rattle.std.specs.Prelude.{◌≡◌, ℕ, ◌==◌, Bool, true, refl, if◌then◌else◌}
 use Rattle.std.proofs.Common.{sym, ap, ◌∙◌, subst, eqb-true, eq-eqb}
 use Rattle.std.specs.declared.cmp.Ordering.TheVariants.{Equal}

@@ -9,7 +9,7 @@ use Rattle.gtpu.specs.declared.GtpuError.TheVariants as errors
 use Rattle.gtpu.specs.Headers.{ExtensionHeader, Begins, is_required, may_have}
 use Rattle.gtpu.specs.Packets.{kind_code, e_flag, has_flag}
 
--- Of a header of this type before these octets: its length is none that it may have, or it passes the end.
+-- Of a header of this type before these octets: its length is one that it may not have, or it passes the end.
 abbrev pub HasWrongLength : ℕ → List ℕ → Type 0
 HasWrongLength code [] = Unit {0}
 HasWrongLength code (units ∷ rest) = (may_have code units ≡ false) ⊎ (1 + length rest < 4 * units)

@@ -228,7 +228,8 @@ dir_lacks : (d : Dir) → Lacks 47 (dir_text d)
 dir_lacks Dl = refl
 dir_lacks Ul = refl
 
-tunnel_parts : (end : NodeId) (teid : ℕ) → IsNode end → teid < 2 ^ 64 → slice_split (λ x. nat_eq x 47) (node_text end ++ codes "/" ++ decimal teid) ≡ node_text end ∷ decimal teid ∷ []
+tunnel_parts : (end : NodeId) (teid : ℕ) → IsNode end → teid < 2 ^ 64
+    → slice_split (λ x. nat_eq x 47) (node_text end ++ codes "/" ++ decimal teid) ≡ node_text end ∷ decimal teid ∷ []
 tunnel_parts end teid h k =
     ap (slice_split (λ x. nat_eq x 47)) (append_assoc (node_text end) (codes "/") (decimal teid))
     ∙ parts_then 47 (node_text end) (decimal teid) (Lacks-node 47 end (inr refl) h)
@@ -438,7 +439,8 @@ moved_item of_item of_message link item h k =
     ∙ then_some (link_back link h) (λ l. opt_then (item_of (item_words item)) (λ i. Some (of_item l i)))
     ∙ then_some (item_back item k) (λ i. Some (of_item link i))
 
-lost_items : (link : Link) (items : ℕ) → IsLink link → items < 2 ^ 64 → lost (link_text link ∷ decimal items ∷ []) ≡ Some (lines.Lost link items)
+lost_items : (link : Link) (items : ℕ) → IsLink link → items < 2 ^ 64
+    → lost (link_text link ∷ decimal items ∷ []) ≡ Some (lines.Lost link items)
 lost_items link items h k =
     ap (λ b. cond b (opt_then (message_of (link_text link)) (λ m. Some (lines.LostMessage m))) (opt_then (link_of (link_text link)) (λ l. opt_then (count_of (decimal items)) (λ n. Some (lines.Lost l n))))) (link_no_hash link)
     ∙ then_some (link_back link h) (λ l. opt_then (count_of (decimal items)) (λ n. Some (lines.Lost l n)))

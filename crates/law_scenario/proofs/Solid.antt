@@ -100,13 +100,15 @@ not_true : (b : Bool) → not b ≡ true → b ≡ false
 not_true true h = absurd (cc)
 not_true false h = refl
 
-pub parts_then : (c : ℕ) (word rest : List ℕ) → Without c word → slice_split (λ x. nat_eq x c) (word ++ c ∷ rest) ≡ word ∷ slice_split (λ x. nat_eq x c) rest
+pub parts_then : (c : ℕ) (word rest : List ℕ) → Without c word
+    → slice_split (λ x. nat_eq x c) (word ++ c ∷ rest) ≡ word ∷ slice_split (λ x. nat_eq x c) rest
 parts_then c [] rest h = by_head (nat_eq c c) (eqb_self c)
   where
     eqb_self : (n : ℕ) → nat_eq n n ≡ true
     eqb_self n = grind (arith, nat_tests)
 
-    by_head : (b : Bool) → b ≡ true → cond b ([] ∷ slice_split (λ x. nat_eq x c) rest) (onto_first c (slice_split (λ x. nat_eq x c) rest)) ≡ [] ∷ slice_split (λ x. nat_eq x c) rest
+    by_head : (b : Bool) → b ≡ true
+        → cond b ([] ∷ slice_split (λ x. nat_eq x c) rest) (onto_first c (slice_split (λ x. nat_eq x c) rest)) ≡ [] ∷ slice_split (λ x. nat_eq x c) rest
     by_head true e = refl
     by_head false e = absurd (cc)
 parts_then c (x ∷ xs) rest h =

@@ -92,7 +92,8 @@ same_fault AtMessage word a b f g = f ∙ sym g
 same_fault AtTunnel word a b f g = same_tunnel_fault word a b f g
 same_fault AtHex word a b f g = f ∙ sym g
 
-word_refused : (p : Place) → IsEventPlace p → (word : List ℕ) (reason : TextReason) → IsWrongAt p word reason → read_word p word ≡ Err reason
+word_refused : (p : Place) → IsEventPlace p → (word : List ℕ) (reason : TextReason) → IsWrongAt p word reason
+    → read_word p word ≡ Err reason
 word_refused p k word reason wrong = by_read (read_word p word) refl
   where
     by_read : (r : Result (Meaning p) TextReason) → read_word p word ≡ r → read_word p word ≡ Err reason
@@ -101,7 +102,8 @@ word_refused p k word reason wrong = by_read (read_word p word) refl
 
 -- ---- words at places
 
-places_wrong : {Y : Type 0} (places : List Place) → AreEventPlaces places → (make : Values places → Y) (left : List (List ℕ)) (reason : TextReason)
+places_wrong : {Y : Type 0} (places : List Place) → AreEventPlaces places
+    → (make : Values places → Y) (left : List (List ℕ)) (reason : TextReason)
     → read_into places make left ≡ Err reason → IsWrongIn places left reason
 places_wrong [] k make [] reason h = absurd (cc)
 places_wrong [] k make (word ∷ rest) reason h = sym (same_reason _ Extra reason refl h)
@@ -117,7 +119,8 @@ places_wrong {Y} (p ∷ places) k make (word ∷ rest) reason h = by_read (read_
         let same : other ≡ reason = same_reason _ other reason refl g in
         inl (subst (IsWrongAt p word) same (none_at p k.0 word other e, fault_at p word other e))
 
-places_refused : {Y : Type 0} (places : List Place) → AreEventPlaces places → (make : Values places → Y) (left : List (List ℕ)) (reason : TextReason)
+places_refused : {Y : Type 0} (places : List Place) → AreEventPlaces places
+    → (make : Values places → Y) (left : List (List ℕ)) (reason : TextReason)
     → IsWrongIn places left reason → read_into places make left ≡ Err reason
 places_refused [] k make [] reason h = absurd h
 places_refused [] k make (word ∷ rest) reason h = ap Err (sym h)
@@ -128,33 +131,39 @@ places_refused {Y} (p ∷ places) k make (word ∷ rest) reason (inr h) =
     ap (λ (r : Result (Meaning p) TextReason). result_then {X = Meaning p × List (List ℕ)} {Y = Y} (result_then r (λ x. Ok (x, rest))) (λ read. read_into places (λ vs. make (read.0, vs)) read.1)) (word_again p k.0 word h.0 h.1 h.2)
     ∙ places_refused places k.1 (λ vs. make (h.0, vs)) rest reason h.3
 
-form_wrong : (form : EventForm) → IsForm form → (left : List (List ℕ)) (reason : TextReason) → read_form form left ≡ Err reason → IsWrongIn form.places left reason
+form_wrong : (form : EventForm) → IsForm form → (left : List (List ℕ)) (reason : TextReason) → read_form form left ≡ Err reason
+    → IsWrongIn form.places left reason
 form_wrong form k left reason h = by_read (read_places form.places left) refl h
   where
-    by_read : (r : Result (Values form.places) TextReason) → read_places form.places left ≡ r → result_then r (λ values. Ok (form.event values)) ≡ Err reason → IsWrongIn form.places left reason
+    by_read : (r : Result (Values form.places) TextReason) → read_places form.places left ≡ r
+        → result_then r (λ values. Ok (form.event values)) ≡ Err reason → IsWrongIn form.places left reason
     by_read (Ok values) e g = absurd (cc)
     by_read (Err other) e g =
         let same : other ≡ reason = same_reason _ other reason refl g in
         places_wrong form.places k.places (λ vs. vs) left reason (e ∙ ap Err same)
 
-form_refused : (form : EventForm) → IsForm form → (left : List (List ℕ)) (reason : TextReason) → IsWrongIn form.places left reason → read_form form left ≡ Err reason
+form_refused : (form : EventForm) → IsForm form → (left : List (List ℕ)) (reason : TextReason) → IsWrongIn form.places left reason
+    → read_form form left ≡ Err reason
 form_refused form k left reason h =
     ap (λ (r : Result (Values form.places) TextReason). result_then r (λ values. Ok (form.event values))) (places_refused form.places k.places (λ vs. vs) left reason h)
 
 -- ---- events
 
 -- which way a choice of places goes
-places_if : (b : Bool) (f g : EventForm) (left : List (List ℕ)) (reason : TextReason) → (IsWrongIn f.places left reason → read_form f left ≡ Err reason) → (IsWrongIn g.places left reason → read_form g left ≡ Err reason)
+places_if : (b : Bool) (f g : EventForm) (left : List (List ℕ)) (reason : TextReason)
+    → (IsWrongIn f.places left reason → read_form f left ≡ Err reason) → (IsWrongIn g.places left reason → read_form g left ≡ Err reason)
     → IsWrongIn (cond b f.places g.places) left reason → cond b (read_form f left) (read_form g left) ≡ Err reason
 places_if true f g left reason p q h = p h
 places_if false f g left reason p q h = q h
 
-if_places : (b : Bool) (f g : EventForm) (left : List (List ℕ)) (reason : TextReason) → (read_form f left ≡ Err reason → IsWrongIn f.places left reason) → (read_form g left ≡ Err reason → IsWrongIn g.places left reason)
+if_places : (b : Bool) (f g : EventForm) (left : List (List ℕ)) (reason : TextReason)
+    → (read_form f left ≡ Err reason → IsWrongIn f.places left reason) → (read_form g left ≡ Err reason → IsWrongIn g.places left reason)
     → cond b (read_form f left) (read_form g left) ≡ Err reason → IsWrongIn (cond b f.places g.places) left reason
 if_places true f g left reason p q h = p h
 if_places false f g left reason p q h = q h
 
-keyword_wrong : (k : Keyword) (left : List (List ℕ)) (reason : TextReason) → keyword_event k left ≡ Err reason → IsWrongIn (places_after k left) left reason
+keyword_wrong : (k : Keyword) (left : List (List ℕ)) (reason : TextReason) → keyword_event k left ≡ Err reason
+    → IsWrongIn (places_after k left) left reason
 unfolding keyword_event
 keyword_wrong keywords.Static left reason h = form_wrong static_form is_static left reason h
 keyword_wrong keywords.Start left reason h = form_wrong (bare_form keywords.Start events.Start) is_start left reason h
@@ -178,7 +187,8 @@ keyword_wrong keywords.Ask left reason h = form_wrong ask_form is_ask left reaso
 keyword_wrong keywords.Settle left reason h = form_wrong (bare_form keywords.Settle events.Settle) is_settle left reason h
 keyword_wrong keywords.Inject left reason h = if_places (names_tunnel left) inject_item_form inject_message_form left reason (form_wrong inject_item_form is_inject_item left reason) (form_wrong inject_message_form is_inject_message left reason) h
 
-keyword_refused : (k : Keyword) (left : List (List ℕ)) (reason : TextReason) → IsWrongIn (places_after k left) left reason → keyword_event k left ≡ Err reason
+keyword_refused : (k : Keyword) (left : List (List ℕ)) (reason : TextReason) → IsWrongIn (places_after k left) left reason
+    → keyword_event k left ≡ Err reason
 unfolding keyword_event
 keyword_refused keywords.Static left reason h = form_refused static_form is_static left reason h
 keyword_refused keywords.Start left reason h = form_refused (bare_form keywords.Start events.Start) is_start left reason h
@@ -205,15 +215,18 @@ keyword_refused keywords.Inject left reason h = places_if (names_tunnel left) in
 none_is_some : {X : Type 0} (o : Option X) (x : X) → o ≡ None → o ≡ Some x → ⊥
 none_is_some o x p q = absurd (cc)
 
-words_wrong : (word : List ℕ) (left : List (List ℕ)) (reason : TextReason) → words_event (word, left) ≡ Err reason → IsWrongEvent (word ∷ left) reason
+words_wrong : (word : List ℕ) (left : List (List ℕ)) (reason : TextReason) → words_event (word, left) ≡ Err reason
+    → IsWrongEvent (word ∷ left) reason
 words_wrong word left reason h = by_keyword (keyword_of word) refl h
   where
-    by_keyword : (o : Option Keyword) → keyword_of word ≡ o → result_then (ok_or o Word) (λ keyword. keyword_event keyword left) ≡ Err reason → IsWrongEvent (word ∷ left) reason
+    by_keyword : (o : Option Keyword) → keyword_of word ≡ o
+        → result_then (ok_or o Word) (λ keyword. keyword_event keyword left) ≡ Err reason → IsWrongEvent (word ∷ left) reason
     by_keyword (Some k) found g = inr (k, keyword_sound word k found, keyword_wrong k left reason g)
     by_keyword None found g =
         inl ((λ k same. none_is_some (keyword_of word) k found (ap keyword_of same ∙ keyword_again k)), sym (same_reason _ Word reason refl g))
 
-words_refused : (word : List ℕ) (left : List (List ℕ)) (reason : TextReason) → IsWrongEvent (word ∷ left) reason → words_event (word, left) ≡ Err reason
+words_refused : (word : List ℕ) (left : List (List ℕ)) (reason : TextReason) → IsWrongEvent (word ∷ left) reason
+    → words_event (word, left) ≡ Err reason
 words_refused word left reason (inr h) =
     ap (λ (o : Option Keyword). result_then (ok_or o Word) (λ keyword. keyword_event keyword left)) (ap keyword_of h.1 ∙ keyword_again h.0) ∙ keyword_refused h.0 left reason h.2
 words_refused word left reason (inl h) = by_keyword (keyword_of word) refl

@@ -78,17 +78,17 @@ reading w = record {
   is_item = λ units end octets. is_item_of w.items octets;
 }
 
--- what a run shows: its steps, and how it stopped
-pub record Told : Type 0 where
+-- what a run gives: its steps, and how it stopped
+pub record Outcome : Type 0 where
   pub steps : List Shown
   pub stop : Option Stop
 
--- what the run of a worked script's events shows, by the definitions
-abbrev pub told : Worked → Told
-told w =
+-- of a worked script's events, by the definitions
+abbrev pub outcome : Worked → Outcome
+outcome w =
     let t = Run (reading w) (map (λ s. s.event) w.steps) in
     record { steps = map (λ h. step h.event (lines_of (plain_world (reading w)) h)) t.events; stop = t.stop }
 
--- what was worked out for it
-abbrev pub worked_out : Worked → Told
-worked_out w = record { steps = w.steps; stop = w.stop }
+-- as it was worked out
+abbrev pub expected : Worked → Outcome
+expected w = record { steps = w.steps; stop = w.stop }

@@ -2,10 +2,10 @@
 #![tactic(auto)]
 
 ghost use Rattle.law_worked_runs.specs.All.{all};
-ghost use Rattle.law_worked_runs.specs.Short.{told, worked_out};
+ghost use Rattle.law_worked_runs.specs.Short.{outcome, expected};
 ghost use Rattle.std.specs.Prelude.{map, ◌≡◌};
 
 /// The run of each worked script shows the lines that were worked out for it, and stops as it was worked out.
 pub fn worked_runs()
-    ensures { map told all ≡ map worked_out all }
+    ensures { map outcome all ≡ map expected all }
 {}

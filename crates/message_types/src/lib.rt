@@ -2,8 +2,8 @@
 //!
 //! A message has its information elements as fields; what is optional is an `Option`. What stands for a container, the
 //! spelling of a token, is a parameter: its octets in a message that is read or written, the token itself where a message is
-//! looked at as a whole. A terminal is a number from 1 to 16, and an instance tells the requests of one initiator to one
-//! responder for one terminal apart.
+//! looked at as a whole. A terminal is a number from 1 to 16, and an instance distinguishes the requests of one initiator to one
+//! responder for one terminal.
 #![tactic(auto)]
 
 mod e1;

@@ -198,14 +198,14 @@ none_passes first second fields h =
     }
 
 -- a number after others
-behind_one : (octet : ℕ) (octets : List ℕ) (n : ℕ) → number24_at (octet ∷ octets) (suc n) ≡ number24_at octets n
-behind_one octet octets n =
+after_one : (octet : ℕ) (octets : List ℕ) (n : ℕ) → number24_at (octet ∷ octets) (suc n) ≡ number24_at octets n
+after_one octet octets n =
     let one : suc n + 1 ≡ suc (n + 1) = omega arith in
     let two : suc n + 2 ≡ suc (n + 2) = omega arith in
     rw (one, two) refl
 
-pub behind_some : (n : ℕ) (octets : List ℕ) → number24_at (drop n octets) 0 ≡ number24_at octets n
-behind_some n octets = grind (arith, get_or-drop)
+pub after_some : (n : ℕ) (octets : List ℕ) → number24_at (drop n octets) 0 ≡ number24_at octets n
+after_some n octets = grind (arith, get_or-drop)
 
 -- the fields of a status that it is
 pub record StatusRead (lost : List (ℕ × ℕ)) (delivered : Option ℕ) (first second : ℕ) (fields : List ℕ) : Type 0 where
@@ -254,7 +254,7 @@ status_read (range ∷ ranges) delivered first second (count ∷ octets) first_i
         padding = rw (bits.1, bits.2, skip, ← drop-drop three (6 * length (range ∷ ranges)) octets) end.padding;
       };
       lost_is = rw bits.1 pairs;
-      delivered_is = rw (bits.1, bits.2, skip', behind_one count octets (6 * length (range ∷ ranges)), ← behind_some (6 * length (range ∷ ranges)) octets) end.number;
+      delivered_is = rw (bits.1, bits.2, skip', after_one count octets (6 * length (range ∷ ranges)), ← after_some (6 * length (range ∷ ranges)) octets) end.number;
     }
 
 -- A frame's octets: no reason applies, and the frame is the one at their places.
@@ -346,7 +346,7 @@ some_lost first second (suc k ∷ octets) d kind lost_bit delivered_bit s t p =
     let padding' : is_padding (drop three (drop (6 * suc k) octets)) ≡ true = rw (drop-drop three (6 * suc k) octets) padding in
     let enough' : three ≤ length (drop (6 * suc k) octets) = rw (length-drop (6 * suc k) octets) (omega arith) in
     let ends = has_end d (drop (6 * suc k) octets) enough' padding' in
-    rw (lost_bit, delivered_bit, skip', behind_one (suc k) octets (6 * suc k), ← behind_some (6 * suc k) octets) (record {
+    rw (lost_bit, delivered_bit, skip', after_one (suc k) octets (6 * suc k), ← after_some (6 * suc k) octets) (record {
       first_is = rw (is_some-if d (number24_at (drop (6 * suc k) octets) 0)) (octet_of_bits first d true kind lost_bit delivered_bit s t);
       fields_are = (
         sym (length-pairs_at (suc k) octets),

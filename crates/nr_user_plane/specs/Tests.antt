@@ -22,7 +22,7 @@ abbrev pub Answers : List ℕ → Result Frame FrameError → Type 0
 Answers octets (Ok frame) = (first_reason (tests octets) ≡ None) × (frame ≡ frame_at octets)
 Answers octets (Err reason) = first_reason (tests octets) ≡ Some reason
 
--- The ranges and the octets behind them, where they are apart, else the reason.
+-- The ranges and the octets after them, where they are apart, else the reason.
 abbrev pub AnswersPairs : ℕ → List ℕ → Result (List (ℕ × ℕ) × Bor (List ℕ)) FrameError → Type 0
 AnswersPairs count octets (Ok read) = (are_apart 0 (pairs_at count octets) ≡ true)
     × (read.0 ≡ pairs_at count octets) × (read.1.now ≡ drop (6 * count) octets)

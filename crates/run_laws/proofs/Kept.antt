@@ -21,7 +21,8 @@ pub record Standing (link : Link) (items : List Item) (printed : List OutLine) :
   pub put : puts link printed ≡ gone ++ items
   pub took : taken link printed ≡ length gone
 
-pub standing_more : (link : Link) (old put got after : List Item) (printed new : List OutLine) → Standing link old printed → puts link new ≡ put → taken link new ≡ length got → old ++ put ≡ got ++ after → Standing link after (printed ++ new)
+pub standing_more : (link : Link) (old put got after : List Item) (printed new : List OutLine) → Standing link old printed
+    → puts link new ≡ put → taken link new ≡ length got → old ++ put ≡ got ++ after → Standing link after (printed ++ new)
 standing_more link old put got after printed new k puts_are took_are moved = record {
   gone = k.gone ++ got;
   put = flat_map-append (put_on link) printed new ∙ ap (λ items. items ++ puts link new) k.put ∙ ap (λ items. (k.gone ++ old) ++ items) puts_are
@@ -75,23 +76,30 @@ lines_more steps step = flat_map-push step_lines steps step
 pub offered_more : (b : Bearer) (steps : List Step) (step : Step) → offered b (steps ++ step ∷ []) ≡ offered b steps ++ offered_in b step
 offered_more b steps step = flat_map-push (offered_in b) steps step
 
-pub deliveries_more : (b : Bearer) (steps : List Step) (step : Step) → deliveries b (lines_of (steps ++ step ∷ [])) ≡ deliveries b (lines_of steps) ++ deliveries b (step_lines step)
+pub deliveries_more : (b : Bearer) (steps : List Step) (step : Step)
+    → deliveries b (lines_of (steps ++ step ∷ [])) ≡ deliveries b (lines_of steps) ++ deliveries b (step_lines step)
 deliveries_more b steps step = ap (deliveries b) (lines_more steps step) ∙ flat_map-append (delivery_of b) (lines_of steps) (step_lines step)
 
-pub standing_next : (link : Link) (old put got after : List Item) (steps : List Step) (step : Step) → Standing link old (lines_of steps) → puts link (step_lines step) ≡ put → taken link (step_lines step) ≡ length got → old ++ put ≡ got ++ after → Standing link after (lines_of (steps ++ step ∷ []))
+pub standing_next : (link : Link) (old put got after : List Item) (steps : List Step) (step : Step) → Standing link old (lines_of steps)
+    → puts link (step_lines step) ≡ put → taken link (step_lines step) ≡ length got → old ++ put ≡ got ++ after
+    → Standing link after (lines_of (steps ++ step ∷ []))
 standing_next link old put got after steps step k p t m = subst (λ printed. Standing link after printed) (sym (lines_more steps step)) (standing_more link old put got after _ _ k p t m)
 
 -- nothing moves on a link
-pub standing_still : (link : Link) (items : List Item) (steps : List Step) (step : Step) → Standing link items (lines_of steps) → puts link (step_lines step) ≡ [] → taken link (step_lines step) ≡ 0 → Standing link items (lines_of (steps ++ step ∷ []))
+pub standing_still : (link : Link) (items : List Item) (steps : List Step) (step : Step) → Standing link items (lines_of steps)
+    → puts link (step_lines step) ≡ [] → taken link (step_lines step) ≡ 0 → Standing link items (lines_of (steps ++ step ∷ []))
 standing_still link items steps step k p t = standing_next link items [] [] items steps step k p t (append-nil items)
 
-pub wires_more : (steps : List Step) (step : Step) → Wires steps → EachAfter IsOldest (lines_of steps) (step_lines step) → Wires (steps ++ step ∷ [])
+pub wires_more : (steps : List Step) (step : Step) → Wires steps → EachAfter IsOldest (lines_of steps) (step_lines step)
+    → Wires (steps ++ step ∷ [])
 wires_more steps step w new = subst (λ printed. EachAfter IsOldest [] printed) (sym (lines_more steps step)) (EachAfter-append IsOldest [] (lines_of steps) (step_lines step) w new)
 
-pub local_more : (steps : List Step) (step : Step) → Local steps → AllByRecursion (IsLocalLine (steps ++ step ∷ []) (actor step.event)) step.lines → Local (steps ++ step ∷ [])
+pub local_more : (steps : List Step) (step : Step) → Local steps
+    → AllByRecursion (IsLocalLine (steps ++ step ∷ []) (actor step.event)) step.lines → Local (steps ++ step ∷ [])
 local_more steps step l new = EachAfter-append _ [] steps (step ∷ []) l (new, tt)
 
-pub means_more : (steps : List Step) (step : Step) → CountMeans steps → AllByRecursion (CountIsPlace (steps ++ step ∷ [])) step.lines → CountMeans (steps ++ step ∷ [])
+pub means_more : (steps : List Step) (step : Step) → CountMeans steps → AllByRecursion (CountIsPlace (steps ++ step ∷ [])) step.lines
+    → CountMeans (steps ++ step ∷ [])
 means_more steps step m new = EachAfter-append _ [] steps (step ∷ []) m (new, tt)
 
 -- a step that shows nothing of any packet

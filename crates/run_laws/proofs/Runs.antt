@@ -47,16 +47,19 @@ nothing_yet = record {
 }
 
 -- an event that is refused
-refusal : (one : Option OneBearer) (e : StaticEvent) (steps : List Step) (reason : _) → KeptFor one steps → KeptNext (stays one reason) e steps
+refusal : (one : Option OneBearer) (e : StaticEvent) (steps : List Step) (reason : _) → KeptFor one steps
+    → KeptNext (stays one reason) e steps
 refusal None e steps reason k = keeps_quiet _ steps _ k (quiet_refused steps e reason)
 refusal (Some one) e steps reason k = keeps_quiet one steps _ k (quiet_refused steps e reason)
 
 -- by a test, with what it says
-by_test : (a b : Next) (e : StaticEvent) (steps : List Step) (test : Bool) → (test ≡ true → KeptNext a e steps) → (test ≡ false → KeptNext b e steps) → KeptNext (cond test a b) e steps
+by_test : (a b : Next) (e : StaticEvent) (steps : List Step) (test : Bool) → (test ≡ true → KeptNext a e steps)
+    → (test ≡ false → KeptNext b e steps) → KeptNext (cond test a b) e steps
 by_test a b e steps true x y = x refl
 by_test a b e steps false x y = y refl
 
-quiet_held : (steps : List Step) (end : _) (teid : ℕ) → Quiet steps (step_of (events.Get end teid) (lines.Held (tunnel_link static_n3) Quota ∷ []))
+quiet_held : (steps : List Step) (end : _) (teid : ℕ)
+    → Quiet steps (step_of (events.Get end teid) (lines.Held (tunnel_link static_n3) Quota ∷ []))
 unfolding offered_in
 quiet_held steps end teid = record {
   offered = λ b. refl;
@@ -98,23 +101,27 @@ set_up quota steps k = record {
   means = k.means;
 }
 
-got_n3 : (one : OneBearer) (packets : List (List ℕ)) (end : _) (teid : ℕ) (steps : List Step) → one.on_n3 ≡ packets → Kept one steps → KeptNext (gets_n3 one packets) (events.Get end teid) steps
+got_n3 : (one : OneBearer) (packets : List (List ℕ)) (end : _) (teid : ℕ) (steps : List Step) → one.on_n3 ≡ packets → Kept one steps
+    → KeptNext (gets_n3 one packets) (events.Get end teid) steps
 got_n3 one [] end teid steps e k = refusal (Some one) _ steps Empty k
 got_n3 one (packet ∷ rest) end teid steps e k =
     by_test _ _ _ steps (is_used_up one) (λ _. keeps_quiet one steps _ k (quiet_held steps end teid))
     (λ _. by_test _ _ _ steps (has_room one) (λ room. keeps_number one steps end teid packet rest e room k) (λ full. keeps_wait one steps end teid packet rest e full k))
 
-got_f1u : (one : OneBearer) (frames : List Frame) (end : _) (teid : ℕ) (steps : List Step) → one.on_f1u ≡ frames → Kept one steps → KeptNext (gets_f1u one frames) (events.Get end teid) steps
+got_f1u : (one : OneBearer) (frames : List Frame) (end : _) (teid : ℕ) (steps : List Step) → one.on_f1u ≡ frames → Kept one steps
+    → KeptNext (gets_f1u one frames) (events.Get end teid) steps
 got_f1u one [] end teid steps e k = refusal (Some one) _ steps Empty k
 got_f1u one (frame ∷ rest) end teid steps e k = keeps_frame one steps end teid frame rest e k
 
-got : (one : OneBearer) (end : _) (teid : ℕ) (steps : List Step) → Kept one steps → KeptNext (gets_one one (place_at end teid)) (events.Get end teid) steps
+got : (one : OneBearer) (end : _) (teid : ℕ) (steps : List Step) → Kept one steps
+    → KeptNext (gets_one one (place_at end teid)) (events.Get end teid) steps
 got one end teid steps k =
     by_test _ _ _ steps (same_place (place_at end teid) static_downlink) (λ _. got_f1u one one.on_f1u end teid steps refl k)
     (λ _. by_test _ _ _ steps (same_place (place_at end teid) static_uplink) (λ _. refusal (Some one) _ steps Empty k)
     (λ _. by_test _ _ _ steps (same_place (place_at end teid) static_n3) (λ _. got_n3 one one.on_n3 end teid steps refl k) (λ _. refusal (Some one) _ steps NoSuch k)))
 
-aired : (one : OneBearer) (items : List Numbered) (ue : _) (bearer : _) (steps : List Step) → one.on_air ≡ items → Kept one steps → KeptNext (airs_one one items) (events.Air ue bearer) steps
+aired : (one : OneBearer) (items : List Numbered) (ue : _) (bearer : _) (steps : List Step) → one.on_air ≡ items → Kept one steps
+    → KeptNext (airs_one one items) (events.Air ue bearer) steps
 aired one [] ue bearer steps e k = refusal (Some one) _ steps Empty k
 aired one (numbered ∷ rest) ue bearer steps e k =
     by_test _ _ _ steps (eqb numbered.count one.deliv) (λ _. keeps_delivery one steps ue bearer numbered rest e k)
@@ -136,7 +143,8 @@ kept_event (Some one) (events.Get end teid) steps k = got one end teid steps k
 kept_event (Some one) (events.Air ue bearer) steps k =
     by_test _ _ _ steps (same_radio (radio_of (downlink_of ue bearer)) static_radio) (λ _. aired one one.on_air ue bearer steps refl k) (λ _. refusal (Some one) _ steps NoBearer k)
 
-kept_fold : (events : List StaticEvent) (ran : OneRan) → KeptFor ran.bearer ran.steps → let end = fold one_goes_on ran events in KeptFor end.bearer end.steps
+kept_fold : (events : List StaticEvent) (ran : OneRan) → KeptFor ran.bearer ran.steps
+    → let end = fold one_goes_on ran events in KeptFor end.bearer end.steps
 kept_fold [] ran k = k
 kept_fold (e ∷ events) ran k = kept_fold events (one_goes_on ran e) (kept_event ran.bearer e ran.steps k)
 
@@ -151,7 +159,8 @@ pub record Holds (steps : List Step) : Type 0 where
   pub local : Local steps
   pub means : CountMeans steps
 
-in_order_at : (one : OneBearer) (steps : List Step) → Kept one steps → (b : Bearer) (test : Bool) → same_bearer b static_bearer ≡ test → DeliversInOrder b steps
+in_order_at : (one : OneBearer) (steps : List Step) → Kept one steps → (b : Bearer) (test : Bool) → same_bearer b static_bearer ≡ test
+    → DeliversInOrder b steps
 in_order_at one steps k b true e = subst (λ (c : Bearer). DeliversInOrder c steps) (sym (bearer_exact b static_bearer e)) (record {
   rest = packets_of one ++ (one.waiting ++ one.on_n3);
   prefix = ap (λ ps. ps ++ (packets_of one ++ (one.waiting ++ one.on_n3))) (ap (map (λ (d : ℕ × List ℕ). d.1)) k.delivered ∙ enumerated 0 k.done) ∙ sym k.offers;

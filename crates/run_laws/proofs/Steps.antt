@@ -3,6 +3,7 @@ use Rattle.std.proofs.Common.{◌≡◌, ℕ, ◌+◌, zero, suc, Bool, true, fa
 use Rattle.std.proofs.lemmas.List.{append-nil, length-map}
 use Rattle.std.proofs.lemmas.Grind.{flat_map-append}
 use Rattle.std.specs.List.{enumerate_from}
+use Rattle.std.proofs.lemmas.List.{map-append}
 use Rattle.gnb_types.specs.declared.names.UeId.{UeId}
 use Rattle.gnb_types.specs.declared.names.BearerId.{BearerId}
 use Rattle.gnb_types.specs.declared.names.NodeId.{NodeId}
@@ -20,7 +21,7 @@ use Rattle.run_model.specs.OneBearer.{OneBearer, Frame, IsSound, fresh_item, fra
 use Rattle.run_model.specs.Transcript.{put_on, taken_from, offered, offered_in, deliveries, puts, taken, Offered, Taken, Somewhere}
 use Rattle.run_model.proofs.Tables.{bearer_exact}
 use Rattle.run_model.proofs.Sound.{head_of_flight, sound_numbered, sound_waiting, sound_taken, sound_delivered}
-use Rattle.run_laws.proofs.Lists.{get-seam_at, get-seam, Somewhere-end, map-append, enumerate_from-push}
+use Rattle.run_laws.proofs.Lists.{get-seam_at, get-seam, Somewhere-end, enumerate_from-push}
 use Rattle.run_laws.proofs.Kept.{Kept, Standing, step_of, n3_link, f1u_link, air_link, n3_items, f1u_items, air_items, packets_of, standing_next, standing_still, wires_more, local_more, means_more, offered_more, deliveries_more, nothing_more}
 
 -- places in the list of offered packets
@@ -34,8 +35,9 @@ get_left [] ys k x e = Prim.cc
 get_left (y ∷ xs) ys zero x e = e
 get_left (y ∷ xs) ys (suc k) x e = get_left xs ys k x e
 
--- the COUNT and the packet of what is in flight behind others
-in_place : (n : ℕ) (xs : List Numbered) (x : Numbered) (ys : List Numbered) (ps : List (List ℕ)) → xs ++ x ∷ ys ≡ numbered_from n ps → (x.count ≡ n + length xs) × (slice_get ps (length xs) ≡ Some x.packet)
+-- the COUNT and the packet of what is in flight after others
+in_place : (n : ℕ) (xs : List Numbered) (x : Numbered) (ys : List Numbered) (ps : List (List ℕ)) → xs ++ x ∷ ys ≡ numbered_from n ps
+    → (x.count ≡ n + length xs) × (slice_get ps (length xs) ≡ Some x.packet)
 in_place n [] x ys [] e = Prim.cc
 in_place n [] x ys (p ∷ ps) e =
     let same : x ≡ record { count = n; packet = p } = Prim.cc in
@@ -46,7 +48,8 @@ in_place n (y ∷ xs) x ys (p ∷ ps) e =
     let there = in_place (n + 1) xs x ys ps others in
     (there.0 ∙ omega arith, there.1)
 
-get_packet : (before : List Numbered) (x : Numbered) (after : List Numbered) → slice_get (map (λ (y : Numbered). y.packet) (before ++ x ∷ after)) (length before) ≡ Some x.packet
+get_packet : (before : List Numbered) (x : Numbered) (after : List Numbered)
+    → slice_get (map (λ (y : Numbered). y.packet) (before ++ x ∷ after)) (length before) ≡ Some x.packet
 get_packet [] x after = refl
 get_packet (y ∷ before) x after = get_packet before x after
 
@@ -55,7 +58,8 @@ is_static : same_bearer static_bearer static_bearer ≡ true
 unfolding bearer_cmp
 is_static = refl
 
-offered_one : (ue : UeId) (bearer : BearerId) (packet : List ℕ) (item : Item) (b : Bearer) (test : Bool) → downlink_of ue bearer ≡ static_bearer → same_bearer b static_bearer ≡ test
+offered_one : (ue : UeId) (bearer : BearerId) (packet : List ℕ) (item : Item) (b : Bearer) (test : Bool)
+    → downlink_of ue bearer ≡ static_bearer → same_bearer b static_bearer ≡ test
     → offered_in b (step_of (events.Offer ue bearer packet) (lines.Put n3_link item ∷ [])) ≡ cond test (packet ∷ []) []
 unfolding offered_in
 offered_one ue bearer packet item b test same e =
@@ -64,7 +68,8 @@ offered_one ue bearer packet item b test same e =
 regroup : {X : Type 0} (a b c d : List X) (x : X) → (a ++ (b ++ (c ++ d))) ++ x ∷ [] ≡ a ++ (b ++ (c ++ (d ++ x ∷ [])))
 regroup a b c d x = append_assoc a _ _ ∙ ap (λ ys. a ++ ys) (append_assoc b _ _ ∙ ap (λ ys. b ++ ys) (append_assoc c _ _))
 
-pub keeps_offer : (one : OneBearer) (steps : List Step) (ue : UeId) (bearer : BearerId) (packet : List ℕ) → same_bearer (downlink_of ue bearer) static_bearer ≡ true → Kept one steps
+pub keeps_offer : (one : OneBearer) (steps : List Step) (ue : UeId) (bearer : BearerId) (packet : List ℕ)
+    → same_bearer (downlink_of ue bearer) static_bearer ≡ true → Kept one steps
     → Kept (record one { on_n3 = one.on_n3 ++ packet ∷ [] }) (steps ++ step_of (events.Offer ue bearer packet) (lines.Put n3_link (shown_in static_n3 (fresh_item packet)) ∷ []) ∷ [])
 unfolding place_cmp radio_cmp
 keeps_offer one steps ue bearer packet e k =
@@ -91,13 +96,15 @@ keeps_offer one steps ue bearer packet e k =
     }
 
 -- the CU-UP numbers the oldest packet of N3
-flight_more : (one : OneBearer) (packet : List ℕ) (rest : List (List ℕ)) → packets_of (numbers_one one packet rest) ≡ packets_of one ++ packet ∷ []
+flight_more : (one : OneBearer) (packet : List ℕ) (rest : List (List ℕ))
+    → packets_of (numbers_one one packet rest) ≡ packets_of one ++ packet ∷ []
 flight_more one packet rest =
     ap (λ (items : List Numbered). map (λ (x : Numbered). x.packet) (one.on_air ++ items)) (map-append (λ (f : Frame). f.numbered) one.on_f1u (next_frame one packet ∷ []))
     ∙ ap (map (λ (x : Numbered). x.packet)) (sym (append_assoc one.on_air _ _))
     ∙ map-append (λ (x : Numbered). x.packet) (in_flight one) ((next_frame one packet).numbered ∷ [])
 
-offers_numbered : {X : Type 0} (done flight more waiting rest : List X) (packet : X) → waiting ≡ [] → more ≡ flight ++ packet ∷ [] → done ++ (flight ++ (waiting ++ packet ∷ rest)) ≡ done ++ (more ++ (waiting ++ rest))
+offers_numbered : {X : Type 0} (done flight more waiting rest : List X) (packet : X) → waiting ≡ [] → more ≡ flight ++ packet ∷ []
+    → done ++ (flight ++ (waiting ++ packet ∷ rest)) ≡ done ++ (more ++ (waiting ++ rest))
 offers_numbered done flight more waiting rest packet none e =
     ap (λ w. done ++ (flight ++ (w ++ packet ∷ rest))) none
     ∙ ap (λ ys. done ++ ys) (sym (append_assoc flight (packet ∷ []) rest))
@@ -111,7 +118,7 @@ length-numbered_from : (n : ℕ) (ps : List (List ℕ)) → length (numbered_fro
 length-numbered_from n [] = refl
 length-numbered_from n (p ∷ ps) = ap suc (length-numbered_from (n + 1) ps)
 
--- the next COUNT is that of the packet behind those in flight
+-- the next COUNT is that of the packet after those in flight
 next_place : (one : OneBearer) (steps : List Step) → (k : Kept one steps) → one.next ≡ length k.done + length (packets_of one)
 next_place one steps k = omega (arith, k.sound.next, k.all_done, length-flight one, ap length k.sound.flight, length-numbered_from one.deliv k.sound.packets)
 
@@ -122,10 +129,12 @@ oldest link item items printed e k =
     get-seam_at _ _ k.gone item items (flat_map-append (put_on link) printed (lines.Happens (whole_event e) ∷ []) ∙ append-nil _ ∙ k.put)
     (ap length (flat_map-append (taken_from link) printed (lines.Happens (whole_event e) ∷ []) ∙ append-nil _) ∙ k.took)
 
-get_seam_none : {X : Type 0} (xs waiting rest : List X) (x : X) → waiting ≡ [] → slice_get (xs ++ (waiting ++ x ∷ rest)) (length xs) ≡ Some x
+get_seam_none : {X : Type 0} (xs waiting rest : List X) (x : X) → waiting ≡ []
+    → slice_get (xs ++ (waiting ++ x ∷ rest)) (length xs) ≡ Some x
 get_seam_none xs waiting rest x none = ap (λ w. slice_get (xs ++ (w ++ x ∷ rest)) (length xs)) none ∙ get-seam xs x rest
 
-pub keeps_number : (one : OneBearer) (steps : List Step) (end : NodeId) (teid : ℕ) (packet : List ℕ) (rest : List (List ℕ)) → one.on_n3 ≡ packet ∷ rest → has_room one ≡ true → Kept one steps
+pub keeps_number : (one : OneBearer) (steps : List Step) (end : NodeId) (teid : ℕ) (packet : List ℕ) (rest : List (List ℕ))
+    → one.on_n3 ≡ packet ∷ rest → has_room one ≡ true → Kept one steps
     → Kept (numbers_one one packet rest) (steps ++ step_of (events.Get end teid) (lines.Got n3_link (shown_in static_n3 (fresh_item packet)) ∷ lines.Put f1u_link (shown_in static_downlink (framed_item (next_frame one packet))) ∷ []) ∷ [])
 unfolding place_cmp radio_cmp offered_in
 keeps_number one steps end teid packet rest e room k =
@@ -152,7 +161,8 @@ keeps_number one steps end teid packet rest e room k =
     }
 
 -- the CU-UP takes the oldest packet of N3, and it waits
-pub keeps_wait : (one : OneBearer) (steps : List Step) (end : NodeId) (teid : ℕ) (packet : List ℕ) (rest : List (List ℕ)) → one.on_n3 ≡ packet ∷ rest → has_room one ≡ false → Kept one steps
+pub keeps_wait : (one : OneBearer) (steps : List Step) (end : NodeId) (teid : ℕ) (packet : List ℕ) (rest : List (List ℕ))
+    → one.on_n3 ≡ packet ∷ rest → has_room one ≡ false → Kept one steps
     → Kept (record one { on_n3 = rest; waiting = one.waiting ++ packet ∷ [] }) (steps ++ step_of (events.Get end teid) (lines.Got n3_link (shown_in static_n3 (fresh_item packet)) ∷ []) ∷ [])
 unfolding place_cmp radio_cmp offered_in
 keeps_wait one steps end teid packet rest e full k =
@@ -176,7 +186,8 @@ keeps_wait one steps end teid packet rest e full k =
     }
 
 -- where a packet in flight stands among those offered
-flight_place : (one : OneBearer) (steps : List Step) (k : Kept one steps) (before : List Numbered) (x : Numbered) (after : List Numbered) → in_flight one ≡ before ++ x ∷ after → slice_get (offered static_bearer steps) x.count ≡ Some x.packet
+flight_place : (one : OneBearer) (steps : List Step) (k : Kept one steps) (before : List Numbered) (x : Numbered) (after : List Numbered)
+    → in_flight one ≡ before ++ x ∷ after → slice_get (offered static_bearer steps) x.count ≡ Some x.packet
 flight_place one steps k before x after e =
     let there = in_place one.deliv before x after k.sound.packets (sym e ∙ k.sound.flight) in
     let stands : slice_get (packets_of one) (length before) ≡ Some x.packet =
@@ -186,7 +197,8 @@ flight_place one steps k before x after e =
     ∙ get_left (packets_of one) _ (length before) x.packet stands
 
 -- the DU takes the oldest frame of F1-U
-pub keeps_frame : (one : OneBearer) (steps : List Step) (end : NodeId) (teid : ℕ) (frame : Frame) (rest : List Frame) → one.on_f1u ≡ frame ∷ rest → Kept one steps
+pub keeps_frame : (one : OneBearer) (steps : List Step) (end : NodeId) (teid : ℕ) (frame : Frame) (rest : List Frame)
+    → one.on_f1u ≡ frame ∷ rest → Kept one steps
     → Kept (record one { on_f1u = rest; on_air = one.on_air ++ frame.numbered ∷ [] }) (steps ++ step_of (events.Get end teid) (lines.Got f1u_link (shown_in static_downlink (framed_item frame)) ∷ lines.Put air_link (shown_on_air static_radio frame.numbered) ∷ []) ∷ [])
 unfolding place_cmp radio_cmp offered_in
 keeps_frame one steps end teid frame rest e k =
@@ -219,7 +231,8 @@ none_elsewhere : (b : Bearer) (e : StaticEvent) (got : Item) (count : ℕ) (pack
 none_elsewhere b e got count packet f = ap (λ (t : Bool). cond t ((count, packet) ∷ []) [] ++ []) f
 
 -- the terminal delivers the oldest packet of the radio
-pub keeps_delivery : (one : OneBearer) (steps : List Step) (ue : UeId) (bearer : BearerId) (numbered : Numbered) (rest : List Numbered) → one.on_air ≡ numbered ∷ rest → Kept one steps
+pub keeps_delivery : (one : OneBearer) (steps : List Step) (ue : UeId) (bearer : BearerId) (numbered : Numbered) (rest : List Numbered)
+    → one.on_air ≡ numbered ∷ rest → Kept one steps
     → Kept (delivers_one one numbered rest) (steps ++ step_of (events.Air ue bearer) (lines.Got air_link (shown_on_air static_radio numbered) ∷ lines.Deliver static_bearer.ue static_bearer.bearer static_bearer.dir numbered.count numbered.packet ∷ []) ∷ [])
 unfolding place_cmp radio_cmp offered_in bearer_cmp
 keeps_delivery one steps ue bearer numbered rest e k =

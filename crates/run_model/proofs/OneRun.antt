@@ -2,6 +2,7 @@
 use Rattle.std.proofs.Common.{◌≡◌, ℕ, ◌+◌, Bool, true, false, cond, List, [], ◌∷◌, ◌++◌, map, length, Option, Some, None, unwrap_or, refl, sym, ap, subst, ◌∙◌, nat_lt, ◌==◌}
 use Rattle.std.specs.FinMap.{FinMap, get, insert, get-insert, empty, get-empty}
 use Rattle.std.specs.List.{list_any, fold}
+use Rattle.std.proofs.lemmas.List.{map-append}
 use Rattle.gnb_types.specs.declared.names.UeId.{UeId}
 use Rattle.run_model.specs.declared.event.StaticEvent.{StaticEvent}
 use Rattle.run_model.specs.declared.event.StaticEvent.TheVariants as events
@@ -45,7 +46,8 @@ pub record Agrees (made : Made) (next : Next) : Type 0 where
   pub stands : StandsFor made.state next.bearer
   pub lines : made.lines ≡ next.lines
 
-either : {made other : Made} {next else_next : Next} (test : Bool) → Agrees made next → Agrees other else_next → Agrees (cond test made other) (cond test next else_next)
+either : {made other : Made} {next else_next : Next} (test : Bool) → Agrees made next → Agrees other else_next
+    → Agrees (cond test made other) (cond test next else_next)
 either true a b = a
 either false a b = b
 
@@ -62,21 +64,25 @@ same_again : {X : Type 0} (test : Bool) (v w x : X) → cond test v (cond test w
 same_again true v w x = refl
 same_again false v w x = refl
 
-put_downlink : (m : FinMap place_cmp (List TunnelItem)) (down n3 new : List TunnelItem) → ((p : Place) → get m p ≡ three down n3 p) → (p : Place) → get (insert m static_downlink new) p ≡ three new n3 p
+put_downlink : (m : FinMap place_cmp (List TunnelItem)) (down n3 new : List TunnelItem) → ((p : Place) → get m p ≡ three down n3 p)
+    → (p : Place) → get (insert m static_downlink new) p ≡ three new n3 p
 put_downlink m down n3 new h p =
     get-insert place_total m static_downlink new p ∙ ap (cond (same_place p static_downlink) (Some new)) (h p)
     ∙ same_again (same_place p static_downlink) _ _ _
 
-put_n3_at : (down n3 new : List TunnelItem) (p : Place) (test : Bool) → same_place p static_n3 ≡ test → cond test (Some new) (three down n3 p) ≡ three down new p
+put_n3_at : (down n3 new : List TunnelItem) (p : Place) (test : Bool) → same_place p static_n3 ≡ test
+    → cond test (Some new) (three down n3 p) ≡ three down new p
 put_n3_at down n3 new p true e = sym (at_n3 down new) ∙ ap (three down new) (sym (place_exact p static_n3 e))
 put_n3_at down n3 new p false e = ap (λ (t : Bool). cond (same_place p static_downlink) (Some down) (cond (same_place p static_uplink) (Some []) (cond t (Some n3) None))) e
     ∙ sym (ap (λ (t : Bool). cond (same_place p static_downlink) (Some down) (cond (same_place p static_uplink) (Some []) (cond t (Some new) None))) e)
 
-put_n3 : (m : FinMap place_cmp (List TunnelItem)) (down n3 new : List TunnelItem) → ((p : Place) → get m p ≡ three down n3 p) → (p : Place) → get (insert m static_n3 new) p ≡ three down new p
+put_n3 : (m : FinMap place_cmp (List TunnelItem)) (down n3 new : List TunnelItem) → ((p : Place) → get m p ≡ three down n3 p) → (p : Place)
+    → get (insert m static_n3 new) p ≡ three down new p
 put_n3 m down n3 new h p =
     get-insert place_total m static_n3 new p ∙ ap (cond (same_place p static_n3) (Some new)) (h p) ∙ put_n3_at down n3 new p _ refl
 
-put_radio : (m : FinMap radio_cmp (List Numbered)) (old new : List Numbered) → ((r : Radio) → get m r ≡ one_radio old r) → (r : Radio) → get (insert m static_radio new) r ≡ one_radio new r
+put_radio : (m : FinMap radio_cmp (List Numbered)) (old new : List Numbered) → ((r : Radio) → get m r ≡ one_radio old r) → (r : Radio)
+    → get (insert m static_radio new) r ≡ one_radio new r
 put_radio m old new h r =
     get-insert radio_total m static_radio new r ∙ ap (cond (same_radio r static_radio) (Some new)) (h r)
     ∙ same_again (same_radio r static_radio) _ _ _
@@ -94,28 +100,29 @@ on_air : (s : State) (one : OneBearer) → Stands s one → at [] s.radios stati
 unfolding at
 on_air s one stands = ap (λ (o : Option (List Numbered)). unwrap_or o []) (stands.radios static_radio ∙ one_radio_at _)
 
-set_sender : (m : FinMap seat_cmp Sender) (new : Sender) → at no_sender (insert m (sender_seat static_n3 static_bearer) new) (sender_seat static_n3 static_bearer) ≡ new
+set_sender : (m : FinMap seat_cmp Sender) (new : Sender)
+    → at no_sender (insert m (sender_seat static_n3 static_bearer) new) (sender_seat static_n3 static_bearer) ≡ new
 unfolding seat_cmp
 set_sender m new = at-insert seat_total no_sender m (sender_seat static_n3 static_bearer) new (sender_seat static_n3 static_bearer)
 
-set_receiver : (m : FinMap seat_cmp Receiver) (new : Receiver) → at no_receiver (insert m (receiver_seat static_bearer) new) (receiver_seat static_bearer) ≡ new
+set_receiver : (m : FinMap seat_cmp Receiver) (new : Receiver)
+    → at no_receiver (insert m (receiver_seat static_bearer) new) (receiver_seat static_bearer) ≡ new
 unfolding seat_cmp
 set_receiver m new = at-insert seat_total no_receiver m (receiver_seat static_bearer) new (receiver_seat static_bearer)
 
-map-append : {X Y : Type 0} (f : X → Y) (xs : List X) (x : X) → map f (xs ++ x ∷ []) ≡ map f xs ++ f x ∷ []
-map-append f [] x = refl
-map-append f (y ∷ xs) x = ap (λ ys. f y ∷ ys) (map-append f xs x)
-
 -- with the same lines
-agree : (s : State) (one : Option OneBearer) (printed : List OutLine) → StandsFor s one → Agrees (record { state = s; lines = printed }) (record { bearer = one; lines = printed })
+agree : (s : State) (one : Option OneBearer) (printed : List OutLine) → StandsFor s one
+    → Agrees (record { state = s; lines = printed }) (record { bearer = one; lines = printed })
 agree s one printed stands = record { stands = stands; lines = refl }
 
 -- an event that is refused
-stays_refused : (s : State) (one : Option OneBearer) (reason : RefuseReason) → StandsFor s one → Agrees (refused s reason) (stays one reason)
+stays_refused : (s : State) (one : Option OneBearer) (reason : RefuseReason) → StandsFor s one
+    → Agrees (refused s reason) (stays one reason)
 stays_refused s one reason stands = record { stands = stands; lines = refl }
 
 -- offer
-offered_there : (s : State) (one : OneBearer) (packet : List ℕ) → Stands s one → Agrees (offer_on s static_bearer packet (Some static_n3)) (offers_one one packet)
+offered_there : (s : State) (one : OneBearer) (packet : List ℕ) → Stands s one
+    → Agrees (offer_on s static_bearer packet (Some static_n3)) (offers_one one packet)
 unfolding offer_on
 offered_there s one packet k = either (nat_lt 2048 (length packet)) (stays_refused s (Some one) Size k) (record {
   stands = record {
@@ -126,7 +133,7 @@ offered_there s one packet k = either (nat_lt 2048 (length packet)) (stays_refus
     radios = k.radios;
     tunnels = λ p. put_n3 s.tunnels (map framed_item one.on_f1u) (map fresh_item one.on_n3) _ k.tunnels p
         ∙ ap (λ (items : List TunnelItem). three (map framed_item one.on_f1u) items p)
-        (ap (λ (items : List TunnelItem). items ++ fresh_item packet ∷ []) (on_n3 s one k) ∙ sym (map-append fresh_item one.on_n3 packet));
+        (ap (λ (items : List TunnelItem). items ++ fresh_item packet ∷ []) (on_n3 s one k) ∙ sym (map-append fresh_item one.on_n3 (packet ∷ [])));
   };
   lines = refl;
 })
@@ -139,7 +146,8 @@ offered_at s one b packet true e k =
 offered_at s one b packet false e k = stays_refused s (Some one) NoBearer k
 
 -- get on F1-U
-got_f1u : (s : State) (one : OneBearer) (frames : List Frame) → one.on_f1u ≡ frames → Stands s one → Agrees (get_on s static_downlink (Some (map framed_item frames))) (gets_f1u one frames)
+got_f1u : (s : State) (one : OneBearer) (frames : List Frame) → one.on_f1u ≡ frames → Stands s one
+    → Agrees (get_on s static_downlink (Some (map framed_item frames))) (gets_f1u one frames)
 unfolding get_on
 got_f1u s one [] e k = stays_refused s (Some one) Empty k
 got_f1u s one (frame ∷ rest) e k = record {
@@ -171,7 +179,7 @@ numbered_there s one packet rest k =
       tunnels = λ p. put_downlink (insert s.tunnels static_n3 (map fresh_item rest)) (map framed_item one.on_f1u) (map fresh_item rest) _ taken p
           ∙ ap (λ (items : List TunnelItem). three items (map fresh_item rest) p)
           (ap (λ (o : Option (List TunnelItem)). unwrap_or o [] ++ framed_item (next_frame one packet) ∷ []) (taken static_downlink ∙ at_downlink _ _)
-          ∙ sym (map-append framed_item one.on_f1u (next_frame one packet)));
+          ∙ sym (map-append framed_item one.on_f1u (next_frame one packet ∷ [])));
     }
 
 waiting_there : (s : State) (one : OneBearer) (packet : List ℕ) (rest : List (List ℕ)) → Stands s one → Stands
@@ -186,14 +194,16 @@ waiting_there s one packet rest k = record {
   tunnels = put_n3 s.tunnels (map framed_item one.on_f1u) (map fresh_item one.on_n3) (map fresh_item rest) k.tunnels;
 }
 
-got_packet : (s : State) (one : OneBearer) (packet : List ℕ) (rest : List (List ℕ)) (sender : Sender) → sender_of one ≡ sender → Stands s one
+got_packet : (s : State) (one : OneBearer) (packet : List ℕ) (rest : List (List ℕ)) (sender : Sender) → sender_of one ≡ sender
+    → Stands s one
     → Agrees (taken_by_cu_up s static_n3 (fresh_item packet) (map fresh_item rest) packet sender) (gets_n3 one (packet ∷ rest))
 got_packet s one packet rest sender e k =
     let here : Agrees (taken_by_cu_up s static_n3 (fresh_item packet) (map fresh_item rest) packet (sender_of one)) (gets_n3 one (packet ∷ rest)) =
     either _ (agree s (Some one) _ k) (either _ (agree _ (Some (numbers_one one packet rest)) _ (numbered_there s one packet rest k)) (agree _ (Some _) _ (waiting_there s one packet rest k))) in
     subst (λ (it : Sender). Agrees (taken_by_cu_up s static_n3 (fresh_item packet) (map fresh_item rest) packet it) (gets_n3 one (packet ∷ rest))) e here
 
-got_n3 : (s : State) (one : OneBearer) (packets : List (List ℕ)) → one.on_n3 ≡ packets → Stands s one → Agrees (get_on s static_n3 (Some (map fresh_item packets))) (gets_n3 one packets)
+got_n3 : (s : State) (one : OneBearer) (packets : List (List ℕ)) → one.on_n3 ≡ packets → Stands s one
+    → Agrees (get_on s static_n3 (Some (map fresh_item packets))) (gets_n3 one packets)
 unfolding get_on
 got_n3 s one [] e k = stays_refused s (Some one) Empty k
 got_n3 s one (packet ∷ rest) e k = got_packet s one packet rest _ (sym k.sender) k
@@ -229,7 +239,8 @@ delivered_there s one numbered rest k = record {
   radios = put_radio s.radios one.on_air rest k.radios;
 }
 
-ignored_there : (s : State) (one : OneBearer) (rest : List Numbered) → Stands s one → Stands (record s { radios = insert s.radios static_radio rest }) (record one { on_air = rest })
+ignored_there : (s : State) (one : OneBearer) (rest : List Numbered) → Stands s one
+    → Stands (record s { radios = insert s.radios static_radio rest }) (record one { on_air = rest })
 ignored_there s one rest k = record {
   attached = k.attached;
   paths = k.paths;
@@ -239,14 +250,16 @@ ignored_there s one rest k = record {
   radios = put_radio s.radios one.on_air rest k.radios;
 }
 
-aired_packet : (s : State) (one : OneBearer) (numbered : Numbered) (rest : List Numbered) (receiver : Receiver) → record { deliv = one.deliv } ≡ receiver → Stands s one
+aired_packet : (s : State) (one : OneBearer) (numbered : Numbered) (rest : List Numbered) (receiver : Receiver)
+    → record { deliv = one.deliv } ≡ receiver → Stands s one
     → Agrees (received s static_radio numbered rest receiver) (airs_one one (numbered ∷ rest))
 aired_packet s one numbered rest receiver e k =
     let here : Agrees (received s static_radio numbered rest (record { deliv = one.deliv })) (airs_one one (numbered ∷ rest)) =
     either _ (agree _ (Some (delivers_one one numbered rest)) _ (delivered_there s one numbered rest k)) (agree _ (Some (record one { on_air = rest })) _ (ignored_there s one rest k)) in
     subst (λ (it : Receiver). Agrees (received s static_radio numbered rest it) (airs_one one (numbered ∷ rest))) e here
 
-aired : (s : State) (one : OneBearer) (items : List Numbered) → one.on_air ≡ items → Stands s one → Agrees (air_on s static_radio (Some items)) (airs_one one items)
+aired : (s : State) (one : OneBearer) (items : List Numbered) → one.on_air ≡ items → Stands s one
+    → Agrees (air_on s static_radio (Some items)) (airs_one one items)
 unfolding air_on
 aired s one [] e k = stays_refused s (Some one) Empty k
 aired s one (numbered ∷ rest) e k = aired_packet s one numbered rest _ (sym k.receiver) k
@@ -297,7 +310,8 @@ no_radio : (r : Radio) → get start.radios r ≡ None
 unfolding start
 no_radio r = get-empty radio_cmp r
 
-nobody : (quota : ℕ) → Agrees (static_on start quota (list_any (λ ue. ue.0 == static_ue.0) start.attached)) (record { bearer = Some (new_bearer quota); lines = [] })
+nobody : (quota : ℕ)
+    → Agrees (static_on start quota (list_any (λ ue. ue.0 == static_ue.0) start.attached)) (record { bearer = Some (new_bearer quota); lines = [] })
 unfolding start static_on
 nobody quota = record { stands = set_up quota; lines = refl }
 
@@ -333,7 +347,8 @@ both_go_on ran one e k =
           ∙ ap (λ (lines : List OutLine). let step : Step = record { event = e; lines = lines } in one.steps ++ step ∷ []) next.lines;
     }
 
-both_fold : (events : List StaticEvent) (ran : Ran) (one : OneRan) → RunAgrees ran one → RunAgrees (fold goes_on ran events) (fold one_goes_on one events)
+both_fold : (events : List StaticEvent) (ran : Ran) (one : OneRan) → RunAgrees ran one
+    → RunAgrees (fold goes_on ran events) (fold one_goes_on one events)
 both_fold [] ran one k = k
 both_fold (e ∷ events) ran one k = both_fold events _ _ (both_go_on ran one e k)
 

@@ -2,6 +2,7 @@
 use Rattle.std.proofs.Common.{◌≡◌, ℕ, ◌+◌, Bool, true, false, cond, eqb, eq-eqb, List, [], ◌∷◌, ◌++◌, map, length, Option, Some, None, refl, sym, ap, ◌∙◌, nat_lt, arith, append_assoc, length-append}
 use borrow.Author.Tests.{ltb-true}
 use Rattle.std.proofs.lemmas.Bool.{false≢true}
+use Rattle.std.proofs.lemmas.List.{map-append}
 use Rattle.run_model.specs.declared.event.StaticEvent.{StaticEvent}
 use Rattle.run_model.specs.declared.event.StaticEvent.TheVariants as events
 use Rattle.gnb_types.specs.declared.reasons.RefuseReason.TheVariants.{Empty, NoSuch}
@@ -15,16 +16,13 @@ SoundFor None = Unit {0}
 SoundFor (Some one) = IsSound one
 
 -- one more number
-pub numbered_from-append : (n : ℕ) (packets : List (List ℕ)) (packet : List ℕ) → numbered_from n (packets ++ packet ∷ []) ≡ numbered_from n packets ++ record { count = n + length packets; packet = packet } ∷ []
+pub numbered_from-append : (n : ℕ) (packets : List (List ℕ)) (packet : List ℕ)
+    → numbered_from n (packets ++ packet ∷ []) ≡ numbered_from n packets ++ record { count = n + length packets; packet = packet } ∷ []
 numbered_from-append n [] packet = ap (λ (c : ℕ). let x : Numbered = record { count = c; packet = packet } in x ∷ []) (omega arith)
 numbered_from-append n (p ∷ ps) packet =
     let first : Numbered = record { count = n; packet = p } in
     ap (λ xs. first ∷ xs) (numbered_from-append (n + 1) ps packet
     ∙ ap (λ (c : ℕ). let x : Numbered = record { count = c; packet = packet } in numbered_from (n + 1) ps ++ x ∷ []) (omega arith))
-
-map-append : {X Y : Type 0} (f : X → Y) (xs : List X) (x : X) → map f (xs ++ x ∷ []) ≡ map f xs ++ f x ∷ []
-map-append f [] x = refl
-map-append f (y ∷ xs) x = ap (λ ys. f y ∷ ys) (map-append f xs x)
 
 pub sound_new : (quota : ℕ) → IsSound (new_bearer quota)
 sound_new quota = record { packets = []; flight = refl; next = refl; kept = refl; frames = refl; window = omega arith; order = λ _. refl }
@@ -38,21 +36,24 @@ sound_offer one packet k =
     choose _ _ (nat_lt 2048 (length packet)) k (record { packets = k.packets; flight = k.flight; next = k.next; kept = k.kept; frames = k.frames; window = k.window; order = k.order })
 
 -- by a test, with what it says
-choose_by : (a b : Next) (test : Bool) → (test ≡ true → SoundFor a.bearer) → (test ≡ false → SoundFor b.bearer) → SoundFor (cond test a b).bearer
+choose_by : (a b : Next) (test : Bool) → (test ≡ true → SoundFor a.bearer) → (test ≡ false → SoundFor b.bearer)
+    → SoundFor (cond test a b).bearer
 choose_by a b true x y = x refl
 choose_by a b false x y = y refl
 
 -- the CU-UP numbers a packet
-flight_numbered : (one : OneBearer) (packet : List ℕ) (rest : List (List ℕ)) (ps : List (List ℕ)) → in_flight one ≡ numbered_from one.deliv ps → one.next ≡ one.deliv + length ps
+flight_numbered : (one : OneBearer) (packet : List ℕ) (rest : List (List ℕ)) (ps : List (List ℕ))
+    → in_flight one ≡ numbered_from one.deliv ps → one.next ≡ one.deliv + length ps
     → in_flight (numbers_one one packet rest) ≡ numbered_from one.deliv (ps ++ packet ∷ [])
 flight_numbered one packet rest ps flight next =
-    ap (λ items. one.on_air ++ items) (map-append (λ (frame : Frame). frame.numbered) one.on_f1u (next_frame one packet))
+    ap (λ items. one.on_air ++ items) (map-append (λ (frame : Frame). frame.numbered) one.on_f1u (next_frame one packet ∷ []))
     ∙ sym (append_assoc one.on_air _ _)
     ∙ ap (λ items. items ++ (next_frame one packet).numbered ∷ []) flight
     ∙ ap (λ (c : ℕ). let x : Numbered = record { count = c; packet = packet } in numbered_from one.deliv ps ++ x ∷ []) next
     ∙ sym (numbered_from-append one.deliv ps packet)
 
-pub sound_numbered : (one : OneBearer) (packet : List ℕ) (rest : List (List ℕ)) → IsSound one → has_room one ≡ true → IsSound (numbers_one one packet rest)
+pub sound_numbered : (one : OneBearer) (packet : List ℕ) (rest : List (List ℕ)) → IsSound one → has_room one ≡ true
+    → IsSound (numbers_one one packet rest)
 sound_numbered one packet rest k room = record {
   packets = k.packets ++ packet ∷ [];
   flight = flight_numbered one packet rest k.packets k.flight k.next;
@@ -63,7 +64,8 @@ sound_numbered one packet rest k room = record {
   order = λ _. k.order room;
 }
 
-pub sound_waiting : (one : OneBearer) (packet : List ℕ) (rest : List (List ℕ)) → IsSound one → has_room one ≡ false → IsSound (record one { on_n3 = rest; waiting = one.waiting ++ packet ∷ [] })
+pub sound_waiting : (one : OneBearer) (packet : List ℕ) (rest : List (List ℕ)) → IsSound one → has_room one ≡ false
+    → IsSound (record one { on_n3 = rest; waiting = one.waiting ++ packet ∷ [] })
 sound_waiting one packet rest k full = record { packets = k.packets; flight = k.flight; next = k.next; kept = k.kept; frames = k.frames; window = k.window; order = λ room. absurd (false≢true (sym full ∙ room)) }
 
 sound_n3 : (one : OneBearer) (packets : List (List ℕ)) → IsSound one → SoundFor (gets_n3 one packets).bearer
@@ -72,7 +74,8 @@ sound_n3 one (packet ∷ rest) k =
     choose _ _ (is_used_up one) k (choose_by _ _ (has_room one) (sound_numbered one packet rest k) (sound_waiting one packet rest k))
 
 -- the DU takes a frame
-pub sound_taken : (one : OneBearer) (frame : Frame) (rest : List Frame) → one.on_f1u ≡ frame ∷ rest → IsSound one → IsSound (record one { on_f1u = rest; on_air = one.on_air ++ frame.numbered ∷ [] })
+pub sound_taken : (one : OneBearer) (frame : Frame) (rest : List Frame) → one.on_f1u ≡ frame ∷ rest → IsSound one
+    → IsSound (record one { on_f1u = rest; on_air = one.on_air ++ frame.numbered ∷ [] })
 sound_taken one frame rest e k = record {
   packets = k.packets;
   flight = append_assoc one.on_air (frame.numbered ∷ []) _ ∙ ap (λ (frames : List Frame). one.on_air ++ map (λ (f : Frame). f.numbered) frames) (sym e) ∙ k.flight;
@@ -102,7 +105,8 @@ pub head_of_flight : (one : OneBearer) (numbered : Numbered) (rest : List Number
 head_of_flight one numbered rest e k =
     first_count one.deliv numbered _ k.packets (ap (λ (items : List Numbered). items ++ map (λ (frame : Frame). frame.numbered) one.on_f1u) (sym e) ∙ k.flight)
 
-pub sound_delivered : (one : OneBearer) (numbered : Numbered) (rest : List Numbered) → one.on_air ≡ numbered ∷ rest → IsSound one → IsSound (delivers_one one numbered rest)
+pub sound_delivered : (one : OneBearer) (numbered : Numbered) (rest : List Numbered) → one.on_air ≡ numbered ∷ rest → IsSound one
+    → IsSound (delivers_one one numbered rest)
 sound_delivered one numbered rest e k =
     let first = head_of_flight one numbered rest e k in
     record {

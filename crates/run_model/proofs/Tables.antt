@@ -107,6 +107,7 @@ unwrap-cond true v o none = refl
 unwrap-cond false v o none = refl
 
 -- a table at a key, after one change
-pub at-insert : {K X : Type 0} {R : K → K → Ordering} → IsTotalOrder R → (none : X) (m : FinMap R X) (k : K) (v : X) (q : K) → at none (insert m k v) q ≡ cond (eq_by_cmp R q k) v (at none m q)
+pub at-insert : {K X : Type 0} {R : K → K → Ordering} → IsTotalOrder R → (none : X) (m : FinMap R X) (k : K) (v : X) (q : K)
+    → at none (insert m k v) q ≡ cond (eq_by_cmp R q k) v (at none m q)
 unfolding at
 at-insert {R = R} total none m k v q = ap (λ o. unwrap_or o none) (get-insert total m k v q) ∙ unwrap-cond (eq_by_cmp R q k) v (get m q) none

@@ -97,7 +97,7 @@ shown_in p item = shown item.bearer (load_count item.load) (load_octets p.teid i
 abbrev pub shown_on_air : Radio → Numbered → Item
 shown_on_air r numbered = shown r.bearer (Some numbered.count) (radio_data static_bits numbered.count numbered.packet)
 
--- what an event makes: the next state, and its lines behind the line of the event itself
+-- what an event makes: the next state, and its lines after the line of the event itself
 pub record Made : Type 0 where
   pub state : State
   pub lines : List OutLine
@@ -223,7 +223,7 @@ happens s (events.Offer ue bearer packet) = offer_on s (downlink_of ue bearer) p
 happens s (events.Get end teid) = get_on s (place_at end teid) (get s.tunnels (place_at end teid))
 happens s (events.Air ue bearer) = air_on s (radio_of (downlink_of ue bearer)) (get s.radios (radio_of (downlink_of ue bearer)))
 
--- a step of a transcript: its event, and the lines behind the event's own
+-- a step of a transcript: its event, and the lines after the event's own
 pub record Step : Type 0 where
   pub event : StaticEvent
   pub lines : List OutLine

@@ -8,7 +8,7 @@ use std::io;
 fn line_reason(reason: u16) -> &'static str {
     match reason {
         1 => "a word that is not the awaited one",
-        2 => "a number that is none, or out of its range",
+        2 => "not a number, or one out of its range",
         3 => "digits that are not hexadecimal",
         4 => "a word too many",
         5 => "a name that is not known",

@@ -98,7 +98,8 @@ read_sound : (form : EventForm) → IsForm form → (left : List (List ℕ)) (e 
 read_sound form k left e h =
     by_values (read_places form.places left) refl h
   where
-    by_values : (r : Result (Values form.places) TextReason) → read_places form.places left ≡ r → result_then r (λ values. Ok (form.event values)) ≡ Ok e
+    by_values : (r : Result (Values form.places) TextReason) → read_places form.places left ≡ r
+        → result_then r (λ values. Ok (form.event values)) ≡ Ok e
         → IsTextOf (join_with_byte 32 (keyword_text form.keyword ∷ left)) e
     by_values (Ok values) are g =
         let found = places_sound form.places k.places (λ vs. vs) left values are in
@@ -178,7 +179,8 @@ is_inject_message = record { places = (tt, (tt, (tt, tt))); shown = λ line valu
 pub is_inject_item : IsForm inject_item_form
 is_inject_item = record { places = (tt, (tt, tt)); shown = λ line values h. h }
 
-keyword_event_sound : (k : Keyword) (left : List (List ℕ)) (e : Event) → keyword_event k left ≡ Ok e → IsTextOf (join_with_byte 32 (keyword_text k ∷ left)) e
+keyword_event_sound : (k : Keyword) (left : List (List ℕ)) (e : Event) → keyword_event k left ≡ Ok e
+    → IsTextOf (join_with_byte 32 (keyword_text k ∷ left)) e
 unfolding keyword_event
 keyword_event_sound keywords.Static left e h = read_sound static_form is_static left e h
 keyword_event_sound keywords.Start left e h = read_sound (bare_form keywords.Start events.Start) is_start left e h
@@ -217,10 +219,12 @@ next_ok (word ∷ rest) next h =
     let same = same_value {Z = List ℕ × List (List ℕ)} (next_word (word ∷ rest)) (word, rest) next refl h in
     ap (λ (n : List ℕ × List (List ℕ)). n.0 ∷ n.1) same
 
-words_event_sound : (word : List ℕ) (left : List (List ℕ)) (e : Event) → words_event (word, left) ≡ Ok e → IsTextOf (join_with_byte 32 (word ∷ left)) e
+words_event_sound : (word : List ℕ) (left : List (List ℕ)) (e : Event) → words_event (word, left) ≡ Ok e
+    → IsTextOf (join_with_byte 32 (word ∷ left)) e
 words_event_sound word left e h = by_keyword (keyword_of word) refl h
   where
-    by_keyword : (o : Option Keyword) → keyword_of word ≡ o → result_then (ok_or o Word) (λ keyword. keyword_event keyword left) ≡ Ok e → IsTextOf (join_with_byte 32 (word ∷ left)) e
+    by_keyword : (o : Option Keyword) → keyword_of word ≡ o → result_then (ok_or o Word) (λ keyword. keyword_event keyword left) ≡ Ok e
+        → IsTextOf (join_with_byte 32 (word ∷ left)) e
     by_keyword (Some k) found g =
         let P : List ℕ → Type 0 = λ w. IsTextOf (join_with_byte 32 (w ∷ left)) e in
         subst P (sym (keyword_sound word k found)) (keyword_event_sound k left e g)
@@ -231,7 +235,8 @@ pub event_sound : (line : List ℕ) (e : Event) → event_of line ≡ Ok e → I
 unfolding event_of
 event_sound line e h = by_words (next_word (words line)) refl h
   where
-    by_words : (r : Result (List ℕ × List (List ℕ)) TextReason) → next_word (words line) ≡ r → result_then r words_event ≡ Ok e → IsTextOf line e
+    by_words : (r : Result (List ℕ × List (List ℕ)) TextReason) → next_word (words line) ≡ r → result_then r words_event ≡ Ok e
+        → IsTextOf line e
     by_words (Ok next) is_next k =
         let P : List ℕ → Type 0 = λ l. IsTextOf l e in
         subst P (ap (join_with_byte 32) (sym (next_ok (words line) next is_next)) ∙ join_with_byte-slice_split 32 line) (words_event_sound next.0 next.1 e k)
@@ -240,7 +245,8 @@ event_sound line e h = by_words (next_word (words line)) refl h
 -- ---- what stands in a line is read
 
 -- the words of values are read in their form
-form_again : (form : EventForm) → IsForm form → (left : List (List ℕ)) (values : Values form.places) → AreWordsOf form.places left values → InPlaces form.places values
+form_again : (form : EventForm) → IsForm form → (left : List (List ℕ)) (values : Values form.places) → AreWordsOf form.places left values
+    → InPlaces form.places values
     → read_form form left ≡ Ok (form.event values)
 form_again form k left values stand range =
     ap (λ (r : Result (Values form.places) TextReason). result_then r (λ vs. Ok (form.event vs))) (places_again form.places k.places (λ vs. vs) left values stand range)
@@ -249,7 +255,8 @@ lacking : (c : ℕ) (word : List ℕ) → Lacks c word → list_any (λ x. nat_e
 lacking c [] h = refl
 lacking c (x ∷ xs) h = by_head (nat_eq x c) (list_all (λ y. not (nat_eq y c)) xs) (lacking c xs) h
   where
-    by_head : (b rest : Bool) → (rest ≡ true → list_any (λ y. nat_eq y c) xs ≡ false) → (not b && rest) ≡ true → (b || list_any (λ y. nat_eq y c) xs) ≡ false
+    by_head : (b rest : Bool) → (rest ≡ true → list_any (λ y. nat_eq y c) xs ≡ false) → (not b && rest) ≡ true
+        → (b || list_any (λ y. nat_eq y c) xs) ≡ false
     by_head true rest more h = absurd (cc)
     by_head false rest more h = more h
 
@@ -257,7 +264,8 @@ any_slash : (front rest : List ℕ) → list_any (λ x. nat_eq x 47) (front ++ 4
 any_slash [] rest = refl
 any_slash (x ∷ xs) rest = by_head (nat_eq x 47) (any_slash xs rest)
   where
-    by_head : (b : Bool) → list_any (λ y. nat_eq y 47) (xs ++ 47 ∷ rest) ≡ true → (b || list_any (λ y. nat_eq y 47) (xs ++ 47 ∷ rest)) ≡ true
+    by_head : (b : Bool) → list_any (λ y. nat_eq y 47) (xs ++ 47 ∷ rest) ≡ true
+        → (b || list_any (λ y. nat_eq y 47) (xs ++ 47 ∷ rest)) ≡ true
     by_head true more = refl
     by_head false more = more
 
@@ -382,7 +390,8 @@ unfolding keyword_event
 settle_again left values stand range = form_again (bare_form keywords.Settle events.Settle) is_settle left values stand range
 
 -- a line of these words is the event that its keyword reads
-written_again : (line : List ℕ) (form : EventForm) → IsForm form → Again form.keyword form → (values : Values form.places) → IsWritten line form values
+written_again : (line : List ℕ) (form : EventForm) → IsForm form → Again form.keyword form → (values : Values form.places)
+    → IsWritten line form values
     → event_of line ≡ Ok (form.event values)
 unfolding event_of
 written_again line form k again values h =
@@ -418,7 +427,8 @@ text_is_read line events.Settle h = written_again line (bare_form keywords.Settl
 text_is_read line (events.InjectMessage from to bytes) h = written_again line inject_message_form is_inject_message inject_message_again (from, (to, (bytes, tt))) h
 text_is_read line (events.InjectItem end teid bytes) h = written_again line inject_item_form is_inject_item inject_item_again ((end, teid), (bytes, tt)) h
 
-form_text-IsWritten : (form : EventForm) (values : Values form.places) → InPlaces form.places values → IsWritten (form_text form values) form values
+form_text-IsWritten : (form : EventForm) (values : Values form.places) → InPlaces form.places values
+    → IsWritten (form_text form values) form values
 form_text-IsWritten form values range =
     record { words = value_words form.places values; text = refl; stand = value_words-AreWordsOf form.places values range; range = range }
 
@@ -454,7 +464,8 @@ pub event_of-event_text : (e : Event) → InRange e → event_of (event_text e) 
 event_of-event_text e h = text_is_read (event_text e) e (event_text-IsTextOf e h)
 
 -- What holds of the text of each form holds of each event's text.
-pub text_by_form : (P : List ℕ → Type 0) → ((form : EventForm) → IsForm form → (values : Values form.places) → InPlaces form.places values → P (form_text form values))
+pub text_by_form : (P : List ℕ → Type 0)
+    → ((form : EventForm) → IsForm form → (values : Values form.places) → InPlaces form.places values → P (form_text form values))
     → (e : Event) → InRange e → P (event_text e)
 unfolding event_text
 text_by_form P each (events.Static plan) h = each static_form is_static (plan_values plan) h
@@ -523,11 +534,14 @@ header_ok (first ∷ rest) h = elim (chosen (first is codes "module") (Ok tt) (E
   | inr w ↦ absurd (let no : Err Word ≡ Ok tt = ap (λ (r : Result (Unit {0}) TextReason). result_then {X = Unit {0} × List (List ℕ)} {Y = Unit {0}} (result_then r (λ x. Ok (x, rest))) (λ keyword. result_then (place (fixed (codes "builtin") Word) keyword.1) (λ kind. line_end kind.1))) w.1 ∙ h in cc)
 ]
   where
-    with_end : (second : List ℕ) (end : List (List ℕ)) → first ≡ codes "module" → second ≡ codes "builtin" → line_end end ≡ Ok tt → first ∷ second ∷ end ≡ codes "module" ∷ codes "builtin" ∷ []
+    with_end : (second : List ℕ) (end : List (List ℕ)) → first ≡ codes "module" → second ≡ codes "builtin" → line_end end ≡ Ok tt
+        → first ∷ second ∷ end ≡ codes "module" ∷ codes "builtin" ∷ []
     with_end second [] p q h = ap (λ w. w ∷ second ∷ []) p ∙ ap (λ w. codes "module" ∷ w ∷ []) q
     with_end second (word ∷ end) p q h = absurd (cc)
 
-    with_first : (rest : List (List ℕ)) → first ≡ codes "module" → result_then (place (fixed (codes "builtin") Word) rest) (λ kind. line_end kind.1) ≡ Ok tt → first ∷ rest ≡ codes "module" ∷ codes "builtin" ∷ []
+    with_first : (rest : List (List ℕ)) → first ≡ codes "module"
+        → result_then (place (fixed (codes "builtin") Word) rest) (λ kind. line_end kind.1) ≡ Ok tt
+        → first ∷ rest ≡ codes "module" ∷ codes "builtin" ∷ []
     with_first [] p h = absurd (cc)
     with_first (second ∷ end) p h = elim (chosen (second is codes "builtin") (Ok tt) (Err Word) (fixed (codes "builtin") Word second) refl) [
       | inl w ↦ with_end second end p (is_text second (codes "builtin") w.0) (ap (λ (r : Result (Unit {0}) TextReason). result_then {X = Unit {0} × List (List ℕ)} {Y = Unit {0}} (result_then r (λ x. Ok (x, end))) (λ kind. line_end kind.1)) w.1 ∙ h)

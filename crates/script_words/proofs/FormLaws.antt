@@ -51,7 +51,8 @@ begins_text word text h =
 
 -- ---- numbers
 
-pub number_sound : (low high n : ℕ) (word : List ℕ) → high < 2 ^ 64 → number_of low high word ≡ Some n → (word ≡ decimal n) × IsWithin low high n
+pub number_sound : (low high n : ℕ) (word : List ℕ) → high < 2 ^ 64 → number_of low high word ≡ Some n
+    → (word ≡ decimal n) × IsWithin low high n
 number_sound low high n word fits h =
     elim (chosen (is_plain word && nat_le low (digits_value 10 word) && nat_le (digits_value 10 word) high) (Some (digits_value 10 word)) None (Some n) h) [
       | inl w ↦
@@ -112,11 +113,11 @@ bearer_sound word b h =
 pub bearer_again : (b : BearerId) → IsBearer b → bearer_of (bearer_text b) ≡ Some b
 bearer_again b h = rw (number_again 1 8 b.0 (omega arith) (omega arith) h) refl
 
--- the word behind this lead is the name of a node
+-- the word after this lead is the name of a node
 abbrev Names : List ℕ → List ℕ → NodeId → Type 0
 Names lead word node = (lead ++ word ≡ node_text node) × IsNode node
 
--- a numbered name behind a lead
+-- a numbered name after a lead
 numbered_sound : (lead word front : List ℕ) (high : ℕ) (make : ℕ → NodeId) (node : NodeId) → high < 2 ^ 64
     → (word begins front) ≡ true
     → ((n : ℕ) → IsWithin 1 high n → (lead ++ (front ++ decimal n) ≡ node_text (make n)) × IsNode (make n))
@@ -129,8 +130,9 @@ numbered_sound lead word front high make node fits stands named h =
     let P : NodeId → Type 0 = λ x. Names lead word x in
     subst P found.2 (ap (λ t. lead ++ t) (begins_text word front stands ∙ ap (λ t. front ++ t) number.0) ∙ name.0, name.1)
 
--- a name without a number behind a lead
-fixed_sound : (lead word text : List ℕ) (made node : NodeId) → (word is text) ≡ true → lead ++ text ≡ node_text made → IsNode made → Some made ≡ Some node
+-- a name without a number after a lead
+fixed_sound : (lead word text : List ℕ) (made node : NodeId) → (word is text) ≡ true → lead ++ text ≡ node_text made → IsNode made
+    → Some made ≡ Some node
     → Names lead word node
 fixed_sound lead word text made node stands named range h =
     let same : made ≡ node = cc in
@@ -178,10 +180,10 @@ unit_sound B word node h = elim (chosen (word is codes "cp") (Some (CuCp B)) (nu
   ]
 ]
 
--- a unit behind the front of its gNB
-unit_behind : (gnb : Gnb) (word : List ℕ) (node : NodeId) → (word begins (gnb_text gnb ++ codes ".")) ≡ true
+-- a unit after the front of its gNB
+unit_after : (gnb : Gnb) (word : List ℕ) (node : NodeId) → (word begins (gnb_text gnb ++ codes ".")) ≡ true
     → Names (gnb_text gnb ++ codes ".") (drop (length (gnb_text gnb ++ codes ".")) word) node → (word ≡ node_text node) × IsNode node
-unit_behind gnb word node stands h = (begins_text word (gnb_text gnb ++ codes ".") stands ∙ h.0, h.1)
+unit_after gnb word node stands h = (begins_text word (gnb_text gnb ++ codes ".") stands ∙ h.0, h.1)
 
 pub node_sound : (word : List ℕ) (node : NodeId) → node_of word ≡ Some node → (word ≡ node_text node) × IsNode node
 node_sound word node h = elim (chosen (word is codes "core") (Some Core) (cond (word begins codes "u") (ues word) (units word)) (Some node) h) [
@@ -189,9 +191,9 @@ node_sound word node h = elim (chosen (word is codes "core") (Some Core) (cond (
   | inr w ↦ elim (chosen (word begins codes "u") (ues word) (units word) (Some node) w.1) [
     | inl u ↦ numbered_sound [] word (codes "u") 16 (λ n. Ue n) node (omega arith) u.0 (λ n r. (refl, r)) u.1
     | inr u ↦ elim (chosen (word begins codes "A.") (unit_of A (drop 2 word)) (cond (word begins codes "B.") (unit_of B (drop 2 word)) None) (Some node) u.1) [
-      | inl v ↦ unit_behind A word node v.0 (unit_sound A (drop 2 word) node v.1)
+      | inl v ↦ unit_after A word node v.0 (unit_sound A (drop 2 word) node v.1)
       | inr v ↦ elim (chosen (word begins codes "B.") (unit_of B (drop 2 word)) None (Some node) v.1) [
-        | inl x ↦ unit_behind B word node x.0 (unit_sound B (drop 2 word) node x.1)
+        | inl x ↦ unit_after B word node x.0 (unit_sound B (drop 2 word) node x.1)
         | inr x ↦ no_node node x.1
       ]
     ]

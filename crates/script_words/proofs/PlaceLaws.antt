@@ -116,14 +116,16 @@ same_value : {Z E : Type 0} (r : Result Z E) (u v : Z) → r ≡ Ok u → r ≡ 
 same_value r u v h k = cc
 
 -- both halves of a tunnel's name
-both_ok : {X Y : Type 0} (r : Result X TextReason) (s : Result Y TextReason) (x : X) (y : Y) → both r s ≡ Ok (x, y) → (r ≡ Ok x) × (s ≡ Ok y)
+both_ok : {X Y : Type 0} (r : Result X TextReason) (s : Result Y TextReason) (x : X) (y : Y) → both r s ≡ Ok (x, y)
+    → (r ≡ Ok x) × (s ≡ Ok y)
 both_ok {X} {Y} (Ok a) (Ok b) x y h =
     let same = same_value {Z = X × Y} (both {X = X} {Y = Y} (Ok a) (Ok b)) (a, b) (x, y) refl h in (ap Ok (ap (λ (p : X × Y). p.0) same), ap Ok (ap (λ (p : X × Y). p.1) same))
 both_ok (Ok a) (Err reason) x y h = absurd (cc)
 both_ok (Err reason) s x y h = absurd (cc)
 
 -- a text with a slash that something follows
-around_slash : (word : List ℕ) → 0 < length (after_first (λ c. nat_eq c 47) word) → word ≡ before_first (λ c. nat_eq c 47) word ++ 47 ∷ after_first (λ c. nat_eq c 47) word
+around_slash : (word : List ℕ) → 0 < length (after_first (λ c. nat_eq c 47) word)
+    → word ≡ before_first (λ c. nat_eq c 47) word ++ 47 ∷ after_first (λ c. nat_eq c 47) word
 around_slash word h =
     let place = position_or_len (λ c. nat_eq c 47) word in
     let inside : place < length word = omega (arith, length-drop (place + 1) word, h) in
@@ -136,8 +138,8 @@ tunnel_sound word t h =
     let end = node_sound (before_first (λ c. nat_eq c 47) word) t.0 (ok_or_ok _ Name t.0 halves.0) in
     let teid = number_sound 1 greatest_number t.1 (after_first (λ c. nat_eq c 47) word) (omega arith) (ok_or_ok _ Number t.1 halves.1) in
     let some : 0 < length (decimal t.1) = decimal_nonempty t.1 (omega (arith, teid.1.to)) in
-    let behind : 0 < length (after_first (λ c. nat_eq c 47) word) = subst (λ (ds : List ℕ). 0 < length ds) (sym teid.0) some in
-    (around_slash word behind ∙ ap (λ f. f ++ 47 ∷ after_first (λ c. nat_eq c 47) word) end.0 ∙ ap (λ ds. node_text t.0 ++ 47 ∷ ds) teid.0 ∙ sym (append_assoc (node_text t.0) (47 ∷ []) (decimal t.1)), (end.1, teid.1))
+    let there : 0 < length (after_first (λ c. nat_eq c 47) word) = subst (λ (ds : List ℕ). 0 < length ds) (sym teid.0) some in
+    (around_slash word there ∙ ap (λ f. f ++ 47 ∷ after_first (λ c. nat_eq c 47) word) end.0 ∙ ap (λ ds. node_text t.0 ++ 47 ∷ ds) teid.0 ∙ sym (append_assoc (node_text t.0) (47 ∷ []) (decimal t.1)), (end.1, teid.1))
 
 -- a word without this byte
 abbrev pub Lacks : ℕ → List ℕ → Type 0
@@ -198,22 +200,23 @@ pub Lacks-append : (c : ℕ) (a b : List ℕ) → Lacks c a → Lacks c b → La
 Lacks-append c a b h k = list_all-append (λ x. not (nat_eq x c)) a b ∙ (rw (h, k) refl)
 
 -- the place of the slash after a word that has none
-slash_behind : (word rest : List ℕ) → Lacks 47 word → position_or_len (λ x. nat_eq x 47) (word ++ 47 ∷ rest) ≡ length word
-slash_behind [] rest h = refl
-slash_behind (x ∷ xs) rest h =
+slash_after : (word rest : List ℕ) → Lacks 47 word → position_or_len (λ x. nat_eq x 47) (word ++ 47 ∷ rest) ≡ length word
+slash_after [] rest h = refl
+slash_after (x ∷ xs) rest h =
     let both = and_true (not (nat_eq x 47)) (list_all (λ y. not (nat_eq y 47)) xs) h in
-    let more = slash_behind xs rest both.1 in
+    let more = slash_after xs rest both.1 in
     rw both.0 (omega (arith, more))
 
-tunnel_again : (end : NodeId) (teid : ℕ) → IsNode end → IsWithin 1 greatest_number teid → tunnel (node_text end ++ 47 ∷ decimal teid) ≡ Ok (end, teid)
+tunnel_again : (end : NodeId) (teid : ℕ) → IsNode end → IsWithin 1 greatest_number teid
+    → tunnel (node_text end ++ 47 ∷ decimal teid) ≡ Ok (end, teid)
 tunnel_again end teid range within =
-    let place = slash_behind (node_text end) (decimal teid) (Lacks-node 47 end (inr refl) range) in
+    let place = slash_after (node_text end) (decimal teid) (Lacks-node 47 end (inr refl) range) in
     let front : before_first (λ x. nat_eq x 47) (node_text end ++ 47 ∷ decimal teid) ≡ node_text end =
     ap (λ n. take n (node_text end ++ 47 ∷ decimal teid)) place ∙ take-append_seam (node_text end) (47 ∷ decimal teid) in
-    let behind : after_first (λ x. nat_eq x 47) (node_text end ++ 47 ∷ decimal teid) ≡ decimal teid =
+    let there : after_first (λ x. nat_eq x 47) (node_text end ++ 47 ∷ decimal teid) ≡ decimal teid =
     ap (λ n. drop (n + 1) (node_text end ++ 47 ∷ decimal teid)) place ∙ drop-append-add (node_text end) (47 ∷ decimal teid) 1 in
     ap (λ w. both (node w) (number 1 greatest_number (after_first (λ x. nat_eq x 47) (node_text end ++ 47 ∷ decimal teid)))) front
-    ∙ ap (λ w. both (node (node_text end)) (number 1 greatest_number w)) behind
+    ∙ ap (λ w. both (node (node_text end)) (number 1 greatest_number w)) there
     ∙ ap (λ o. both (ok_or o Name) (number 1 greatest_number (decimal teid))) (node_again end range)
     ∙ ap (λ o. both (Ok end) (ok_or o Number)) (number_again 1 greatest_number teid (omega arith) (omega arith) within)
 
@@ -296,7 +299,8 @@ record Step {X Y : Type 0} (form : Form X) (more : X × List (List ℕ) → Resu
   means : form word ≡ Ok value
   goes : more (value, rest) ≡ Ok y
 
-step : {X Y : Type 0} (form : Form X) (more : X × List (List ℕ) → Result Y TextReason) (left : List (List ℕ)) (y : Y) → result_then (place form left) more ≡ Ok y → Step form more left y
+step : {X Y : Type 0} (form : Form X) (more : X × List (List ℕ) → Result Y TextReason) (left : List (List ℕ)) (y : Y)
+    → result_then (place form left) more ≡ Ok y → Step form more left y
 step form more [] y h = absurd (cc)
 step {X} {Y} form more (word ∷ rest) y h = by_form (form word) refl h
   where
@@ -327,7 +331,8 @@ places_sound (p ∷ places) k make left y h =
       makes = more.makes;
     }
 
-pub places_again : {Y : Type 0} (places : List Place) → AreEventPlaces places → (make : Values places → Y) (left : List (List ℕ)) (values : Values places)
+pub places_again : {Y : Type 0} (places : List Place) → AreEventPlaces places
+    → (make : Values places → Y) (left : List (List ℕ)) (values : Values places)
     → AreWordsOf places left values → InPlaces places values → read_into places make left ≡ Ok (make values)
 places_again [] k make [] values stand range = refl
 places_again [] k make (word ∷ rest) values stand range = absurd stand
@@ -336,7 +341,8 @@ places_again {Y} (p ∷ places) k make (word ∷ rest) values stand range =
     ap (λ (r : Result (Meaning p) TextReason). result_then {X = Meaning p × List (List ℕ)} {Y = Y} (result_then r (λ x. Ok (x, rest))) (λ read. read_into places (λ vs. make (read.0, vs)) read.1)) (word_again p k.0 word values.0 stand.0 range.0)
     ∙ places_again places k.1 (λ vs. make (values.0, vs)) rest values.1 stand.1 range.1
 
-pub value_words-AreWordsOf : (places : List Place) (values : Values places) → InPlaces places values → AreWordsOf places (value_words places values) values
+pub value_words-AreWordsOf : (places : List Place) (values : Values places) → InPlaces places values
+    → AreWordsOf places (value_words places values) values
 value_words-AreWordsOf [] values range = tt
 value_words-AreWordsOf (p ∷ places) values range = (word_text-IsWordOf p values.0 range.0, value_words-AreWordsOf places values.1 range.1)
 
@@ -359,7 +365,8 @@ AllLack c [] = Unit {0}
 AllLack c (word ∷ rest) = Lacks c word × AllLack c rest
 
 -- the words of joined words
-pub words-joined : (word : List ℕ) (rest : List (List ℕ)) → Lacks 32 word → AllLack 32 rest → words (join_with_byte 32 (word ∷ rest)) ≡ word ∷ rest
+pub words-joined : (word : List ℕ) (rest : List (List ℕ)) → Lacks 32 word → AllLack 32 rest
+    → words (join_with_byte 32 (word ∷ rest)) ≡ word ∷ rest
 words-joined word [] h k = words_one word h
 words-joined word (next ∷ rest) h k = words_then word (join_with_byte 32 (next ∷ rest)) h ∙ ap (λ ws. word ∷ ws) (words-joined next rest k.0 k.1)
 

@@ -9,11 +9,13 @@ use Rattle.std.proofs.lemmas.List.Splits.{slice_split-cons_no, slice_split_first
 use Rattle.std.specs.List.{slice_split, onto_first, position_or_len, before_first, after_first}
 
 -- where the byte is missing, the text is the one part
-pub slice_split-missing : (c : ℕ) (text : List ℕ) → length text ≤ position_or_len (λ x. nat_eq x c) text → slice_split (λ x. nat_eq x c) text ≡ text ∷ []
+pub slice_split-missing : (c : ℕ) (text : List ℕ) → length text ≤ position_or_len (λ x. nat_eq x c) text
+    → slice_split (λ x. nat_eq x c) text ≡ text ∷ []
 slice_split-missing c [] h = refl
 slice_split-missing c (x ∷ xs) h = by_head (nat_eq x c) refl (slice_split-missing c xs)
   where
-    by_head : (b : Bool) → nat_eq x c ≡ b → (length xs ≤ position_or_len (λ y. nat_eq y c) xs → slice_split (λ y. nat_eq y c) xs ≡ xs ∷ []) → slice_split (λ y. nat_eq y c) (x ∷ xs) ≡ (x ∷ xs) ∷ []
+    by_head : (b : Bool) → nat_eq x c ≡ b → (length xs ≤ position_or_len (λ y. nat_eq y c) xs → slice_split (λ y. nat_eq y c) xs ≡ xs ∷ [])
+        → slice_split (λ y. nat_eq y c) (x ∷ xs) ≡ (x ∷ xs) ∷ []
     by_head true e more = let k = rw e at h in absurd (omega arith)
     by_head false e more = let k = rw e at h in
         slice_split-cons_no (λ y. nat_eq y c) x xs e ∙ ap (onto_first x) (more (omega arith))

@@ -3,6 +3,7 @@ use Rattle.std.proofs.Common.{◌≡◌, ◌≢◌, ℕ, ◌+◌, ◌-◌, ◌^�
 use Rattle.std.proofs.lemmas.Bool.{false≢true}
 use Rattle.std.specs.List.{AllByRecursion}
 use Rattle.std.specs.Prelude.{Result, Ok, Err, IfOk}
+use Rattle.std.proofs.lemmas.List.{map-append}
 use Rattle.gnb_types.specs.declared.names.SnBits.TheVariants.{Len12}
 use Rattle.scenario_text.specs.declared.line.Item.{Item}
 use Rattle.scenario_text.specs.declared.line.OutLine.{OutLine}
@@ -20,10 +21,6 @@ use Rattle.static_runner.specs.Sender.{Sender, used_up, has_room}
 use Rattle.static_runner.specs.declared.cu_up.FromN3.TheVariants as outcomes
 use Rattle.static_runner.specs.Units.{TakesPacket}
 use Rattle.static_runner.specs.Shows.{n3_items, downlink_items, radio_items, sender_of, ShowsParts, PartsGo}
-
-map-append : {X Y : Type 0} (f : X → Y) (xs : List X) (x : X) → map f (xs ++ x ∷ []) ≡ map f xs ++ f x ∷ []
-map-append f [] x = refl
-map-append f (y ∷ xs) x = ap (λ ys. f y ∷ ys) (map-append f xs x)
 
 all-append : {X : Type 0} (P : X → Type 0) (xs : List X) (x : X) → AllByRecursion P xs → P x → AllByRecursion P (xs ++ x ∷ [])
 all-append P [] x h p = (p, tt)
@@ -48,13 +45,15 @@ no_front f (x ∷ xs) e = Prim.cc
 -- ---- N3
 
 -- no item stands on N3
-pub n3_empty : (c : Sender) (d : ℕ) (n f r : List Item) (one : OneBearer) → n ≡ [] → ShowsParts c d n f r one → PartsGo c d n f r (lines.Refused Empty ∷ []) (gets_n3 one one.on_n3)
+pub n3_empty : (c : Sender) (d : ℕ) (n f r : List Item) (one : OneBearer) → n ≡ [] → ShowsParts c d n f r one
+    → PartsGo c d n f r (lines.Refused Empty ∷ []) (gets_n3 one one.on_n3)
 n3_empty c d n f r one e k =
     let none : one.on_n3 ≡ [] = no_front _ one.on_n3 (sym e ∙ k.n3_is) in
     subst (λ (packets : List (List ℕ)). PartsGo c d n f r (lines.Refused Empty ∷ []) (gets_n3 one packets)) (sym none) (record { shows = k; same = refl })
 
 -- the quota is used up
-held_first : (c : Sender) (d : ℕ) (n f r : List Item) (one : OneBearer) (packet : List ℕ) (rest : List (List ℕ)) (test : Bool) → test ≡ true → ShowsParts c d n f r one
+held_first : (c : Sender) (d : ℕ) (n f r : List Item) (one : OneBearer) (packet : List ℕ) (rest : List (List ℕ)) (test : Bool) → test ≡ true
+    → ShowsParts c d n f r one
     → (other : Next) → PartsGo c d n f r (lines.Held (tunnel_link static_n3) Quota ∷ []) (cond test (record { bearer = Some one; lines = lines.Held (tunnel_link static_n3) Quota ∷ [] }) other)
 held_first c d n f r one packet rest true e k other = record { shows = k; same = refl }
 held_first c d n f r one packet rest false e k other = absurd (false≢true e)
@@ -65,7 +64,8 @@ used_up_is c one e = ap used_up e
 has_room_is : (c : Sender) (one : OneBearer) → c ≡ sender_of one → has_room c ≡ model.has_room one
 has_room_is c one e = ap has_room e
 
-n3_held_at : (c : Sender) (d : ℕ) (n f r : List Item) (one : OneBearer) (packets : List (List ℕ)) → one.on_n3 ≡ packets → n ≢ [] → used_up c ≡ true → ShowsParts c d n f r one
+n3_held_at : (c : Sender) (d : ℕ) (n f r : List Item) (one : OneBearer) (packets : List (List ℕ)) → one.on_n3 ≡ packets → n ≢ []
+    → used_up c ≡ true → ShowsParts c d n f r one
     → PartsGo c d n f r (lines.Held (tunnel_link static_n3) Quota ∷ []) (gets_n3 one packets)
 n3_held_at c d n f r one [] e some used k = absurd (some (k.n3_is ∙ ap n3_items e))
 n3_held_at c d n f r one (packet ∷ rest) e some used k = held_first c d n f r one packet rest (model.is_used_up one) (sym (used_up_is c one k.cu_up_is) ∙ used) k _
@@ -84,7 +84,8 @@ pub record Oldest (one : OneBearer) (oldest : Item) (rest : List Item) : Type 0 
   pub sized : IsSized packet
   pub others : AllByRecursion IsSized packets
 
-oldest_of : (c : Sender) (d : ℕ) (n f r : List Item) (one : OneBearer) (oldest : Item) (rest : List Item) → n ≡ oldest ∷ rest → ShowsParts c d n f r one → Oldest one oldest rest
+oldest_of : (c : Sender) (d : ℕ) (n f r : List Item) (one : OneBearer) (oldest : Item) (rest : List Item) → n ≡ oldest ∷ rest
+    → ShowsParts c d n f r one → Oldest one oldest rest
 oldest_of c d n f r one oldest rest e k =
     let there = front (λ (packet : List ℕ). shown_in static_n3 (fresh_item packet)) one.on_n3 oldest rest (sym e ∙ k.n3_is) in
     let all : AllByRecursion IsSized (there.head ∷ there.tail) = subst (AllByRecursion IsSized) there.is k.sized.n3 in
@@ -100,7 +101,8 @@ chosen_true true x y e = refl
 chosen_true false x y e = absurd (false≢true e)
 
 -- what the units and links show after the packet was taken, where it got a number
-numbered_shows : (c new : Sender) (d : ℕ) (n f r : List Item) (one : OneBearer) (oldest : Item) (rest : List Item) (count : ℕ) (bytes : List ℕ) → n ≡ oldest ∷ rest → used_up c ≡ false
+numbered_shows : (c new : Sender) (d : ℕ) (n f r : List Item) (one : OneBearer) (oldest : Item) (rest : List Item) (count : ℕ) (bytes : List ℕ)
+    → n ≡ oldest ∷ rest → used_up c ≡ false
     → (k : ShowsParts c d n f r one) → (o : Oldest one oldest rest) → TakesPacket c new 1 o.packet (outcomes.Numbered count bytes)
     → PartsGo new d rest (f ++ shown static_bearer (Some count) bytes ∷ []) r (lines.Got (tunnel_link static_n3) oldest ∷ lines.Put (tunnel_link static_downlink) (shown static_bearer (Some count) bytes) ∷ []) (gets_n3 one (o.packet ∷ o.packets))
 numbered_shows c new d n f r one oldest rest count bytes e used k o t =
@@ -114,7 +116,7 @@ numbered_shows c new d n f r one oldest rest count bytes e used k o t =
       deliv_is = k.deliv_is;
       n3_is = o.rest_is;
       downlink_is = ap (λ (xs : List Item). xs ++ shown static_bearer (Some count) bytes ∷ []) k.downlink_is ∙ ap (λ (x : Item). downlink_items one.on_f1u ++ x ∷ []) put_is
-          ∙ sym (map-append (λ (frame : Frame). shown_in static_downlink (framed_item frame)) one.on_f1u (next_frame one o.packet));
+          ∙ sym (map-append (λ (frame : Frame). shown_in static_downlink (framed_item frame)) one.on_f1u (next_frame one o.packet ∷ []));
       radio_is = k.radio_is;
       sound = sound_numbered one o.packet o.packets k.sound room;
       sized = record { n3 = o.others; downlink = all-append _ one.on_f1u (next_frame one o.packet) k.sized.downlink (omega (arith, k.sound.frames, k.sound.window), o.sized); radio = k.sized.radio };
@@ -126,7 +128,8 @@ numbered_shows c new d n f r one oldest rest count bytes e used k o t =
           ∙ ap (λ (x : Item). lines.Got (tunnel_link static_n3) (shown_in static_n3 (fresh_item o.packet)) ∷ lines.Put (tunnel_link static_downlink) x ∷ []) put_is;
     })
 
-pub n3_numbered : (c new : Sender) (d : ℕ) (n f r : List Item) (one : OneBearer) (oldest : Item) (rest : List Item) (count : ℕ) (bytes : List ℕ) → n ≡ oldest ∷ rest → used_up c ≡ false
+pub n3_numbered : (c new : Sender) (d : ℕ) (n f r : List Item) (one : OneBearer) (oldest : Item) (rest : List Item) (count : ℕ) (bytes : List ℕ)
+    → n ≡ oldest ∷ rest → used_up c ≡ false
     → ((packet : List ℕ) → IsSized packet → oldest.bytes ≡ n3_downlink 1 packet → TakesPacket c new 1 packet (outcomes.Numbered count bytes)) → ShowsParts c d n f r one
     → PartsGo new d rest (f ++ shown static_bearer (Some count) bytes ∷ []) r (lines.Got (tunnel_link static_n3) oldest ∷ lines.Put (tunnel_link static_downlink) (shown static_bearer (Some count) bytes) ∷ []) (gets_n3 one one.on_n3)
 n3_numbered c new d n f r one oldest rest count bytes e used h k =
@@ -135,7 +138,8 @@ n3_numbered c new d n f r one oldest rest count bytes e used h k =
     (numbered_shows c new d n f r one oldest rest count bytes e used k o (h o.packet o.sized (ap (λ (x : Item). x.bytes) o.item_is)))
 
 -- it waits
-waits_shows : (c new : Sender) (d : ℕ) (n f r : List Item) (one : OneBearer) (oldest : Item) (rest : List Item) → n ≡ oldest ∷ rest → used_up c ≡ false
+waits_shows : (c new : Sender) (d : ℕ) (n f r : List Item) (one : OneBearer) (oldest : Item) (rest : List Item) → n ≡ oldest ∷ rest
+    → used_up c ≡ false
     → (k : ShowsParts c d n f r one) → (o : Oldest one oldest rest) → TakesPacket c new 1 o.packet outcomes.Waits
     → PartsGo new d rest f r (lines.Got (tunnel_link static_n3) oldest ∷ []) (gets_n3 one (o.packet ∷ o.packets))
 waits_shows c new d n f r one oldest rest e used k o t =
@@ -153,7 +157,8 @@ waits_shows c new d n f r one oldest rest e used k o t =
     subst (λ (next : Next). PartsGo new d rest f r (lines.Got (tunnel_link static_n3) oldest ∷ []) next) (sym next_is)
     (record { shows = shows; same = ap (λ (x : Item). lines.Got (tunnel_link static_n3) x ∷ []) o.item_is })
 
-pub n3_waits : (c new : Sender) (d : ℕ) (n f r : List Item) (one : OneBearer) (oldest : Item) (rest : List Item) → n ≡ oldest ∷ rest → used_up c ≡ false
+pub n3_waits : (c new : Sender) (d : ℕ) (n f r : List Item) (one : OneBearer) (oldest : Item) (rest : List Item) → n ≡ oldest ∷ rest
+    → used_up c ≡ false
     → ((packet : List ℕ) → IsSized packet → oldest.bytes ≡ n3_downlink 1 packet → TakesPacket c new 1 packet outcomes.Waits) → ShowsParts c d n f r one
     → PartsGo new d rest f r (lines.Got (tunnel_link static_n3) oldest ∷ []) (gets_n3 one one.on_n3)
 n3_waits c new d n f r one oldest rest e used h k =
@@ -169,7 +174,8 @@ n3_not_ignored c new d n f r one oldest rest e h k =
 
 -- ---- F1-U
 
-pub f1u_empty : (c : Sender) (d : ℕ) (n f r : List Item) (one : OneBearer) → f ≡ [] → ShowsParts c d n f r one → PartsGo c d n f r (lines.Refused Empty ∷ []) (gets_f1u one one.on_f1u)
+pub f1u_empty : (c : Sender) (d : ℕ) (n f r : List Item) (one : OneBearer) → f ≡ [] → ShowsParts c d n f r one
+    → PartsGo c d n f r (lines.Refused Empty ∷ []) (gets_f1u one one.on_f1u)
 f1u_empty c d n f r one e k =
     let none : one.on_f1u ≡ [] = no_front _ one.on_f1u (sym e ∙ k.downlink_is) in
     subst (λ (frames : List Frame). PartsGo c d n f r (lines.Refused Empty ∷ []) (gets_f1u one frames)) (sym none) (record { shows = k; same = refl })
@@ -184,7 +190,8 @@ pub record OldestFrame (one : OneBearer) (oldest : Item) (rest : List Item) : Ty
   pub sized : IsSized frame.numbered.packet
   pub others : AllByRecursion (λ (x : Frame). (x.number < 2 ^ 24) × IsSized x.numbered.packet) frames
 
-oldest_frame : (c : Sender) (d : ℕ) (n f r : List Item) (one : OneBearer) (oldest : Item) (rest : List Item) → f ≡ oldest ∷ rest → ShowsParts c d n f r one → OldestFrame one oldest rest
+oldest_frame : (c : Sender) (d : ℕ) (n f r : List Item) (one : OneBearer) (oldest : Item) (rest : List Item) → f ≡ oldest ∷ rest
+    → ShowsParts c d n f r one → OldestFrame one oldest rest
 oldest_frame c d n f r one oldest rest e k =
     let there = front (λ (frame : Frame). shown_in static_downlink (framed_item frame)) one.on_f1u oldest rest (sym e ∙ k.downlink_is) in
     let all : AllByRecursion (λ (x : Frame). (x.number < 2 ^ 24) × IsSized x.numbered.packet) (there.head ∷ there.tail) = subst (AllByRecursion (λ (x : Frame). (x.number < 2 ^ 24) × IsSized x.numbered.packet)) there.is k.sized.downlink in
@@ -194,7 +201,8 @@ oldest_frame c d n f r one oldest rest e k =
 abbrev pub ReadsFrame : Item → (ℕ → List ℕ → Type 0) → Type 0
 ReadsFrame oldest P = (number count : ℕ) (packet : List ℕ) → number < 2 ^ 24 → IsSized packet → oldest.bytes ≡ f1u_downlink_data Len12 1 number count packet → P count packet
 
-pub f1u_taken : (c : Sender) (d : ℕ) (n f r : List Item) (one : OneBearer) (oldest : Item) (rest : List Item) (pdu : List ℕ) → f ≡ oldest ∷ rest
+pub f1u_taken : (c : Sender) (d : ℕ) (n f r : List Item) (one : OneBearer) (oldest : Item) (rest : List Item) (pdu : List ℕ)
+    → f ≡ oldest ∷ rest
     → ReadsFrame oldest (λ count packet. pdu ≡ radio_data Len12 count packet) → ShowsParts c d n f r one
     → PartsGo c d n rest (r ++ shown static_bearer oldest.count pdu ∷ []) (lines.Got (tunnel_link static_downlink) oldest ∷ lines.Put (radio_link static_radio) (shown static_bearer oldest.count pdu) ∷ []) (gets_f1u one one.on_f1u)
 f1u_taken c d n f r one oldest rest pdu e h k =
@@ -209,7 +217,7 @@ f1u_taken c d n f r one oldest rest pdu e h k =
       n3_is = k.n3_is;
       downlink_is = o.rest_is;
       radio_is = ap (λ (xs : List Item). xs ++ shown static_bearer oldest.count pdu ∷ []) k.radio_is ∙ ap (λ (i : Item). radio_items one.on_air ++ i ∷ []) put_is
-          ∙ sym (map-append (λ (y : Numbered). shown_on_air static_radio y) one.on_air x);
+          ∙ sym (map-append (λ (y : Numbered). shown_on_air static_radio y) one.on_air (x ∷ []));
       sound = sound_taken one o.frame o.frames o.is k.sound;
       sized = record { n3 = k.sized.n3; downlink = o.others; radio = all-append _ one.on_air x k.sized.radio o.sized };
     } in
@@ -220,14 +228,16 @@ f1u_taken c d n f r one oldest rest pdu e h k =
           ∙ ap (λ (i : Item). lines.Got (tunnel_link static_downlink) (shown_in static_downlink (framed_item o.frame)) ∷ lines.Put (radio_link static_radio) i ∷ []) put_is;
     })
 
-pub f1u_not_ignored : (c : Sender) (d : ℕ) (n f r : List Item) (one : OneBearer) (oldest : Item) (rest : List Item) → f ≡ oldest ∷ rest → ReadsFrame oldest (λ count packet. ⊥) → ShowsParts c d n f r one → ⊥
+pub f1u_not_ignored : (c : Sender) (d : ℕ) (n f r : List Item) (one : OneBearer) (oldest : Item) (rest : List Item) → f ≡ oldest ∷ rest
+    → ReadsFrame oldest (λ count packet. ⊥) → ShowsParts c d n f r one → ⊥
 f1u_not_ignored c d n f r one oldest rest e h k =
     let o = oldest_frame c d n f r one oldest rest e k in
     h o.frame.number o.frame.numbered.count o.frame.numbered.packet o.small o.sized (ap (λ (i : Item). i.bytes) o.item_is)
 
 -- ---- the radio
 
-pub air_empty : (c : Sender) (d : ℕ) (n f r : List Item) (one : OneBearer) → r ≡ [] → ShowsParts c d n f r one → PartsGo c d n f r (lines.Refused Empty ∷ []) (airs_one one one.on_air)
+pub air_empty : (c : Sender) (d : ℕ) (n f r : List Item) (one : OneBearer) → r ≡ [] → ShowsParts c d n f r one
+    → PartsGo c d n f r (lines.Refused Empty ∷ []) (airs_one one one.on_air)
 air_empty c d n f r one e k =
     let none : one.on_air ≡ [] = no_front _ one.on_air (sym e ∙ k.radio_is) in
     subst (λ (items : List Numbered). PartsGo c d n f r (lines.Refused Empty ∷ []) (airs_one one items)) (sym none) (record { shows = k; same = refl })
@@ -243,7 +253,8 @@ pub record OldestOnAir (one : OneBearer) (oldest : Item) (rest : List Item) : Ty
   pub sized : IsSized numbered.packet
   pub others : AllByRecursion (λ (x : Numbered). IsSized x.packet) items
 
-oldest_on_air : (c : Sender) (d : ℕ) (n f r : List Item) (one : OneBearer) (oldest : Item) (rest : List Item) → r ≡ oldest ∷ rest → ShowsParts c d n f r one → OldestOnAir one oldest rest
+oldest_on_air : (c : Sender) (d : ℕ) (n f r : List Item) (one : OneBearer) (oldest : Item) (rest : List Item) → r ≡ oldest ∷ rest
+    → ShowsParts c d n f r one → OldestOnAir one oldest rest
 oldest_on_air c d n f r one oldest rest e k =
     let there = front (λ (x : Numbered). shown_on_air static_radio x) one.on_air oldest rest (sym e ∙ k.radio_is) in
     let all : AllByRecursion (λ (x : Numbered). IsSized x.packet) (there.head ∷ there.tail) = subst (AllByRecursion (λ (x : Numbered). IsSized x.packet)) there.is k.sized.radio in
@@ -263,11 +274,13 @@ oldest_on_air c d n f r one oldest rest e k =
 abbrev pub ReadsPdu : Item → ℕ → (List ℕ → Type 0) → Type 0
 ReadsPdu oldest d P = (packet : List ℕ) → d < 2 ^ 32 - 1 → IsSized packet → oldest.bytes ≡ radio_data Len12 d packet → P packet
 
-read_there : (oldest : Item) (d : ℕ) (one : OneBearer) (rest : List Item) (P : List ℕ → Type 0) → d ≡ one.deliv → (o : OldestOnAir one oldest rest) → ReadsPdu oldest d P → P o.numbered.packet
+read_there : (oldest : Item) (d : ℕ) (one : OneBearer) (rest : List Item) (P : List ℕ → Type 0) → d ≡ one.deliv
+    → (o : OldestOnAir one oldest rest) → ReadsPdu oldest d P → P o.numbered.packet
 read_there oldest d one rest P e o h =
     h o.numbered.packet (omega (arith, e, o.given)) o.sized (ap (λ (i : Item). i.bytes) o.item_is ∙ ap (λ (x : ℕ). radio_data Len12 x o.numbered.packet) (o.next ∙ sym e))
 
-pub air_delivered : (c : Sender) (d new : ℕ) (n f r : List Item) (one : OneBearer) (oldest : Item) (rest : List Item) (count : ℕ) (packet : List ℕ) → r ≡ oldest ∷ rest
+pub air_delivered : (c : Sender) (d new : ℕ) (n f r : List Item) (one : OneBearer) (oldest : Item) (rest : List Item) (count : ℕ) (packet : List ℕ)
+    → r ≡ oldest ∷ rest
     → ReadsPdu oldest d (λ sent. (count ≡ d) × (packet ≡ sent) × (new ≡ d + 1)) → ShowsParts c d n f r one
     → PartsGo c new n f rest (lines.Got (radio_link static_radio) oldest ∷ lines.Deliver static_bearer.ue static_bearer.bearer static_bearer.dir count packet ∷ []) (airs_one one one.on_air)
 air_delivered c d new n f r one oldest rest count packet e h k =
@@ -293,24 +306,28 @@ air_delivered c d new n f r one oldest rest count packet e h k =
           ∙ ap (λ (p : List ℕ). lines.Got (radio_link static_radio) (shown_on_air static_radio x) ∷ lines.Deliver static_bearer.ue static_bearer.bearer static_bearer.dir x.count p ∷ []) read.1;
     }))
 
-pub air_not_ignored : (c : Sender) (d : ℕ) (n f r : List Item) (one : OneBearer) (oldest : Item) (rest : List Item) → r ≡ oldest ∷ rest → ReadsPdu oldest d (λ sent. ⊥) → ShowsParts c d n f r one → ⊥
+pub air_not_ignored : (c : Sender) (d : ℕ) (n f r : List Item) (one : OneBearer) (oldest : Item) (rest : List Item) → r ≡ oldest ∷ rest
+    → ReadsPdu oldest d (λ sent. ⊥) → ShowsParts c d n f r one → ⊥
 air_not_ignored c d n f r one oldest rest e h k =
     let o = oldest_on_air c d n f r one oldest rest e k in read_there oldest d one rest (λ sent. ⊥) k.deliv_is o h
 
 -- ---- as the code has them
 
-pub if_goes : {E : Type 0} (r : Result (List OutLine) E) (printed : List OutLine) (P : List OutLine → Type 0) → IfOk r (λ lines. lines ≡ printed) → P printed → IfOk r P
+pub if_goes : {E : Type 0} (r : Result (List OutLine) E) (printed : List OutLine) (P : List OutLine → Type 0)
+    → IfOk r (λ lines. lines ≡ printed) → P printed → IfOk r P
 if_goes (Err e) printed P h p = tt
 if_goes (Ok lines) printed P h p = subst P (sym h) p
 
 -- an item that was put on a link, with its line
-put_there : (c : Sender) (d : ℕ) (n f r : List Item) (one : Next) (first line : OutLine) (link : _) (item other : Item) (on new : List Item) → item ≡ other → line ≡ lines.Put link item → new ≡ on ++ item ∷ []
+put_there : (c : Sender) (d : ℕ) (n f r : List Item) (one : Next) (first line : OutLine) (link : _) (item other : Item) (on new : List Item)
+    → item ≡ other → line ≡ lines.Put link item → new ≡ on ++ item ∷ []
     → (P : List Item → List OutLine → Type 0) → P (on ++ other ∷ []) (first ∷ lines.Put link other ∷ []) → P new (first ∷ line ∷ [])
 put_there c d n f r one first line link item other on new e l g P p =
     let there : P (on ++ item ∷ []) (first ∷ lines.Put link item ∷ []) = subst (λ (i : Item). P (on ++ i ∷ []) (first ∷ lines.Put link i ∷ [])) (sym e) p in
     subst (λ (items : List Item). P items (first ∷ line ∷ [])) (sym g) (subst (λ (x : OutLine). P (on ++ item ∷ []) (first ∷ x ∷ [])) (sym l) there)
 
-pub n3_numbered_goes : (c new : Sender) (d : ℕ) (n f r f2 : List Item) (one : OneBearer) (oldest : Item) (rest : List Item) (count : ℕ) (bytes : List ℕ) (item : Item) (line : OutLine) → n ≡ oldest ∷ rest → used_up c ≡ false
+pub n3_numbered_goes : (c new : Sender) (d : ℕ) (n f r f2 : List Item) (one : OneBearer) (oldest : Item) (rest : List Item) (count : ℕ) (bytes : List ℕ) (item : Item) (line : OutLine)
+    → n ≡ oldest ∷ rest → used_up c ≡ false
     → ((packet : List ℕ) → IsSized packet → oldest.bytes ≡ n3_downlink 1 packet → TakesPacket c new 1 packet (outcomes.Numbered count bytes))
     → item ≡ shown static_bearer (Some count) bytes → line ≡ lines.Put (tunnel_link static_downlink) item → f2 ≡ f ++ item ∷ [] → ShowsParts c d n f r one
     → PartsGo new d rest f2 r (lines.Got (tunnel_link static_n3) oldest ∷ line ∷ []) (gets_n3 one one.on_n3)
@@ -318,7 +335,8 @@ n3_numbered_goes c new d n f r f2 one oldest rest count bytes item line e used h
     put_there c d n f r (gets_n3 one one.on_n3) (lines.Got (tunnel_link static_n3) oldest) line (tunnel_link static_downlink) item (shown static_bearer (Some count) bytes) f f2 i l g
     (λ items printed. PartsGo new d rest items r printed (gets_n3 one one.on_n3)) (n3_numbered c new d n f r one oldest rest count bytes e used h k)
 
-pub f1u_taken_goes : (c : Sender) (d : ℕ) (n f r r2 : List Item) (one : OneBearer) (oldest : Item) (rest : List Item) (pdu : List ℕ) (item : Item) (line : OutLine) → f ≡ oldest ∷ rest
+pub f1u_taken_goes : (c : Sender) (d : ℕ) (n f r r2 : List Item) (one : OneBearer) (oldest : Item) (rest : List Item) (pdu : List ℕ) (item : Item) (line : OutLine)
+    → f ≡ oldest ∷ rest
     → ReadsFrame oldest (λ count packet. pdu ≡ radio_data Len12 count packet)
     → item ≡ shown static_bearer oldest.count pdu → line ≡ lines.Put (radio_link static_radio) item → r2 ≡ r ++ item ∷ [] → ShowsParts c d n f r one
     → PartsGo c d n rest r2 (lines.Got (tunnel_link static_downlink) oldest ∷ line ∷ []) (gets_f1u one one.on_f1u)

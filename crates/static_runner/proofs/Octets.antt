@@ -30,7 +30,8 @@ use Rattle.static_runner.specs.Header.{frame_header}
 pub near_itself : (count number : ℕ) → number ≡ count % 4096 → count < 2 ^ 32 - 1 → IsNear Len12 count number count
 near_itself count number e given = record { same = omega arith; low = omega arith; high = omega arith; given = omega arith }
 
-pub radio_read : (count : ℕ) (packet octets : List ℕ) → IsSized packet → octets ≡ radio_data Len12 count packet → Pdcp Len12 (data_pdu (count % 4096) packet) octets
+pub radio_read : (count : ℕ) (packet octets : List ℕ) → IsSized packet → octets ≡ radio_data Len12 count packet
+    → Pdcp Len12 (data_pdu (count % 4096) packet) octets
 radio_read count packet octets sized e = subst (λ (o : List ℕ). Pdcp Len12 (data_pdu (count % 4096) packet) o) (sym e) (data_carried Len12 count packet sized).0
 
 -- a data PDU that says this is read as such
@@ -41,17 +42,20 @@ pub record IsRead (r : Result Pdu PduError) (number : ℕ) (packet : List ℕ) :
   pub number_is : sn ≡ number
   pub packet_is : octets.now ≡ packet
 
-pub is_read : (r : Result Pdu PduError) (number : ℕ) (packet : List ℕ) → IsOkAnd r (λ pdu. content_of pdu ≡ data_pdu number packet) → IsRead r number packet
+pub is_read : (r : Result Pdu PduError) (number : ℕ) (packet : List ℕ) → IsOkAnd r (λ pdu. content_of pdu ≡ data_pdu number packet)
+    → IsRead r number packet
 is_read (Err e) number packet h = absurd h
 is_read (Ok (pdus.Packet sn octets)) number packet h = record { sn = sn; octets = octets; is = refl; number_is = Prim.cc; packet_is = Prim.cc }
 is_read (Ok (pdus.Report fmc bits)) number packet h = Prim.cc
 
-pub some_and : (r : Option (Bor (List ℕ))) (octets packet : List ℕ) → IsSome r → IfSome r (λ p. p.now ≡ octets) → octets ≡ packet → IsSomeAnd r (λ p. p.now ≡ packet)
+pub some_and : (r : Option (Bor (List ℕ))) (octets packet : List ℕ) → IsSome r → IfSome r (λ p. p.now ≡ octets) → octets ≡ packet
+    → IsSomeAnd r (λ p. p.now ≡ packet)
 some_and None octets packet h k e = Prim.cc
 some_and (Some p) octets packet h k e = k ∙ e
 
 -- N3
-pub written_n3 : {E : Type 0} (r : Result (List ℕ) E) (teid : ℕ) (packet : List ℕ) → IfOk r (λ octets. octets ≡ gtpu_octets (plain_pdu teid packet)) → IfOk r (λ octets. octets ≡ n3_downlink teid packet)
+pub written_n3 : {E : Type 0} (r : Result (List ℕ) E) (teid : ℕ) (packet : List ℕ)
+    → IfOk r (λ octets. octets ≡ gtpu_octets (plain_pdu teid packet)) → IfOk r (λ octets. octets ≡ n3_downlink teid packet)
 written_n3 (Err e) teid packet h = tt
 written_n3 (Ok octets) teid packet h = h ∙ sym (n3_downlink_is teid packet)
 
@@ -88,7 +92,8 @@ header_chain number chain e = subst (IsChain 132) (sym (e ∙ header_is number))
 pub length-header : (number : ℕ) → length (frame_header number) ≡ 8
 length-header number = ap length (header_is number)
 
-pub written_f1u : {E : Type 0} (r : Result (List ℕ) E) (teid number count : ℕ) (packet chain pdu : List ℕ) → chain ≡ frame_header number → pdu ≡ radio_data Len12 count packet
+pub written_f1u : {E : Type 0} (r : Result (List ℕ) E) (teid number count : ℕ) (packet chain pdu : List ℕ) → chain ≡ frame_header number
+    → pdu ≡ radio_data Len12 count packet
     → IfOk r (λ octets. octets ≡ gtpu_octets (record { kind = GPdu; teid = teid; seq = None; npdu = None; first = 132; chain = chain; payload = pdu })) → IfOk r (λ octets. octets ≡ f1u_downlink_data Len12 teid number count packet)
 written_f1u (Err e) teid number count packet chain pdu c p h = tt
 written_f1u (Ok octets) teid number count packet chain pdu c p h = h
@@ -103,12 +108,14 @@ pub record IsFramed (r : Option F1uDownlink) (pdu : List ℕ) : Type 0 where
   pub is : r ≡ Some (downlink.Pdu restart number content octets)
   pub pdu_is : octets.now ≡ pdu
 
-pub framed_read : (r : Option F1uDownlink) (restart : Bool) (number : ℕ) (content : Content) (pdu : List ℕ) → IsSomeAnd r (λ x. downlink_item x ≡ framed restart number content pdu) → IsFramed r pdu
+pub framed_read : (r : Option F1uDownlink) (restart : Bool) (number : ℕ) (content : Content) (pdu : List ℕ)
+    → IsSomeAnd r (λ x. downlink_item x ≡ framed restart number content pdu) → IsFramed r pdu
 framed_read None restart number content pdu h = absurd h
 framed_read (Some (downlink.Pdu a b c octets)) restart number content pdu h = record { restart = a; number = b; content = c; octets = octets; is = refl; pdu_is = Prim.cc }
 framed_read (Some (downlink.Poll a b)) restart number content pdu h = Prim.cc
 
-pub f1u_read : (r : Option F1uDownlink) (teid number count : ℕ) (packet octets : List ℕ) → teid < 2 ^ 32 → number < 2 ^ 24 → IsSized packet → octets ≡ f1u_downlink_data Len12 teid number count packet
+pub f1u_read : (r : Option F1uDownlink) (teid number count : ℕ) (packet octets : List ℕ) → teid < 2 ^ 32 → number < 2 ^ 24 → IsSized packet
+    → octets ≡ f1u_downlink_data Len12 teid number count packet
     → (DecodesOn f1u_downlink Len12 (framed false number (data_pdu (count % 4096) packet) (radio_data Len12 count packet)) octets → IsSomeAnd r (λ x. downlink_item x ≡ framed false number (data_pdu (count % 4096) packet) (radio_data Len12 count packet)))
     → IsFramed r (radio_data Len12 count packet)
 f1u_read r teid number count packet octets small few sized e only =

@@ -17,7 +17,8 @@ not_true : (test : Bool) → (test ≡ true → ⊥) → test ≡ false
 not_true true h = absurd (h refl)
 not_true false h = refl
 
-pub static_test : (ue : UeId) (bearer : BearerId) (a b : Bool) → eqb ue.0 1 ≡ a → eqb bearer.0 1 ≡ b → same_bearer (downlink_of ue bearer) static_bearer ≡ (a && b)
+pub static_test : (ue : UeId) (bearer : BearerId) (a b : Bool) → eqb ue.0 1 ≡ a → eqb bearer.0 1 ≡ b
+    → same_bearer (downlink_of ue bearer) static_bearer ≡ (a && b)
 static_test ue bearer true true e f =
     (λ i. same_bearer (downlink_of (record { 0 = eqb-true ue.0 1 e i }) (record { 0 = eqb-true bearer.0 1 f i })) static_bearer) ∙ static_same
 static_test ue bearer true false e f = not_true _ (λ same. false≢true (sym f ∙ eq-eqb bearer.0 1 (ap (λ (c : Bearer). c.bearer.0) (bearer_exact _ _ same))))
@@ -26,11 +27,13 @@ static_test ue bearer false b e f = not_true _ (λ same. false≢true (sym e ∙
 place_same : (p : Place) → same_place p p ≡ true
 place_same p = (eq_by_cmp_equiv place_total).refl p
 
-pub place_test : (end other : NodeId) (teid number : ℕ) (test : Bool) → end ≡ other → eqb teid number ≡ test → same_place (place_at end teid) (place_at other number) ≡ test
+pub place_test : (end other : NodeId) (teid number : ℕ) (test : Bool) → end ≡ other → eqb teid number ≡ test
+    → same_place (place_at end teid) (place_at other number) ≡ test
 place_test end other teid number true same e = (λ i. same_place (place_at (same i) (eqb-true teid number e i)) (place_at other number)) ∙ place_same (place_at other number)
 place_test end other teid number false same e = not_true _ (λ t. false≢true (sym e ∙ eq-eqb teid number (ap (λ (p : Place). p.teid) (place_exact _ _ t))))
 
-pub other_place : (end other : NodeId) (teid number : ℕ) → (end ≡ other → ⊥) → same_place (place_at end teid) (place_at other number) ≡ false
+pub other_place : (end other : NodeId) (teid number : ℕ) → (end ≡ other → ⊥)
+    → same_place (place_at end teid) (place_at other number) ≡ false
 other_place end other teid number h = not_true _ (λ t. h (ap (λ (p : Place). p.end) (place_exact _ _ t)))
 
 radio_same : (r : Radio) → same_radio r r ≡ true

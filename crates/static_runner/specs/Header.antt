@@ -3,6 +3,6 @@ use Rattle.std.specs.Prelude.{ℕ, List, [], ◌∷◌, ◌++◌, false}
 use Rattle.nr_user_plane.specs.declared.frames.Frame.TheVariants.{Data}
 use Rattle.nr_user_plane.specs.Frames.{nru_octets}
 
--- its length of two units, the frame, and no header behind it
+-- its length of two units, the frame, and no header after it
 abbrev pub frame_header : ℕ → List ℕ
 frame_header number = 2 ∷ nru_octets (Data false false number) ++ 0 ∷ []

@@ -9,7 +9,7 @@ ghost use Rattle.run_model.specs.Run.{shown, static_bearer, downlink_of, place_a
 
 use crate::cu_up::{CuUp, FromN3, PACKET_LIMIT, n3_octets};
 use crate::du;
-use crate::lines::Lines;
+use crate::lines::{two, Lines};
 use crate::ue::Ue;
 use gnb_types::names::{BearerId, Dir, Gnb, NodeId, UeId};
 use gnb_types::octets::{Memory, Octets};
@@ -160,7 +160,7 @@ impl Site {
             FromN3::Waits => Lines::one(alloc, got),
             FromN3::Numbered { count, bytes } => {
                 let line = put(&mut self.downlink, DOWNLINK, item(Some(count), bytes))?;
-                Lines::two(alloc, got, line)
+                two(alloc, got, line)
             }
         }
     }
@@ -188,7 +188,7 @@ impl Site {
             item: oldest,
         };
         let line = put(&mut self.radio, RADIO, item(count, pdu))?;
-        Lines::two(alloc, got, line)
+        two(alloc, got, line)
     }
 
     /// `get` of a tunnel.
@@ -260,7 +260,7 @@ impl Site {
             count,
             packet,
         };
-        Lines::two(alloc, got, delivered)
+        two(alloc, got, delivered)
     }
 }
 
@@ -288,7 +288,7 @@ impl Runner {
         Runner { site: None }
     }
 
-    /// Makes an event happen, and gives its lines behind the line of the event itself. After want of memory the runner
+    /// Makes an event happen, and gives its lines after the line of the event itself. Once out of memory the runner
     /// has failed.
     #[tactic(auto, unfolding(run_model::specs::OneBearer::one_happens))]
     pub fn apply(&mut self, alloc: Global, event: &StaticEvent) -> Result<Lines, Memory>

@@ -6,7 +6,7 @@ use run_model::event::read_runnable;
 use scenario_text::print::print_line;
 use std::test::Fail;
 
-/// An event, and the lines behind its own.
+/// An event, and the lines after its own.
 const STEPS: [(&str, &str); 6] = [
     ("static u1 A 1 1 12 1 64", ""),
     (

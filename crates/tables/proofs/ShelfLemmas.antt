@@ -39,7 +39,8 @@ module _ {K : Type 0} where
       by false rest = rest
 
 module _ {K : Type 0} (R : K → K → Ordering) (k : K) where
-  all_insert : (Q : ℕ → Type 0) (es : List (K × ℕ)) (s : ℕ) → AllByRecursion (λ e. Q e.1) es → Q s → AllByRecursion (λ e. Q e.1) (insert_entry R es k s)
+  all_insert : (Q : ℕ → Type 0) (es : List (K × ℕ)) (s : ℕ) → AllByRecursion (λ e. Q e.1) es → Q s
+      → AllByRecursion (λ e. Q e.1) (insert_entry R es k s)
   all_insert Q [] s all here = (here, tt)
   all_insert Q (e ∷ es) s all here = by (R k e.0) (all_insert Q es s all.1 here)
     where
@@ -122,7 +123,8 @@ module _ {K : Type 0} (R : K → K → Ordering) (k : K) where
     unfolding slot_value find
     seen_found f es s full found = sym (find_slot f es full ∙ ap (slot_value f) found)
 
-    pub seen_none : (f : ℕ → Option V) (es : List (K × ℕ)) → AreFull f es → find R es k ≡ None → ◌≡◌ {A = Option V} None (find R (seen f es) k)
+    pub seen_none : (f : ℕ → Option V) (es : List (K × ℕ)) → AreFull f es → find R es k ≡ None
+        → ◌≡◌ {A = Option V} None (find R (seen f es) k)
     unfolding slot_value find
     seen_none f es full found = sym (find_slot f es full ∙ ap (slot_value f) found)
 
@@ -185,7 +187,8 @@ module _ {K : Type 0} (R : K → K → Ordering) (k : K) where
     seen-put g (e ∷ es) s v new full =
         put_one g e es s v (g e.1) (R k e.0) new refl full.0 refl (seen-put g es s v new full.1)
 
-    agree : (f g : ℕ → Option V) (s : ℕ) → ((n : ℕ) → n ≢ s → g n ≡ f n) → (es : List (K × ℕ)) → HasOtherSlot s es → AllByRecursion (λ e. g e.1 ≡ f e.1) es
+    agree : (f g : ℕ → Option V) (s : ℕ) → ((n : ℕ) → n ≢ s → g n ≡ f n) → (es : List (K × ℕ)) → HasOtherSlot s es
+        → AllByRecursion (λ e. g e.1 ≡ f e.1) es
     agree f g s others [] apart = tt
     agree f g s others (e ∷ es) apart = (others e.1 apart.0, agree f g s others es apart.1)
 
@@ -241,7 +244,8 @@ module _ {K : Type 0} (R : K → K → Ordering) (k : K) where
         ∙ seen-without f es
 
     -- a value that stands in a slot of the index is there
-    pub never_none : (f : ℕ → Option V) (es : List (K × ℕ)) (s : ℕ) (r : Option V) (Q : Type 0) → AreFull f es → find R es k ≡ Some s → r ≡ f s → IfNone r Q
+    pub never_none : (f : ℕ → Option V) (es : List (K × ℕ)) (s : ℕ) (r : Option V) (Q : Type 0) → AreFull f es → find R es k ≡ Some s
+        → r ≡ f s → IfNone r Q
     unfolding find
     never_none f es s None Q full found is = absurd (true≢false (sym (subst IsSome (sym is) (full_found f es s full found))))
     never_none f es s (Some v) Q full found is = tt
@@ -251,7 +255,8 @@ module _ {K : Type 0} (R : K → K → Ordering) (k : K) where
 
     -- ---- a key whose value is replaced
 
-    kept_full : (f g : ℕ → Option V) (s : ℕ) → IsSome (g s) → ((n : ℕ) → n ≢ s → g n ≡ f n) → (es : List (K × ℕ)) → AreFull f es → AreFull g es
+    kept_full : (f g : ℕ → Option V) (s : ℕ) → IsSome (g s) → ((n : ℕ) → n ≢ s → g n ≡ f n) → (es : List (K × ℕ)) → AreFull f es
+        → AreFull g es
     kept_full f g s here others [] full = tt
     kept_full f g s here others (e ∷ es) full = (by (e.1 == s) refl, kept_full f g s here others es full.1)
       where
@@ -259,7 +264,8 @@ module _ {K : Type 0} (R : K → K → Ordering) (k : K) where
         by true same = subst (λ (n : ℕ). IsSome (g n)) (sym (eqb-true e.1 s same)) here
         by false other = subst IsSome (sym (others e.1 (eqb-false e.1 s other))) full.0
 
-    pub rewritten : (f g : ℕ → Option V) (es : List (K × ℕ)) (s : ℕ) → IsShelf R f es → IsSome (g s) → ((n : ℕ) → n ≢ s → g n ≡ f n) → IsShelf R g es
+    pub rewritten : (f g : ℕ → Option V) (es : List (K × ℕ)) (s : ℕ) → IsShelf R f es → IsSome (g s) → ((n : ℕ) → n ≢ s → g n ≡ f n)
+        → IsShelf R g es
     rewritten f g es s shelf here others = record { sorted = shelf.sorted; full = kept_full f g s here others es shelf.full; apart = shelf.apart }
 
     module _ (o : IsTotalOrder R) where

@@ -44,7 +44,8 @@ module _ {K X : Type 0} {R : K → K → Ordering} (o : IsTotalOrder R) where
       ap (λ (r : Ordering). cond (is_eq r) (Some v) (lookup (is_at (R q)) es)) (sym (alike_right o k e.0 q is))
       ∙ both (is_at (R q) k) (is_at (R q) e.0) (ap is_eq (alike_right o k e.0 q is))
     where
-      both : (a b : Bool) → a ≡ b → cond a (Some v) (lookup (is_at (R q)) es) ≡ cond a (Some v) (cond b (Some e.1) (lookup (is_at (R q)) es))
+      both : (a b : Bool) → a ≡ b
+          → cond a (Some v) (lookup (is_at (R q)) es) ≡ cond a (Some v) (cond b (Some e.1) (lookup (is_at (R q)) es))
       both true b same = refl
       both false true same = absurd cc
       both false false same = refl
@@ -123,7 +124,8 @@ module _ {K X : Type 0} {R : K → K → Ordering} (o : IsTotalOrder R) where
 
   -- ---- where the keys are in order
 
-  all_put : (P : K → Type 0) (es : List (K × X)) (k : K) (v : X) → AllByRecursion P (keys_of es) → P k → AllByRecursion P (keys_of (insert_entry R es k v))
+  all_put : (P : K → Type 0) (es : List (K × X)) (k : K) (v : X) → AllByRecursion P (keys_of es) → P k
+      → AllByRecursion P (keys_of (insert_entry R es k v))
   all_put P [] k v all here = (here, tt)
   all_put P (e ∷ es) k v all here = by (R k e.0) (all_put P es k v all.1 here)
     where
@@ -133,7 +135,8 @@ module _ {K X : Type 0} {R : K → K → Ordering} (o : IsTotalOrder R) where
       by Equal rest = all
       by Greater rest = (all.0, rest)
 
-  above_all : (k e : K) (es : List (K × X)) → R k e ≡ Less → AllByRecursion (λ y. R e y ≡ Less) (keys_of es) → AllByRecursion (λ y. R k y ≡ Less) (keys_of es)
+  above_all : (k e : K) (es : List (K × X)) → R k e ≡ Less → AllByRecursion (λ y. R e y ≡ Less) (keys_of es)
+      → AllByRecursion (λ y. R k y ≡ Less) (keys_of es)
   above_all k e [] below all = tt
   above_all k e (f ∷ es) below all = (o.trans k e f.0 below all.0, above_all k e es below all.1)
 
@@ -152,7 +155,8 @@ module _ {K X : Type 0} {R : K → K → Ordering} (o : IsTotalOrder R) where
   sorted-put [] k v sorted = sorted_cons o k [] tt sorted
   sorted-put (e ∷ es) k v sorted = sorted_one (R k e.0) e es k v refl sorted (sorted-put es k v (sorted_tail R e.0 (keys_of es) sorted))
 
-  all_kept : (P : K → Type 0) (p : K → Bool) (es : List (K × X)) → AllByRecursion P (keys_of es) → AllByRecursion P (keys_of (filter (λ e. p e.0) es))
+  all_kept : (P : K → Type 0) (p : K → Bool) (es : List (K × X)) → AllByRecursion P (keys_of es)
+      → AllByRecursion P (keys_of (filter (λ e. p e.0) es))
   all_kept P p [] all = tt
   all_kept P p (e ∷ es) all = by (p e.0) (all_kept P p es all.1)
     where
@@ -186,7 +190,7 @@ module _ {K X : Type 0} {R : K → K → Ordering} (o : IsTotalOrder R) where
       ap (λ (es : List (K × X)). sum_by f (values_of es) + unwrap_or (option_map f (lookup (is_at (R k)) m)) 0) (sym (removed o k m sorted))
       ∙ sum_by-remove_entry f (is_at (R k)) m
 
--- another key, where the order tells all keys apart
+-- another key, where the order distinguishes all keys
 pub other_key : {K : Type 0} {R : K → K → Ordering} → IsKeyOrder R → (q k : K) → q ≢ k → eq_by_cmp R q k ≡ false
 other_key {R = R} o q k apart = by (eq_by_cmp R q k) refl
   where

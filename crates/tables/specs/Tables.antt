@@ -35,7 +35,7 @@ unfoldable pub first_entry : {K X : Type 0} → List (K × X) → Option (K × X
 first_entry [] = None
 first_entry (e ∷ es) = Some e
 
--- an order that tells all keys apart
+-- an order that distinguishes all keys
 pub record IsKeyOrder {K : Type 0} (R : K → K → Ordering) : Type 0 where
   pub total : IsTotalOrder R
   pub exact : (x y : K) → R x y ≡ Equal → x ≡ y

@@ -19,7 +19,7 @@ first_held [] = None
 first_held (test ∷ tests) = if test.0 then Some test.1 else first_held tests
 
 -- a target knows neither its COUNTs before the SN status, nor where to send before the terminal arrived; and its own N3 is
--- behind what the source still forwards
+-- after what the source still forwards
 abbrev pub is_n3 : TunnelKind → Bool
 is_n3 n3 = true
 is_n3 f1u_uplink = false
@@ -128,7 +128,7 @@ module _ {M C P : Type 0} (way : Way M C P) where
   took_content at (packet_content count p) b = took_uplink at count p b
   took_content at (report_content fmc bits) b = took_report at fmc bits b
 
-  -- A delivery status confirms all up to its number. Where it tells of lost frames, all that nothing confirmed is sent again, the
+  -- A delivery status confirms all up to its number. Where it reports lost frames, all that nothing confirmed is sent again, the
   -- first with the restart mark; a frozen context does so when it is resumed.
   abbrev pub confirmed_if : Option ℕ → UpBearer → UpBearer
   confirmed_if None b = b

@@ -35,7 +35,7 @@ pub record UpBearer : Type 0 where
   pub sender : Sender (List ℕ)
   pub waiting : List (List ℕ)
   pub downlink : Option Downlink
-  -- the next frame tells the DU that nothing before it comes any more
+  -- the next frame reports to the DU that nothing before it comes any more
   pub restart : Bool
   -- uplink
   pub receiver : Receiver (List ℕ)
@@ -57,7 +57,7 @@ pub record UpFlags : Type 0 where
   pub frozen : Bool
   pub released : Bool
 
--- its instance, the first TEID that was given for it, tells it from a later one of the same terminal
+-- its instance, the first TEID that was given for it, distinguishes it from a later one of the same terminal
 pub record UpContext : Type 0 where
   pub instance : ℕ
   pub sn : SnBits

@@ -19,7 +19,7 @@ pub enum StateName {
     Commanded,
     /// It came back, and its bearers are being switched.
     Returning,
-    /// It arrived, and what is left behind is being released.
+    /// It arrived, and what it left is being released.
     Completing,
     /// The target of a handover, before it is ready.
     Offered,
