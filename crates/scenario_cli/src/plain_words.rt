@@ -9,7 +9,7 @@ fn line_reason(reason: u16) -> &'static str {
     match reason {
         1 => "a word that is not the awaited one",
         2 => "not a number, or one out of its range",
-        3 => "digits that are not hexadecimal",
+        3 => "not an even number of hexadecimal digits",
         4 => "a word too many",
         5 => "a name that is not known",
         _ => "not what is awaited there",
