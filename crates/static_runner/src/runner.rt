@@ -9,7 +9,7 @@ ghost use Rattle.run_model.specs.Run.{shown, static_bearer, downlink_of, place_a
 
 use crate::cu_up::{CuUp, FromN3, PACKET_LIMIT, n3_octets};
 use crate::du;
-use crate::lines::{two, Lines};
+use crate::lines::{Lines, two};
 use crate::ue::Ue;
 use gnb_types::names::{BearerId, Dir, Gnb, NodeId, UeId};
 use gnb_types::octets::{Memory, Octets};
