@@ -1,7 +1,8 @@
 #!/usr/bin/env python3
 """Runs each example, and compares what the program prints with the transcript beside it (`NAME.script` or `NAME.check`, and `NAME.out`).
 
-The last line of a transcript has the status: it is `stop STATUS ..`, or the status is 0.
+The last line of a transcript has the status: it is `stop STATUS ..`, or the status is 0. Standard error has one line that begins with `gnb: `
+where the status isn't 0, and else nothing.
 
 Usage: tools/examples.py
 """
@@ -19,13 +20,22 @@ def status_of(transcript):
     return int(last[1]) if last[0] == "stop" else 0
 
 
+def is_explained(ran):
+    lines = ran.stderr.decode().splitlines()
+    return len(lines) == (ran.returncode != 0) and all(line.startswith("gnb: ") for line in lines)
+
+
 def main():
+    subprocess.run([TOP / "gnb", "check"], stdin=subprocess.DEVNULL, stdout=subprocess.DEVNULL, check=False)  # builds it, where it isn't
     paths = sorted(path for path in (TOP / "examples").iterdir() if path.suffix in WORDS)
     for path in paths:
         expected = path.with_suffix(".out").read_bytes()
-        ran = subprocess.run([TOP / "gnb", WORDS[path.suffix]], input=path.read_bytes(), stdout=subprocess.PIPE, check=False)
+        ran = subprocess.run([TOP / "gnb", WORDS[path.suffix]], input=path.read_bytes(), capture_output=True, check=False)
         if ran.stdout != expected or ran.returncode != status_of(expected):
             print(f"{path.name}: status {ran.returncode}, and this in place of {path.stem}.out:\n{ran.stdout.decode()}")
+            return 1
+        if not is_explained(ran):
+            print(f"{path.name}: status {ran.returncode}, and this on standard error:\n{ran.stderr.decode()}")
             return 1
     print(f"{len(paths)} examples print their transcripts")
     return 0

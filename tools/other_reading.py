@@ -19,7 +19,7 @@ OTHER = TOP / "../shared/oracle/gnb.py"
 
 def answer(command, word, text):
     """The status and the output of a program."""
-    ran = subprocess.run([*command, word], input=text.encode(), stdout=subprocess.PIPE, check=False)
+    ran = subprocess.run([*command, word], input=text.encode(), stdout=subprocess.PIPE, stderr=subprocess.DEVNULL, check=False)
     return ran.returncode, ran.stdout
 
 
