@@ -2,7 +2,7 @@
 """Checks that the crates keep to their layers, by crates.txt and the imports of their definitions.
 
 - A crate stands after the crates that it lists, so crates.txt is in layer order.
-- No crate of code lists a crate of laws (`law_..`), and no crate of definitions does.
+- No crate of code lists a crate of laws (`law_..`), and no crate of definitions does; none lists a crate of tests (`tests_..`).
 - A crate of definitions (`.._defs`) lists only crates of which its definitions cite something, and has no code: its `src/` has types alone.
 - docs/architecture.md has the same headings, with the same crates in the same order.
 
@@ -51,6 +51,10 @@ def is_law(name):
     return name.startswith("law_")
 
 
+def is_tests(name):
+    return name.startswith("tests_")
+
+
 def is_definitions(name):
     return name.endswith("_defs")
 
@@ -77,6 +81,8 @@ def faults():
         for use in uses:
             if use in known and use not in before:
                 yield f"{name}: lists {use}, which stands after it"
+            if is_tests(use):
+                yield f"{name}: lists {use}, a crate of tests"
             if OLD_NAMES.match(name):
                 continue
             if is_law(use) and not is_law(name):

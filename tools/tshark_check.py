@@ -1,5 +1,5 @@
 #!/usr/bin/env python3
-"""Compares Wireshark's reading of packets with the tables in the tests of crates/gtpu and crates/nr_user_plane.
+"""Compares Wireshark's reading of packets with the tables in crates/tests_packets.
 
 Each packet is put into a UDP datagram to port 2152. Of those of the tests `packets..` tshark is asked for the GTP-U
 header, and of those of `frames_in_packets` for the NR-U frame. Where tshark isn't installed this is said, and the check
@@ -17,8 +17,8 @@ import sys
 import tempfile
 
 CRATES = pathlib.Path(__file__).resolve().parents[1] / "crates"
-TABLE = CRATES / "gtpu/src/tests.rt"
-FRAMES = CRATES / "nr_user_plane/src/tests.rt"
+TABLE = CRATES / "tests_packets/src/gtpu_packets.rt"
+FRAMES = CRATES / "tests_packets/src/frames.rt"
 KINDS = {"EchoRequest": 1, "EchoResponse": 2, "ErrorIndication": 26, "EndMarker": 254, "GPdu": 255}
 FIELDS = [
     "gtp.flags.version", "gtp.flags.payload", "gtp.flags.e", "gtp.flags.s", "gtp.flags.pn", "gtp.message", "gtp.length",

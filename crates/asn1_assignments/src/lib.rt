@@ -8,6 +8,3 @@ mod syntax;
 
 pub use assignment::{Assignment, Body, Criticality, IeRow, Presence, ProcedureRow, Syntax};
 pub use syntax::read_syntax;
-
-#[cfg(test)]
-mod tests;

@@ -11,6 +11,3 @@ pub use asn1_assignments::{Criticality, IeRow, Presence, ProcedureRow};
 pub use asn1_types::{Component, Definition, Extensible, Items, ModuleReason, Size, TypeId};
 pub use error::ModuleError;
 pub use module::{Module, read_module};
-
-#[cfg(test)]
-mod tests;

@@ -9,6 +9,3 @@ mod words;
 pub use token::{Place, Sign, Token, Word};
 pub use tokens::Tokens;
 pub use words::is_text;
-
-#[cfg(test)]
-mod tests;

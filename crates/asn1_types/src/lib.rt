@@ -16,6 +16,3 @@ pub use fault::{Fault, ModuleReason, ReadError};
 pub use items::Items;
 pub use names::has_name;
 pub use reader::Reader;
-
-#[cfg(test)]
-mod tests;

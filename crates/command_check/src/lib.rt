@@ -12,6 +12,3 @@ pub use end::CheckEnd;
 pub use input::{CheckStop, CheckedModule};
 pub use module::check_module;
 pub use report::check_input;
-
-#[cfg(test)]
-mod tests;

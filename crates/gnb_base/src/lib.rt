@@ -5,7 +5,5 @@ pub mod lines;
 pub mod memory;
 pub mod outside;
 pub mod standard;
-#[cfg(test)]
-mod tests;
 
 pub use gnb_types::{bits, hex, inputs, items, keys, names, octets, outputs, plans, reasons};

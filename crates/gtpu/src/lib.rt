@@ -3,8 +3,6 @@
 
 mod headers;
 pub mod laws;
-#[cfg(test)]
-mod tests;
 
 ghost use Rattle.std.specs.Prelude.{◌≡◌, ◌≢◌, ◌<◌, ◌≤◌, ◌⊎◌, List, length, OnOk, IfOk, IfErr, IsOkAnd, IfSome, IfNone};
 ghost use Rattle.std.specs.Option.{option_copied};

@@ -8,9 +8,6 @@ use gnb_base::lines::{Line, LineReader, ReadError};
 use gnb_base::outside::Source;
 use input_defs::InputEnd;
 
-#[cfg(test)]
-mod tests;
-
 /// How the reading ends whose reader could not hand out a line.
 fn end_of_read(error: ReadError, taken: u64) -> InputEnd
     ensures { result ≡ end_of_error error taken }

@@ -3,8 +3,6 @@
 
 mod layers;
 mod reading;
-#[cfg(test)]
-mod tests;
 mod writing;
 
 pub use layers::read_radio;

@@ -7,6 +7,3 @@ pub mod ranges;
 
 pub use frames::{Frame, FrameError, decode, encode};
 pub use ranges::Ranges;
-
-#[cfg(test)]
-mod tests;

@@ -5,5 +5,3 @@ pub mod event;
 pub mod line;
 pub mod print;
 pub mod read;
-#[cfg(test)]
-mod tests;

@@ -3,6 +3,4 @@
 
 pub mod forms;
 pub mod reason;
-#[cfg(test)]
-mod tests;
 pub mod words;

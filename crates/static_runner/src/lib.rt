@@ -5,6 +5,4 @@ pub mod cu_up;
 pub mod du;
 pub mod lines;
 pub mod runner;
-#[cfg(test)]
-mod tests;
 pub mod ue;

@@ -1,6 +1,8 @@
 //! Packets written out by hand: those that stand on the links of this program, some with further fields, and each refusal.
 
-use super::*;
+use gnb_types::octets::Octets;
+use gtpu::*;
+use std::alloc::Global;
 use std::process::Abort;
 use std::test::Fail;
 

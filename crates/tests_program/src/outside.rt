@@ -2,10 +2,10 @@
 
 ghost use Rattle.std.specs.Prelude.{◌<◌};
 
-use crate::lines::{INPUT_LIMIT, LineReader, ReadError};
-use crate::memory::{MemorySink, MemorySource};
-use crate::outside::{Failed, Sink, Source};
-use crate::standard::{StdSink, StdSource};
+use gnb_base::lines::{INPUT_LIMIT, LineReader, ReadError};
+use gnb_base::memory::{MemorySink, MemorySource};
+use gnb_base::outside::{Failed, Sink, Source};
+use gnb_base::standard::{StdSink, StdSource};
 use gnb_types::octets::Octets;
 use std::alloc::Global;
 use std::process::Abort;

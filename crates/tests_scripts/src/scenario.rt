@@ -1,12 +1,12 @@
 //! Lines written by hand: events, what is wrong with each of their words, and lines of a transcript with their text.
 
-use crate::event::TextReason;
-use crate::line::{Item, Link, Message, OutLine};
-use crate::print::print_line;
-use crate::read::{TextError, is_skipped, read_event, read_header};
 use gnb_types::names::{BearerId, Dir, Gnb, NodeId, UeId};
 use gnb_types::octets::{Memory, Octets};
 use gnb_types::reasons::{CauseName, DropReason, HeldReason, RefuseReason};
+use scenario_text::event::TextReason;
+use scenario_text::line::{Item, Link, Message, OutLine};
+use scenario_text::print::print_line;
+use scenario_text::read::{TextError, is_skipped, read_event, read_header};
 use std::alloc::Global;
 use std::test::Fail;
 

@@ -2,8 +2,8 @@
 
 ghost use Rattle.std.specs.Prelude.{◌<◌};
 
-use crate::{CheckStop, check_module};
 use asn1_types::ModuleReason;
+use command_check::{CheckStop, check_module};
 use gnb_base::memory::MemorySource;
 use input_defs::InputEnd;
 use scenario_text::event::TextReason;

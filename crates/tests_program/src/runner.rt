@@ -1,9 +1,9 @@
 //! The first packet on its way from the core to the terminal, and an event that is refused.
 
-use crate::runner::Runner;
 use gnb_types::octets::Octets;
 use run_model::event::read_runnable;
 use scenario_text::print::print_line;
+use static_runner::runner::Runner;
 use std::test::Fail;
 
 /// An event, and the lines after its own.

@@ -1,9 +1,9 @@
 //! Words by hand: what each means, and how a line gives them.
 
-use crate::forms::{message, node, number, tunnel};
-use crate::reason::TextReason;
-use crate::words::Words;
 use gnb_types::names::{Gnb, NodeId};
+use script_words::forms::{message, node, number, tunnel};
+use script_words::reason::TextReason;
+use script_words::words::Words;
 
 /// Words, and the number from 0 to 65535 that they are.
 const NUMBERS: [(&str, Option<u32>); 9] = [

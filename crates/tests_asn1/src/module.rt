@@ -1,9 +1,7 @@
 //! Texts that are modules, and texts that are none with their first faults.
 
-mod profile;
-
-use super::*;
-use profile::PROFILE;
+use crate::profile::PROFILE;
+use asn1_module::*;
 use std::alloc::{AllocError, Global};
 use std::test::Fail;
 

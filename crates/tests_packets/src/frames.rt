@@ -3,8 +3,8 @@
 ghost use Rattle.std.specs.Prelude.{◌≡◌, ◌≤◌, length, IsTrue};
 ghost use Rattle.nr_user_plane.specs.Frames.{AreApart, FitsFrame};
 
-use crate::{Frame, FrameError, Ranges, decode, encode};
 use gnb_types::hex::hex_bytes;
+use nr_user_plane::{Frame, FrameError, Ranges, decode, encode};
 use std::test::Fail;
 
 /// The desired buffer size that a DU writes.

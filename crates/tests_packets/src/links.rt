@@ -1,8 +1,8 @@
 //! Octets written out by hand: what they say on their link, and some that no link has.
 
-use super::*;
 use gnb_types::bits::Bits;
 use gnb_types::names::SnBits::{Len12, Len18};
+use link_packets::*;
 use nr_user_plane::ranges::Ranges;
 use pdcp::pdu::Pdu;
 use std::test::Fail;

@@ -1,6 +1,6 @@
 //! The items of texts, their places counted by hand.
 
-use super::*;
+use asn1_tokens::*;
 use std::test::Fail;
 
 /// What an item is to be.

@@ -1,7 +1,7 @@
 //! Types of each form, and what a reader takes, with places counted by hand.
 
-use super::*;
 use asn1_tokens::{Sign, Word};
+use asn1_types::*;
 use std::test::Fail;
 
 /// A type, with how many types stand inside it.

@@ -1,9 +1,9 @@
 //! A line at a time, and each end.
 
-use crate::next_line;
 use gnb_base::lines::LineReader;
 use gnb_base::memory::MemorySource;
 use input_defs::InputEnd;
+use input_lines::next_line;
 use std::process::Abort;
 use std::test::Fail;
 

@@ -1,6 +1,6 @@
 //! A module with an assignment of each kind, its parts written out by hand.
 
-use super::*;
+use asn1_assignments::*;
 use asn1_types::TypeId;
 use std::test::Fail;
 

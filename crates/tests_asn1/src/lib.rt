@@ -1,0 +1,13 @@
+//! Tests of the reader of ASN.1 modules, crate by crate.
+#![tactic(auto)]
+
+#[cfg(test)]
+mod assignments;
+#[cfg(test)]
+mod module;
+#[cfg(test)]
+mod profile;
+#[cfg(test)]
+mod tokens;
+#[cfg(test)]
+mod types;

@@ -1,0 +1,11 @@
+//! Tests of what the program stands on: the outside, lines of input, the runner, and whole inputs of `check`.
+#![tactic(auto)]
+
+#[cfg(test)]
+mod check;
+#[cfg(test)]
+mod lines;
+#[cfg(test)]
+mod outside;
+#[cfg(test)]
+mod runner;
