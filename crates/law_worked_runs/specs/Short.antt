@@ -75,7 +75,7 @@ is_item_of (e ∷ es) octets = if bytes_eq e.0 octets then e.1 else is_item_of e
 abbrev pub reading : Worked → Reading
 reading w = record {
   message_fault = λ from to octets. fault_of w.faults octets;
-  is_item = λ units end octets. is_item_of w.items octets;
+  is_item = λ link sn octets. is_item_of w.items octets;
 }
 
 -- what a run gives: its steps, and how it stopped

@@ -7,4 +7,5 @@ pub mod Steps
 pub mod Events
 pub mod Settling
 pub mod Runs
+pub mod UnitRuns
 pub mod Said

@@ -15,13 +15,13 @@ use Rattle.gnb_types.specs.Orders.{tunnel_cmp}
 use Rattle.tables.specs.Tables.{at, entry_after, first_entry}
 use Rattle.unit_defs.specs.declared.UeState.{UeState}
 use Rattle.unit_defs.specs.declared.UeState.TheVariants as ue_states
-use Rattle.unit_defs.specs.CpRecords.{CpContext}
+use Rattle.unit_defs.specs.Accessors.{is_unconfirmed}
 use Rattle.run_defs.specs.Lines.{RunLine, held_at, has_settled, has_not_settled, tunnel_link, radio_link}
-use Rattle.run_defs.specs.Units.{ue_of}
+use Rattle.run_defs.specs.Units.{up_of}
 use Rattle.run_defs.specs.Links.{Item, nth}
 use Rattle.run_defs.specs.States.{State, order_for, World, goes, ◌next◌, goes_on, Outcome, as_step, prints, is_gone, book_of, radio_of}
 use Rattle.run_defs.specs.Steps.{entities_of, bearer_numbers, Done, is_done, is_held, is_refused, does}
-use Rattle.run_defs.specs.Events.{state_in, serving_gnb, serving_context, get_done, ready_home, epoch_of, receiver_of, carry_done, confirm_done, pump, tick, rests, ask_line}
+use Rattle.run_defs.specs.Events.{serving_gnb, serving_place, state_at, get_done, ready_home, epoch_of, receiver_of, carry_done, confirm_done, pump, tick, rests, ask_line}
 
 -- ---- the attached terminals, their bearers and entities, ascending
 
@@ -56,7 +56,7 @@ module _ {M C L P : Type 0} (world : World M C L P) where
 
   abbrev pub move_each : List (UeId × Plan) → State M C L P → Outcome M C L P
   move_each [] s = goes_on s
-  move_each (e ∷ es) s = move_by e.0 s (state_in (ue_of s.units e.0)) next move_each es
+  move_each (e ∷ es) s = move_by e.0 s (state_at world s e.0) next move_each es
 
   -- ---- 3. each tunnel, in order, is got until it is empty or holds, at most as often as items stood on it when its turn began
 
@@ -165,15 +165,17 @@ module _ {M C L P : Type 0} (world : World M C L P) where
   all_radios [] s = goes_on s
   all_radios (key ∷ keys) s = radio_turn key s (ready_home world s key.ue) next all_radios keys
 
-  -- ---- 5. each bearer is polled
+  -- ---- 5. each bearer with an unconfirmed downlink packet is polled
 
-  abbrev pub poll_at : UeId × BearerId → State M C L P → Option CpContext → Outcome M C L P
+  abbrev pub poll_at : UeId × BearerId → State M C L P → Option (ℕ × ℕ) → Outcome M C L P
   poll_at e s None = goes_on s
-  poll_at e s (Some c) = quiet_order (CuUp (serving_gnb s e.0) c.up) (orders.Poll e.0 e.1) s
+  poll_at e s (Some place) =
+      let gnb = serving_gnb s e.0 in
+      if is_unconfirmed (up_of s.units gnb place.0) e.0 e.1 then quiet_order (CuUp gnb place.0) (orders.Poll e.0 e.1) s else goes_on s
 
   abbrev pub poll_each : List (UeId × BearerId) → State M C L P → Outcome M C L P
   poll_each [] s = goes_on s
-  poll_each (e ∷ es) s = poll_at e s (serving_context s e.0) next poll_each es
+  poll_each (e ∷ es) s = poll_at e s (serving_place s e.0) next poll_each es
 
   -- ---- a round
 

@@ -68,6 +68,14 @@ abbrev pub noted : {M C L P : Type 0} → EntityKey → Tag → State M C L P �
 noted key (Own count) s = with_book key (record (book_of s key) { numbered = max (book_of s key).numbered (count + 1) }) s
 noted key tag s = s
 
+-- the first counter: control messages of the whole run
+abbrev pub letters_spent : ℕ
+letters_spent = 1
+
+-- an open tunnel; one that is open stays as it is
+abbrev pub with_tunnel : {L : Type 0} → TunnelEnd → List (TunnelEnd × List (Item L)) → List (TunnelEnd × List (Item L))
+with_tunnel end tunnels = put tunnel_cmp tunnels end (at tunnel_cmp [] tunnels end)
+
 module _ {M C L P : Type 0} (world : World M C L P) where
   -- ---- items are put on links; on a closed tunnel, and on a radio that isn't connected in that epoch, they are lost
 
@@ -103,14 +111,14 @@ module _ {M C L P : Type 0} (world : World M C L P) where
   unfoldable pub put_control : Letter M → State M C L P → Within M C L P
   put_control l s = goes (put_message (length s.bag.letters + 1) l ∷ []) (record s { bag = put_letter s.bag l })
 
-  -- ---- tunnels are opened and closed; what stands on a closed one is lost
+  -- ---- tunnels are opened, where they aren't open, and closed; what stands on a closed one is lost
 
   abbrev pub lost_if : {X : Type 0} → TunnelEnd → List X → List (RunLine M)
   lost_if end [] = []
   lost_if end (x ∷ xs) = lost_items (tunnel_link end) (length (x ∷ xs)) ∷ []
 
   unfoldable pub opens : TunnelEnd → State M C L P → Within M C L P
-  opens end s = goes_on (record s { tunnels = put tunnel_cmp s.tunnels end [] })
+  opens end s = goes_on (record s { tunnels = with_tunnel end s.tunnels })
 
   unfoldable pub closes : TunnelEnd → State M C L P → Within M C L P
   closes end s =
@@ -204,10 +212,6 @@ module _ {M C L P : Type 0} (world : World M C L P) where
   count_letters [] = 0
   count_letters (control to ue message ∷ outputs) = count_letters outputs + 1
   count_letters (output ∷ outputs) = count_letters outputs
-
-  -- the first counter: control messages of the whole run
-  abbrev pub letters_spent : ℕ
-  letters_spent = 1
 
   abbrev pub too_many_letters : List (Put M L P) → State M C L P → Bool
   too_many_letters outputs s = nat_lt most_letters (length s.bag.letters + count_letters outputs)
