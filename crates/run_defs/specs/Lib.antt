@@ -9,3 +9,7 @@ pub mod Settling
 pub mod Runs
 pub mod UnitRuns
 pub mod Said
+pub mod Home
+pub mod Carried
+pub mod Local
+pub mod Hops

@@ -99,7 +99,6 @@ module _ {M C L P : Type 0} (world : World M C L P) where
   -- since it last began to be aired
   pub record Turn : Type 0 where
     pub key : EntityKey
-    pub home : NodeId
     pub airs : ℕ
     pub acks : ℕ
     pub airing : Bool
@@ -118,17 +117,17 @@ module _ {M C L P : Type 0} (world : World M C L P) where
   after_ack turn = record turn { acks = turn.acks - 1; moved = true }
 
   -- one item is carried; a held one ends the airing
-  abbrev pub aired_by : (Turn → State M C L P → Outcome M C L P) → Turn → State M C L P → Done world → Outcome M C L P
-  aired_by again turn s (is_done outcome) = outcome next again (after_air turn)
-  aired_by again turn s (is_held reason) =
-      as_step (Some (receiver_of world turn.key turn.home)) (goes (held_at (radio_link turn.key (epoch_of world s turn.key.ue)) reason ∷ []) s)
+  abbrev pub aired_by : (Turn → State M C L P → Outcome M C L P) → Turn → NodeId → State M C L P → Done world → Outcome M C L P
+  aired_by again turn home s (is_done outcome) = outcome next again (after_air turn)
+  aired_by again turn home s (is_held reason) =
+      as_step (Some (receiver_of world turn.key home)) (goes (held_at (radio_link turn.key (epoch_of world s turn.key.ue)) reason ∷ []) s)
       next again (to_acks (after_air turn))
-  aired_by again turn s (is_refused reason) = again (to_acks (after_air turn)) s
+  aired_by again turn home s (is_refused reason) = again (to_acks (after_air turn)) s
 
-  abbrev pub air_next : (Turn → State M C L P → Outcome M C L P) → Turn → State M C L P → Option (Item P) → Outcome M C L P
-  air_next again turn s None = again (to_acks turn) s
-  air_next again turn s (Some item) =
-      if turn.airs == 0 then again (to_acks turn) s else aired_by again turn s (carry_done world turn.key turn.home item s)
+  abbrev pub air_next : (Turn → State M C L P → Outcome M C L P) → Turn → NodeId → State M C L P → Option (Item P) → Outcome M C L P
+  air_next again turn home s None = again (to_acks turn) s
+  air_next again turn home s (Some item) =
+      if turn.airs == 0 then again (to_acks turn) s else aired_by again turn home s (carry_done world turn.key home item s)
 
   -- one item is confirmed; where none can be, the radio is aired again, or its turn ends
   abbrev pub acked_by : (Turn → State M C L P → Outcome M C L P) → Turn → State M C L P → Done world → Outcome M C L P
@@ -139,31 +138,35 @@ module _ {M C L P : Type 0} (world : World M C L P) where
   abbrev pub turn_over : (Turn → State M C L P → Outcome M C L P) → Turn → State M C L P → Outcome M C L P
   turn_over again turn s = if turn.moved then again (to_airs turn) s else goes_on s
 
-  abbrev pub ack_next : (Turn → State M C L P → Outcome M C L P) → Turn → State M C L P → List (Item P) → ℕ → Outcome M C L P
-  ack_next again turn s [] carried = goes_on s
-  ack_next again turn s (item ∷ rest) carried =
+  abbrev pub ack_next : (Turn → State M C L P → Outcome M C L P) → Turn → NodeId → State M C L P → List (Item P) → ℕ → Outcome M C L P
+  ack_next again turn home s [] carried = goes_on s
+  ack_next again turn home s (item ∷ rest) carried =
       if carried == 0 || turn.acks == 0 then turn_over again turn s
-      else acked_by again turn s (confirm_done world turn.key turn.home item rest s)
+      else acked_by again turn s (confirm_done world turn.key home item rest s)
+
+  -- a radio that is no longer ready has had its turn
+  abbrev pub turn_at : (Turn → State M C L P → Outcome M C L P) → Turn → State M C L P → Option NodeId → Outcome M C L P
+  turn_at again turn s None = goes_on s
+  turn_at again turn s (Some home) =
+      let r = radio_of s turn.key in
+      if turn.airing then air_next again turn home s (nth r.items r.carried) else ack_next again turn home s r.items r.carried
 
   abbrev pub turn_step : (Turn → State M C L P → Outcome M C L P) → Turn → State M C L P → Outcome M C L P
-  turn_step again turn s =
-      let r = radio_of s turn.key in
-      if turn.airing then air_next again turn s (nth r.items r.carried) else ack_next again turn s r.items r.carried
+  turn_step again turn s = turn_at again turn s (ready_home world s turn.key.ue)
 
   abbrev pub turn_times : ℕ → Turn → State M C L P → Outcome M C L P
   turn_times zero turn s = goes_on s
   turn_times (suc left) turn s = turn_step (turn_times left) turn s
 
   -- each air and each acknowledgement is followed by two changes between them at most
-  abbrev pub radio_turn : EntityKey → State M C L P → Option NodeId → Outcome M C L P
-  radio_turn key s None = goes_on s
-  radio_turn key s (Some home) =
+  abbrev pub radio_turn : EntityKey → State M C L P → Outcome M C L P
+  radio_turn key s =
       let most = length (radio_of s key).items + further_turns in
-      turn_times (6 * most + 2) (record { key = key; home = home; airs = most; acks = most; airing = true; moved = false }) s
+      turn_times (6 * most + 2) (record { key = key; airs = most; acks = most; airing = true; moved = false }) s
 
   abbrev pub all_radios : List EntityKey → State M C L P → Outcome M C L P
   all_radios [] s = goes_on s
-  all_radios (key ∷ keys) s = radio_turn key s (ready_home world s key.ue) next all_radios keys
+  all_radios (key ∷ keys) s = radio_turn key s next all_radios keys
 
   -- ---- 5. each bearer with an unconfirmed downlink packet is polled
 
