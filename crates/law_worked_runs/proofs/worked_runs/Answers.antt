@@ -19,7 +19,7 @@ use Rattle.unit_defs.specs.UpBearers.{made, framed, sent, sent_again, number_eac
 use Rattle.unit_defs.specs.UpItems.{held_reason, took_fresh, took_numbered, took_uplink, took_report, took_delivery_status, uplink_ended, up_ended, took}
 use Rattle.unit_defs.specs.UpRecords.{reserved}
 use Rattle.run_defs.specs.Events.{static, start as start_3, attach as attach_2, offer as offer_3, get, air, ack, give, lose_message, lose_item, pump, tick as tick_4, poll as poll_2, handover as handover_2, cancel as cancel_2, release as release_4, rests as rests_2, ask as ask_2, inject_message, inject_item}
-use Rattle.run_defs.specs.Links.{put_letter, letter, landed, in_flight_of}
+use Rattle.transport_defs.specs.Links.{put_letter, letter, landed, in_flight_of}
 use Rattle.run_defs.specs.Runs.{happens, run_from, run, Run}
 use Rattle.run_defs.specs.Settling.{round, settle}
 use Rattle.run_defs.specs.Steps.{span, check_spans, put_on_tunnel, put_on_radio, put_control, opens, closes, lose_radios, put_out_all, does, step}
