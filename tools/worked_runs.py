@@ -20,7 +20,8 @@ OTHER = TOP / "../shared/oracle"
 CRATE = "law_worked_runs"
 EVENTS = "scenario_text.specs.declared.event"
 # the crates whose words are opened to compute a run
-OPENED = ["tables", "transaction_defs", "pdcp_defs", "unit_defs", "unit_octet_defs", "run_defs", "link_defs", "gtpu", "nr_user_plane", "pdcp", "gnb_types"]
+OPENED = ["tables", "transaction_defs", "pdcp_defs", "unit_defs", "unit_octet_defs", "transport_defs", "run_defs", "link_defs", "gtpu", "nr_user_plane",
+          "pdcp", "gnb_types"]
 
 if OTHER.exists():
     sys.path.insert(0, str(OTHER))

@@ -27,7 +27,8 @@ use Rattle.unit_defs.specs.Accessors.{state_of, taken_epoch, place_of, is_set_up
 use Rattle.unit_defs.specs.Static.{up_has_room, up_has_teids, up_placed, du_has_teids, du_placed, cp_placed, cp_set_up, up_set_up, du_set_up}
 use Rattle.run_defs.specs.Lines.{Letter, RunLine, got_item, got_message, lost_items, lost_message, held_at, is_quiet, is_busy, tunnel_link, radio_link, shown}
 use Rattle.run_defs.specs.Units.{Units, starting_nodes, gnb_nodes, cp_of, with_cp, up_of, with_up, du_of, with_du, ue_of, with_ue, is_serving, has_attempt, is_source, requests_rest, ups_rest, epoch_at}
-use Rattle.run_defs.specs.Links.{Item, letter, landed, in_flight_of, nth, is_of_bearer}
+use Rattle.transport_defs.specs.declared.Item.{Item}
+use Rattle.transport_defs.specs.Links.{letter, landed, is_in, in_flight_of, nth, is_of_bearer}
 use Rattle.run_defs.specs.States.{State, letter_for, item_for, carried_for, confirmed_for, offer_for, tick_for, order_for, octets_from, octets_on, CoreStepped, core_stepped, World, spent_counter, goes, stops, ◌next◌, goes_on, Within, Outcome, as_step, prints, refused, entity, was_attached, is_attached, is_gone, has_bearer, sn_of, book_of, with_book, radio_of, with_radio}
 use Rattle.run_defs.specs.Steps.{check_spans, with_tunnel, put_on_tunnel, put_out_all, lose_radios, connect_in, letters_spent, too_many_letters, Done, is_done, is_held, is_refused, does, ordered_by, step}
 
@@ -296,9 +297,6 @@ module _ {M C L P : Type 0} (world : World M C L P) where
 
   unfoldable pub give : ℕ → State M C L P → Outcome M C L P
   give number s = give_on number s (letter s.bag number)
-
-  abbrev pub is_in : ℕ → List ℕ → Bool
-  is_in number numbers = list_any (λ n. n == number) numbers
 
   abbrev pub lose_message_on : ℕ → State M C L P → Option (Letter M) → Outcome M C L P
   lose_message_on number s None = refused NoSuch s

@@ -23,7 +23,7 @@ use Rattle.unit_defs.specs.Ue.{UeBearer, UeNode}
 use Rattle.unit_defs.specs.CpRecords.{Attempt, CpContext, CuCpRecord, terminal_of}
 use Rattle.run_defs.specs.Lines.{Letter}
 use Rattle.run_defs.specs.Units.{ue_of}
-use Rattle.run_defs.specs.Links.{Bag, letter, tunnel_counts, radio_counts, least}
+use Rattle.transport_defs.specs.Links.{Bag, letter, tunnel_counts, radio_counts, least}
 use Rattle.run_defs.specs.States.{State, sn_of, book_of}
 use Rattle.run_defs.specs.Settling.{attached_plans, attached_entities}
 

@@ -1,7 +1,6 @@
 pub mod Lines
 pub mod Printing
 pub mod Units
-pub mod Links
 pub mod States
 pub mod Steps
 pub mod Events

@@ -18,7 +18,8 @@ use Rattle.unit_defs.specs.declared.UeState.TheVariants as ue_states
 use Rattle.unit_defs.specs.Accessors.{is_unconfirmed}
 use Rattle.run_defs.specs.Lines.{RunLine, held_at, has_settled, has_not_settled, tunnel_link, radio_link}
 use Rattle.run_defs.specs.Units.{up_of}
-use Rattle.run_defs.specs.Links.{Item, nth}
+use Rattle.transport_defs.specs.declared.Item.{Item}
+use Rattle.transport_defs.specs.Links.{nth}
 use Rattle.run_defs.specs.States.{State, order_for, World, goes, ◌next◌, goes_on, Outcome, as_step, prints, is_gone, book_of, radio_of}
 use Rattle.run_defs.specs.Steps.{entities_of, bearer_numbers, Done, is_done, is_held, is_refused, does}
 use Rattle.run_defs.specs.Events.{serving_gnb, serving_place, state_at, get_done, ready_home, epoch_of, receiver_of, carry_done, confirm_done, pump, tick, rests, ask_line}

@@ -24,7 +24,8 @@ use Rattle.unit_defs.specs.Ways.{Put, control, packet, radio, deliver, dropped, 
 use Rattle.unit_defs.specs.Ue.{UeNode}
 use Rattle.run_defs.specs.Lines.{Letter, RunLine, put_item, put_message, delivers, lost_items, drops_input, procedure_failed, tunnel_link, radio_link, shown}
 use Rattle.run_defs.specs.Units.{Units, ue_of}
-use Rattle.run_defs.specs.Links.{Item, most_letters, put_letter, silent, tunnel_counts, radio_counts, least}
+use Rattle.transport_defs.specs.declared.Item.{Item}
+use Rattle.transport_defs.specs.Links.{most_letters, put_letter, emptied, is_epoch, connect, tunnel_counts, radio_counts, least}
 use Rattle.run_defs.specs.States.{State, Given, Stepped, stepped, step_spent, World, Stop, outstanding, spent_counter, goes, stops, ◌next◌, goes_on, Within, Outcome, as_step, refused, entity, sn_of, book_of, with_book, radio_of, with_radio}
 
 -- ---- span: how far the COUNTs reach that were given and aren't all delivered, or still stand on a link
@@ -88,10 +89,6 @@ module _ {M C L P : Type 0} (world : World M C L P) where
       goes (put_item (tunnel_link end) (shown item.key item.count (world.show_item (sn_of s item.key.ue) end.teid item.content)) ∷ []) s
       next (λ t. on_tunnel t end item (find tunnel_cmp t.tunnels end))
 
-  abbrev pub is_epoch : Option ℕ → ℕ → Bool
-  is_epoch None epoch = false
-  is_epoch (Some connected) epoch = connected == epoch
-
   abbrev pub put_on_connected : EntityKey → ℕ → Item P → State M C L P → Within M C L P
   put_on_connected key epoch item s =
       if is_epoch (find ue_cmp s.connected key.ue) epoch
@@ -132,7 +129,7 @@ module _ {M C L P : Type 0} (world : World M C L P) where
 
   abbrev pub lose_each : ℕ → List EntityKey → State M C L P → Within M C L P
   lose_each epoch [] s = goes_on s
-  lose_each epoch (key ∷ keys) s = goes (radio_lost epoch key (radio_of s key).items) (with_radio key silent s) next lose_each epoch keys
+  lose_each epoch (key ∷ keys) s = goes (radio_lost epoch key (radio_of s key).items) (record s { radios = emptied s.radios key }) next lose_each epoch keys
 
   abbrev pub plan_entities : UeId → Option Plan → List EntityKey
   plan_entities ue None = []
@@ -162,8 +159,7 @@ module _ {M C L P : Type 0} (world : World M C L P) where
   same_epoch (Some a) (Some b) = a == b
 
   abbrev pub connect_in : UeId → Option ℕ → State M C L P → State M C L P
-  connect_in ue None s = record s { connected = without ue_cmp s.connected ue }
-  connect_in ue (Some epoch) s = record s { connected = put ue_cmp s.connected ue epoch }
+  connect_in ue epoch s = record s { connected = connect s.connected ue epoch }
 
   abbrev pub reconnect : UeId → State M C L P → Within M C L P
   reconnect ue s =
