@@ -1,5 +1,5 @@
 -- Short words for the values of the worked scripts.
-use Rattle.std.specs.Prelude.{ℕ, List, [], ◌∷◌, Option, Some, None, Bool, true, false, map, if◌then◌else◌}
+use Rattle.std.specs.Prelude.{ℕ, zero, suc, ◌+◌, List, [], ◌∷◌, ◌++◌, Option, Some, None, Bool, true, false, map, if◌then◌else◌}
 use Rattle.std.specs.Str.{bytes_eq}
 use Rattle.gnb_types.specs.declared.names.Gnb.{Gnb}
 use Rattle.gnb_types.specs.declared.names.NodeId.{NodeId}
@@ -92,3 +92,8 @@ outcome w =
 -- as it was worked out
 abbrev pub expected : Worked → Outcome
 expected w = record { steps = w.steps; stop = w.stop }
+
+-- steps one after another, by their numbers
+abbrev pub repeated : (ℕ → List Shown) → ℕ → ℕ → List Shown
+repeated f i zero = []
+repeated f i (suc count) = f i ++ repeated f (i + 1) count
