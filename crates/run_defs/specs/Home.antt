@@ -81,14 +81,14 @@ all_fit s = list_all (fits s) (attached_entities s)
 -- ---- At home: no handover between the gNBs is under way for the terminal, and nothing of one is left
 
 -- no attempt between the gNBs, at the source or the target
-abbrev pub is_between_gnbs : AttemptKind → Bool
-is_between_gnbs kinds.BetweenGnbs = true
-is_between_gnbs kinds.Offer = true
-is_between_gnbs kind = false
+abbrev pub is_over_xn : AttemptKind → Bool
+is_over_xn kinds.BetweenGnbs = true
+is_over_xn kinds.Offer = true
+is_over_xn kind = false
 
 abbrev pub is_xn_attempt : Option Attempt → Bool
 is_xn_attempt None = false
-is_xn_attempt (Some a) = is_between_gnbs a.kind
+is_xn_attempt (Some a) = is_over_xn a.kind
 
 abbrev pub is_xn_context : Option CpContext → Bool
 is_xn_context None = false
