@@ -18,9 +18,13 @@ import sys
 TOP = pathlib.Path(__file__).resolve().parents[1]
 OTHER = TOP / "../shared/oracle"
 CRATE = "law_worked_runs"
+# its laws, and the modules that are written by hand: of a script whose lines are too many to be listed
+LAWS = ["worked_runs", "old_copy_stops_a_run"]
+BY_HAND = ["OldUplinkCopyAndSpan"]
 EVENTS = "scenario_text.specs.declared.event"
 # the crates whose words are opened to compute a run
-OPENED = ["tables", "transaction_defs", "pdcp_defs", "unit_defs", "run_defs", "link_defs", "gtpu", "nr_user_plane", "pdcp", "gnb_types"]
+OPENED = ["tables", "transaction_defs", "pdcp_defs", "unit_defs", "unit_octet_defs", "transport_defs", "run_defs", "link_defs", "gtpu", "nr_user_plane",
+          "pdcp", "gnb_types"]
 
 if OTHER.exists():
     sys.path.insert(0, str(OTHER))
@@ -382,11 +386,13 @@ def write_crate(top, scripts):
         "-- Written by tools/worked_runs.py: the worked scripts.\nuse Rattle.std.specs.Prelude.{List, [], ◌∷◌}\n"
         f"use Rattle.{CRATE}.specs.Short.{{Worked}}\n{uses}\n"
         "abbrev pub all : List Worked\nall = " + "\n  ∷ ".join([*modules, "[]"]) + "\n")
-    (crate / "specs/Lib.antt").write_text("".join(f"pub mod {module}\n" for module in ["Short", "All", *modules.values()]))
+    (crate / "specs/Lib.antt").write_text("".join(f"pub mod {module}\n" for module in ["Short", "All", *BY_HAND, *modules.values()]))
     imports, opened = opened_words(TOP)
-    (crate / "proofs/worked_runs/Answers.antt").write_text(
-        f"use Rattle.std.proofs.Common.{{refl}}\n{imports}\nuse Rattle.{CRATE}.proofs.worked_runs.Goals as goal\n\n"
-        f"pub returns : goal.returns\nunfolding {opened}\nreturns c = refl\n")
+    for law in LAWS:
+        (crate / f"proofs/{law}").mkdir(parents=True, exist_ok=True)
+        (crate / f"proofs/{law}/Answers.antt").write_text(
+            f"use Rattle.std.proofs.Common.{{refl}}\n{imports}\nuse Rattle.{CRATE}.proofs.{law}.Goals as goal\n\n"
+            f"pub returns : goal.returns\nunfolding {opened}\nreturns c = refl\n")
 
 
 def random_scripts(count, length, seed):

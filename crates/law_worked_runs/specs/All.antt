@@ -53,6 +53,7 @@ use Rattle.law_worked_runs.specs.SettleAfterEachStepOfTwoHandovers9.{worked as s
 use Rattle.law_worked_runs.specs.SettleOfAnEmptyWorld.{worked as settle_of_an_empty_world}
 use Rattle.law_worked_runs.specs.SetupRequestGivenThreeTimes.{worked as setup_request_given_three_times}
 use Rattle.law_worked_runs.specs.SnStatusInServing.{worked as sn_status_in_serving}
+use Rattle.law_worked_runs.specs.SpanOfUplinkCopies.{worked as span_of_uplink_copies}
 use Rattle.law_worked_runs.specs.StartAndAttach.{worked as start_and_attach}
 use Rattle.law_worked_runs.specs.TwoHandoversWithARelay.{worked as two_handovers_with_a_relay}
 use Rattle.law_worked_runs.specs.UnknownIeInjected.{worked as unknown_ie_injected}
@@ -114,6 +115,7 @@ all = cancel_and_too_late
     ∷ settle_of_an_empty_world
     ∷ setup_request_given_three_times
     ∷ sn_status_in_serving
+    ∷ span_of_uplink_copies
     ∷ start_and_attach
     ∷ two_handovers_with_a_relay
     ∷ unknown_ie_injected

@@ -1,5 +1,6 @@
 pub mod Short
 pub mod All
+pub mod OldUplinkCopyAndSpan
 pub mod CancelAndTooLate
 pub mod CausesOfFailed
 pub mod CausesOfFailed2
@@ -52,6 +53,7 @@ pub mod SettleAfterEachStepOfTwoHandovers9
 pub mod SettleOfAnEmptyWorld
 pub mod SetupRequestGivenThreeTimes
 pub mod SnStatusInServing
+pub mod SpanOfUplinkCopies
 pub mod StartAndAttach
 pub mod TwoHandoversWithARelay
 pub mod UnknownIeInjected

@@ -1,5 +1,5 @@
 -- Short words for the values of the worked scripts.
-use Rattle.std.specs.Prelude.{ℕ, List, [], ◌∷◌, Option, Some, None, Bool, true, false, map, if◌then◌else◌}
+use Rattle.std.specs.Prelude.{ℕ, zero, suc, ◌+◌, List, [], ◌∷◌, ◌++◌, Option, Some, None, Bool, true, false, map, if◌then◌else◌}
 use Rattle.std.specs.Str.{bytes_eq}
 use Rattle.gnb_types.specs.declared.names.Gnb.{Gnb}
 use Rattle.gnb_types.specs.declared.names.NodeId.{NodeId}
@@ -75,7 +75,7 @@ is_item_of (e ∷ es) octets = if bytes_eq e.0 octets then e.1 else is_item_of e
 abbrev pub reading : Worked → Reading
 reading w = record {
   message_fault = λ from to octets. fault_of w.faults octets;
-  is_item = λ units end octets. is_item_of w.items octets;
+  is_item = λ link sn octets. is_item_of w.items octets;
 }
 
 -- what a run gives: its steps, and how it stopped
@@ -92,3 +92,8 @@ outcome w =
 -- as it was worked out
 abbrev pub expected : Worked → Outcome
 expected w = record { steps = w.steps; stop = w.stop }
+
+-- steps one after another, by their numbers
+abbrev pub repeated : (ℕ → List Shown) → ℕ → ℕ → List Shown
+repeated f i zero = []
+repeated f i (suc count) = f i ++ repeated f (i + 1) count

@@ -15,22 +15,22 @@ use Rattle.gnb_types.specs.declared.plans.Plan.{Plan}
 use Rattle.gnb_types.specs.declared.plans.Tunnel.{Tunnel}
 use Rattle.gnb_types.specs.declared.inputs.Order.{Order}
 use Rattle.gnb_types.specs.declared.inputs.Order.TheVariants as orders
-use Rattle.gnb_types.specs.declared.reasons.RefuseReason.TheVariants.{Attached, NotStarted, NoBearer, NoPath, Size, Quota, NoSuch, Empty, NoRadio, NotAllowed, NoUe, Busy, Same, NoLink, Decodable}
+use Rattle.gnb_types.specs.declared.reasons.RefuseReason.TheVariants.{Attached, NotStarted, NoBearer, NoPath, Size, Quota, NoSuch, Empty, NoRadio, NotAllowed, NoUe, NotAccessing, NoHome, Busy, Same, NoLink, Decodable}
 use Rattle.gnb_types.specs.Orders.{ue_cmp, tunnel_cmp}
 use Rattle.tables.specs.Tables.{find, put}
 use Rattle.unit_defs.specs.declared.UeState.{UeState}
-use Rattle.unit_defs.specs.declared.UeState.TheVariants as ue_states
 use Rattle.unit_defs.specs.Ways.{teids_spent}
-use Rattle.unit_defs.specs.Messages.{is_same_gnb, teid_of}
+use Rattle.unit_defs.specs.Messages.{is_same_gnb, shares_interface, teid_of}
 use Rattle.unit_defs.specs.Core.{CorePath}
-use Rattle.unit_defs.specs.CpRecords.{CpContext, terminal_of, has_unit}
-use Rattle.unit_defs.specs.Ue.{UeNode, new_ue, placed, is_connected, largest_packet}
+use Rattle.unit_defs.specs.Ue.{UeNode, new_ue, placed, is_connected, is_accessing, may_return, largest_packet}
+use Rattle.unit_defs.specs.Accessors.{state_of, taken_epoch, place_of, is_set_up, up_has_context, is_unconfirmed, du_epoch, ue_state, ue_home, ue_rests}
 use Rattle.unit_defs.specs.Static.{up_has_room, up_has_teids, up_placed, du_has_teids, du_placed, cp_placed, cp_set_up, up_set_up, du_set_up}
 use Rattle.run_defs.specs.Lines.{Letter, RunLine, got_item, got_message, lost_items, lost_message, held_at, is_quiet, is_busy, tunnel_link, radio_link, shown}
-use Rattle.run_defs.specs.Units.{Units, starting_nodes, gnb_nodes, cp_of, with_cp, up_of, with_up, du_of, with_du, ue_of, with_ue, context_in, state_of, is_serving, has_attempt, is_source, requests_rest, ups_rest, du_epoch, ue_rests}
-use Rattle.run_defs.specs.Links.{Item, letter, landed, in_flight_of, nth, is_of_bearer}
+use Rattle.run_defs.specs.Units.{Units, starting_nodes, gnb_nodes, cp_of, with_cp, up_of, with_up, du_of, with_du, ue_of, with_ue, is_serving, has_attempt, is_source, requests_rest, ups_rest, epoch_at}
+use Rattle.transport_defs.specs.declared.Item.{Item}
+use Rattle.transport_defs.specs.Links.{letter, landed, is_in, in_flight_of, nth, is_of_bearer}
 use Rattle.run_defs.specs.States.{State, letter_for, item_for, carried_for, confirmed_for, offer_for, tick_for, order_for, octets_from, octets_on, CoreStepped, core_stepped, World, spent_counter, goes, stops, ◌next◌, goes_on, Within, Outcome, as_step, prints, refused, entity, was_attached, is_attached, is_gone, has_bearer, sn_of, book_of, with_book, radio_of, with_radio}
-use Rattle.run_defs.specs.Steps.{check_spans, put_on_tunnel, put_out_all, lose_radios, connect_in, Done, is_done, is_held, is_refused, does, ordered_by, step}
+use Rattle.run_defs.specs.Steps.{check_spans, with_tunnel, put_on_tunnel, put_out_all, lose_radios, connect_in, letters_spent, too_many_letters, Done, is_done, is_held, is_refused, does, ordered_by, step}
 
 -- ---- who serves a terminal: the CU-CP that took its token of the greatest epoch; where none did, the one of its plan
 
@@ -40,7 +40,7 @@ later (Some a) None = false
 later (Some a) (Some b) = nat_lt a b
 
 abbrev pub taken_by : {M C L P : Type 0} → State M C L P → Gnb → UeId → Option ℕ
-taken_by s gnb ue = (terminal_of (cp_of s.units gnb) ue).taken
+taken_by s gnb ue = taken_epoch (cp_of s.units gnb) ue
 
 abbrev pub home_of : Option Plan → Gnb
 home_of None = A
@@ -51,14 +51,9 @@ serving_gnb s ue =
     if later (taken_by s A ue) (taken_by s B ue) then B else
     (if is_some (taken_by s A ue) then A else home_of (find ue_cmp s.plans ue))
 
-abbrev pub serving_context : {M C L P : Type 0} → State M C L P → UeId → Option CpContext
-serving_context s ue = context_in (cp_of s.units (serving_gnb s ue)) ue
-
--- ---- the state of a terminal's unit
-
-abbrev pub state_in : Option UeNode → UeState
-state_in None = ue_states.Idle
-state_in (Some u) = u.state
+-- the numbers of its CU-UP and its DU
+abbrev pub serving_place : {M C L P : Type 0} → State M C L P → UeId → Option (ℕ × ℕ)
+serving_place s ue = place_of (cp_of s.units (serving_gnb s ue)) ue
 
 module _ {M C L P : Type 0} (world : World M C L P) where
   -- ---- static
@@ -86,7 +81,7 @@ module _ {M C L P : Type 0} (world : World M C L P) where
   abbrev pub tunnels_from : NodeId → ℕ → ℕ → List (TunnelEnd × List (Item L)) → List (TunnelEnd × List (Item L))
   tunnels_from node teid zero tunnels = tunnels
   tunnels_from node teid (suc count) tunnels =
-      tunnels_from node (teid + 1) count (put tunnel_cmp tunnels (record { node = node; teid = teid }) [])
+      tunnels_from node (teid + 1) count (with_tunnel (record { node = node; teid = teid }) tunnels)
 
   abbrev pub seated : Plan → State M C L P → State M C L P
   seated plan s = record s { plans = put ue_cmp s.plans plan.ue plan }
@@ -102,9 +97,16 @@ module _ {M C L P : Type 0} (world : World M C L P) where
         connected = put ue_cmp s.connected plan.ue 1;
       }
 
+  -- a unit that the plan names has a context of the terminal
+  abbrev pub is_held_by_units : Plan → Units M C → Bool
+  is_held_by_units plan units =
+      is_some (place_of (cp_of units plan.gnb) plan.ue)
+      || up_has_context (up_of units plan.gnb plan.up) plan.ue
+      || is_some (du_epoch (du_of units plan.gnb plan.du) plan.ue)
+
   unfoldable pub static : Plan → State M C L P → Outcome M C L P
   static plan s =
-      if was_attached s plan.ue then refused Attached s else
+      if was_attached s plan.ue || is_held_by_units plan s.units then refused Attached s else
       (if not (up_has_room (up_of s.units plan.gnb plan.up) plan) then refused Quota s else
       (if up_has_teids (up_of s.units plan.gnb plan.up) plan && du_has_teids (du_of s.units plan.gnb plan.du) plan
       then goes_on (statically plan s) else stops [] (spent_counter teids_spent)))
@@ -122,7 +124,7 @@ module _ {M C L P : Type 0} (world : World M C L P) where
 
   abbrev pub has_started : Plan → State M C L P → Bool
   has_started plan s =
-      has_unit (cp_of s.units plan.gnb).units (CuUp plan.gnb plan.up) && has_unit (cp_of s.units plan.gnb).units (Du plan.gnb plan.du)
+      is_set_up (cp_of s.units plan.gnb) (CuUp plan.gnb plan.up) && is_set_up (cp_of s.units plan.gnb) (Du plan.gnb plan.du)
 
   abbrev pub with_terminal : Plan → State M C L P → Within M C L P
   with_terminal plan s = goes_on (record (seated plan s) { units = with_ue s.units plan.ue (new_ue plan) })
@@ -193,7 +195,7 @@ module _ {M C L P : Type 0} (world : World M C L P) where
   abbrev pub ready_at : State M C L P → UeNode → Option NodeId → Option NodeId
   ready_at s u None = None
   ready_at s u (Some home) =
-      if is_connected u.state && same_epoch (du_epoch s.units home u.plan.ue) u.epoch then Some home else None
+      if is_connected u.state && same_epoch (epoch_at s.units home u.plan.ue) u.epoch then Some home else None
 
   abbrev pub ready_of : State M C L P → Option UeNode → Option NodeId
   ready_of s None = None
@@ -274,6 +276,7 @@ module _ {M C L P : Type 0} (world : World M C L P) where
 
   abbrev pub core_put : ℕ → Letter M → State M C L P → CoreStepped M C L P → Outcome M C L P
   core_put number l s (core_stepped outputs core) =
+      if too_many_letters world outputs s then stops [] (spent_counter letters_spent) else
       as_step (Some Core) (landed_as number l (record s { core = core }) next put_out_all world Core None outputs next check_spans)
 
   -- a terminal that was never there, or is gone, is given nothing
@@ -294,9 +297,6 @@ module _ {M C L P : Type 0} (world : World M C L P) where
 
   unfoldable pub give : ℕ → State M C L P → Outcome M C L P
   give number s = give_on number s (letter s.bag number)
-
-  abbrev pub is_in : ℕ → List ℕ → Bool
-  is_in number numbers = list_any (λ n. n == number) numbers
 
   abbrev pub lose_message_on : ℕ → State M C L P → Option (Letter M) → Outcome M C L P
   lose_message_on number s None = refused NoSuch s
@@ -346,18 +346,41 @@ module _ {M C L P : Type 0} (world : World M C L P) where
   unfoldable pub tick : State M C L P → Outcome M C L P
   tick s = order_each (λ node. step world node tick_for) (ticking s) s
 
-  -- ---- poll, fail, arrive, return
+  -- ---- poll: at the CU-UP of the serving context, where a downlink packet is unconfirmed
 
-  abbrev pub poll_at : UeId → BearerId → Gnb → State M C L P → Option CpContext → Outcome M C L P
+  abbrev pub poll_at : UeId → BearerId → Gnb → State M C L P → Option (ℕ × ℕ) → Outcome M C L P
   poll_at ue bearer gnb s None = refused Empty s
-  poll_at ue bearer gnb s (Some c) = step world (CuUp gnb c.up) (order_for (orders.Poll ue bearer)) s
+  poll_at ue bearer gnb s (Some place) =
+      if is_unconfirmed (up_of s.units gnb place.0) ue bearer
+      then step world (CuUp gnb place.0) (order_for (orders.Poll ue bearer)) s else refused Empty s
 
   unfoldable pub poll : UeId → BearerId → State M C L P → Outcome M C L P
   poll ue bearer s =
-      if has_bearer s ue bearer then poll_at ue bearer (serving_gnb s ue) s (serving_context s ue) else refused NoBearer s
+      if has_bearer s ue bearer then poll_at ue bearer (serving_gnb s ue) s (serving_place s ue) else refused NoBearer s
+
+  -- ---- fail, arrive, return: the terminal's state decides
+
+  abbrev pub state_at : State M C L P → UeId → UeState
+  state_at s ue = ue_state (ue_of s.units ue)
 
   abbrev pub order_ue : UeId → Order → State M C L P → Outcome M C L P
-  order_ue ue order s = if is_attached s ue then step world (Ue ue.0) (order_for order) s else refused NoUe s
+  order_ue ue order s = step world (Ue ue.0) (order_for order) s
+
+  unfoldable pub fail : UeId → State M C L P → Outcome M C L P
+  fail ue s =
+      if not (is_attached s ue) then refused NoUe s else
+      (if is_connected (state_at s ue) then order_ue ue (orders.Fail ue) s else refused NoRadio s)
+
+  unfoldable pub arrive : UeId → State M C L P → Outcome M C L P
+  arrive ue s =
+      if not (is_attached s ue) then refused NoUe s else
+      (if is_accessing (state_at s ue) then order_ue ue (orders.Arrive ue) s else refused NotAccessing s)
+
+  unfoldable pub come_back : UeId → State M C L P → Outcome M C L P
+  come_back ue s =
+      if not (is_attached s ue) then refused NoUe s else
+      (if not (is_some (ue_home (ue_of s.units ue))) then refused NoHome s else
+      (if may_return (state_at s ue) then order_ue ue (orders.Return ue) s else refused Busy s))
 
   -- ---- handover, cancel, release
 
@@ -369,13 +392,13 @@ module _ {M C L P : Type 0} (world : World M C L P) where
   handover_to s gnb None = refused NoUe s
   handover_to s gnb (Some goal) = step world (CuCp gnb) (order_for (orders.Handover goal)) s
 
-  abbrev pub is_same_place : Gnb → ℕ → Gnb → Option CpContext → Bool
+  abbrev pub is_same_place : Gnb → ℕ → Gnb → Option (ℕ × ℕ) → Bool
   is_same_place gnb du serving None = false
-  is_same_place gnb du serving (Some c) = is_same_gnb gnb serving && c.du == du
+  is_same_place gnb du serving (Some place) = is_same_gnb gnb serving && place.1 == du
 
-  abbrev pub is_other_up : Gnb → ℕ → Gnb → Option CpContext → Bool
+  abbrev pub is_other_up : Gnb → ℕ → Gnb → Option (ℕ × ℕ) → Bool
   is_other_up gnb up serving None = false
-  is_other_up gnb up serving (Some c) = is_same_gnb gnb serving && not (c.up == up)
+  is_other_up gnb up serving (Some place) = is_same_gnb gnb serving && not (place.0 == up)
 
   abbrev pub is_busy_with : State M C L P → UeId → Bool
   is_busy_with s ue = has_attempt s.units ue || not (is_serving (state_of (cp_of s.units (serving_gnb s ue)) ue))
@@ -384,8 +407,8 @@ module _ {M C L P : Type 0} (world : World M C L P) where
   handover ue gnb up du s =
       let serving = serving_gnb s ue in
       if not (is_attached s ue) then refused NoUe s else
-      (if is_same_place gnb du serving (serving_context s ue) then refused Same s else
-      (if is_other_up gnb up serving (serving_context s ue) then refused NotAllowed s else
+      (if is_same_place gnb du serving (serving_place s ue) then refused Same s else
+      (if is_other_up gnb up serving (serving_place s ue) then refused NotAllowed s else
       (if is_busy_with s ue then refused Busy s else
       handover_to s serving (goal_of (find ue_cmp s.plans ue) ue gnb up du))))
 
@@ -434,18 +457,13 @@ module _ {M C L P : Type 0} (world : World M C L P) where
 
   -- ---- inject: octets from outside, that don't decode
 
-  -- two nodes share an interface: a CU-CP with its units, with the other CU-CP and with the core; a DU with an attached terminal
+  -- a terminal is there while it is attached, each other node always
+  abbrev pub is_there : State M C L P → NodeId → Bool
+  is_there s (Ue ue) = is_attached s (record { 0 = ue })
+  is_there s node = true
+
   abbrev pub is_interface : State M C L P → NodeId → NodeId → Bool
-  is_interface s (CuCp g) (CuCp h) = not (is_same_gnb g h)
-  is_interface s (CuCp g) (CuUp h n) = is_same_gnb g h
-  is_interface s (CuCp g) (Du h n) = is_same_gnb g h
-  is_interface s (CuCp g) Core = true
-  is_interface s (CuUp h n) (CuCp g) = is_same_gnb g h
-  is_interface s (Du h n) (CuCp g) = is_same_gnb g h
-  is_interface s Core (CuCp g) = true
-  is_interface s (Du g n) (Ue ue) = is_attached s (record { 0 = ue })
-  is_interface s (Ue ue) (Du g n) = is_attached s (record { 0 = ue })
-  is_interface s from to = false
+  is_interface s from to = shares_interface from to && is_there s from && is_there s to
 
   abbrev pub core_injected : State M C L P → CoreStepped M C L P → Outcome M C L P
   core_injected s (core_stepped outputs core) =

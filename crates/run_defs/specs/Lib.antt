@@ -1,10 +1,14 @@
 pub mod Lines
 pub mod Printing
 pub mod Units
-pub mod Links
 pub mod States
 pub mod Steps
 pub mod Events
 pub mod Settling
 pub mod Runs
+pub mod UnitRuns
 pub mod Said
+pub mod Home
+pub mod Carried
+pub mod Local
+pub mod Hops

@@ -9,16 +9,10 @@ use Rattle.gnb_types.specs.declared.reasons.DropReason.{DropReason}
 use Rattle.gnb_types.specs.declared.reasons.HeldReason.{HeldReason}
 use Rattle.gnb_types.specs.declared.reasons.CauseName.{CauseName}
 use Rattle.gnb_types.specs.declared.reasons.RefuseReason.{RefuseReason}
+pub use Rattle.transport_defs.specs.declared.Letter.{Letter}
 use Rattle.scenario_text.specs.declared.line.Link.{Link}
 use Rattle.scenario_text.specs.declared.line.Link.TheVariants as links
 use Rattle.scenario_text.specs.declared.line.Item.{Item as ShownItem}
-
--- a control message that was put: its ends, its terminal (0: none), and what stands for it
-pub record Letter (M : Type 0) : Type 0 where
-  pub from : NodeId
-  pub to : NodeId
-  pub ue : ℕ
-  pub message : M
 
 pub data RunLine (M : Type 0) : Type 0 where
   put_item : (link : Link) (item : ShownItem) → RunLine M

@@ -1,22 +1,18 @@
--- The run of a script: each event by its name, one after another; and the two runs of it. In `Run` items carry their COUNTs in full, and
--- control messages are what they say. In `UnitRun` links hold octets, and each unit, of any meaning, is given octets.
+-- The run of a script: each event by its name, one after another; and `Run`, in which items carry their COUNTs in full, and control
+-- messages are what they say.
 use Rattle.std.specs.Prelude.{ℕ, Bool, true, false, List, [], ◌∷◌, Option, Some, None}
 use Rattle.std.specs.List.{flat_map}
 use Rattle.gnb_types.specs.declared.names.NodeId.{NodeId}
 use Rattle.gnb_types.specs.declared.names.NodeId.TheVariants.{CuCp, CuUp, Du, Core, Ue}
 use Rattle.gnb_types.specs.declared.names.SnBits.{SnBits}
 use Rattle.gnb_types.specs.declared.keys.TunnelEnd.{TunnelEnd}
-use Rattle.gnb_types.specs.declared.inputs.Order.TheVariants as orders
 use Rattle.gnb_types.specs.declared.reasons.DropReason.{DropReason}
 use Rattle.gnb_types.specs.declared.reasons.DropReason.TheVariants.{Undecodable}
 use Rattle.message_types.specs.declared.rrc.Token.{Token}
-use Rattle.pdcp.specs.Pdus.{radio_data, report_octets}
-use Rattle.pdcp_defs.specs.Counts.{number_of}
-use Rattle.link_defs.specs.Layouts.{f1u_uplink_pdu, delivery_status, forwarded_numbered, forwarded_fresh, end_marker as end_octets, frame_header}
-use Rattle.link_defs.specs.GPdus.{pdu_with}
-use Rattle.gtpu.specs.Packets.{gtpu_octets}
-use Rattle.nr_user_plane.specs.declared.frames.Frame.TheVariants.{Data}
+use Rattle.link_defs.specs.Decoding.{Link}
 use Rattle.unit_defs.specs.Ways.{Message, rrc, Pdu, packet_pdu, report_pdu, Content, packet_content, report_content, Load, fresh, numbered, frame, uplink, status, end_marker, Taken, fresh_item, numbered_item, frame_item, uplink_item, status_item, end_item, Input, control_input, packet_input, radio_input, confirm_input, offer_input, tick_input, order_input, dropped, Way, Answer, gives, spent}
+use Rattle.unit_octet_defs.specs.Writing.{pdu_octets, load_octets, written_load}
+use Rattle.unit_octet_defs.specs.Reading.{up_link, du_link}
 use Rattle.unit_defs.specs.CuCp.{cu_cp_acts}
 use Rattle.unit_defs.specs.CuUp.{cu_up_acts}
 use Rattle.unit_defs.specs.Du.{du_acts}
@@ -27,7 +23,7 @@ use Rattle.scenario_text.specs.declared.event.Event.TheVariants as events
 use Rattle.run_defs.specs.Lines.{RunLine}
 use Rattle.run_defs.specs.Units.{Units, cp_of, with_cp, up_of, with_up, du_of, with_du, ue_of, with_ue}
 use Rattle.run_defs.specs.States.{State, new_state, Given, letter_for, item_for, carried_for, confirmed_for, offer_for, tick_for, order_for, octets_from, octets_on, Stepped, stepped, step_spent, CoreStepped, core_stepped, World, Stop, goes, stops, Outcome, RunStep, entity}
-use Rattle.run_defs.specs.Events.{static, start, attach, offer, get, air, ack, give, lose_message, lose_item, pump, tick, poll, order_ue, handover, cancel, release, ask, inject_message, inject_item}
+use Rattle.run_defs.specs.Events.{static, start, attach, offer, get, air, ack, give, lose_message, lose_item, pump, tick, poll, fail, arrive, come_back, handover, cancel, release, ask, inject_message, inject_item}
 use Rattle.run_defs.specs.Settling.{settle}
 
 -- ---- events
@@ -50,9 +46,9 @@ module _ {M C L P : Type 0} (world : World M C L P) where
   happens (events.Poll ue bearer) = poll world ue bearer
   happens events.Pump = pump world
   happens events.Tick = tick world
-  happens (events.Fail ue) = order_ue world ue (orders.Fail ue)
-  happens (events.Arrive ue) = order_ue world ue (orders.Arrive ue)
-  happens (events.Return ue) = order_ue world ue (orders.Return ue)
+  happens (events.Fail ue) = fail world ue
+  happens (events.Arrive ue) = arrive world ue
+  happens (events.Return ue) = come_back world ue
   happens (events.Handover ue gnb up du) = handover world ue gnb up du
   happens (events.Cancel ue) = cancel world ue
   happens (events.Release ue) = release world ue
@@ -89,6 +85,20 @@ module _ {M C L P : Type 0} (world : World M C L P) where
   abbrev pub lines_of : Happened → List (RunLine M)
   lines_of h = flat_map (λ step. step.lines) h.steps
 
+-- ---- the link of a tunnel, as its end's record has it
+
+abbrev pub link_of_teid : {M C : Type 0} → Units M C → NodeId → ℕ → Option (Link × SnBits)
+link_of_teid units (CuUp gnb number) teid = up_link (up_of units gnb number) teid
+link_of_teid units (Du gnb number) teid = du_link (du_of units gnb number) teid
+link_of_teid units node teid = None
+
+abbrev pub link_at : {M C : Type 0} → Units M C → TunnelEnd → Option (Link × SnBits)
+link_at units end = link_of_teid units end.node end.teid
+
+abbrev pub is_item_on : (Link → SnBits → List ℕ → Bool) → Option (Link × SnBits) → List ℕ → Bool
+is_item_on is_item None octets = false
+is_item_on is_item (Some on) octets = is_item on.0 on.1 octets
+
 -- ---- Run: messages and items as what they say
 
 abbrev pub number_in : SnBits → Pdu → Option ℕ
@@ -124,10 +134,10 @@ PlainGiven = Given (Message Token) (Load Pdu) Pdu
 abbrev pub Plain : Type 0 → Type 0
 Plain R = Answer (Message Token) Pdu R
 
--- what the octets of a message or an item are, and why a message of them is dropped
+-- what octets from outside are: why they are no message, and whether they are an item of a tunnel
 pub record Reading : Type 0 where
   pub message_fault : NodeId → NodeId → List ℕ → Option DropReason
-  pub is_item : Units (Message Token) Token → TunnelEnd → List ℕ → Bool
+  pub is_item : Link → SnBits → List ℕ → Bool
 
 module _ (reading : Reading) where
   abbrev pub input_of : PlainGiven → Option (Input Token Pdu)
@@ -180,26 +190,8 @@ module _ (reading : Reading) where
   plain_core r given = core_stepped (dropped (fault_of Core given) ∷ []) r
 
   -- octets are made for printing alone
-  abbrev pub pdu_octets : SnBits → Pdu → List ℕ
-  pdu_octets sn (packet_pdu count packet) = radio_data sn count packet
-  pdu_octets sn (report_pdu fmc bits) = report_octets fmc bits
-
-  abbrev pub frame_octets : SnBits → ℕ → Bool → Bool → ℕ → Option Pdu → List ℕ
-  frame_octets sn teid poll restart number None = gtpu_octets (pdu_with teid (frame_header (Data poll restart number)) [])
-  frame_octets sn teid poll restart number (Some pdu) = gtpu_octets (pdu_with teid (frame_header (Data poll restart number)) (pdu_octets sn pdu))
-
-  -- a delivery status has the number of the packet that it confirms
-  abbrev pub short_number : SnBits → Option ℕ → Option ℕ
-  short_number sn None = None
-  short_number sn (Some count) = Some (number_of sn count)
-
-  abbrev pub load_octets : SnBits → ℕ → Load Pdu → List ℕ
-  load_octets sn teid (fresh packet) = forwarded_fresh teid packet
-  load_octets sn teid (numbered bits count packet) = forwarded_numbered bits teid count packet
-  load_octets sn teid (frame poll restart number pdu) = frame_octets sn teid poll restart number pdu
-  load_octets sn teid (uplink pdu) = f1u_uplink_pdu teid (pdu_octets sn pdu)
-  load_octets sn teid (status lost delivered) = delivery_status teid lost (short_number sn delivered)
-  load_octets sn teid end_marker = end_octets teid
+  abbrev pub item_octets : SnBits → ℕ → Load Pdu → List ℕ
+  item_octets sn teid load = load_octets teid (written_load sn load)
 
   abbrev pub is_none_fault : Option DropReason → Bool
   is_none_fault None = true
@@ -211,8 +203,8 @@ module _ (reading : Reading) where
     core_answer = plain_core;
     lay_n3 = λ teid packet. fresh packet;
     is_message = λ from to octets. is_none_fault (reading.message_fault from to octets);
-    is_item = reading.is_item;
-    show_item = load_octets;
+    is_item = λ units end octets. is_item_on (reading.is_item) (link_at units end) octets;
+    show_item = item_octets;
     show_pdu = pdu_octets;
   }
 

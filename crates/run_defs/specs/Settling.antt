@@ -15,13 +15,14 @@ use Rattle.gnb_types.specs.Orders.{tunnel_cmp}
 use Rattle.tables.specs.Tables.{at, entry_after, first_entry}
 use Rattle.unit_defs.specs.declared.UeState.{UeState}
 use Rattle.unit_defs.specs.declared.UeState.TheVariants as ue_states
-use Rattle.unit_defs.specs.CpRecords.{CpContext}
+use Rattle.unit_defs.specs.Accessors.{is_unconfirmed}
 use Rattle.run_defs.specs.Lines.{RunLine, held_at, has_settled, has_not_settled, tunnel_link, radio_link}
-use Rattle.run_defs.specs.Units.{ue_of}
-use Rattle.run_defs.specs.Links.{Item, nth}
+use Rattle.run_defs.specs.Units.{up_of}
+use Rattle.transport_defs.specs.declared.Item.{Item}
+use Rattle.transport_defs.specs.Links.{nth}
 use Rattle.run_defs.specs.States.{State, order_for, World, goes, ◌next◌, goes_on, Outcome, as_step, prints, is_gone, book_of, radio_of}
 use Rattle.run_defs.specs.Steps.{entities_of, bearer_numbers, Done, is_done, is_held, is_refused, does}
-use Rattle.run_defs.specs.Events.{state_in, serving_gnb, serving_context, get_done, ready_home, epoch_of, receiver_of, carry_done, confirm_done, pump, tick, rests, ask_line}
+use Rattle.run_defs.specs.Events.{serving_gnb, serving_place, state_at, get_done, ready_home, epoch_of, receiver_of, carry_done, confirm_done, pump, tick, rests, ask_line}
 
 -- ---- the attached terminals, their bearers and entities, ascending
 
@@ -56,7 +57,7 @@ module _ {M C L P : Type 0} (world : World M C L P) where
 
   abbrev pub move_each : List (UeId × Plan) → State M C L P → Outcome M C L P
   move_each [] s = goes_on s
-  move_each (e ∷ es) s = move_by e.0 s (state_in (ue_of s.units e.0)) next move_each es
+  move_each (e ∷ es) s = move_by e.0 s (state_at world s e.0) next move_each es
 
   -- ---- 3. each tunnel, in order, is got until it is empty or holds, at most as often as items stood on it when its turn began
 
@@ -99,7 +100,6 @@ module _ {M C L P : Type 0} (world : World M C L P) where
   -- since it last began to be aired
   pub record Turn : Type 0 where
     pub key : EntityKey
-    pub home : NodeId
     pub airs : ℕ
     pub acks : ℕ
     pub airing : Bool
@@ -118,17 +118,17 @@ module _ {M C L P : Type 0} (world : World M C L P) where
   after_ack turn = record turn { acks = turn.acks - 1; moved = true }
 
   -- one item is carried; a held one ends the airing
-  abbrev pub aired_by : (Turn → State M C L P → Outcome M C L P) → Turn → State M C L P → Done world → Outcome M C L P
-  aired_by again turn s (is_done outcome) = outcome next again (after_air turn)
-  aired_by again turn s (is_held reason) =
-      as_step (Some (receiver_of world turn.key turn.home)) (goes (held_at (radio_link turn.key (epoch_of world s turn.key.ue)) reason ∷ []) s)
+  abbrev pub aired_by : (Turn → State M C L P → Outcome M C L P) → Turn → NodeId → State M C L P → Done world → Outcome M C L P
+  aired_by again turn home s (is_done outcome) = outcome next again (after_air turn)
+  aired_by again turn home s (is_held reason) =
+      as_step (Some (receiver_of world turn.key home)) (goes (held_at (radio_link turn.key (epoch_of world s turn.key.ue)) reason ∷ []) s)
       next again (to_acks (after_air turn))
-  aired_by again turn s (is_refused reason) = again (to_acks (after_air turn)) s
+  aired_by again turn home s (is_refused reason) = again (to_acks (after_air turn)) s
 
-  abbrev pub air_next : (Turn → State M C L P → Outcome M C L P) → Turn → State M C L P → Option (Item P) → Outcome M C L P
-  air_next again turn s None = again (to_acks turn) s
-  air_next again turn s (Some item) =
-      if turn.airs == 0 then again (to_acks turn) s else aired_by again turn s (carry_done world turn.key turn.home item s)
+  abbrev pub air_next : (Turn → State M C L P → Outcome M C L P) → Turn → NodeId → State M C L P → Option (Item P) → Outcome M C L P
+  air_next again turn home s None = again (to_acks turn) s
+  air_next again turn home s (Some item) =
+      if turn.airs == 0 then again (to_acks turn) s else aired_by again turn home s (carry_done world turn.key home item s)
 
   -- one item is confirmed; where none can be, the radio is aired again, or its turn ends
   abbrev pub acked_by : (Turn → State M C L P → Outcome M C L P) → Turn → State M C L P → Done world → Outcome M C L P
@@ -139,41 +139,47 @@ module _ {M C L P : Type 0} (world : World M C L P) where
   abbrev pub turn_over : (Turn → State M C L P → Outcome M C L P) → Turn → State M C L P → Outcome M C L P
   turn_over again turn s = if turn.moved then again (to_airs turn) s else goes_on s
 
-  abbrev pub ack_next : (Turn → State M C L P → Outcome M C L P) → Turn → State M C L P → List (Item P) → ℕ → Outcome M C L P
-  ack_next again turn s [] carried = goes_on s
-  ack_next again turn s (item ∷ rest) carried =
+  abbrev pub ack_next : (Turn → State M C L P → Outcome M C L P) → Turn → NodeId → State M C L P → List (Item P) → ℕ → Outcome M C L P
+  ack_next again turn home s [] carried = goes_on s
+  ack_next again turn home s (item ∷ rest) carried =
       if carried == 0 || turn.acks == 0 then turn_over again turn s
-      else acked_by again turn s (confirm_done world turn.key turn.home item rest s)
+      else acked_by again turn s (confirm_done world turn.key home item rest s)
+
+  -- a radio that is no longer ready has had its turn
+  abbrev pub turn_at : (Turn → State M C L P → Outcome M C L P) → Turn → State M C L P → Option NodeId → Outcome M C L P
+  turn_at again turn s None = goes_on s
+  turn_at again turn s (Some home) =
+      let r = radio_of s turn.key in
+      if turn.airing then air_next again turn home s (nth r.items r.carried) else ack_next again turn home s r.items r.carried
 
   abbrev pub turn_step : (Turn → State M C L P → Outcome M C L P) → Turn → State M C L P → Outcome M C L P
-  turn_step again turn s =
-      let r = radio_of s turn.key in
-      if turn.airing then air_next again turn s (nth r.items r.carried) else ack_next again turn s r.items r.carried
+  turn_step again turn s = turn_at again turn s (ready_home world s turn.key.ue)
 
   abbrev pub turn_times : ℕ → Turn → State M C L P → Outcome M C L P
   turn_times zero turn s = goes_on s
   turn_times (suc left) turn s = turn_step (turn_times left) turn s
 
   -- each air and each acknowledgement is followed by two changes between them at most
-  abbrev pub radio_turn : EntityKey → State M C L P → Option NodeId → Outcome M C L P
-  radio_turn key s None = goes_on s
-  radio_turn key s (Some home) =
+  abbrev pub radio_turn : EntityKey → State M C L P → Outcome M C L P
+  radio_turn key s =
       let most = length (radio_of s key).items + further_turns in
-      turn_times (6 * most + 2) (record { key = key; home = home; airs = most; acks = most; airing = true; moved = false }) s
+      turn_times (6 * most + 2) (record { key = key; airs = most; acks = most; airing = true; moved = false }) s
 
   abbrev pub all_radios : List EntityKey → State M C L P → Outcome M C L P
   all_radios [] s = goes_on s
-  all_radios (key ∷ keys) s = radio_turn key s (ready_home world s key.ue) next all_radios keys
+  all_radios (key ∷ keys) s = radio_turn key s next all_radios keys
 
-  -- ---- 5. each bearer is polled
+  -- ---- 5. each bearer with an unconfirmed downlink packet is polled
 
-  abbrev pub poll_at : UeId × BearerId → State M C L P → Option CpContext → Outcome M C L P
+  abbrev pub poll_at : UeId × BearerId → State M C L P → Option (ℕ × ℕ) → Outcome M C L P
   poll_at e s None = goes_on s
-  poll_at e s (Some c) = quiet_order (CuUp (serving_gnb s e.0) c.up) (orders.Poll e.0 e.1) s
+  poll_at e s (Some place) =
+      let gnb = serving_gnb s e.0 in
+      if is_unconfirmed (up_of s.units gnb place.0) e.0 e.1 then quiet_order (CuUp gnb place.0) (orders.Poll e.0 e.1) s else goes_on s
 
   abbrev pub poll_each : List (UeId × BearerId) → State M C L P → Outcome M C L P
   poll_each [] s = goes_on s
-  poll_each (e ∷ es) s = poll_at e s (serving_context s e.0) next poll_each es
+  poll_each (e ∷ es) s = poll_at e s (serving_place s e.0) next poll_each es
 
   -- ---- a round
 

@@ -18,7 +18,8 @@ use Rattle.unit_defs.specs.Ways.{Put}
 use Rattle.unit_defs.specs.Core.{CoreRecord, new_core}
 use Rattle.run_defs.specs.Lines.{RunLine, was_refused}
 use Rattle.run_defs.specs.Units.{Units, new_units}
-use Rattle.run_defs.specs.Links.{Item, Bag, no_letters, Radio}
+use Rattle.transport_defs.specs.declared.Item.{Item}
+use Rattle.transport_defs.specs.Links.{Bag, no_letters, Radio}
 
 -- how many packets of a bearer and direction were offered, numbered and delivered
 pub record Book : Type 0 where

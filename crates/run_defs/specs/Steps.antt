@@ -24,7 +24,8 @@ use Rattle.unit_defs.specs.Ways.{Put, control, packet, radio, deliver, dropped, 
 use Rattle.unit_defs.specs.Ue.{UeNode}
 use Rattle.run_defs.specs.Lines.{Letter, RunLine, put_item, put_message, delivers, lost_items, drops_input, procedure_failed, tunnel_link, radio_link, shown}
 use Rattle.run_defs.specs.Units.{Units, ue_of}
-use Rattle.run_defs.specs.Links.{Item, most_letters, put_letter, silent, tunnel_counts, radio_counts, least}
+use Rattle.transport_defs.specs.declared.Item.{Item}
+use Rattle.transport_defs.specs.Links.{most_letters, put_letter, emptied, is_epoch, connect, tunnel_counts, radio_counts, least}
 use Rattle.run_defs.specs.States.{State, Given, Stepped, stepped, step_spent, World, Stop, outstanding, spent_counter, goes, stops, ◌next◌, goes_on, Within, Outcome, as_step, refused, entity, sn_of, book_of, with_book, radio_of, with_radio}
 
 -- ---- span: how far the COUNTs reach that were given and aren't all delivered, or still stand on a link
@@ -68,6 +69,14 @@ abbrev pub noted : {M C L P : Type 0} → EntityKey → Tag → State M C L P �
 noted key (Own count) s = with_book key (record (book_of s key) { numbered = max (book_of s key).numbered (count + 1) }) s
 noted key tag s = s
 
+-- the first counter: control messages of the whole run
+abbrev pub letters_spent : ℕ
+letters_spent = 1
+
+-- an open tunnel; one that is open stays as it is
+abbrev pub with_tunnel : {L : Type 0} → TunnelEnd → List (TunnelEnd × List (Item L)) → List (TunnelEnd × List (Item L))
+with_tunnel end tunnels = put tunnel_cmp tunnels end (at tunnel_cmp [] tunnels end)
+
 module _ {M C L P : Type 0} (world : World M C L P) where
   -- ---- items are put on links; on a closed tunnel, and on a radio that isn't connected in that epoch, they are lost
 
@@ -79,10 +88,6 @@ module _ {M C L P : Type 0} (world : World M C L P) where
   put_on_tunnel end item s =
       goes (put_item (tunnel_link end) (shown item.key item.count (world.show_item (sn_of s item.key.ue) end.teid item.content)) ∷ []) s
       next (λ t. on_tunnel t end item (find tunnel_cmp t.tunnels end))
-
-  abbrev pub is_epoch : Option ℕ → ℕ → Bool
-  is_epoch None epoch = false
-  is_epoch (Some connected) epoch = connected == epoch
 
   abbrev pub put_on_connected : EntityKey → ℕ → Item P → State M C L P → Within M C L P
   put_on_connected key epoch item s =
@@ -103,14 +108,14 @@ module _ {M C L P : Type 0} (world : World M C L P) where
   unfoldable pub put_control : Letter M → State M C L P → Within M C L P
   put_control l s = goes (put_message (length s.bag.letters + 1) l ∷ []) (record s { bag = put_letter s.bag l })
 
-  -- ---- tunnels are opened and closed; what stands on a closed one is lost
+  -- ---- tunnels are opened, where they aren't open, and closed; what stands on a closed one is lost
 
   abbrev pub lost_if : {X : Type 0} → TunnelEnd → List X → List (RunLine M)
   lost_if end [] = []
   lost_if end (x ∷ xs) = lost_items (tunnel_link end) (length (x ∷ xs)) ∷ []
 
   unfoldable pub opens : TunnelEnd → State M C L P → Within M C L P
-  opens end s = goes_on (record s { tunnels = put tunnel_cmp s.tunnels end [] })
+  opens end s = goes_on (record s { tunnels = with_tunnel end s.tunnels })
 
   unfoldable pub closes : TunnelEnd → State M C L P → Within M C L P
   closes end s =
@@ -124,7 +129,7 @@ module _ {M C L P : Type 0} (world : World M C L P) where
 
   abbrev pub lose_each : ℕ → List EntityKey → State M C L P → Within M C L P
   lose_each epoch [] s = goes_on s
-  lose_each epoch (key ∷ keys) s = goes (radio_lost epoch key (radio_of s key).items) (with_radio key silent s) next lose_each epoch keys
+  lose_each epoch (key ∷ keys) s = goes (radio_lost epoch key (radio_of s key).items) (record s { radios = emptied s.radios key }) next lose_each epoch keys
 
   abbrev pub plan_entities : UeId → Option Plan → List EntityKey
   plan_entities ue None = []
@@ -154,8 +159,7 @@ module _ {M C L P : Type 0} (world : World M C L P) where
   same_epoch (Some a) (Some b) = a == b
 
   abbrev pub connect_in : UeId → Option ℕ → State M C L P → State M C L P
-  connect_in ue None s = record s { connected = without ue_cmp s.connected ue }
-  connect_in ue (Some epoch) s = record s { connected = put ue_cmp s.connected ue epoch }
+  connect_in ue epoch s = record s { connected = connect s.connected ue epoch }
 
   abbrev pub reconnect : UeId → State M C L P → Within M C L P
   reconnect ue s =
@@ -204,10 +208,6 @@ module _ {M C L P : Type 0} (world : World M C L P) where
   count_letters [] = 0
   count_letters (control to ue message ∷ outputs) = count_letters outputs + 1
   count_letters (output ∷ outputs) = count_letters outputs
-
-  -- the first counter: control messages of the whole run
-  abbrev pub letters_spent : ℕ
-  letters_spent = 1
 
   abbrev pub too_many_letters : List (Put M L P) → State M C L P → Bool
   too_many_letters outputs s = nat_lt most_letters (length s.bag.letters + count_letters outputs)

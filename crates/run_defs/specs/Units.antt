@@ -1,5 +1,5 @@
--- The units of both gNBs and the terminals, as one record, and what a run asks of them beside their steps.
-use Rattle.std.specs.Prelude.{◌==◌, ℕ, Bool, true, false, not, ◌&&◌, ◌||◌, List, [], ◌∷◌, ◌++◌, length, Option, Some, None}
+-- The units of both gNBs and the terminals, as one record of their records, and what a run asks of several of them.
+use Rattle.std.specs.Prelude.{ℕ, Bool, true, false, ◌&&◌, ◌||◌, List, [], ◌∷◌, ◌++◌, Option, None}
 use Rattle.std.specs.List.{list_all}
 use Rattle.gnb_types.specs.declared.names.Gnb.{Gnb}
 use Rattle.gnb_types.specs.declared.names.Gnb.TheVariants.{A, B}
@@ -7,19 +7,16 @@ use Rattle.gnb_types.specs.declared.names.NodeId.{NodeId}
 use Rattle.gnb_types.specs.declared.names.NodeId.TheVariants.{CuCp, CuUp as up_id, Du as du_id}
 use Rattle.gnb_types.specs.declared.names.UeId.{UeId}
 use Rattle.gnb_types.specs.declared.names.BearerId.{BearerId}
-use Rattle.gnb_types.specs.Orders.{ue_cmp, bearer_cmp, node_cmp}
+use Rattle.gnb_types.specs.Orders.{ue_cmp, node_cmp}
 use Rattle.tables.specs.Tables.{find, put, at}
 use Rattle.unit_defs.specs.declared.StateName.{StateName}
 use Rattle.unit_defs.specs.declared.StateName.TheVariants as states
-use Rattle.unit_defs.specs.declared.AttemptKind.{AttemptKind}
-use Rattle.unit_defs.specs.declared.AttemptKind.TheVariants as kinds
-use Rattle.unit_defs.specs.Transactions.{terminal_rests}
-use Rattle.unit_defs.specs.UpRecords.{UpBearer, UpContext, CuUp}
-use Rattle.unit_defs.specs.UpBearers.{is_closed, no_uplink, hop_is_done}
+use Rattle.unit_defs.specs.UpRecords.{CuUp}
 use Rattle.unit_defs.specs.CuUp.{new_cu_up}
-use Rattle.unit_defs.specs.Du.{DuContext, Du, new_du}
-use Rattle.unit_defs.specs.Ue.{UeBearer, UeNode}
-use Rattle.unit_defs.specs.CpRecords.{Attempt, CpContext, CuCpRecord, new_cu_cp, terminal_of}
+use Rattle.unit_defs.specs.Du.{Du, new_du}
+use Rattle.unit_defs.specs.Ue.{UeNode}
+use Rattle.unit_defs.specs.CpRecords.{CuCpRecord, new_cu_cp}
+use Rattle.unit_defs.specs.Accessors.{state_of, cp_rests, up_rests, du_epoch}
 
 pub record Units (M C : Type 0) : Type 0 where
   pub cp_a : CuCpRecord M C
@@ -75,17 +72,7 @@ ue_of units ue = find ue_cmp units.ues ue
 abbrev pub with_ue : {M C : Type 0} → Units M C → UeId → UeNode → Units M C
 with_ue units ue u = record units { ues = put ue_cmp units.ues ue u }
 
--- ---- what a CU-CP has of a terminal
-
-abbrev pub context_in : {M C : Type 0} → CuCpRecord M C → UeId → Option CpContext
-context_in r ue = (terminal_of r ue).context
-
-abbrev pub state_in : Option CpContext → StateName
-state_in None = states.Idle
-state_in (Some c) = c.state
-
-abbrev pub state_of : {M C : Type 0} → CuCpRecord M C → UeId → StateName
-state_of r ue = state_in (context_in r ue)
+-- ---- what is asked of several of them at once
 
 abbrev pub is_serving : StateName → Bool
 is_serving states.Serving = true
@@ -100,12 +87,7 @@ is_attempt state = true
 abbrev pub has_attempt : {M C : Type 0} → Units M C → UeId → Bool
 has_attempt units ue = is_attempt (state_of units.cp_a ue) || is_attempt (state_of units.cp_b ue)
 
--- the source of a handover: in one of the four states, of an attempt that is one
-abbrev pub is_handover : AttemptKind → Bool
-is_handover kinds.BetweenDus = true
-is_handover kinds.BetweenGnbs = true
-is_handover kind = false
-
+-- the CU-CP that a cancel goes to is in a state of a source; whether its attempt is a handover the unit itself reports
 abbrev pub is_source_state : StateName → Bool
 is_source_state states.Preparing = true
 is_source_state states.Prepared = true
@@ -113,52 +95,17 @@ is_source_state states.Frozen = true
 is_source_state states.Commanded = true
 is_source_state state = false
 
-abbrev pub is_handover_attempt : Option Attempt → Bool
-is_handover_attempt None = false
-is_handover_attempt (Some a) = is_handover a.kind
-
-abbrev pub is_source_in : Option CpContext → Bool
-is_source_in None = false
-is_source_in (Some c) = is_source_state c.state && is_handover_attempt c.attempt
-
 abbrev pub is_source : {M C : Type 0} → CuCpRecord M C → UeId → Bool
-is_source r ue = is_source_in (context_in r ue)
+is_source r ue = is_source_state (state_of r ue)
 
 -- no request of the terminal is open or waits at a CU-CP
 abbrev pub requests_rest : {M C : Type 0} → Units M C → UeId → Bool
-requests_rest units ue = terminal_rests units.cp_a.transactions ue.0 && terminal_rests units.cp_b.transactions ue.0
-
--- ---- what a CU-UP has of a bearer
-
-abbrev pub is_awaiting : UpContext → UpBearer → Bool
-is_awaiting c b = (c.flags.released && not (is_closed b.n3 && no_uplink b.uplinks)) || not (hop_is_done c.flags b)
-
-abbrev pub up_bearer_rests : UpContext → Option UpBearer → Bool
-up_bearer_rests c None = true
-up_bearer_rests c (Some b) = length b.sender.unconfirmed == 0 && length b.waiting == 0 && not (is_awaiting c b)
-
-abbrev pub up_context_rests : BearerId → Option UpContext → Bool
-up_context_rests bearer None = true
-up_context_rests bearer (Some c) = up_bearer_rests c (find bearer_cmp c.bearers bearer)
+requests_rest units ue = cp_rests units.cp_a ue && cp_rests units.cp_b ue
 
 abbrev pub ups_rest : {M C : Type 0} → Units M C → UeId → BearerId → Bool
-ups_rest units ue bearer = list_all (λ e. up_context_rests bearer (find ue_cmp e.1.contexts ue)) units.ups
+ups_rest units ue bearer = list_all (λ e. up_rests e.1 ue bearer) units.ups
 
--- ---- what a DU has of a terminal
-
-abbrev pub du_epoch_in : Option DuContext → Option ℕ
-du_epoch_in None = None
-du_epoch_in (Some c) = Some c.epoch
-
-abbrev pub du_epoch : {M C : Type 0} → Units M C → NodeId → UeId → Option ℕ
-du_epoch units (du_id gnb number) ue = du_epoch_in (find ue_cmp (du_of units gnb number).contexts ue)
-du_epoch units node ue = None
-
--- ---- what a terminal has of a bearer
-
-abbrev pub ue_bearer_rests : Option UeBearer → Bool
-ue_bearer_rests None = true
-ue_bearer_rests (Some b) = length b.sender.unconfirmed == 0 && length b.waiting == 0
-
-abbrev pub ue_rests : UeNode → BearerId → Bool
-ue_rests u bearer = ue_bearer_rests (find bearer_cmp u.bearers bearer)
+-- the epoch of a terminal's context at the DU of this name
+abbrev pub epoch_at : {M C : Type 0} → Units M C → NodeId → UeId → Option ℕ
+epoch_at units (du_id gnb number) ue = du_epoch (du_of units gnb number) ue
+epoch_at units node ue = None

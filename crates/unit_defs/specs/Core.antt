@@ -1,4 +1,6 @@
 -- The core: it answers a path switch, and knows where each terminal's downlink goes (TS 23.501, 5.6; TS 38.413, 8.4.4).
+--
+--   Path Switch Request     switch_path     End Markers on the old tunnels; the new path
 use Rattle.std.specs.Prelude.{ℕ, List, [], map, Option, Some, None}
 use Rattle.gnb_types.specs.declared.names.NodeId.{NodeId}
 use Rattle.gnb_types.specs.declared.names.NodeId.TheVariants.{CuCp, CuUp}

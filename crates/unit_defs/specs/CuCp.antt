@@ -13,7 +13,8 @@
 --   SN Status Transfer                                 status
 --   Handover Cancel                                    xn_cancelled
 --   UE Context Release (Xn)                            xn_released
---   UL RRC Message Transfer with a token               accepted_again, completes, completes_again, returns, arrives, arrives_again
+--   UL RRC Message Transfer with a token               completes, completes_again, returns, arrives, arrives_again; say_accepted, where its
+--                                                      epoch is finished; Busy, where it is too early (token_on)
 --   a tick                                             open requests again; handover_expires; command
 use Rattle.std.specs.Prelude.{◌==◌, ℕ, ◌+◌, Bool, true, false, not, ◌&&◌, if◌then◌else◌, List, [], ◌∷◌, ◌++◌, map, Option, Some, None}
 use Rattle.gnb_types.specs.declared.names.Gnb.{Gnb}
@@ -38,20 +39,12 @@ use Rattle.unit_defs.specs.declared.AttemptKind.{AttemptKind}
 use Rattle.unit_defs.specs.declared.AttemptKind.TheVariants as kinds
 use Rattle.unit_defs.specs.Ways.{Message, f1, e1, xn, core, Input, control_input, tick_input, order_input, control, Way, Answer, ◌then◌, nothing, puts, drops}
 use Rattle.unit_defs.specs.Transactions.{Kind, request, reply, transfer, kind_of, Waiting, Transactions, waits_at, with_waiting, advance, replied, on_request, on_reply}
-use Rattle.unit_defs.specs.Messages.{cause_name, channel, is_same_gnb, are_bearers, statuses_of}
+use Rattle.unit_defs.specs.Messages.{cause_name, channel, is_same_gnb, shares_interface, are_bearers, statuses_of}
 use Rattle.unit_defs.specs.CpRecords.{Awaited, Attempt, CpContext, CpTerminal, CuCpRecord, terminal_of, with_transactions, attempted, same_node, has_unit, bearers_in, ignores, Row, stays, keeps, gives_up, answered, awaits_answer, after_asked, carry_out}
 use Rattle.unit_defs.specs.CpRows.{CpAt, own_du, name_bearers, is_between_dus, is_between_gnbs, attach, attach_has_tunnels, attach_is_placed, attach_fails, move_has_uplinks, move_is_placed, handover, handover_is_acknowledged, handover_is_declined, handover_expires, handover_is_frozen, handover_is_not_frozen, command, cancel, release, offer_context, offer, offer_has_tunnels, offer_is_declined, offer_is_placed, status, xn_cancelled, xn_released, place_is_renewed, is_switched, path_is_switched, say_accepted, completes, completes_again, returns, arrives, arrives_again}
 
 abbrev pub at_of : {M C : Type 0} → CuCpRecord M C → UeId → CpAt
 at_of r ue = record { gnb = r.gnb; ue = ue; units = r.units }
-
--- which nodes share an interface with a CU-CP: its units, the other CU-CP, the core
-abbrev pub is_peer : Gnb → NodeId → Bool
-is_peer gnb (cp_node other) = not (is_same_gnb gnb other)
-is_peer gnb (CuUp other number) = is_same_gnb gnb other
-is_peer gnb (Du other number) = is_same_gnb gnb other
-is_peer gnb Core = true
-is_peer gnb (Ue ue) = false
 
 module _ {M C P : Type 0} (way : Way M C P) where
   -- ---- answers that an attempt awaits, by the state of the terminal: the row, or none where the message lacks what the row uses, its
@@ -313,7 +306,7 @@ module _ {M C P : Type 0} (way : Way M C P) where
   control_by from message r (transfer ue) = transferred from message r
 
   unfoldable pub control_came : NodeId → Message C → CuCpRecord M C → Answer M P (CuCpRecord M C)
-  control_came from message r = if is_peer r.gnb from then control_by from message r (kind_of message) else drops Unexpected r
+  control_came from message r = if shares_interface (cp_node r.gnb) from then control_by from message r (kind_of message) else drops Unexpected r
 
   -- ---- a tick: open requests again, or what expires; then the commands
 

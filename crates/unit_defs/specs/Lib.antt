@@ -13,3 +13,4 @@ pub mod CpRows
 pub mod CuCp
 pub mod Core
 pub mod Static
+pub mod Accessors

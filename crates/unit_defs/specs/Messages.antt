@@ -1,8 +1,9 @@
 -- Words on messages: the values of their enumerations, the lists of bearers in them, and the channel on which they come.
-use Rattle.std.specs.Prelude.{◌==◌, ℕ, ◌+◌, Bool, true, false, ◌&&◌, if◌then◌else◌, List, [], ◌∷◌, map, Option, Some, None}
+use Rattle.std.specs.Prelude.{◌==◌, ℕ, ◌+◌, Bool, true, false, not, ◌&&◌, if◌then◌else◌, List, [], ◌∷◌, map, Option, Some, None}
 use Rattle.gnb_types.specs.declared.names.Gnb.{Gnb}
 use Rattle.gnb_types.specs.declared.names.Gnb.TheVariants.{A, B}
 use Rattle.gnb_types.specs.declared.names.NodeId.{NodeId}
+use Rattle.gnb_types.specs.declared.names.NodeId.TheVariants.{CuCp, CuUp, Du, Core, Ue}
 use Rattle.gnb_types.specs.declared.names.BearerId.{BearerId}
 use Rattle.gnb_types.specs.declared.keys.Channel.{Channel}
 use Rattle.gnb_types.specs.declared.plans.Tunnel.{Tunnel}
@@ -52,6 +53,20 @@ is_same_gnb B A = false
 abbrev pub other_gnb : Gnb → Gnb
 other_gnb A = B
 other_gnb B = A
+
+-- Two nodes share an interface (TS 38.401, 6.1.2): a CU-CP with its units, with the other CU-CP and with the core; a DU with a
+-- terminal.
+abbrev pub shares_interface : NodeId → NodeId → Bool
+shares_interface (CuCp g) (CuCp h) = not (is_same_gnb g h)
+shares_interface (CuCp g) (CuUp h n) = is_same_gnb g h
+shares_interface (CuCp g) (Du h n) = is_same_gnb g h
+shares_interface (CuCp g) Core = true
+shares_interface (CuUp h n) (CuCp g) = is_same_gnb g h
+shares_interface (Du h n) (CuCp g) = is_same_gnb g h
+shares_interface Core (CuCp g) = true
+shares_interface (Du g n) (Ue ue) = true
+shares_interface (Ue ue) (Du g n) = true
+shares_interface from to = false
 
 -- the bearers that a list names
 abbrev pub bearers_of : List Tunnel → List BearerId

@@ -85,6 +85,15 @@ abbrev pub is_connected : UeState → Bool
 is_connected states.Connected = true
 is_connected state = false
 
+abbrev pub is_accessing : UeState → Bool
+is_accessing states.Accessing = true
+is_accessing state = false
+
+abbrev pub may_return : UeState → Bool
+may_return states.Lost = true
+may_return states.Accessing = true
+may_return state = false
+
 module _ {M C P : Type 0} (way : Way M C P) where
   -- ---- one bearer
 
@@ -165,10 +174,6 @@ module _ {M C P : Type 0} (way : Way M C P) where
 
   -- ---- arrival
 
-  abbrev pub is_accessing : UeState → Bool
-  is_accessing states.Accessing = true
-  is_accessing state = false
-
   abbrev pub arrived : UeNode → UeNode
   arrived u = record u { epoch = u.epoch + 1; state = states.Connected; home = u.goal; token = Some says.Complete }
 
@@ -178,11 +183,6 @@ module _ {M C P : Type 0} (way : Way M C P) where
       (if nat_le last_epoch u.epoch then spent epochs_spent else says_it (arrived u) then connect)
 
   -- ---- return
-
-  abbrev pub may_return : UeState → Bool
-  may_return states.Lost = true
-  may_return states.Accessing = true
-  may_return state = false
 
   abbrev pub returned : UeNode → UeNode
   returned u = record u { epoch = u.epoch + 1; state = states.Returning; token = Some says.Reestablish }

@@ -1,20 +1,16 @@
 -- The links (TS 38.401, 6.1.2): every control message ever put, with those in flight; the open tunnels; the radios with what was
--- carried. Beside each item stands its COUNT, if it shows one. What stands on a link is a parameter.
+-- carried, and which of them are connected. Beside each item stands its COUNT, if it shows one. What stands on a link is a parameter.
 use Rattle.std.specs.Prelude.{◌==◌, ℕ, ◌+◌, ◌-◌, Bool, false, not, ◌&&◌, if◌then◌else◌, List, [], ◌∷◌, ◌++◌, length, filter, count_by, min, Option, Some, None}
-use Rattle.std.specs.List.{flat_map}
+use Rattle.std.specs.List.{flat_map, list_any}
 use Rattle.std.specs.Ordering.{nat_cmp, eq_by_cmp}
 use Rattle.gnb_types.specs.declared.names.UeId.{UeId}
 use Rattle.gnb_types.specs.declared.names.BearerId.{BearerId}
 use Rattle.gnb_types.specs.declared.keys.TunnelEnd.{TunnelEnd}
 use Rattle.gnb_types.specs.declared.keys.EntityKey.{EntityKey}
-use Rattle.gnb_types.specs.Orders.{entity_cmp}
-use Rattle.tables.specs.Tables.{find}
-use Rattle.run_defs.specs.Lines.{Letter}
-
-pub record Item (X : Type 0) : Type 0 where
-  pub key : EntityKey
-  pub count : Option ℕ
-  pub content : X
+use Rattle.gnb_types.specs.Orders.{ue_cmp, entity_cmp}
+use Rattle.tables.specs.Tables.{find, put, without}
+use Rattle.transport_defs.specs.declared.Letter.{Letter}
+use Rattle.transport_defs.specs.declared.Item.{Item}
 
 -- ---- control messages: message n is the n-th put
 
@@ -40,6 +36,9 @@ letter bag number = find nat_cmp bag.letters number
 unfoldable pub landed : {M : Type 0} → Bag M → ℕ → Bag M
 landed bag number = record bag { flight = filter (λ n. not (n == number)) bag.flight }
 
+abbrev pub is_in : ℕ → List ℕ → Bool
+is_in number numbers = list_any (λ n. n == number) numbers
+
 abbrev pub is_of : {M : Type 0} → ℕ → Option (Letter M) → Bool
 is_of ue None = false
 is_of ue (Some l) = l.ue == ue
@@ -55,6 +54,19 @@ pub record Radio (P : Type 0) : Type 0 where
 
 abbrev pub silent : {P : Type 0} → Radio P
 silent = record { items = []; carried = 0 }
+
+-- what stands on a radio is lost; a radio on which nothing was ever put, or lost, has no entry
+abbrev pub emptied : {P : Type 0} → List (EntityKey × Radio P) → EntityKey → List (EntityKey × Radio P)
+emptied radios key = without entity_cmp radios key
+
+-- the epoch in which the radios of a terminal are connected, if they are
+abbrev pub is_epoch : Option ℕ → ℕ → Bool
+is_epoch None epoch = false
+is_epoch (Some connected) epoch = connected == epoch
+
+abbrev pub connect : List (UeId × ℕ) → UeId → Option ℕ → List (UeId × ℕ)
+connect connected ue None = without ue_cmp connected ue
+connect connected ue (Some epoch) = put ue_cmp connected ue epoch
 
 abbrev pub nth : {X : Type 0} → List X → ℕ → Option X
 nth [] n = None
@@ -75,10 +87,25 @@ tunnel_counts key tunnels = flat_map (λ e. flat_map (counts_of key) e.1) tunnel
 abbrev pub radio_counts : {P : Type 0} → EntityKey → List (EntityKey × Radio P) → List ℕ
 radio_counts key radios = flat_map (λ e. flat_map (counts_of key) e.1.items) radios
 
+-- the items of a bearer and direction
+abbrev pub items_of : {X : Type 0} → EntityKey → List (Item X) → List (Item X)
+items_of key items = filter (λ i. eq_by_cmp entity_cmp i.key key) items
+
+abbrev pub tunnel_items : {L : Type 0} → EntityKey → List (TunnelEnd × List (Item L)) → List (Item L)
+tunnel_items key tunnels = flat_map (λ e. items_of key e.1) tunnels
+
+abbrev pub radio_items : {P : Type 0} → EntityKey → List (EntityKey × Radio P) → List (Item P)
+radio_items key radios = flat_map (λ e. items_of key e.1.items) radios
+
 -- the least of numbers, and this one
 abbrev pub least : ℕ → List ℕ → ℕ
 least n [] = n
 least n (m ∷ ms) = least (min n m) ms
+
+-- the least of numbers, if there are any
+abbrev pub least_of : List ℕ → Option ℕ
+least_of [] = None
+least_of (n ∷ ns) = Some (least n ns)
 
 -- an item of a bearer stands there
 abbrev pub is_of_bearer : {X : Type 0} → UeId → BearerId → Item X → Bool

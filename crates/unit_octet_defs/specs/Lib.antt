@@ -1,0 +1,4 @@
+pub mod Codec
+pub mod Writing
+pub mod Reading
+pub mod Units
