@@ -109,6 +109,13 @@ bits_of-zero (suc width) =
     let none : 0 / 2 ^ width ≡ 0 = zero-div (2 ^ width) in
     ap (λ (m : ℕ). eqb (m % 2) 1 ∷ bits_of width 0) none ∙ ap (λ (bits : List Bool). false ∷ bits) (bits_of-zero width)
 
+-- 0 is the number of zeros alone
+pub only_zeros : (bits : List Bool) → number_of bits ≡ 0 → bits ≡ zeros (length bits)
+only_zeros bits none = sym (bits_of-number_of bits) ∙ ap (bits_of (length bits)) none ∙ bits_of-zero (length bits)
+
+pub number_of-zeros : (count : ℕ) → number_of (zeros count) ≡ 0
+number_of-zeros count = ap number_of (sym (bits_of-zero count)) ∙ number_is count 0 (pow_pos count)
+
 -- ---- octets
 pub length-octet_bits : (octets : List ℕ) → length (octet_bits octets) ≡ 8 * length octets
 length-octet_bits [] = refl

@@ -1,12 +1,12 @@
 -- A bit reader's steps.
-use Rattle.std.proofs.Common.{◌≡◌, ◌≢◌, ℕ, ◌+◌, ◌-◌, ◌*◌, ◌/◌, ◌%◌, ◌^◌, ◌<◌, ◌≤◌, Bool, List, length, get_or, take, drop, sym, ap, ◌∙◌, arith}
+use Rattle.std.proofs.Common.{◌≡◌, ℕ, ◌+◌, ◌-◌, ◌*◌, ◌/◌, ◌%◌, ◌^◌, ◌<◌, ◌≤◌, Bool, List, length, get_or, take, drop, sym, ap, ◌∙◌, arith}
 use Rattle.std.proofs.lemmas.List.{length-take, length-drop, drop-drop}
 use Rattle.std.proofs.Math.Seq.{take-add}
 use Rattle.std.proofs.Math.Nat.{pow-le-pow_right, div-one}
-use Rattle.std.proofs.lemmas.Nat.{pow_pos, shl_whole}
-use Rattle.bits_core.specs.Bits.{bits_of, number_of, octet_bits, zeros, pad_of}
-use Rattle.bits_core.specs.Reading.{Reading, bits_left, moved, pad_left}
-use Rattle.bits_core.proofs.BitLemmas.{number_is, bits_of-mod, number_of-bits_of, number_of-append, number_small, bits_of-zero, length-octet_bits, within_octet, part_of_octet}
+use Rattle.std.proofs.lemmas.Nat.{shl_whole}
+use Rattle.bits_core.specs.Bits.{bits_of, number_of, octet_bits, pad_of}
+use Rattle.bits_core.specs.Reading.{Reading, bits_left, moved, pad_number}
+use Rattle.bits_core.proofs.BitLemmas.{number_of-bits_of, number_of-append, number_small, length-octet_bits, within_octet, part_of_octet}
 
 pub left_length : (r : Reading) → length (bits_left r) ≡ 8 * length r.octets - r.place
 left_length r = omega (arith, length-drop r.place (octet_bits r.octets), length-octet_bits r.octets)
@@ -96,36 +96,21 @@ pub number_fits : (bits : List Bool) (total number : ℕ) → number ≡ number_
 number_fits bits total number e fits = omega (arith, e, taken_small bits total, pow-le-pow_right {n = 2} (omega arith) fits)
 
 -- ---- pads
-pad_bits : (octets : List ℕ) (place pad : ℕ) (r : Reading) → record { octets = octets; place = place } ≡ r → place / 8 < length octets
-    → place % 8 + pad ≡ 8
-    → pad ≡ pad_of place → pad_left r ≡ bits_of pad (get_or octets (place / 8) 0)
-pad_bits octets place pad r is h size e =
+pub pad_number_is : (octets : List ℕ) (place pad : ℕ) (r : Reading) → record { octets = octets; place = place } ≡ r
+    → place / 8 < length octets → place % 8 + pad ≡ 8
+    → pad ≡ pad_of place → pad_number r ≡ get_or octets (place / 8) 0 % 2 ^ pad
+pad_number_is octets place pad r is h size e =
     let none : 8 - place % 8 - pad ≡ 0 = omega (arith, size) in
-    sym (ap pad_left is) ∙ ap (λ (n : ℕ). take n (drop place (octet_bits octets))) (sym e)
-    ∙ bits_here octets place pad h (omega (arith, size))
-    ∙ ap (λ (n : ℕ). bits_of pad (get_or octets (place / 8) 0 / 2 ^ n)) none ∙ ap (bits_of pad) (div-one (get_or octets (place / 8) 0))
+    sym (ap pad_number is) ∙ ap (λ (n : ℕ). number_of (take n (drop place (octet_bits octets)))) (sym e)
+    ∙ number_here octets place pad h (omega (arith, size))
+    ∙ ap (λ (n : ℕ). get_or octets (place / 8) 0 / 2 ^ n % 2 ^ pad) none
+    ∙ ap (λ (n : ℕ). n % 2 ^ pad) (div-one (get_or octets (place / 8) 0))
 
--- the bits are zeros where their number is 0, and only there
-zero_bits : (o pad : ℕ) → o % 2 ^ pad ≡ 0 → bits_of pad o ≡ zeros pad
-zero_bits o pad none = sym (bits_of-mod pad o) ∙ ap (bits_of pad) none ∙ bits_of-zero pad
-
-only_zero_bits : (o pad : ℕ) → bits_of pad o ≡ zeros pad → o % 2 ^ pad ≡ 0
-only_zero_bits o pad e =
-    sym (number_of-bits_of pad o) ∙ ap number_of (e ∙ sym (bits_of-zero pad)) ∙ number_is pad 0 (pow_pos pad)
-
-pub pad_is_zeros : (octets : List ℕ) (place pad : ℕ) (r : Reading) → record { octets = octets; place = place } ≡ r
-    → place / 8 < length octets → place % 8 + pad ≡ 8
-    → pad ≡ pad_of place → get_or octets (place / 8) 0 % 2 ^ pad ≡ 0 → pad_left r ≡ zeros (pad_of r.place)
-pad_is_zeros octets place pad r is h size e none =
-    pad_bits octets place pad r is h size e ∙ zero_bits (get_or octets (place / 8) 0) pad none
-    ∙ ap zeros (e ∙ ap (λ (s : Reading). pad_of s.place) is)
-
-pub pad_is_no_zeros : (octets : List ℕ) (place pad : ℕ) (r : Reading) → record { octets = octets; place = place } ≡ r
-    → place / 8 < length octets → place % 8 + pad ≡ 8
-    → pad ≡ pad_of place → get_or octets (place / 8) 0 % 2 ^ pad ≢ 0 → pad_left r ≢ zeros (pad_of r.place)
-pad_is_no_zeros octets place pad r is h size e some = λ (zero : pad_left r ≡ zeros (pad_of r.place)).
-    some (only_zero_bits (get_or octets (place / 8) 0) pad
-    (sym (pad_bits octets place pad r is h size e) ∙ zero ∙ sym (ap zeros (e ∙ ap (λ (s : Reading). pad_of s.place) is))))
+-- no pad is left where the place is a multiple of 8
+pub no_pad : (octets : List ℕ) (place : ℕ) (r : Reading) → record { octets = octets; place = place } ≡ r → place % 8 ≡ 0 → pad_number r ≡ 0
+no_pad octets place r is whole =
+    let none : pad_of place ≡ 0 = omega (arith, whole) in
+    sym (ap pad_number is) ∙ ap (λ (n : ℕ). number_of (take n (drop place (octet_bits octets)))) none
 
 pub moved_pad : (octets : List ℕ) (place pad : ℕ) (r : Reading) → record { octets = octets; place = place } ≡ r → pad ≡ pad_of place
     → (let next : Reading = record { octets = octets; place = place + pad } in next) ≡ moved r (pad_of r.place)

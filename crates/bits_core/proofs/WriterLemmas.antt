@@ -1,6 +1,7 @@
 -- A bit writer's steps.
 use Rattle.std.proofs.Common.{◌≡◌, ℕ, ◌+◌, ◌-◌, ◌*◌, ◌/◌, ◌%◌, ◌^◌, ◌<◌, ◌≤◌, Bool, false, Result, List, [], ◌∷◌, ◌++◌, length, refl, sym, ap, ◌∙◌, subst, arith, append_assoc, append-nil, add-zero}
 use Rattle.std.proofs.lemmas.List.{length-append}
+use Rattle.std.proofs.lemmas.Grind.{flat_map-append}
 use Rattle.std.proofs.lemmas.Nat.{pow-add, pow_pos, mul-add-lt, shl_whole, mod_below}
 use Rattle.bits_core.specs.declared.writer.BitWriter.TheInside.{Inside}
 use Rattle.bits_core.specs.Bits.{bits_of, octet_bits, zeros, pad_of}
@@ -116,3 +117,16 @@ pub aligned : (w : Inside) (old new : Written) (result : Result (Unit {0}) Memor
     → Puts old new (bits_of ((8 - w.used) % 8) 0) result → Puts old new (zeros (pad_of (length old.bits))) result
 aligned w old new result is h puts =
     subst (λ (bits : List Bool). Puts old new bits result) (bits_of-zero ((8 - w.used) % 8) ∙ ap zeros (sym (pad_is w old is h))) puts
+
+-- whole octets after whole ones
+pub none_begun : (w : Inside) (old : Written) → written_of w ≡ old → w.used < 8 → length old.bits % 8 ≡ 0 → w.used ≡ 0
+none_begun w old is h whole = omega (arith, used_bits w old is h)
+
+pub octets_put : (w : Inside) (old : Written) (octets new : List ℕ) → written_of w ≡ old → w.used ≡ 0 → new ≡ w.octets.items ++ octets
+    → octet_bits new ++ bits_of w.used w.last ≡ old.bits ++ octet_bits octets
+octets_put w old octets new is none e =
+    let last : bits_of w.used w.last ≡ [] = ap (λ (n : ℕ). bits_of n w.last) none ∙ no_bits w.last in
+    let so_far : octet_bits w.octets.items ≡ old.bits =
+    sym (append-nil (octet_bits w.octets.items)) ∙ ap (λ (xs : List Bool). octet_bits w.octets.items ++ xs) (sym last) ∙ ap (λ (o : Written). o.bits) is in
+    ap (λ (xs : List Bool). octet_bits new ++ xs) last ∙ append-nil (octet_bits new)
+    ∙ ap octet_bits e ∙ flat_map-append (bits_of 8) w.octets.items octets ∙ ap (λ (xs : List Bool). xs ++ octet_bits octets) so_far

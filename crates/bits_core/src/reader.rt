@@ -1,6 +1,6 @@
 //! Bits out of octets.
 
-ghost use Rattle.std.specs.Prelude.{◌≡◌, ◌<◌, ◌≤◌, ◌^◌, length, take};
+ghost use Rattle.std.specs.Prelude.{◌≡◌, ◌*◌, ◌%◌, ◌<◌, ◌≤◌, ◌^◌, length, take, MatchResult};
 ghost use Rattle.bits_core.specs.Bits.{number_of};
 
 use crate::low::low_bits;
@@ -35,7 +35,7 @@ impl<'a> Model for BitReader<'a> {
 }
 
 impl<'a> BitReader<'a> {
-    ghost use Rattle.bits_core.specs.Reading.{Reading, bits_left, moved, TakesBits, SkipsPad};
+    ghost use Rattle.bits_core.specs.Reading.{Reading, bits_left, moved, TakesBits, SkipsPad, TakesRun, LacksOctets};
 
     /// A reader at the first bit of these octets.
     pub fn new(octets: &'a [u8]) -> BitReader<'a>
@@ -45,9 +45,20 @@ impl<'a> BitReader<'a> {
         BitReader { octets, place: 0 }
     }
 
-    /// The number of the next bit, from 0.
+    /// A reader at the bit with this number, from 0.
+    pub fn at(octets: &'a [u8], place: u64) -> BitReader<'a>
+        requires length { length octets.now < 2 ^ 61 }
+        requires place { place ≤ 8 * length octets.now }
+        ensures { result ≡ record { octets = octets.now; place = place } }
+    {
+        BitReader { octets, place }
+    }
+
+    /// The number of the next bit, from 0. It is never past the last one.
     pub fn place(&self) -> u64
-        ensures { result ≡ self.now.place }
+        ensures place { result ≡ self.now.place }
+        ensures within { result ≤ 8 * length self.now.octets }
+        ensures short { length self.now.octets < 2 ^ 61 }
     {
         self.place
     }
@@ -85,6 +96,21 @@ impl<'a> BitReader<'a> {
         }
         self.place += u64::from(8 - used);
         Ok(())
+    }
+
+    /// The next octets as they stand, from the beginning of one on. It takes no memory.
+    pub fn take_octets(&mut self, count: usize) -> Result<&'a [u8], BitError>
+        requires { self.old.place % 8 ≡ 0 }
+        ensures { MatchResult result
+            (λ octets. TakesRun self.old self.new count octets.now) (λ e. LacksOctets self.old self.new count e) }
+    {
+        let whole = self.octets;
+        let start = (self.place / 8) as usize;
+        if whole.len() - start < count {
+            return Err(BitError::Short);
+        }
+        self.place += 8 * count as u64;
+        Ok(&whole[start..start + count])
     }
 
     /// The next bits of one octet as a number, at most so many, and how many they are.

@@ -105,3 +105,31 @@ fn widest_field_and_refusals(rt: HostRuntime) -> Result<(), Fail> {
     assert_eq!(rt; reader.place(), 72);
     Ok(())
 }
+
+/// Octets put as a slice, then three bits; then octets taken from each of these places: the octet's number, how many, and which.
+#[test]
+fn whole_octets(rt: HostRuntime) -> Result<(), Fail> {
+    let mut writer = BitWriter::new(rt.alloc());
+    writer.put_octets(b"per")?;
+    writer.put_bits(5, 3)?;
+    let octets = writer.finish();
+    assert_eq!(rt; octets.as_slice(), b"per\xa0".as_slice());
+    let cases: [(u64, usize, Option<&[u8]>); 6] = [
+        (0, 3, Some(b"per")),
+        (1, 2, Some(b"er")),
+        (3, 1, Some(b"\xa0")),
+        (3, 2, None),
+        (4, 0, Some(b"")),
+        (4, 1, None),
+    ];
+    for (start, count, found) in cases {
+        assert!(rt; start <= 4);
+        assert!(rt; octets.len() == 4);
+        let mut reader = BitReader::at(octets.as_slice(), 8 * start);
+        assert!(rt; reader.take_octets(count).ok() == found);
+        let taken = if found.is_some() { count } else { 0 };
+        assert!(rt; taken < 5);
+        assert_eq!(rt; reader.place(), 8 * (start + taken as u64));
+    }
+    Ok(())
+}

@@ -1,6 +1,6 @@
 //! Bits into octets.
 
-ghost use Rattle.std.specs.Prelude.{◌≡◌, ◌<◌, ◌≤◌, ◌^◌, ◌++◌, [], false, length, OnOk, OnErr, vec_len};
+ghost use Rattle.std.specs.Prelude.{◌≡◌, ◌%◌, ◌<◌, ◌≤◌, ◌^◌, ◌++◌, [], false, length, OnOk, OnErr, vec_len};
 ghost use Rattle.std.specs.Vec.{vec_capacity};
 ghost use Rattle.bits_core.specs.Bits.{bits_of, octet_bits, zeros, pad_of};
 
@@ -60,6 +60,21 @@ impl BitWriter {
         let mut left = width;
         while left > 0 {
             left = self.put_some(value, left)?;
+        }
+        Ok(())
+    }
+
+    /// Puts whole octets where the bits so far are whole octets too.
+    pub fn put_octets(&mut self, octets: &[u8]) -> Result<(), Memory>
+        requires { length self.old.bits % 8 ≡ 0 }
+        ensures { Puts self.old self.new (octet_bits octets.now) result }
+    {
+        if self.failed {
+            return Err(Memory);
+        }
+        if self.octets.extend_from_slice(octets).is_err() {
+            self.failed = true;
+            return Err(Memory);
         }
         Ok(())
     }

@@ -1,0 +1,12 @@
+pub mod Trees
+pub mod Values
+pub mod Numbers
+pub mod Fields
+pub mod Bits
+pub mod Parts
+pub mod Layouts
+pub mod Membership
+pub mod Spelling
+pub mod Questions
+pub mod Asking
+pub mod Reading

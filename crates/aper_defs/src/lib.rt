@@ -1,0 +1,7 @@
+//! Definitions alone: values of a module's types, and their one spelling in the aligned variant of the packed encoding rules
+//! (BASIC-PER, ITU-T X.691).
+#![tactic(auto)]
+
+mod reason;
+
+pub use reason::Reason;
