@@ -1,6 +1,6 @@
 -- The pool of packets: each packet under its key, by a reference. A reference is held by who was given it, or lies at a parked
 -- place. A key has a quota, which its packets never pass; the quotas together never pass the blocks.
-use Rattle.std.specs.Prelude.{◌≡◌, ◌==◌, ℕ, ◌+◌, ◌<◌, ◌≤◌, Bool, List, [], ◌∷◌, length, Option, Some, None, IsSome, if◌then◌else◌}
+use Rattle.std.specs.Prelude.{◌≡◌, ◌==◌, ℕ, ◌≤◌, Bool, List, [], ◌∷◌, length, Option, Some, None, IsSome, if◌then◌else◌}
 use Rattle.std.specs.Ordering.{nat_cmp, eq_by_cmp}
 use Rattle.std.specs.List.{count_by, sum, list_any, AllByRecursion}
 use Rattle.std.specs.Map.{values_of}
