@@ -28,6 +28,7 @@ impl Block {
     }
 
     /// The free block after this one.
+    #[tactic(auto, unfolding(crate::specs::inside::Regions::link))]
     fn next(&self) -> u32
         ensures { result ≡ link self.now.octets }
     {
@@ -40,6 +41,7 @@ impl Block {
         u32::from_le_bytes([a, b, c, d])
     }
 
+    #[tactic(auto, unfolding(crate::specs::inside::Regions::link))]
     fn set_next(&mut self, next: u32)
         ensures { link self.new.octets ≡ next }
     {

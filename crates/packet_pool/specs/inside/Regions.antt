@@ -4,7 +4,7 @@ use Rattle.std.specs.List.{AllByRecursion}
 use Rattle.std.specs.Int.{from_le_bytes, w32}
 use Rattle.packet_pool.specs.declared.region.Block.{Block}
 
-abbrev pub link : List ℕ → ℕ
+unfoldable pub link : List ℕ → ℕ
 link octets = from_le_bytes w32 octets
 
 abbrev pub octets_of : Option Block → List ℕ
