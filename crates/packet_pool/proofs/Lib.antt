@@ -1,1 +1,2 @@
 mod RegionLemmas
+mod AccountLemmas

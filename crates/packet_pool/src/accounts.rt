@@ -27,6 +27,11 @@ pub enum QuotaError {
 }
 
 impl From<Memory> for QuotaError {
+    ghost use Rattle.std.specs.Prelude.{◌≡◌};
+    ghost use Rattle.packet_pool.specs.declared.accounts.QuotaError.TheVariants.{Memory as OutOfMemory};
+
+    ghost from_gives = { λ _ error. error ≡ OutOfMemory };
+
     fn from(_error: Memory) -> QuotaError {
         QuotaError::Memory
     }
@@ -110,9 +115,10 @@ impl Accounts {
         ensures quotas { self.new.quotas ≡ without entity_cmp self.old.quotas key.now }
         ensures used { self.new.used ≡ without entity_cmp self.old.used key.now }
     {
-        if let Some(account) = self.table.take(key) {
-            self.reserved -= account.quota;
-        }
+        let Some(account) = self.table.take(key) else {
+            return;
+        };
+        self.reserved -= account.quota;
     }
 
     /// Counts one more block of a key as used.
@@ -125,10 +131,14 @@ impl Accounts {
         ensures err { OnErr result (self.new ≡ self.old) }
         ensures refused { OnErr result (at entity_cmp 0 self.old.used key.now ≡ at entity_cmp 0 self.old.quotas key.now) }
     {
-        match self.table.get_mut(key) {
-            Some(account) => account.charge(),
-            None => Err(QuotaUsed),
+        let Some(account) = self.table.get_mut(key) else {
+            return Err(QuotaUsed);
+        };
+        if account.used >= account.quota {
+            return Err(QuotaUsed);
         }
+        account.used += 1;
+        Ok(())
     }
 
     /// Counts one block of a key less as used.
@@ -138,24 +148,9 @@ impl Accounts {
         ensures used { self.new.used ≡ put entity_cmp self.old.used key.now (at entity_cmp 0 self.old.used key.now - 1) }
         ensures whole { total self.new.used + 1 ≡ total self.old.used }
     {
-        if let Some(account) = self.table.get_mut(key) {
-            account.used -= 1;
-        }
-    }
-}
-
-impl Account {
-    fn charge(&mut self) -> Result<(), QuotaUsed>
-        ensures quota { self.new.quota ≡ self.old.quota }
-        ensures ok { OnOk result (self.new.used ≡ self.old.used + 1) }
-        ensures room { OnOk result (self.old.used < self.old.quota) }
-        ensures err { OnErr result (self.new ≡ self.old) }
-        ensures refused { OnErr result (self.old.quota ≤ self.old.used) }
-    {
-        if self.used >= self.quota {
-            return Err(QuotaUsed);
-        }
-        self.used += 1;
-        Ok(())
+        let Some(account) = self.table.get_mut(key) else {
+            return;
+        };
+        account.used -= 1;
     }
 }

@@ -1,5 +1,5 @@
 -- Internal: the accounts as two tables, what each key may use and what it uses.
-use Rattle.std.specs.Prelude.{◌≡◌, ℕ, ◌≤◌, List, [], ◌∷◌}
+use Rattle.std.specs.Prelude.{◌≡◌, ℕ, ◌<◌, ◌≤◌, ◌^◌, List, [], ◌∷◌}
 use Rattle.std.specs.List.{AllByRecursion, sum}
 use Rattle.std.specs.Map.{values_of}
 use Rattle.gnb_types.specs.declared.keys.EntityKey.{EntityKey}
@@ -24,3 +24,4 @@ pub record AreAccounts (m : List (EntityKey × Account)) (reserved : ℕ) : Type
   pub sorted : IsSorted entity_cmp m
   pub within : AllByRecursion (λ e. e.1.used ≤ e.1.quota) m
   pub together : reserved ≡ total (quotas_of m)
+  pub small : reserved < 2 ^ 32
