@@ -206,3 +206,20 @@ quota_small m r k a accounts found = omega (arith, closed_total m k a accounts.s
 pub quota_reserved : (m : List (EntityKey × Account)) (r : ℕ) (k : EntityKey) (a : Account) → AreAccounts m r → find entity_cmp m k ≡ Some a
     → a.quota ≤ r
 quota_reserved m r k a accounts found = omega (arith, closed_total m k a accounts.sorted found, accounts.together)
+
+pub opened_total : (m : List (EntityKey × Account)) (r : ℕ) (f : Account → ℕ) (k : EntityKey) (new : Account) → AreAccounts m r
+    → find entity_cmp m k ≡ None → total (map_values f (put entity_cmp m k new)) ≡ total (map_values f m) + f new
+opened_total m r f k new accounts none =
+    let sums : total (map_values f (put entity_cmp m k new)) + at entity_cmp 0 (map_values f m) k ≡ total (map_values f m) + f new =
+    ap (λ (t : List (EntityKey × ℕ)). total t + at entity_cmp 0 (map_values f m) k) (sym (put-mapped entity_cmp f m k new))
+    ∙ total_put (map_values f m) k (f new) (sorted_mapped f m accounts.sorted) in
+    omega (arith, sums, at_none f m k none)
+
+pub quotas_sorted : (m : List (EntityKey × Account)) (r : ℕ) → AreAccounts m r → IsSorted entity_cmp (quotas_of m)
+quotas_sorted m r accounts = sorted_mapped (λ a. a.quota) m accounts.sorted
+
+pub released_total : (m : List (EntityKey × Account)) (r : ℕ) (f : Account → ℕ) (k : EntityKey) → AreAccounts m r
+    → total (map_values f (without entity_cmp m k)) + at entity_cmp 0 (map_values f m) k ≡ total (map_values f m)
+released_total m r f k accounts =
+    ap (λ (t : List (EntityKey × ℕ)). total t + at entity_cmp 0 (map_values f m) k) (sym (without-mapped entity_cmp f m k))
+    ∙ total_without (map_values f m) k (sorted_mapped f m accounts.sorted)

@@ -1,2 +1,3 @@
 mod RegionLemmas
 mod AccountLemmas
+mod EntryLemmas

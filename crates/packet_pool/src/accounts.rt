@@ -2,7 +2,7 @@
 
 ghost use Rattle.std.specs.Prelude.{◌≡◌, ◌+◌, ◌-◌, ◌<◌, ◌≤◌, [], None, OnOk, OnErr};
 ghost use Rattle.gnb_types.specs.Orders.{entity_cmp};
-ghost use Rattle.tables.specs.Tables.{find, put, without, at};
+ghost use Rattle.tables.specs.Tables.{find, put, without, at, IsSorted};
 ghost use Rattle.packet_pool.specs.inside.Accounts.{total};
 
 use gnb_types::items::Memory;
@@ -98,6 +98,9 @@ impl Accounts {
         ensures quotas { OnOk result (self.new.quotas ≡ put entity_cmp self.old.quotas key n) }
         ensures used { OnOk result (self.new.used ≡ put entity_cmp self.old.used key 0) }
         ensures room { OnOk result (total self.old.quotas + n ≤ blocks) }
+        ensures sorted { OnOk result (IsSorted entity_cmp self.new.quotas) }
+        ensures whole { OnOk result (total self.new.quotas ≡ total self.old.quotas + n) }
+        ensures same { OnOk result (total self.new.used ≡ total self.old.used) }
         ensures err { OnErr result (self.new ≡ self.old) }
         ensures no_quota { result ≡ Err QuotaError.NoQuota → blocks < total self.old.quotas + n }
         ensures refused { blocks < total self.old.quotas + n → result ≡ Err QuotaError.NoQuota }
@@ -112,8 +115,12 @@ impl Accounts {
 
     /// Closes the account of a key.
     pub fn release(&mut self, key: &EntityKey)
+        requires { at entity_cmp 0 self.old.used key.now ≡ 0 }
         ensures quotas { self.new.quotas ≡ without entity_cmp self.old.quotas key.now }
         ensures used { self.new.used ≡ without entity_cmp self.old.used key.now }
+        ensures sorted { IsSorted entity_cmp self.new.quotas }
+        ensures whole { total self.new.quotas ≤ total self.old.quotas }
+        ensures same { total self.new.used ≡ total self.old.used }
     {
         let Some(account) = self.table.take(key) else {
             return;

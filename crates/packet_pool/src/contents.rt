@@ -22,9 +22,18 @@ pub fn octets<'a>(region: &'a Region, contents: &Vec<Option<Content>>, block: u3
     requires stored { IsSome (content_at contents.now.items block) }
     ensures { option_map (λ packet. packet.bytes) (stored_in region.now.blocks contents.now.items block) ≡ Some result.now }
 {
+    match content_of(contents, block) {
+        Some(content) => region.read(block, content.len as usize),
+        None => &[],
+    }
+}
+
+fn content_of(contents: &Vec<Option<Content>>, block: u32) -> Option<Content>
+    ensures { result ≡ content_at contents.now.items block }
+{
     match contents.as_slice().get(block as usize) {
-        Some(Some(content)) => region.read(block, content.len as usize),
-        _ => &[],
+        Some(content) => *content,
+        None => None,
     }
 }
 

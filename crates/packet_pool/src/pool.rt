@@ -140,9 +140,10 @@ impl Pool {
         ensures taken { self.new ≡ without_packet self.old r }
     {
         let Ref { block } = r;
-        if let Some(content) = self.contents[block as usize].take() {
-            self.accounts.discharge(&content.key);
-        }
+        let Some(content) = self.contents[block as usize].take() else {
+            return;
+        };
+        self.accounts.discharge(&content.key);
         self.region.give_back(block);
     }
 

@@ -4,7 +4,7 @@ use Rattle.std.specs.List.{count_by}
 use Rattle.std.specs.Map.{values_of}
 use Rattle.gnb_types.specs.declared.keys.EntityKey.{EntityKey}
 use Rattle.gnb_types.specs.Orders.{entity_cmp}
-use Rattle.tables.specs.Tables.{at}
+use Rattle.tables.specs.Tables.{at, IsSorted}
 use Rattle.pool_defs.specs.Pools.{Stored, PoolState, is_of}
 use Rattle.packet_pool.specs.declared.contents.Content.{Content}
 use Rattle.packet_pool.specs.inside.Contents.{content_at, stored_in, place_in}
@@ -24,12 +24,15 @@ entries f first (suc n) = entry_before first (f first) (entries f (suc first) n)
 abbrev pub refs_of : List Block → List (Option Content) → List (ℕ × Stored)
 refs_of blocks contents = entries (stored_in blocks contents) 0 (length contents)
 
+abbrev pub places_of : List (Option Content) → List (ℕ × ℕ)
+places_of contents = entries (place_in contents) 0 (length contents)
+
 abbrev pub state : RegionState → List (Option Content) → AccountsState → PoolState
 state region contents accounts = record {
   blocks = length contents;
   quotas = accounts.quotas;
   refs = refs_of region.blocks contents;
-  parked = entries (place_in contents) 0 (length contents);
+  parked = places_of contents;
 }
 
 -- how often the list of free blocks names a block: once where nothing is in it
@@ -47,3 +50,5 @@ pub record IsTied (region : RegionState) (contents : List (Option Content)) (acc
   pub whole : total accounts.used + length region.free ≡ length contents
   pub fits : total accounts.quotas ≤ length contents
   pub limit : length contents ≤ 65536
+  pub sorted : IsSorted entity_cmp accounts.quotas
+  pub within : (key : EntityKey) → at entity_cmp 0 accounts.used key ≤ at entity_cmp 0 accounts.quotas key
