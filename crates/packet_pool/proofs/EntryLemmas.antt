@@ -22,9 +22,9 @@ is_here k n same = ap (λ (m : ℕ). is_at (nat_cmp k) m) (sym same) ∙ ap is_e
 not_here : (k n : ℕ) → k ≢ n → is_at (nat_cmp k) n ≡ false
 not_here k n other = other_key numbers_ordered k n other
 
-sorted_none : {X : Type 0} → IsSorted {X = X} nat_cmp []
+sorted_none : (X : Type 0) → IsSorted {X = X} nat_cmp []
 unfolding IsStrictlySortedBy
-sorted_none = tt
+sorted_none X = tt
 
 module _ {X : Type 0} where
   -- ---- look-ups
@@ -159,7 +159,7 @@ module _ {X : Type 0} where
 
   pub entries_sorted : (f : ℕ → Option X) (first n : ℕ) → IsSorted nat_cmp (entries f first n)
   unfolding entries
-  entries_sorted f first zero = sorted_none
+  entries_sorted f first zero = sorted_none X
   entries_sorted f first (suc n) =
       sorted_one first (f first) (entries f (suc first) n) (entries_sorted f (suc first) n)
       (λ v. put_below f (suc first) n first v (omega arith))
