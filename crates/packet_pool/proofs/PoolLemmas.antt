@@ -1,7 +1,8 @@
 -- The pool as its parts: what the parts say of a reference or a place, and what a change of one block is to the pool.
 use Rattle.std.proofs.Common.{◌≡◌, ◌≢◌, ◌==◌, ℕ, zero, suc, ◌+◌, ◌-◌, ◌<◌, ◌≤◌, min, Bool, true, false, cond, List, [], ◌∷◌, length, take, Option, Some, None, refl, sym, ap, ◌∙◌, subst, true≢false, eqb-true, set, length-set, arith}
 use Rattle.std.specs.Prelude.{IsSome, IfSome, is_some, slice_get, nat_le}
-use Rattle.std.specs.Ordering.{nat_cmp, eq_by_cmp}
+use Rattle.std.specs.Ordering.{nat_cmp, eq_by_cmp, is_eq}
+use Rattle.std.specs.Cmp.{tied_itself, Equal-is}
 use Rattle.std.specs.List.{AllByRecursion, count_by, sum, list_any}
 use Rattle.std.specs.Map.{values_of}
 use Rattle.std.proofs.lemmas.Bool.{eqb-false}
@@ -14,8 +15,8 @@ use Rattle.gnb_types.specs.Orders.{entity_cmp}
 use Rattle.gnb_types.proofs.OrderLemmas.{entity_total, entity_exact}
 use Rattle.tables.specs.Tables.{find, put, without, at, IsSorted, IsKeyOrder}
 use Rattle.tables.proofs.TableLaws.{at-put, at-without, other_key, sorted-put, sorted-without}
-use Rattle.pool_defs.specs.Pools.{Stored, PoolState, is_of, used, quota, reserved, is_parked, packet_of, packet_by, packet_at, AreApart, IsPool}
-use Rattle.pool_defs.proofs.PoolLaws.{found_parked, held_apart, held_packet}
+use Rattle.pool_defs.specs.Pools.{Stored, PoolState, is_of, used, quota, reserved, is_parked, packet_of, packet_by, packet_at, with_packet, without_packet, AreApart, IsPool}
+use Rattle.pool_defs.proofs.PoolLaws.{found_parked, held_apart, held_packet, same_number, used_put, used_take}
 use Rattle.packet_pool.specs.declared.region.Block.{Block}
 use Rattle.packet_pool.specs.declared.contents.Content.{Content}
 use Rattle.packet_pool.specs.inside.Regions.{RegionState, octets_at}
@@ -208,4 +209,269 @@ pool_sound region contents accounts tied =
         same_some (sym has ∙ stored_is contents region.blocks k there.0 there.1) in
         let size : length s.bytes ≡ min there.0.len (length (octets_at region.blocks k)) =
         ap (λ (s : Stored). length s.bytes) is ∙ length-take there.0.len (octets_at region.blocks k) in
+        omega arith
+
+-- ---- one block changes
+
+module _ (blocks new : List Block) (contents : List (Option Content)) (b : ℕ) (within : b < length contents)
+    (others : (n : ℕ) → n ≢ b → octets_at new n ≡ octets_at blocks n) where
+  stored_others : (v : Option Content) (n : ℕ) → n ≢ b → stored_in new (set contents b v) n ≡ stored_in blocks contents n
+  unfolding stored_in
+  stored_others v n other =
+      ap (λ (o : List ℕ). stored_from o (content_at (set contents b v) n)) (others n other)
+      ∙ ap (stored_from (octets_at blocks n)) (content_set_other contents b v n other)
+
+  sized_same : (v : Option Content) → length (set contents b v) ≡ length contents
+  sized_same v = length-set contents b v
+
+  pub refs_put : (c : Content) → refs_of new (set contents b (Some c))
+      ≡ put nat_cmp (refs_of blocks contents) b (record { key = c.key; bytes = take c.len (octets_at new b) })
+  refs_put c =
+      ap (entries (stored_in new (set contents b (Some c))) 0) (sized_same (Some c))
+      ∙ entries_put (stored_in blocks contents) (stored_in new (set contents b (Some c))) b (stored_others (Some c))
+        (record { key = c.key; bytes = take c.len (octets_at new b) })
+        (stored_is (set contents b (Some c)) new b c (content_set contents b (Some c) within))
+        0 (length contents) (omega arith) (omega arith)
+
+  pub refs_without : refs_of new (set contents b None) ≡ without nat_cmp (refs_of blocks contents) b
+  unfolding stored_in
+  refs_without =
+      ap (entries (stored_in new (set contents b None)) 0) (sized_same None)
+      ∙ entries_without (stored_in blocks contents) (stored_in new (set contents b None)) b (stored_others None)
+        (ap (stored_from (octets_at new b)) (content_set contents b None within)) 0 (length contents)
+
+module _ (contents : List (Option Content)) (b : ℕ) (within : b < length contents) where
+  place_others : (v : Option Content) (n : ℕ) → n ≢ b → place_in (set contents b v) n ≡ place_in contents n
+  unfolding place_in
+  place_others v n other = ap (place_from n) (content_set_other contents b v n other)
+
+  -- no place is had or lost
+  pub places_kept : (v : Option Content) → place_from b v ≡ place_in contents b → places_of (set contents b v) ≡ places_of contents
+  unfolding place_in
+  places_kept v same =
+      ap (entries (place_in (set contents b v)) 0) (length-set contents b v)
+      ∙ entries_same (place_in contents) (place_in (set contents b v)) 0 (length contents) (λ j low. by j (j == b) refl)
+    where
+      by : (j : ℕ) (t : Bool) → (j == b) ≡ t → place_from j (content_at (set contents b v) j) ≡ place_from j (content_at contents j)
+      by j true is =
+          let here : j ≡ b = eqb-true j b is in
+          subst (λ (n : ℕ). place_from n (content_at (set contents b v) n) ≡ place_from n (content_at contents n)) (sym here)
+          (ap (place_from b) (content_set contents b v within) ∙ same)
+      by j false is = ap (place_from j) (content_set_other contents b v j (eqb-false j b is))
+
+  pub places_put : (c : Content) → c.parked ≡ true → places_of (set contents b (Some c)) ≡ put nat_cmp (places_of contents) b b
+  places_put c mark =
+      ap (entries (place_in (set contents b (Some c))) 0) (length-set contents b (Some c))
+      ∙ entries_put (place_in contents) (place_in (set contents b (Some c))) b (place_others (Some c)) b
+        (place_parked (set contents b (Some c)) b c (content_set contents b (Some c) within) mark)
+        0 (length contents) (omega arith) (omega arith)
+
+  pub places_without : (c : Content) → c.parked ≡ false → places_of (set contents b (Some c)) ≡ without nat_cmp (places_of contents) b
+  places_without c mark =
+      ap (entries (place_in (set contents b (Some c))) 0) (length-set contents b (Some c))
+      ∙ entries_without (place_in contents) (place_in (set contents b (Some c))) b (place_others (Some c))
+        (place_unparked (set contents b (Some c)) b c (content_set contents b (Some c) within) mark) 0 (length contents)
+
+  -- a used block is marked
+  pub refs_marked : (blocks : List Block) (c : Content) (mark : Bool) → content_at contents b ≡ Some c
+      → refs_of blocks (set contents b (marked mark (content_at contents b))) ≡ refs_of blocks contents
+  unfolding stored_in
+  refs_marked blocks c mark has =
+      ap (entries (stored_in blocks (set contents b (marked mark (content_at contents b)))) 0) (length-set contents b (marked mark (content_at contents b)))
+      ∙ entries_same (stored_in blocks contents) (stored_in blocks (set contents b (marked mark (content_at contents b)))) 0 (length contents)
+        (λ j low. by j (j == b) refl)
+    where
+      alike : (octets : List ℕ) (o : Option Content) → o ≡ Some c → stored_from octets (marked mark o) ≡ stored_from octets o
+      alike octets None has = cc
+      alike octets (Some d) has = refl
+
+      by : (j : ℕ) (t : Bool) → (j == b) ≡ t
+          → stored_from (octets_at blocks j) (content_at (set contents b (marked mark (content_at contents b))) j)
+          ≡ stored_from (octets_at blocks j) (content_at contents j)
+      by j true is =
+          let here : j ≡ b = eqb-true j b is in
+          subst (λ (n : ℕ). stored_from (octets_at blocks n) (content_at (set contents b (marked mark (content_at contents b))) n)
+            ≡ stored_from (octets_at blocks n) (content_at contents n)) (sym here)
+          (ap (stored_from (octets_at blocks b)) (content_set contents b (marked mark (content_at contents b)) within)
+            ∙ alike (octets_at blocks b) (content_at contents b) has)
+      by j false is =
+          ap (stored_from (octets_at blocks j)) (content_set_other contents b (marked mark (content_at contents b)) j (eqb-false j b is))
+
+-- ---- the parts stay tied
+
+entities_ordered : IsKeyOrder entity_cmp
+entities_ordered = record { total = entity_total; exact = entity_exact }
+
+same_table : (region : RegionState) (contents new : List (Option Content)) (accounts : AccountsState) → IsTied region contents accounts
+    → refs_of region.blocks new ≡ refs_of region.blocks contents → (key : EntityKey)
+    → at entity_cmp 0 accounts.used key ≡ count_by (is_of key) (values_of (refs_of region.blocks new))
+same_table region contents new accounts tied same key =
+    tied.counted key ∙ ap (λ (m : List (ℕ × Stored)). count_by (is_of key) (values_of m)) (sym same)
+
+slot_is : (contents : List (Option Content)) (b : ℕ) (c : Content) → content_at contents b ≡ Some c → slice_get contents b ≡ Some (Some c)
+slot_is contents b c has = by (slice_get contents b) has
+  where
+    by : (o : Option (Option Content)) → joined o ≡ Some c → o ≡ Some (Some c)
+    by None has = cc
+    by (Some None) has = cc
+    by (Some (Some d)) has = ap Some has
+
+-- a mark changes nothing of this
+pub tied_marked : (region : RegionState) (contents : List (Option Content)) (accounts : AccountsState) (b : ℕ) (c : Content) (mark : Bool)
+    → IsTied region contents accounts → content_at contents b ≡ Some c
+    → IsTied region (set contents b (marked mark (content_at contents b))) accounts
+tied_marked region contents accounts b c mark tied has =
+    let size : length (set contents b (marked mark (content_at contents b))) ≡ length contents = length-set contents b (marked mark (content_at contents b)) in
+    record {
+      free_once = λ n. named_same n (n == b) refl;
+      sized = tied.sized ∙ sym size;
+      short = λ n. short_same n (n == b) refl;
+      counted = same_table region contents (set contents b (marked mark (content_at contents b))) accounts tied
+          (refs_marked contents b within region.blocks c mark has);
+      whole = tied.whole ∙ sym size;
+      fits = subst (λ (n : ℕ). total accounts.quotas ≤ n) (sym size) tied.fits;
+      limit = subst (λ (n : ℕ). n ≤ 65536) (sym size) tied.limit;
+      sorted = tied.sorted;
+      within = tied.within
+    }
+  where
+    within : b < length contents
+    within = content_within contents b (subst IsSome (sym has) refl)
+
+    named_same : (n : ℕ) (t : Bool) → (n == b) ≡ t
+        → count_by (λ m. m == n) region.free ≡ named (slice_get (set contents b (marked mark (content_at contents b))) n)
+    named_same n true is =
+        let here : n ≡ b = eqb-true n b is in
+        tied.free_once n ∙ ap (λ (k : ℕ). named (slice_get contents k)) here ∙ ap named (slot_is contents b c has)
+        ∙ ap (λ (o : Option Content). named (Some (marked mark o))) (sym has)
+        ∙ sym (ap named (get_set contents b (marked mark (content_at contents b)) within))
+        ∙ ap (λ (k : ℕ). named (slice_get (set contents b (marked mark (content_at contents b))) k)) (sym here)
+    named_same n false is =
+        tied.free_once n ∙ ap named (sym (get_set_other contents b n (marked mark (content_at contents b)) (eqb-false n b is)))
+
+    short_of : (o : Option Content) → IfSome o (λ c. c.len ≤ 2048) → IfSome (marked mark o) (λ c. c.len ≤ 2048)
+    short_of None h = tt
+    short_of (Some d) h = h
+
+    short_same : (n : ℕ) (t : Bool) → (n == b) ≡ t → IfSome (content_at (set contents b (marked mark (content_at contents b))) n) (λ c. c.len ≤ 2048)
+    short_same n true is =
+        let here : n ≡ b = eqb-true n b is in
+        subst (λ (o : Option Content). IfSome o (λ c. c.len ≤ 2048))
+        (sym (content_set contents b (marked mark (content_at contents b)) within)
+          ∙ ap (content_at (set contents b (marked mark (content_at contents b)))) (sym here))
+        (short_of (content_at contents b) (tied.short b))
+    short_same n false is =
+        subst (λ (o : Option Content). IfSome o (λ c. c.len ≤ 2048)) (sym (content_set_other contents b (marked mark (content_at contents b)) n (eqb-false n b is)))
+        (tied.short n)
+
+pub same_state : {n m : ℕ} {a b : List (EntityKey × ℕ)} {r s : List (ℕ × Stored)} {p q : List (ℕ × ℕ)} → n ≡ m → a ≡ b → r ≡ s → p ≡ q
+    → ◌≡◌ {A = PoolState} (record { blocks = n; quotas = a; refs = r; parked = p }) (record { blocks = m; quotas = b; refs = s; parked = q })
+same_state sizes quotas refs places = λ i. record { blocks = sizes i; quotas = quotas i; refs = refs i; parked = places i }
+
+-- what a mark is to the whole
+pub marked_state : (region : RegionState) (contents : List (Option Content)) (accounts : AccountsState) (b : ℕ) (c : Content) (mark : Bool)
+    (places : List (ℕ × ℕ)) → content_at contents b ≡ Some c
+    → places_of (set contents b (marked mark (content_at contents b))) ≡ places
+    → state region (set contents b (marked mark (content_at contents b))) accounts
+    ≡ record (state region contents accounts) { parked = places }
+marked_state region contents accounts b c mark places has is =
+    let within : b < length contents = content_within contents b (subst IsSome (sym has) refl) in
+    same_state (length-set contents b (marked mark (content_at contents b))) refl (refs_marked contents b within region.blocks c mark has) is
+
+-- ---- a free block is used
+
+-- the list of free blocks names its first one no more
+module _ (free rest : List ℕ) (contents : List (Option Content)) (b : ℕ) (is : free ≡ b ∷ rest)
+    (once : (n : ℕ) → count_by (λ m. m == n) free ≡ named (slice_get contents n)) where
+  counts : (n : ℕ) → count_by (λ m. m == n) free ≡ cond (b == n) 1 0 + count_by (λ m. m == n) rest
+  counts n = ap (count_by (λ m. m == n)) is ∙ sum_by-cons (λ m. cond (m == n) 1 0) b rest
+
+  here_counts : count_by (λ m. m == b) free ≡ 1 + count_by (λ m. m == b) rest
+  here_counts = counts b ∙ ap (λ (t : Bool). cond t 1 0 + count_by (λ m. m == b) rest) (same_number b)
+
+  pub first_free : (slice_get contents b ≡ Some None) × (count_by (λ m. m == b) rest ≡ 0)
+  first_free = by (slice_get contents b) refl (sym here_counts ∙ once b)
+    where
+      by : (o : Option (Option Content)) → slice_get contents b ≡ o → 1 + count_by (λ m. m == b) rest ≡ named (slice_get contents b)
+          → (slice_get contents b ≡ Some None) × (count_by (λ m. m == b) rest ≡ 0)
+      by None has count =
+          let none : named (slice_get contents b) ≡ 0 = ap named has in
+          absurd (omega arith)
+      by (Some None) has count =
+          let one : named (slice_get contents b) ≡ 1 = ap named has in
+          (has, omega arith)
+      by (Some (Some c)) has count =
+          let none : named (slice_get contents b) ≡ 0 = ap named has in
+          absurd (omega arith)
+
+  pub once_used : (c : Content) → b < length contents → (n : ℕ) → count_by (λ m. m == n) rest ≡ named (slice_get (set contents b (Some c)) n)
+  once_used c within n = by (b == n) refl (counts n)
+    where
+      by : (t : Bool) → (b == n) ≡ t → count_by (λ m. m == n) free ≡ cond t 1 0 + count_by (λ m. m == n) rest
+          → count_by (λ m. m == n) rest ≡ named (slice_get (set contents b (Some c)) n)
+      by true same count =
+          subst (λ (n : ℕ). count_by (λ m. m == n) rest ≡ named (slice_get (set contents b (Some c)) n)) (eqb-true b n same)
+          (first_free.1 ∙ sym (ap named (get_set contents b (Some c) within)))
+      by false other count =
+          let apart : n ≢ b = λ e. eqb-false b n other (sym e) in
+          let kept : named (slice_get (set contents b (Some c)) n) ≡ named (slice_get contents n) = ap named (get_set_other contents b n (Some c) apart) in
+          let old : count_by (λ m. m == n) free ≡ named (slice_get contents n) = once n in
+          omega arith
+
+-- what is used of each key goes up with its account
+counted_put : (p : PoolState) (limit : ℕ) (sound : IsPool limit p) (r : ℕ) (x : Stored) (old new : List (EntityKey × ℕ))
+    → find nat_cmp p.refs r ≡ None → ((key : EntityKey) → at entity_cmp 0 old key ≡ used p key)
+    → new ≡ put entity_cmp old x.key (at entity_cmp 0 old x.key + 1) → (key : EntityKey)
+    → at entity_cmp 0 new key ≡ used (with_packet p r x) key
+counted_put p limit sound r x old new fresh counted is key =
+    by (eq_by_cmp entity_cmp x.key key) refl
+    (ap (λ (m : List (EntityKey × ℕ)). at entity_cmp 0 m key) is ∙ at-put entity_total 0 old x.key (at entity_cmp 0 old x.key + 1) key)
+    (used_put limit p sound r x key fresh)
+  where
+    by : (t : Bool) → eq_by_cmp entity_cmp x.key key ≡ t
+        → at entity_cmp 0 new key ≡ cond (eq_by_cmp entity_cmp key x.key) (at entity_cmp 0 old x.key + 1) (at entity_cmp 0 old key)
+        → used (with_packet p r x) key ≡ used p key + cond t 1 0 → at entity_cmp 0 new key ≡ used (with_packet p r x) key
+    by true tie account total =
+        let same : x.key ≡ key = entity_exact x.key key ((Equal-is (entity_cmp x.key key)).0 tie) in
+        let here : eq_by_cmp entity_cmp key x.key ≡ true =
+        subst (λ (k : EntityKey). eq_by_cmp entity_cmp key k ≡ true) (sym same) (ap is_eq (tied_itself entity_total key)) in
+        let old_here : at entity_cmp 0 old x.key ≡ used p key = counted x.key ∙ ap (used p) same in
+        let account : at entity_cmp 0 new key ≡ at entity_cmp 0 old x.key + 1 =
+        account ∙ ap (λ (t : Bool). cond t (at entity_cmp 0 old x.key + 1) (at entity_cmp 0 old key)) here in
+        omega arith
+    by false tie account total =
+        let there : eq_by_cmp entity_cmp key x.key ≡ false =
+        other_key entities_ordered key x.key (λ same. true≢false (sym (subst (λ (k : EntityKey). eq_by_cmp entity_cmp x.key k ≡ true) (sym same) (ap is_eq (tied_itself entity_total x.key))) ∙ tie)) in
+        let old_there : at entity_cmp 0 old key ≡ used p key = counted key in
+        let account : at entity_cmp 0 new key ≡ at entity_cmp 0 old key =
+        account ∙ ap (λ (t : Bool). cond t (at entity_cmp 0 old x.key + 1) (at entity_cmp 0 old key)) there in
+        omega arith
+
+-- and down with it
+counted_take : (p : PoolState) (limit : ℕ) (sound : IsPool limit p) (r : ℕ) (x : Stored) (old new : List (EntityKey × ℕ))
+    → packet_of p r ≡ Some x → ((key : EntityKey) → at entity_cmp 0 old key ≡ used p key)
+    → new ≡ put entity_cmp old x.key (at entity_cmp 0 old x.key - 1) → (key : EntityKey)
+    → at entity_cmp 0 new key ≡ used (without_packet p r) key
+counted_take p limit sound r x old new held counted is key =
+    by (eq_by_cmp entity_cmp x.key key) refl
+    (ap (λ (m : List (EntityKey × ℕ)). at entity_cmp 0 m key) is ∙ at-put entity_total 0 old x.key (at entity_cmp 0 old x.key - 1) key)
+    (used_take p r limit sound x key held)
+  where
+    by : (t : Bool) → eq_by_cmp entity_cmp x.key key ≡ t
+        → at entity_cmp 0 new key ≡ cond (eq_by_cmp entity_cmp key x.key) (at entity_cmp 0 old x.key - 1) (at entity_cmp 0 old key)
+        → used (without_packet p r) key + cond t 1 0 ≡ used p key → at entity_cmp 0 new key ≡ used (without_packet p r) key
+    by true tie account total =
+        let same : x.key ≡ key = entity_exact x.key key ((Equal-is (entity_cmp x.key key)).0 tie) in
+        let here : eq_by_cmp entity_cmp key x.key ≡ true =
+        subst (λ (k : EntityKey). eq_by_cmp entity_cmp key k ≡ true) (sym same) (ap is_eq (tied_itself entity_total key)) in
+        let old_here : at entity_cmp 0 old x.key ≡ used p key = counted x.key ∙ ap (used p) same in
+        let account : at entity_cmp 0 new key ≡ at entity_cmp 0 old x.key - 1 =
+        account ∙ ap (λ (t : Bool). cond t (at entity_cmp 0 old x.key - 1) (at entity_cmp 0 old key)) here in
+        omega arith
+    by false tie account total =
+        let there : eq_by_cmp entity_cmp key x.key ≡ false =
+        other_key entities_ordered key x.key (λ same. true≢false (sym (subst (λ (k : EntityKey). eq_by_cmp entity_cmp x.key k ≡ true) (sym same) (ap is_eq (tied_itself entity_total x.key))) ∙ tie)) in
+        let old_there : at entity_cmp 0 old key ≡ used p key = counted key in
+        let account : at entity_cmp 0 new key ≡ at entity_cmp 0 old key =
+        account ∙ ap (λ (t : Bool). cond t (at entity_cmp 0 old x.key - 1) (at entity_cmp 0 old key)) there in
         omega arith

@@ -22,7 +22,7 @@ use Rattle.pool_defs.specs.Pools.{Stored, PoolState, is_of, used, is_parked, pac
 pub numbers_ordered : IsKeyOrder nat_cmp
 numbers_ordered = record { total = nat_cmp_total; exact = exact_unsigned }
 
-same_number : (n : ℕ) → (n == n) ≡ true
+pub same_number : (n : ℕ) → (n == n) ≡ true
 same_number n = by (n == n) refl
   where
     by : (b : Bool) → (n == n) ≡ b → b ≡ true
