@@ -1,5 +1,5 @@
 -- The pool as its parts: what the parts say of a reference or a place, and what a change of one block is to the pool.
-use Rattle.std.proofs.Common.{◌≡◌, ◌≢◌, ◌==◌, ℕ, zero, suc, ◌+◌, ◌-◌, ◌<◌, ◌≤◌, min, Bool, true, false, cond, List, [], ◌∷◌, length, take, Option, Some, None, refl, sym, ap, ◌∙◌, subst, true≢false, eqb-true, set, length-set, arith}
+use Rattle.std.proofs.Common.{◌≡◌, ◌≢◌, ◌==◌, ℕ, zero, suc, ◌+◌, ◌-◌, ◌<◌, ◌≤◌, min, Bool, true, false, cond, List, [], ◌∷◌, length, take, Option, Some, None, refl, sym, ap, ◌∙◌, subst, true≢false, eqb-true, get_or, set, length-set, zero-add, arith}
 use Rattle.std.specs.Prelude.{IsSome, IfSome, is_some, slice_get, nat_le}
 use Rattle.std.specs.Ordering.{nat_cmp, eq_by_cmp, is_eq}
 use Rattle.std.specs.Cmp.{tied_itself, Equal-is}
@@ -7,7 +7,7 @@ use Rattle.std.specs.List.{AllByRecursion, count_by, sum, list_any}
 use Rattle.std.specs.Map.{values_of}
 use Rattle.std.proofs.lemmas.Bool.{eqb-false}
 use Rattle.std.proofs.lemmas.Bool.Decides.{nat_tests}
-use Rattle.std.proofs.lemmas.Option.{slice_get_past, slice_get_within}
+use Rattle.std.proofs.lemmas.Option.{slice_get_past, slice_get-get_or}
 use Rattle.std.proofs.lemmas.List.{length-take}
 use Rattle.std.proofs.lemmas.List.Sums.{sum_by-cons}
 use Rattle.gnb_types.specs.declared.keys.EntityKey.{EntityKey}
@@ -475,3 +475,153 @@ counted_take p limit sound r x old new held counted is key =
         let account : at entity_cmp 0 new key ≡ at entity_cmp 0 old key =
         account ∙ ap (λ (t : Bool). cond t (at entity_cmp 0 old x.key - 1) (at entity_cmp 0 old key)) there in
         omega arith
+
+same_entity : (a b : EntityKey) → eq_by_cmp entity_cmp a b ≡ true → a ≡ b
+same_entity a b tie = entity_exact a b ((Equal-is (entity_cmp a b)).0 tie)
+
+pub stored_none : (blocks : List Block) (contents : List (Option Content)) (b : ℕ) → content_at contents b ≡ None → stored_in blocks contents b ≡ None
+unfolding stored_in
+stored_none blocks contents b none = ap (stored_from (octets_at blocks b)) none
+
+pub place_none : (contents : List (Option Content)) (b : ℕ) → content_at contents b ≡ None → place_in contents b ≡ None
+unfolding place_in
+place_none contents b none = ap (place_from b) none
+
+short_set : (contents : List (Option Content)) (b : ℕ) (v : Option Content) → b < length contents
+    → ((n : ℕ) → IfSome (content_at contents n) (λ c. c.len ≤ 2048)) → IfSome v (λ c. c.len ≤ 2048)
+    → (n : ℕ) → IfSome (content_at (set contents b v) n) (λ c. c.len ≤ 2048)
+short_set contents b v within short here n = by (n == b) refl
+  where
+    by : (t : Bool) → (n == b) ≡ t → IfSome (content_at (set contents b v) n) (λ c. c.len ≤ 2048)
+    by true is =
+        subst (λ (o : Option Content). IfSome o (λ c. c.len ≤ 2048))
+        (sym (content_set contents b v within) ∙ ap (content_at (set contents b v)) (sym (eqb-true n b is))) here
+    by false is =
+        subst (λ (o : Option Content). IfSome o (λ c. c.len ≤ 2048)) (sym (content_set_other contents b v n (eqb-false n b is))) (short n)
+
+within_put : (old quotas : List (EntityKey × ℕ)) (k : EntityKey) (v : ℕ) → ((key : EntityKey) → at entity_cmp 0 old key ≤ at entity_cmp 0 quotas key)
+    → v ≤ at entity_cmp 0 quotas k → (key : EntityKey) → at entity_cmp 0 (put entity_cmp old k v) key ≤ at entity_cmp 0 quotas key
+within_put old quotas k v within here key =
+    subst (λ (n : ℕ). n ≤ at entity_cmp 0 quotas key) (sym (at-put entity_total 0 old k v key)) (by (eq_by_cmp entity_cmp key k) refl)
+  where
+    by : (t : Bool) → eq_by_cmp entity_cmp key k ≡ t → cond t v (at entity_cmp 0 old key) ≤ at entity_cmp 0 quotas key
+    by true tie = subst (λ (q : EntityKey). v ≤ at entity_cmp 0 quotas q) (sym (same_entity key k tie)) here
+    by false tie = within key
+
+-- a packet is put into the first free block
+pub tied_put : (r0 r2 : RegionState) (contents : List (Option Content)) (a0 a1 : AccountsState) (b : ℕ) (c : Content)
+    → IsTied r0 contents a0 → r0.free ≡ b ∷ r2.free → length r2.blocks ≡ length r0.blocks
+    → ((n : ℕ) → n ≢ b → octets_at r2.blocks n ≡ octets_at r0.blocks n) → b < length contents → c.len ≤ 2048
+    → a1.quotas ≡ a0.quotas → a1.used ≡ put entity_cmp a0.used c.key (at entity_cmp 0 a0.used c.key + 1)
+    → total a1.used ≡ total a0.used + 1 → at entity_cmp 0 a0.used c.key < at entity_cmp 0 a0.quotas c.key
+    → IsTied r2 (set contents b (Some c)) a1
+unfolding used
+tied_put r0 r2 contents a0 a1 b c tied free blocks others within short quotas account whole room =
+    let size : length (set contents b (Some c)) ≡ length contents = length-set contents b (Some c) in
+    let free_size : length r0.free ≡ suc (length r2.free) = ap length free in
+    let none : content_at contents b ≡ None = ap joined (first_free r0.free r2.free contents b free tied.free_once).0 in
+    record {
+      free_once = once_used r0.free r2.free contents b free tied.free_once c within;
+      sized = blocks ∙ tied.sized ∙ sym size;
+      short = short_set contents b (Some c) within tied.short short;
+      counted = λ key.
+          counted_put (state r0 contents a0) 2048 (pool_sound r0 contents a0 tied) b
+          (record { key = c.key; bytes = take c.len (octets_at r2.blocks b) }) a0.used a1.used
+          (find_refs contents r0.blocks b ∙ stored_none r0.blocks contents b none) tied.counted account key
+          ∙ ap (λ (m : List (ℕ × Stored)). count_by (is_of key) (values_of m)) (sym (refs_put r0.blocks r2.blocks contents b within others c));
+      whole = omega (arith, tied.whole, size, free_size, whole);
+      fits = subst (λ (q : List (EntityKey × ℕ)). total q ≤ length (set contents b (Some c))) (sym quotas)
+          (subst (λ (n : ℕ). total a0.quotas ≤ n) (sym size) tied.fits);
+      limit = subst (λ (n : ℕ). n ≤ 65536) (sym size) tied.limit;
+      sorted = subst (IsSorted entity_cmp) (sym quotas) tied.sorted;
+      within = λ key.
+          subst (λ (q : List (EntityKey × ℕ)). at entity_cmp 0 a1.used key ≤ at entity_cmp 0 q key) (sym quotas)
+          (subst (λ (u : List (EntityKey × ℕ)). at entity_cmp 0 u key ≤ at entity_cmp 0 a0.quotas key) (sym account)
+            (within_put a0.used a0.quotas c.key (at entity_cmp 0 a0.used c.key + 1) tied.within (omega arith) key))
+    }
+
+pub put_state : (r0 r2 : RegionState) (contents : List (Option Content)) (a0 a1 : AccountsState) (b : ℕ) (c : Content) (bytes : List ℕ)
+    → b < length contents → content_at contents b ≡ None → c.parked ≡ false
+    → ((n : ℕ) → n ≢ b → octets_at r2.blocks n ≡ octets_at r0.blocks n)
+    → a1.quotas ≡ a0.quotas → take c.len (octets_at r2.blocks b) ≡ bytes
+    → state r2 (set contents b (Some c)) a1 ≡ with_packet (state r0 contents a0) b (record { key = c.key; bytes = bytes })
+unfolding place_in
+put_state r0 r2 contents a0 a1 b c bytes within none mark others quotas written =
+    same_state (length-set contents b (Some c)) quotas
+    (refs_put r0.blocks r2.blocks contents b within others c
+      ∙ ap (λ (o : List ℕ). put nat_cmp (refs_of r0.blocks contents) b (record { key = c.key; bytes = o })) written)
+    (places_kept contents b within (Some c) (ap (λ (t : Bool). cond t (Some b) None) mark ∙ sym (ap (place_from b) none)))
+
+-- ---- a used block is given back
+
+pub content_got : (contents : List (Option Content)) (b : ℕ) (slot : Option Content) → b < length contents → slot ≡ get_or contents b slot
+    → content_at contents b ≡ slot
+content_got contents b slot within is = ap joined (slice_get-get_or contents b slot within ∙ ap Some (sym is))
+
+module _ (region : RegionState) (contents : List (Option Content)) (accounts : AccountsState) (b : ℕ) (c : Content)
+    (tied : IsTied region contents accounts) (held : IsSome (packet_of (state region contents accounts) b)) (has : content_at contents b ≡ Some c) where
+  held_is : packet_of (state region contents accounts) b ≡ Some (record { key = c.key; bytes = take c.len (octets_at region.blocks b) })
+  held_is =
+      packet_found region contents accounts b (held_apart (state region contents accounts) b held) ∙ stored_is contents region.blocks b c has
+
+  pub used_some : 0 < at entity_cmp 0 accounts.used c.key
+  unfolding used
+  used_some =
+      let total = used_take (state region contents accounts) b 2048 (pool_sound region contents accounts tied)
+          (record { key = c.key; bytes = take c.len (octets_at region.blocks b) }) c.key held_is in
+      let one : used (without_packet (state region contents accounts) b) c.key + 1 ≡ used (state region contents accounts) c.key =
+      ap (λ (t : Bool). used (without_packet (state region contents accounts) b) c.key + cond t 1 0) (sym (ap is_eq (tied_itself entity_total c.key))) ∙ total in
+      let account : at entity_cmp 0 accounts.used c.key ≡ used (state region contents accounts) c.key = tied.counted c.key in
+      omega arith
+
+  pub not_free : count_by (λ m. m == b) region.free ≡ 0
+  not_free = tied.free_once b ∙ ap named (slot_is contents b c has)
+
+  pub tied_take : (r1 : RegionState) (a1 : AccountsState) → r1.free ≡ b ∷ region.free → length r1.blocks ≡ length region.blocks
+      → ((n : ℕ) → n ≢ b → octets_at r1.blocks n ≡ octets_at region.blocks n)
+      → a1.quotas ≡ accounts.quotas → a1.used ≡ put entity_cmp accounts.used c.key (at entity_cmp 0 accounts.used c.key - 1)
+      → total a1.used + 1 ≡ total accounts.used → IsTied r1 (set contents b None) a1
+  unfolding used
+  tied_take r1 a1 free blocks others quotas account whole =
+      let size : length (set contents b None) ≡ length contents = length-set contents b None in
+      let free_size : length r1.free ≡ suc (length region.free) = ap length free in
+      let within : b < length contents = content_within contents b (subst IsSome (sym has) refl) in
+      record {
+        free_once = λ n. once n (b == n) refl within;
+        sized = blocks ∙ tied.sized ∙ sym size;
+        short = short_set contents b None within tied.short tt;
+        counted = λ key.
+            counted_take (state region contents accounts) 2048 (pool_sound region contents accounts tied) b
+            (record { key = c.key; bytes = take c.len (octets_at region.blocks b) }) accounts.used a1.used held_is tied.counted account key
+            ∙ ap (λ (m : List (ℕ × Stored)). count_by (is_of key) (values_of m)) (sym (refs_without region.blocks r1.blocks contents b within others));
+        whole = omega (arith, tied.whole, size, free_size, whole);
+        fits = subst (λ (q : List (EntityKey × ℕ)). total q ≤ length (set contents b None)) (sym quotas)
+            (subst (λ (n : ℕ). total accounts.quotas ≤ n) (sym size) tied.fits);
+        limit = subst (λ (n : ℕ). n ≤ 65536) (sym size) tied.limit;
+        sorted = subst (IsSorted entity_cmp) (sym quotas) tied.sorted;
+        within = λ key.
+            subst (λ (q : List (EntityKey × ℕ)). at entity_cmp 0 a1.used key ≤ at entity_cmp 0 q key) (sym quotas)
+            (subst (λ (u : List (EntityKey × ℕ)). at entity_cmp 0 u key ≤ at entity_cmp 0 accounts.quotas key) (sym account)
+              (within_put accounts.used accounts.quotas c.key (at entity_cmp 0 accounts.used c.key - 1) tied.within (omega (arith, tied.within c.key)) key))
+      }
+    where
+      once : (n : ℕ) (t : Bool) → (b == n) ≡ t → b < length contents → count_by (λ m. m == n) r1.free ≡ named (slice_get (set contents b None) n)
+      once n true same within =
+          subst (λ (n : ℕ). count_by (λ m. m == n) r1.free ≡ named (slice_get (set contents b None) n)) (eqb-true b n same)
+          (ap (count_by (λ m. m == b)) free ∙ sum_by-cons (λ m. cond (m == b) 1 0) b region.free
+            ∙ ap (λ (t : Bool). cond t 1 0 + count_by (λ m. m == b) region.free) (same_number b)
+            ∙ ap (λ (n : ℕ). 1 + n) not_free ∙ sym (ap named (get_set contents b None within)))
+      once n false other within =
+          ap (count_by (λ m. m == n)) free ∙ sum_by-cons (λ m. cond (m == n) 1 0) b region.free
+          ∙ ap (λ (t : Bool). cond t 1 0 + count_by (λ m. m == n) region.free) other ∙ zero-add _
+          ∙ tied.free_once n ∙ sym (ap named (get_set_other contents b n None (λ e. eqb-false b n other (sym e))))
+
+  pub take_state : (r1 : RegionState) (a1 : AccountsState) → ((n : ℕ) → n ≢ b → octets_at r1.blocks n ≡ octets_at region.blocks n)
+      → a1.quotas ≡ accounts.quotas
+      → state r1 (set contents b None) a1 ≡ without_packet (state region contents accounts) b
+  take_state r1 a1 others quotas =
+      let within : b < length contents = content_within contents b (subst IsSome (sym has) refl) in
+      let block = held_block region contents accounts b held in
+      same_state (length-set contents b None) quotas
+      (refs_without region.blocks r1.blocks contents b within others)
+      (places_kept contents b within None (sym (place_unparked contents b block.0 block.1 block.2)))
