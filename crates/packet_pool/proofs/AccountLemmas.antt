@@ -1,11 +1,11 @@
 -- The accounts of keys as two tables: what a change of one account leaves of the quotas, of what is used, and of their sums.
 use Rattle.std.proofs.Common.{◌≡◌, ℕ, ◌+◌, ◌-◌, ◌<◌, ◌≤◌, Bool, true, false, cond, not, List, [], ◌∷◌, Option, Some, None, refl, sym, ap, ◌∙◌, subst, arith, add-zero, lit<, ◌^◌}
-use Rattle.std.specs.Prelude.{unwrap_or, is_some}
+use Rattle.std.specs.Prelude.{unwrap_or}
 use Rattle.std.specs.Ordering.{match_ordering}
 use Rattle.std.specs.declared.cmp.Ordering.{Ordering}
 use Rattle.std.specs.declared.cmp.Ordering.TheVariants.{Less, Equal, Greater}
 use Rattle.std.specs.Option.{option_map}
-use Rattle.std.specs.List.{AllByRecursion, sum, sum_by, filter}
+use Rattle.std.specs.List.{AllByRecursion, filter}
 use Rattle.std.specs.Map.{values_of, keys_of, lookup}
 use Rattle.std.specs.BTreeMap.{is_at, insert_entry}
 use Rattle.std.specs.List.Sorted.{IsStrictlySortedBy}
@@ -146,7 +146,7 @@ accounts_replaced m r k old new accounts same alike within =
       sorted = sorted-put entity_total m k new accounts.sorted;
       within = all_put (λ a. a.used ≤ a.quota) k m new accounts.within within;
       together = accounts.together ∙ ap total (sym (put_alike (λ a. a.quota) m k old new same alike));
-      small = accounts.small
+      small = accounts.small;
     }
 
 pub used_replaced : (m : List (EntityKey × Account)) (k : EntityKey) (new : Account) (r : ℕ) → AreAccounts m r
@@ -169,7 +169,7 @@ accounts_opened m r k new accounts none within small =
       sorted = sorted-put entity_total m k new accounts.sorted;
       within = all_put (λ a. a.used ≤ a.quota) k m new accounts.within within;
       together = ap (λ (n : ℕ). n + new.quota) accounts.together ∙ sym all;
-      small = small
+      small = small;
     }
 
 -- an account is closed
@@ -187,7 +187,7 @@ accounts_closed m r k a accounts found =
       sorted = sorted-without entity_total m k accounts.sorted;
       within = all_without (λ a. a.used ≤ a.quota) k m accounts.within;
       together = omega (arith, accounts.together, closed_total m k a accounts.sorted found);
-      small = omega (arith, accounts.small)
+      small = omega (arith, accounts.small);
     }
 
 pub accounts_none : AreAccounts [] 0

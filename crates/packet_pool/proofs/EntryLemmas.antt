@@ -1,6 +1,5 @@
 -- Entries of numbers as a table: what is found there, and what a change at one number is.
 use Rattle.std.proofs.Common.{◌≡◌, ◌≢◌, ◌==◌, ℕ, zero, suc, ◌+◌, ◌<◌, ◌≤◌, Bool, true, false, cond, not, List, [], ◌∷◌, Option, Some, None, refl, sym, ap, ◌∙◌, subst, eqb-true, arith}
-use Rattle.std.specs.Prelude.{IsSome, is_some}
 use Rattle.std.specs.Ordering.{nat_cmp, match_ordering, is_eq}
 use Rattle.std.specs.declared.cmp.Ordering.{Ordering}
 use Rattle.std.specs.declared.cmp.Ordering.TheVariants.{Less, Equal, Greater}
@@ -141,14 +140,14 @@ module _ {X : Type 0} where
         by true (Some x) is at_first again =
             ap (λ (o : Option X). entry_before first o (entries g (suc first) n)) (ap g (sym (eqb-true k first is)) ∙ none) ∙ again
             ∙ ap (λ (b : Bool). cond (not b) ((first, x) ∷ filter (λ e. not (is_at (nat_cmp k) e.0)) (entries f (suc first) n)) (filter (λ e. not (is_at (nat_cmp k) e.0)) (entries f (suc first) n)))
-              (sym (is_here k first (eqb-true k first is)))
+            (sym (is_here k first (eqb-true k first is)))
         by false None is at_first again =
             ap (λ (o : Option X). entry_before first o (entries g (suc first) n)) (others first (λ e. eqb-false k first is (sym e)) ∙ at_first) ∙ again
         by false (Some x) is at_first again =
             ap (λ (o : Option X). entry_before first o (entries g (suc first) n)) (others first (λ e. eqb-false k first is (sym e)) ∙ at_first)
             ∙ ap (λ (rest : List (ℕ × X)). (first, x) ∷ rest) again
             ∙ ap (λ (b : Bool). cond (not b) ((first, x) ∷ filter (λ e. not (is_at (nat_cmp k) e.0)) (entries f (suc first) n)) (filter (λ e. not (is_at (nat_cmp k) e.0)) (entries f (suc first) n)))
-              (sym (not_here k first (eqb-false k first is)))
+            (sym (not_here k first (eqb-false k first is)))
 
   -- ---- of all entries
 

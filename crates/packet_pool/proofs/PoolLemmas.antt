@@ -1,30 +1,38 @@
 -- The pool as its parts: what the parts say of a reference or a place, and what a change of one block is to the pool.
-use Rattle.std.proofs.Common.{◌≡◌, ◌≢◌, ◌==◌, ℕ, zero, suc, ◌+◌, ◌-◌, ◌<◌, ◌≤◌, min, Bool, true, false, cond, List, [], ◌∷◌, length, take, Option, Some, None, refl, sym, ap, ◌∙◌, subst, true≢false, eqb-true, get_or, set, length-set, zero-add, arith}
-use Rattle.std.specs.Prelude.{IsSome, IfSome, is_some, slice_get, nat_le}
+use Rattle.std.proofs.Common.{◌≡◌, ◌≢◌, ◌==◌, ℕ, zero, suc, ◌+◌, ◌-◌, ◌<◌, ◌≤◌, min, Bool, true, false, cond, List, [], ◌∷◌, length, take, Option, Some, None, refl, sym, ap, ◌∙◌, subst, true≢false, eqb-true, get_or, set, length-set, replicate, zero-add, add-zero, arith}
+use Rattle.std.specs.Prelude.{Result, Ok, Err, OnOk, OnErr, IsSome, IfSome, slice_get, nat_le, unwrap_or}
 use Rattle.std.specs.Ordering.{nat_cmp, eq_by_cmp, is_eq}
 use Rattle.std.specs.Cmp.{tied_itself, Equal-is}
-use Rattle.std.specs.List.{AllByRecursion, count_by, sum, list_any}
+use Rattle.std.specs.List.{count_by, list_any}
+use Rattle.std.specs.List.Sorted.{IsStrictlySortedBy}
 use Rattle.std.specs.Map.{values_of}
 use Rattle.std.proofs.lemmas.Bool.{eqb-false}
 use Rattle.std.proofs.lemmas.Bool.Decides.{nat_tests}
 use Rattle.std.proofs.lemmas.Option.{slice_get_past, slice_get-get_or}
-use Rattle.std.proofs.lemmas.List.{length-take}
+use Rattle.std.proofs.lemmas.List.{length-take, length-replicate}
 use Rattle.std.proofs.lemmas.List.Sums.{sum_by-cons}
 use Rattle.gnb_types.specs.declared.keys.EntityKey.{EntityKey}
 use Rattle.gnb_types.specs.Orders.{entity_cmp}
 use Rattle.gnb_types.proofs.OrderLemmas.{entity_total, entity_exact}
 use Rattle.tables.specs.Tables.{find, put, without, at, IsSorted, IsKeyOrder}
-use Rattle.tables.proofs.TableLaws.{at-put, at-without, other_key, sorted-put, sorted-without}
-use Rattle.pool_defs.specs.Pools.{Stored, PoolState, is_of, used, quota, reserved, is_parked, packet_of, packet_by, packet_at, with_packet, without_packet, AreApart, IsPool}
-use Rattle.pool_defs.proofs.PoolLaws.{found_parked, held_apart, held_packet, same_number, used_put, used_take}
+use Rattle.tables.proofs.TableLaws.{at-put, at-without, other_key}
+use Rattle.pool_defs.specs.Pools.{Stored, PoolState, new_pool, is_of, used, quota, reserved, is_parked, packet_of, packet_by, packet_at, with_packet, without_packet, AreApart, IsPool}
+use Rattle.pool_defs.proofs.PoolLaws.{found_parked, held_apart, same_number, used_put, used_take}
 use Rattle.packet_pool.specs.declared.region.Block.{Block}
 use Rattle.packet_pool.specs.declared.contents.Content.{Content}
-use Rattle.packet_pool.specs.inside.Regions.{RegionState, octets_at}
+use Rattle.packet_pool.specs.inside.Regions.{RegionState, octets_at, numbers_from}
 use Rattle.packet_pool.specs.inside.Accounts.{AccountsState, total}
 use Rattle.packet_pool.specs.inside.Contents.{joined, content_at, stored_from, stored_in, place_from, place_in, marked}
 use Rattle.packet_pool.specs.inside.Pools.{entry_before, entries, refs_of, places_of, state, named, IsTied}
 use Rattle.packet_pool.proofs.RegionLemmas.{get_set, get_set_other}
 use Rattle.packet_pool.proofs.EntryLemmas.{find_entries, entries_same, entries_put, entries_without, entries_sorted, entries_all}
+
+other_number : (a b : ℕ) → a ≢ b → (a == b) ≡ false
+other_number a b other = by (a == b) refl
+  where
+    by : (t : Bool) → (a == b) ≡ t → t ≡ false
+    by true is = absurd (other (eqb-true a b is))
+    by false is = refl
 
 none_some : {X P : Type 0} (x : Option X) → x ≡ None → IsSome x → P
 none_some None h some = absurd (true≢false (sym some))
@@ -168,13 +176,14 @@ apart_entries f first (suc n) own = by (f first) refl (apart_entries f (suc firs
   where
     by : (o : Option ℕ) → f first ≡ o → AreApart (entries f (suc first) n) → AreApart (entry_before first o (entries f (suc first) n))
     by None is rest = rest
-    by (Some x) is rest =
-        (entries_all (λ (k y : ℕ). y ≡ x → ⊥) f (suc first) n
+    by (Some x) is rest = (
+      entries_all (λ (k y : ℕ). y ≡ x → ⊥) f (suc first) n
           (λ k y low has same.
-            let here : x ≡ first = own first x is in
-            let there : y ≡ k = own k y has in
-            absurd (omega arith)),
-          rest)
+          let here : x ≡ first = own first x is in
+          let there : y ≡ k = own k y has in
+          absurd (omega arith)),
+      rest,
+    )
 
 pub pool_sound : (region : RegionState) (contents : List (Option Content)) (accounts : AccountsState) → IsTied region contents accounts
     → IsPool 2048 (state region contents accounts)
@@ -192,7 +201,7 @@ pool_sound region contents accounts tied =
       fits = tied.fits;
       sized =
           entries_all (λ (k : ℕ) (s : Stored). length s.bytes ≤ 2048) (stored_in region.blocks contents) 0 (length contents)
-          (λ k s low has. short k s has)
+          (λ k s low has. short k s has);
     }
   where
     live : (k x : ℕ) → place_in contents k ≡ Some x → IsSome (find nat_cmp (refs_of region.blocks contents) x)
@@ -229,16 +238,16 @@ module _ (blocks new : List Block) (contents : List (Option Content)) (b : ℕ) 
   refs_put c =
       ap (entries (stored_in new (set contents b (Some c))) 0) (sized_same (Some c))
       ∙ entries_put (stored_in blocks contents) (stored_in new (set contents b (Some c))) b (stored_others (Some c))
-        (record { key = c.key; bytes = take c.len (octets_at new b) })
-        (stored_is (set contents b (Some c)) new b c (content_set contents b (Some c) within))
-        0 (length contents) (omega arith) (omega arith)
+      (record { key = c.key; bytes = take c.len (octets_at new b) })
+      (stored_is (set contents b (Some c)) new b c (content_set contents b (Some c) within))
+      0 (length contents) (omega arith) (omega arith)
 
   pub refs_without : refs_of new (set contents b None) ≡ without nat_cmp (refs_of blocks contents) b
   unfolding stored_in
   refs_without =
       ap (entries (stored_in new (set contents b None)) 0) (sized_same None)
       ∙ entries_without (stored_in blocks contents) (stored_in new (set contents b None)) b (stored_others None)
-        (ap (stored_from (octets_at new b)) (content_set contents b None within)) 0 (length contents)
+      (ap (stored_from (octets_at new b)) (content_set contents b None within)) 0 (length contents)
 
 module _ (contents : List (Option Content)) (b : ℕ) (within : b < length contents) where
   place_others : (v : Option Content) (n : ℕ) → n ≢ b → place_in (set contents b v) n ≡ place_in contents n
@@ -263,14 +272,14 @@ module _ (contents : List (Option Content)) (b : ℕ) (within : b < length conte
   places_put c mark =
       ap (entries (place_in (set contents b (Some c))) 0) (length-set contents b (Some c))
       ∙ entries_put (place_in contents) (place_in (set contents b (Some c))) b (place_others (Some c)) b
-        (place_parked (set contents b (Some c)) b c (content_set contents b (Some c) within) mark)
-        0 (length contents) (omega arith) (omega arith)
+      (place_parked (set contents b (Some c)) b c (content_set contents b (Some c) within) mark)
+      0 (length contents) (omega arith) (omega arith)
 
   pub places_without : (c : Content) → c.parked ≡ false → places_of (set contents b (Some c)) ≡ without nat_cmp (places_of contents) b
   places_without c mark =
       ap (entries (place_in (set contents b (Some c))) 0) (length-set contents b (Some c))
       ∙ entries_without (place_in contents) (place_in (set contents b (Some c))) b (place_others (Some c))
-        (place_unparked (set contents b (Some c)) b c (content_set contents b (Some c) within) mark) 0 (length contents)
+      (place_unparked (set contents b (Some c)) b c (content_set contents b (Some c) within) mark) 0 (length contents)
 
   -- a used block is marked
   pub refs_marked : (blocks : List Block) (c : Content) (mark : Bool) → content_at contents b ≡ Some c
@@ -279,7 +288,7 @@ module _ (contents : List (Option Content)) (b : ℕ) (within : b < length conte
   refs_marked blocks c mark has =
       ap (entries (stored_in blocks (set contents b (marked mark (content_at contents b)))) 0) (length-set contents b (marked mark (content_at contents b)))
       ∙ entries_same (stored_in blocks contents) (stored_in blocks (set contents b (marked mark (content_at contents b)))) 0 (length contents)
-        (λ j low. by j (j == b) refl)
+      (λ j low. by j (j == b) refl)
     where
       alike : (octets : List ℕ) (o : Option Content) → o ≡ Some c → stored_from octets (marked mark o) ≡ stored_from octets o
       alike octets None has = cc
@@ -291,9 +300,9 @@ module _ (contents : List (Option Content)) (b : ℕ) (within : b < length conte
       by j true is =
           let here : j ≡ b = eqb-true j b is in
           subst (λ (n : ℕ). stored_from (octets_at blocks n) (content_at (set contents b (marked mark (content_at contents b))) n)
-            ≡ stored_from (octets_at blocks n) (content_at contents n)) (sym here)
+          ≡ stored_from (octets_at blocks n) (content_at contents n)) (sym here)
           (ap (stored_from (octets_at blocks b)) (content_set contents b (marked mark (content_at contents b)) within)
-            ∙ alike (octets_at blocks b) (content_at contents b) has)
+          ∙ alike (octets_at blocks b) (content_at contents b) has)
       by j false is =
           ap (stored_from (octets_at blocks j)) (content_set_other contents b (marked mark (content_at contents b)) j (eqb-false j b is))
 
@@ -332,7 +341,7 @@ tied_marked region contents accounts b c mark tied has =
       fits = subst (λ (n : ℕ). total accounts.quotas ≤ n) (sym size) tied.fits;
       limit = subst (λ (n : ℕ). n ≤ 65536) (sym size) tied.limit;
       sorted = tied.sorted;
-      within = tied.within
+      within = tied.within;
     }
   where
     within : b < length contents
@@ -358,7 +367,7 @@ tied_marked region contents accounts b c mark tied has =
         let here : n ≡ b = eqb-true n b is in
         subst (λ (o : Option Content). IfSome o (λ c. c.len ≤ 2048))
         (sym (content_set contents b (marked mark (content_at contents b)) within)
-          ∙ ap (content_at (set contents b (marked mark (content_at contents b)))) (sym here))
+        ∙ ap (content_at (set contents b (marked mark (content_at contents b)))) (sym here))
         (short_of (content_at contents b) (tied.short b))
     short_same n false is =
         subst (λ (o : Option Content). IfSome o (λ c. c.len ≤ 2048)) (sym (content_set_other contents b (marked mark (content_at contents b)) n (eqb-false n b is)))
@@ -537,7 +546,7 @@ tied_put r0 r2 contents a0 a1 b c tied free blocks others within short quotas ac
       within = λ key.
           subst (λ (q : List (EntityKey × ℕ)). at entity_cmp 0 a1.used key ≤ at entity_cmp 0 q key) (sym quotas)
           (subst (λ (u : List (EntityKey × ℕ)). at entity_cmp 0 u key ≤ at entity_cmp 0 a0.quotas key) (sym account)
-            (within_put a0.used a0.quotas c.key (at entity_cmp 0 a0.used c.key + 1) tied.within (omega arith) key))
+          (within_put a0.used a0.quotas c.key (at entity_cmp 0 a0.used c.key + 1) tied.within (omega arith) key));
     }
 
 pub put_state : (r0 r2 : RegionState) (contents : List (Option Content)) (a0 a1 : AccountsState) (b : ℕ) (c : Content) (bytes : List ℕ)
@@ -549,7 +558,7 @@ unfolding place_in
 put_state r0 r2 contents a0 a1 b c bytes within none mark others quotas written =
     same_state (length-set contents b (Some c)) quotas
     (refs_put r0.blocks r2.blocks contents b within others c
-      ∙ ap (λ (o : List ℕ). put nat_cmp (refs_of r0.blocks contents) b (record { key = c.key; bytes = o })) written)
+    ∙ ap (λ (o : List ℕ). put nat_cmp (refs_of r0.blocks contents) b (record { key = c.key; bytes = o })) written)
     (places_kept contents b within (Some c) (ap (λ (t : Bool). cond t (Some b) None) mark ∙ sym (ap (place_from b) none)))
 
 -- ---- a used block is given back
@@ -568,7 +577,7 @@ module _ (region : RegionState) (contents : List (Option Content)) (accounts : A
   unfolding used
   used_some =
       let total = used_take (state region contents accounts) b 2048 (pool_sound region contents accounts tied)
-          (record { key = c.key; bytes = take c.len (octets_at region.blocks b) }) c.key held_is in
+      (record { key = c.key; bytes = take c.len (octets_at region.blocks b) }) c.key held_is in
       let one : used (without_packet (state region contents accounts) b) c.key + 1 ≡ used (state region contents accounts) c.key =
       ap (λ (t : Bool). used (without_packet (state region contents accounts) b) c.key + cond t 1 0) (sym (ap is_eq (tied_itself entity_total c.key))) ∙ total in
       let account : at entity_cmp 0 accounts.used c.key ≡ used (state region contents accounts) c.key = tied.counted c.key in
@@ -602,15 +611,15 @@ module _ (region : RegionState) (contents : List (Option Content)) (accounts : A
         within = λ key.
             subst (λ (q : List (EntityKey × ℕ)). at entity_cmp 0 a1.used key ≤ at entity_cmp 0 q key) (sym quotas)
             (subst (λ (u : List (EntityKey × ℕ)). at entity_cmp 0 u key ≤ at entity_cmp 0 accounts.quotas key) (sym account)
-              (within_put accounts.used accounts.quotas c.key (at entity_cmp 0 accounts.used c.key - 1) tied.within (omega (arith, tied.within c.key)) key))
+            (within_put accounts.used accounts.quotas c.key (at entity_cmp 0 accounts.used c.key - 1) tied.within (omega (arith, tied.within c.key)) key));
       }
     where
       once : (n : ℕ) (t : Bool) → (b == n) ≡ t → b < length contents → count_by (λ m. m == n) r1.free ≡ named (slice_get (set contents b None) n)
       once n true same within =
           subst (λ (n : ℕ). count_by (λ m. m == n) r1.free ≡ named (slice_get (set contents b None) n)) (eqb-true b n same)
           (ap (count_by (λ m. m == b)) free ∙ sum_by-cons (λ m. cond (m == b) 1 0) b region.free
-            ∙ ap (λ (t : Bool). cond t 1 0 + count_by (λ m. m == b) region.free) (same_number b)
-            ∙ ap (λ (n : ℕ). 1 + n) not_free ∙ sym (ap named (get_set contents b None within)))
+          ∙ ap (λ (t : Bool). cond t 1 0 + count_by (λ m. m == b) region.free) (same_number b)
+          ∙ ap (λ (n : ℕ). 1 + n) not_free ∙ sym (ap named (get_set contents b None within)))
       once n false other within =
           ap (count_by (λ m. m == n)) free ∙ sum_by-cons (λ m. cond (m == n) 1 0) b region.free
           ∙ ap (λ (t : Bool). cond t 1 0 + count_by (λ m. m == n) region.free) other ∙ zero-add _
@@ -625,3 +634,177 @@ module _ (region : RegionState) (contents : List (Option Content)) (accounts : A
       same_state (length-set contents b None) quotas
       (refs_without region.blocks r1.blocks contents b within others)
       (places_kept contents b within None (sym (place_unparked contents b block.0 block.1 block.2)))
+
+-- ---- a new pool
+
+entries_none : {X : Type 0} (f : ℕ → Option X) (first n : ℕ) → ((j : ℕ) → f j ≡ None) → entries f first n ≡ []
+unfolding entries
+entries_none f first zero none = refl
+entries_none {X} f first (suc n) none =
+    ap (λ (o : Option X). entry_before first o (entries f (suc first) n)) (none first) ∙ entries_none f (suc first) n none
+
+no_content : (n k : ℕ) → content_at (replicate n None) k ≡ None
+no_content zero k = refl
+no_content (suc n) zero = refl
+no_content (suc n) (suc k) = no_content n k
+
+numbers_below : (first n k : ℕ) → k < first → count_by (λ m. m == k) (numbers_from first n) ≡ 0
+unfolding numbers_from
+numbers_below first zero k below = refl
+numbers_below first (suc n) k below =
+    sum_by-cons (λ m. cond (m == k) 1 0) first (numbers_from (suc first) n)
+    ∙ ap (λ (t : Bool). cond t 1 0 + count_by (λ m. m == k) (numbers_from (suc first) n)) (other_number first k (omega arith))
+    ∙ zero-add _ ∙ numbers_below (suc first) n k (omega arith)
+
+numbers_named : (first n k : ℕ) → count_by (λ m. m == first + k) (numbers_from first n) ≡ named (slice_get (replicate n None) k)
+unfolding numbers_from
+numbers_named first zero k = refl
+numbers_named first (suc n) zero =
+    let here : (first == first + 0) ≡ true = ap (λ (m : ℕ). first == m) (add-zero first) ∙ same_number first in
+    sum_by-cons (λ m. cond (m == first + 0) 1 0) first (numbers_from (suc first) n)
+    ∙ ap (λ (t : Bool). cond t 1 0 + count_by (λ m. m == first + 0) (numbers_from (suc first) n)) here
+    ∙ ap (λ (c : ℕ). 1 + c) (numbers_below (suc first) n (first + 0) (omega arith))
+numbers_named first (suc n) (suc k) =
+    let next : first + suc k ≡ suc first + k = omega arith in
+    sum_by-cons (λ m. cond (m == first + suc k) 1 0) first (numbers_from (suc first) n)
+    ∙ ap (λ (t : Bool). cond t 1 0 + count_by (λ m. m == first + suc k) (numbers_from (suc first) n)) (other_number first (first + suc k) (omega arith))
+    ∙ zero-add _ ∙ ap (λ (c : ℕ). count_by (λ m. m == c) (numbers_from (suc first) n)) next ∙ numbers_named (suc first) n k
+
+numbers_length : (first n : ℕ) → length (numbers_from first n) ≡ n
+unfolding numbers_from
+numbers_length first zero = refl
+numbers_length first (suc n) = ap suc (numbers_length (suc first) n)
+
+refs_none : (blocks : List Block) (n : ℕ) → refs_of blocks (replicate n None) ≡ []
+unfolding stored_in
+refs_none blocks n =
+    entries_none (stored_in blocks (replicate n None)) 0 (length {A = Option Content} (replicate n None)) (λ j. ap (stored_from (octets_at blocks j)) (no_content n j))
+
+places_none : (n : ℕ) → places_of (replicate n None) ≡ []
+unfolding place_in
+places_none n =
+    entries_none (place_in (replicate n None)) 0 (length {A = Option Content} (replicate n None)) (λ j. ap (place_from j) (no_content n j))
+
+pub tied_new : (region : RegionState) (contents : List (Option Content)) (accounts : AccountsState) (n : ℕ)
+    → length region.blocks ≡ n → region.free ≡ numbers_from 0 n → contents ≡ replicate n None → accounts.quotas ≡ [] → accounts.used ≡ []
+    → n ≤ 65536 → IsTied region contents accounts
+unfolding at find IsStrictlySortedBy
+tied_new region contents accounts n blocks free none quotas used_none limit =
+    let size : length contents ≡ n = ap length none ∙ length-replicate n None in
+    let all_free : length region.free ≡ n = ap length free ∙ numbers_length 0 n in
+    let no_quotas : total accounts.quotas ≡ 0 = ap total quotas in
+    let nothing : total accounts.used ≡ 0 = ap total used_none in
+    record {
+      free_once = λ k.
+          ap (count_by (λ m. m == k)) free ∙ ap (λ (c : ℕ). count_by (λ m. m == c) (numbers_from 0 n)) (sym (zero-add k))
+          ∙ numbers_named 0 n k ∙ ap (λ (s : List (Option Content)). named (slice_get s k)) (sym none);
+      sized = blocks ∙ sym size;
+      short = λ k. subst (λ (o : Option Content). IfSome o (λ c. c.len ≤ 2048))
+          (sym (ap (λ (s : List (Option Content)). content_at s k) none ∙ no_content n k)) tt;
+      counted = λ key.
+          ap (λ (m : List (EntityKey × ℕ)). at entity_cmp 0 m key) used_none
+          ∙ ap (λ (m : List (ℕ × Stored)). count_by (is_of key) (values_of m)) (sym (ap (refs_of region.blocks) none ∙ refs_none region.blocks n));
+      whole = omega (arith, size, all_free, nothing);
+      fits = omega (arith, no_quotas);
+      limit = omega (arith, size);
+      sorted = subst (IsSorted entity_cmp) (sym quotas) tt;
+      within = λ key.
+          subst (λ (u : List (EntityKey × ℕ)). at entity_cmp 0 u key ≤ at entity_cmp 0 accounts.quotas key) (sym used_none) (omega arith);
+    }
+
+pub new_state : (region : RegionState) (contents : List (Option Content)) (accounts : AccountsState) (n : ℕ)
+    → contents ≡ replicate n None → accounts.quotas ≡ [] → state region contents accounts ≡ new_pool n
+new_state region contents accounts n none quotas =
+    same_state (ap length none ∙ length-replicate n None) quotas
+    (ap (refs_of region.blocks) none ∙ refs_none region.blocks n) (ap places_of none ∙ places_none n)
+
+-- ---- a quota is set, or given up
+
+pub tied_reserved : (region : RegionState) (contents : List (Option Content)) (a0 a1 : AccountsState) (key : EntityKey) (n : ℕ)
+    → IsTied region contents a0 → find entity_cmp a0.quotas key ≡ None
+    → a1.quotas ≡ put entity_cmp a0.quotas key n → a1.used ≡ put entity_cmp a0.used key 0 → IsSorted entity_cmp a1.quotas
+    → total a1.quotas ≤ length contents → total a1.used ≡ total a0.used → IsTied region contents a1
+unfolding at
+tied_reserved region contents a0 a1 key n tied absent quotas account sorted fits whole =
+    record {
+      free_once = tied.free_once;
+      sized = tied.sized;
+      short = tied.short;
+      counted = λ k. ap (λ (m : List (EntityKey × ℕ)). at entity_cmp 0 m k) account ∙ at-put entity_total 0 a0.used key 0 k ∙ by k (eq_by_cmp entity_cmp k key) refl;
+      whole = omega (arith, tied.whole, whole);
+      fits = fits;
+      limit = tied.limit;
+      sorted = sorted;
+      within = λ k.
+          subst (λ (q : List (EntityKey × ℕ)). at entity_cmp 0 a1.used k ≤ at entity_cmp 0 q k) (sym quotas)
+          (subst (λ (u : List (EntityKey × ℕ)). at entity_cmp 0 u k ≤ at entity_cmp 0 (put entity_cmp a0.quotas key n) k) (sym account)
+          (within k (eq_by_cmp entity_cmp k key) (at-put entity_total 0 a0.used key 0 k) (at-put entity_total 0 a0.quotas key n k)));
+    }
+  where
+    nothing : at entity_cmp 0 a0.used key ≡ 0
+    nothing =
+        let none : at entity_cmp 0 a0.quotas key ≡ 0 = ap (λ (o : Option ℕ). unwrap_or o 0) absent in
+        omega (arith, tied.within key, none)
+
+    by : (k : EntityKey) (t : Bool) → eq_by_cmp entity_cmp k key ≡ t
+        → cond t 0 (at entity_cmp 0 a0.used k) ≡ count_by (is_of k) (values_of (refs_of region.blocks contents))
+    by k true tie = sym nothing ∙ ap (at entity_cmp 0 a0.used) (sym (same_entity k key tie)) ∙ tied.counted k
+    by k false tie = tied.counted k
+
+    within : (k : EntityKey) (t : Bool) → at entity_cmp 0 (put entity_cmp a0.used key 0) k ≡ cond t 0 (at entity_cmp 0 a0.used k)
+        → at entity_cmp 0 (put entity_cmp a0.quotas key n) k ≡ cond t n (at entity_cmp 0 a0.quotas k)
+        → at entity_cmp 0 (put entity_cmp a0.used key 0) k ≤ at entity_cmp 0 (put entity_cmp a0.quotas key n) k
+    within k true u q = omega arith
+    within k false u q = omega (arith, tied.within k)
+
+pub tied_released : (region : RegionState) (contents : List (Option Content)) (a0 a1 : AccountsState) (key : EntityKey)
+    → IsTied region contents a0 → at entity_cmp 0 a0.used key ≡ 0
+    → a1.quotas ≡ without entity_cmp a0.quotas key → a1.used ≡ without entity_cmp a0.used key → IsSorted entity_cmp a1.quotas
+    → total a1.quotas ≤ total a0.quotas → total a1.used ≡ total a0.used → IsTied region contents a1
+tied_released region contents a0 a1 key tied nothing quotas account sorted fits whole =
+    record {
+      free_once = tied.free_once;
+      sized = tied.sized;
+      short = tied.short;
+      counted = λ k. ap (λ (m : List (EntityKey × ℕ)). at entity_cmp 0 m k) account ∙ at-without entity_total 0 a0.used key k ∙ by k (eq_by_cmp entity_cmp k key) refl;
+      whole = omega (arith, tied.whole, whole);
+      fits = omega (arith, fits, tied.fits);
+      limit = tied.limit;
+      sorted = sorted;
+      within = λ k.
+          subst (λ (q : List (EntityKey × ℕ)). at entity_cmp 0 a1.used k ≤ at entity_cmp 0 q k) (sym quotas)
+          (subst (λ (u : List (EntityKey × ℕ)). at entity_cmp 0 u k ≤ at entity_cmp 0 (without entity_cmp a0.quotas key) k) (sym account)
+          (within k (eq_by_cmp entity_cmp k key) (at-without entity_total 0 a0.used key k) (at-without entity_total 0 a0.quotas key k)));
+    }
+  where
+    by : (k : EntityKey) (t : Bool) → eq_by_cmp entity_cmp k key ≡ t
+        → cond t 0 (at entity_cmp 0 a0.used k) ≡ count_by (is_of k) (values_of (refs_of region.blocks contents))
+    by k true tie = sym nothing ∙ ap (at entity_cmp 0 a0.used) (sym (same_entity k key tie)) ∙ tied.counted k
+    by k false tie = tied.counted k
+
+    within : (k : EntityKey) (t : Bool) → at entity_cmp 0 (without entity_cmp a0.used key) k ≡ cond t 0 (at entity_cmp 0 a0.used k)
+        → at entity_cmp 0 (without entity_cmp a0.quotas key) k ≡ cond t 0 (at entity_cmp 0 a0.quotas k)
+        → at entity_cmp 0 (without entity_cmp a0.used key) k ≤ at entity_cmp 0 (without entity_cmp a0.quotas key) k
+    within k true u q = omega arith
+    within k false u q = omega (arith, tied.within k)
+
+-- ---- by the result of a call
+
+pub on_err : {T E : Type 0} (r : Result T E) (P : Type 0) → P → OnErr r P
+on_err (Ok x) P h = tt
+on_err (Err e) P h = h
+
+module _ {T E : Type 0} (region : RegionState) (contents : List (Option Content)) (a0 a1 : AccountsState) (key : EntityKey) (n : ℕ) where
+  pub tied_after : (r : Result T E) → IsTied region contents a0 → find entity_cmp a0.quotas key ≡ None
+      → OnOk r (a1.quotas ≡ put entity_cmp a0.quotas key n) → OnOk r (a1.used ≡ put entity_cmp a0.used key 0)
+      → OnOk r (IsSorted entity_cmp a1.quotas) → OnOk r (total a0.quotas + n ≤ length contents)
+      → OnOk r (total a1.quotas ≡ total a0.quotas + n) → OnOk r (total a1.used ≡ total a0.used) → OnErr r (a1 ≡ a0)
+      → IsTied region contents a1
+  tied_after (Ok x) tied absent quotas account sorted room whole same err =
+      tied_reserved region contents a0 a1 key n tied absent quotas account sorted (omega (arith, room, whole)) same
+  tied_after (Err e) tied absent quotas account sorted room whole same err =
+      subst (λ (a : AccountsState). IsTied region contents a) (sym err) tied
+
+pub on_ok : {T E : Type 0} (r : Result T E) (P Q : Type 0) → OnOk r P → (P → Q) → OnOk r Q
+on_ok (Ok x) P Q h f = f h
+on_ok (Err e) P Q h f = tt

@@ -1,9 +1,9 @@
 -- The list of free blocks along their first octets: what a write to another block and a change of its front leave of it.
-use Rattle.std.proofs.Common.{◌≡◌, ◌≢◌, ◌==◌, ℕ, zero, suc, ◌+◌, ◌-◌, ◌<◌, ◌≤◌, Bool, true, false, cond, List, [], ◌∷◌, ◌++◌, length, Option, Some, None, refl, sym, ap, ◌∙◌, subst, eqb-true, get_or, set, length-set, arith, sub-one, add-one, length-append, take}
+use Rattle.std.proofs.Common.{◌≡◌, ◌≢◌, ◌==◌, ℕ, zero, suc, ◌+◌, ◌-◌, ◌<◌, ◌≤◌, Bool, true, false, cond, List, [], ◌∷◌, ◌++◌, length, Option, Some, refl, sym, ap, ◌∙◌, subst, eqb-true, get_or, set, length-set, arith, add-one, length-append}
 use Rattle.std.specs.Prelude.{slice_get}
-use Rattle.std.specs.List.{count_by, sum_by, AllByRecursion}
+use Rattle.std.specs.List.{count_by, AllByRecursion}
 use Rattle.std.proofs.lemmas.Bool.{eqb-false}
-use Rattle.std.proofs.lemmas.Option.{slice_get-get_or, slice_get_within}
+use Rattle.std.proofs.lemmas.Option.{slice_get-get_or}
 use Rattle.std.proofs.lemmas.List.Sums.{sum_by-cons}
 use Rattle.packet_pool.specs.declared.region.Block.{Block}
 use Rattle.packet_pool.specs.inside.Regions.{link, octets_of, octets_at, chain, numbers_from, IsRegion}
@@ -55,7 +55,7 @@ chain_same blocks new b same first (suc n) unnamed =
   where
     by : (c : Bool) → (first == b) ≡ c → cond c 1 0 + count_by (λ m. m == b) (chain blocks (link (octets_at blocks first)) n) ≡ 0
         → (count_by (λ m. m == b) (chain blocks (link (octets_at blocks first)) n) ≡ 0
-          → chain new (link (octets_at blocks first)) n ≡ chain blocks (link (octets_at blocks first)) n)
+        → chain new (link (octets_at blocks first)) n ≡ chain blocks (link (octets_at blocks first)) n)
         → first ∷ chain new (link (octets_at new first)) n ≡ first ∷ chain blocks (link (octets_at blocks first)) n
     by true is unnamed again = absurd (omega arith)
     by false is unnamed again =
@@ -78,7 +78,7 @@ region_taken blocks first n next region some is =
       within =
           subst (λ (k : ℕ). AllByRecursion (λ m. m < length blocks) (chain blocks k (n - 1))) (sym is)
           (subst (AllByRecursion (λ m. m < length blocks)) (chain_next blocks first n some) region.within).1;
-      limit = region.limit
+      limit = region.limit;
     }
 
 -- a block that isn't named is put in front
@@ -100,7 +100,7 @@ region_given blocks first n b new region within unnamed linked =
       within =
           all_within (length blocks) (length (set blocks b new)) (sym size) (chain (set blocks b new) b (n + 1))
           (subst (AllByRecursion (λ m. m < length blocks)) (sym (chain_given blocks first n b new within unnamed linked)) (within, region.within));
-      limit = omega (arith, size, region.limit)
+      limit = omega (arith, size, region.limit);
     }
 
 -- a block that isn't named is written
@@ -116,7 +116,7 @@ region_written blocks first n b new region unnamed =
       within =
           all_within (length blocks) (length (set blocks b new)) (sym size) (chain (set blocks b new) first n)
           (subst (AllByRecursion (λ m. m < length blocks)) (sym (chain_written blocks first n b new unnamed)) region.within);
-      limit = omega (arith, size, region.limit)
+      limit = omega (arith, size, region.limit);
     }
 
 -- ---- a new region
@@ -165,7 +165,7 @@ region_new blocks n all size limit =
       within =
           subst (AllByRecursion (λ m. m < length blocks)) (sym (chain_new blocks 0 n all (omega arith)))
           (numbers_within 0 n (length blocks) (omega arith));
-      limit = omega arith
+      limit = omega arith;
     }
 
 pub some_free : (blocks : List Block) (first n : ℕ) (free : List ℕ) → chain blocks first n ≡ free → 0 < length free → 1 ≤ n

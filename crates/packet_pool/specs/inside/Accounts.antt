@@ -1,5 +1,5 @@
 -- Internal: the accounts as two tables, what each key may use and what it uses.
-use Rattle.std.specs.Prelude.{◌≡◌, ℕ, ◌<◌, ◌≤◌, ◌^◌, List, [], ◌∷◌}
+use Rattle.std.specs.Prelude.{◌≡◌, ℕ, ◌<◌, ◌≤◌, ◌^◌, List}
 use Rattle.std.specs.List.{AllByRecursion, sum}
 use Rattle.std.specs.Map.{values_of}
 use Rattle.gnb_types.specs.declared.keys.EntityKey.{EntityKey}

@@ -1,5 +1,5 @@
 -- Internal: the pool as its region, what each block has, and the accounts.
-use Rattle.std.specs.Prelude.{◌≡◌, ◌==◌, ℕ, zero, suc, ◌+◌, ◌≤◌, if◌then◌else◌, List, [], ◌∷◌, length, take, slice_get, Option, Some, None, IfSome}
+use Rattle.std.specs.Prelude.{◌≡◌, ◌==◌, ℕ, zero, suc, ◌+◌, ◌≤◌, List, [], ◌∷◌, length, slice_get, Option, Some, None, IfSome}
 use Rattle.std.specs.List.{count_by}
 use Rattle.std.specs.Map.{values_of}
 use Rattle.gnb_types.specs.declared.keys.EntityKey.{EntityKey}
@@ -9,7 +9,7 @@ use Rattle.pool_defs.specs.Pools.{Stored, PoolState, is_of}
 use Rattle.packet_pool.specs.declared.contents.Content.{Content}
 use Rattle.packet_pool.specs.inside.Contents.{content_at, stored_in, place_in}
 use Rattle.packet_pool.specs.declared.region.Block.{Block}
-use Rattle.packet_pool.specs.inside.Regions.{RegionState, octets_at}
+use Rattle.packet_pool.specs.inside.Regions.{RegionState}
 use Rattle.packet_pool.specs.inside.Accounts.{AccountsState, total}
 
 -- the entries of a table from numbers: those of so many numbers from the first one on that have a value

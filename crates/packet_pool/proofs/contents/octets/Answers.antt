@@ -1,9 +1,8 @@
-use Rattle.std.proofs.Common.{◌≡◌, Some, None, refl, sym, ap, ◌∙◌, subst, true≢false}
-use Rattle.std.specs.Prelude.{IsSome, is_some}
+use Rattle.std.proofs.Common.{Some, sym, ap, ◌∙◌, subst, true≢false}
+use Rattle.std.specs.Prelude.{IsSome}
 use Rattle.std.specs.Option.{option_map}
-use Rattle.packet_pool.specs.declared.contents.Content.{Content}
 use Rattle.packet_pool.specs.inside.Regions.{octets_at}
-use Rattle.packet_pool.specs.inside.Contents.{content_at, stored_from, stored_in}
+use Rattle.packet_pool.specs.inside.Contents.{stored_from, stored_in}
 use Rattle.packet_pool.proofs.contents.octets.Goals as goal
 
 pub returns-in-Some : goal.returns-in-Some

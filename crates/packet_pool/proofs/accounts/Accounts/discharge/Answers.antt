@@ -3,7 +3,7 @@ use Rattle.gnb_types.specs.Orders.{entity_cmp}
 use Rattle.tables.specs.Tables.{put, at}
 use Rattle.tables.proofs.TableLaws.{put-mapped}
 use Rattle.packet_pool.specs.declared.accounts.Account.{Account}
-use Rattle.packet_pool.specs.inside.Accounts.{AccountsState, total, used_of, quotas_of}
+use Rattle.packet_pool.specs.inside.Accounts.{AccountsState, total, used_of}
 use Rattle.packet_pool.proofs.AccountLemmas.{at_found, at_none, all_found, put_alike, accounts_replaced, used_replaced}
 use Rattle.packet_pool.proofs.accounts.Accounts.discharge.Goals as goal
 

@@ -1,4 +1,4 @@
-use Rattle.std.proofs.Common.{◌≡◌, sym, subst, List, []}
+use Rattle.std.proofs.Common.{sym, subst, List}
 use Rattle.gnb_types.specs.declared.keys.EntityKey.{EntityKey}
 use Rattle.packet_pool.specs.declared.accounts.Account.{Account}
 use Rattle.packet_pool.specs.inside.Accounts.{AreAccounts}

@@ -1,4 +1,4 @@
-use Rattle.std.proofs.Common.{◌≡◌, ◌≤◌, ◌+◌, ◌-◌, ℕ, List, sym, ap, ◌∙◌, subst, arith}
+use Rattle.std.proofs.Common.{◌≡◌, ◌≤◌, ◌+◌, ◌-◌, List, sym, ap, ◌∙◌, subst, arith}
 use Rattle.gnb_types.specs.declared.keys.EntityKey.{EntityKey}
 use Rattle.gnb_types.specs.Orders.{entity_cmp}
 use Rattle.gnb_types.proofs.OrderLemmas.{entity_total}
@@ -41,7 +41,7 @@ pub returns-in_default-clause-sorted : goal.returns-in_default-clause-sorted
 returns-in_default-clause-sorted c =
     subst (λ (m : List (EntityKey × Account)). IsSorted entity_cmp (quotas_of m)) (sym c.in_default.ensures.rest)
     (subst (IsSorted entity_cmp) (without-mapped entity_cmp (λ (a : Account). a.quota) _ _)
-      (sorted-without entity_total _ _ (quotas_sorted _ _ c.self.invariant)))
+    (sorted-without entity_total _ _ (quotas_sorted _ _ c.self.invariant)))
 
 pub returns-in_default-clause-whole : goal.returns-in_default-clause-whole
 returns-in_default-clause-whole c =
@@ -65,7 +65,7 @@ pub returns-clause-sorted : goal.returns-clause-sorted
 returns-clause-sorted c =
     subst (λ (m : List (EntityKey × Account)). IsSorted entity_cmp (quotas_of m)) (sym c.in-Some.ensures.rest)
     (subst (IsSorted entity_cmp) (without-mapped entity_cmp (λ (a : Account). a.quota) _ _)
-      (sorted-without entity_total _ _ (quotas_sorted _ _ c.self.invariant)))
+    (sorted-without entity_total _ _ (quotas_sorted _ _ c.self.invariant)))
 
 pub returns-clause-whole : goal.returns-clause-whole
 returns-clause-whole c =

@@ -1,4 +1,4 @@
-use Rattle.std.proofs.Common.{◌≡◌, ◌+◌, ◌≤◌, ℕ, List, None, refl, sym, ap, ◌∙◌, subst, add-zero, arith}
+use Rattle.std.proofs.Common.{◌≡◌, ◌+◌, List, None, sym, ap, ◌∙◌, subst, add-zero, arith}
 use Rattle.gnb_types.specs.declared.keys.EntityKey.{EntityKey}
 use Rattle.gnb_types.specs.Orders.{entity_cmp}
 use Rattle.tables.specs.Tables.{find, put}
@@ -30,7 +30,7 @@ returns-clause-sorted c =
     let none : find entity_cmp c.self.inside.table c.args.key ≡ None =
     none_mapped (λ a. a.quota) _ _ (subst (λ (s : AccountsState). find entity_cmp s.quotas c.args.key ≡ None) (sym c.self.view_is) c.requires.absent) in
     quotas_sorted _ _ (subst (λ (m : List (EntityKey × Account)). AreAccounts m (c.self.inside.reserved + c.args.n)) (sym c.in_ok-put.ensures.ok)
-      (accounts_opened _ _ _ _ c.self.invariant none (omega arith) (omega (arith, c.ranges.blocks))))
+    (accounts_opened _ _ _ _ c.self.invariant none (omega arith) (omega (arith, c.ranges.blocks))))
 
 pub returns-clause-whole : goal.returns-clause-whole
 returns-clause-whole c =

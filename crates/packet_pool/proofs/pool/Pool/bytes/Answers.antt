@@ -1,4 +1,4 @@
-use Rattle.std.proofs.Common.{◌≡◌, ℕ, ◌<◌, List, length, Option, sym, ap, ◌∙◌, subst, refl}
+use Rattle.std.proofs.Common.{ℕ, ◌<◌, Option, sym, ap, ◌∙◌, subst, refl}
 use Rattle.std.specs.Prelude.{IsSome}
 use Rattle.std.specs.Option.{option_map}
 use Rattle.pool_defs.specs.Pools.{Stored, PoolState, packet_of, IsPool}
@@ -25,7 +25,7 @@ returns-clause-value c =
     subst IsSome (ap (λ (p : PoolState). packet_of p c.args.r.now) (sym c.self.view_is) ∙ ap (packet_of _) (sym c.r.view_is)) c.requires in
     ap (λ (o : Option Stored). option_map (λ packet. packet.bytes) o)
     (ap (λ (p : PoolState). packet_of p c.args.r.now) (sym c.self.view_is) ∙ ap (packet_of _) (sym c.r.view_is)
-      ∙ packet_found c.self.inside.region c.self.inside.contents.items c.self.inside.accounts c.r.inside.block (held_apart _ _ held))
+    ∙ packet_found c.self.inside.region c.self.inside.contents.items c.self.inside.accounts c.r.inside.block (held_apart _ _ held))
     ∙ c.octets.ensures
 
 pub returns-clause-sound : goal.returns-clause-sound

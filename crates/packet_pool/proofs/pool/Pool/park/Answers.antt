@@ -1,12 +1,12 @@
-use Rattle.std.proofs.Common.{◌≡◌, ℕ, ◌<◌, List, length, Option, Some, None, true, set, sym, ap, ◌∙◌, subst, refl}
+use Rattle.std.proofs.Common.{◌<◌, List, length, Option, true, set, sym, ap, ◌∙◌, subst, refl}
 use Rattle.std.specs.Prelude.{IsSome}
 use Rattle.std.specs.Ordering.{nat_cmp}
-use Rattle.tables.specs.Tables.{find, put}
+use Rattle.tables.specs.Tables.{find}
 use Rattle.pool_defs.specs.Pools.{PoolState, packet_of, with_place, IsPool}
 use Rattle.packet_pool.specs.declared.contents.Content.{Content}
-use Rattle.packet_pool.specs.inside.Contents.{content_at, marked}
+use Rattle.packet_pool.specs.inside.Contents.{marked}
 use Rattle.packet_pool.specs.inside.Pools.{state, places_of, IsTied}
-use Rattle.packet_pool.proofs.PoolLemmas.{pool_sound, held_block, content_within, find_places, place_unparked, places_put, tied_marked, marked_state, HeldBlock}
+use Rattle.packet_pool.proofs.PoolLemmas.{pool_sound, held_block, content_within, find_places, place_unparked, places_put, tied_marked, marked_state}
 use Rattle.packet_pool.proofs.pool.Pool.park.Goals as goal
 
 pub mark-requires : goal.mark-requires
@@ -41,7 +41,7 @@ returns-clause-parked c =
     content_within c.self.inside.contents.items c.r.inside.block (subst IsSome (sym block.1) refl) in
     ap (λ (new : List (Option Content)). state c.self.inside.region new c.self.inside.accounts) c.mark.ensures
     ∙ marked_state c.self.inside.region c.self.inside.contents.items c.self.inside.accounts c.r.inside.block block.0 true _ block.1
-      (ap (λ (o : Option Content). places_of (set c.self.inside.contents.items c.r.inside.block (marked true o))) block.1
-        ∙ places_put c.self.inside.contents.items c.r.inside.block within (record block.0 { parked = true }) refl)
+    (ap (λ (o : Option Content). places_of (set c.self.inside.contents.items c.r.inside.block (marked true o))) block.1
+    ∙ places_put c.self.inside.contents.items c.r.inside.block within (record block.0 { parked = true }) refl)
     ∙ ap (λ (p : PoolState). with_place p c.r.inside.block c.r.inside.block) c.self.view_is
     ∙ ap (with_place c.args.self.now c.r.inside.block) c.r.view_is

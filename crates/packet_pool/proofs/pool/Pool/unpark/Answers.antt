@@ -1,10 +1,10 @@
-use Rattle.std.proofs.Common.{◌≡◌, ℕ, ◌<◌, List, length, Option, Some, None, false, set, sym, ap, ◌∙◌, subst, refl}
+use Rattle.std.proofs.Common.{◌<◌, List, length, Option, false, set, sym, ap, ◌∙◌, subst, refl}
 use Rattle.std.specs.Prelude.{IsSome}
 use Rattle.std.specs.Ordering.{nat_cmp}
 use Rattle.tables.specs.Tables.{find}
 use Rattle.pool_defs.specs.Pools.{PoolState, packet_at, without_place, IsPool}
 use Rattle.packet_pool.specs.declared.contents.Content.{Content}
-use Rattle.packet_pool.specs.inside.Contents.{content_at, marked}
+use Rattle.packet_pool.specs.inside.Contents.{marked}
 use Rattle.packet_pool.specs.inside.Pools.{state, places_of, IsTied}
 use Rattle.packet_pool.proofs.PoolLemmas.{pool_sound, parked_block, content_within, find_places, place_parked, places_without, tied_marked, marked_state}
 use Rattle.packet_pool.proofs.pool.Pool.unpark.Goals as goal
@@ -41,6 +41,6 @@ returns-clause-unparked c =
     content_within c.self.inside.contents.items c.args.place (subst IsSome (sym block.1) refl) in
     ap (λ (new : List (Option Content)). state c.self.inside.region new c.self.inside.accounts) c.mark.ensures
     ∙ marked_state c.self.inside.region c.self.inside.contents.items c.self.inside.accounts c.args.place block.0 false _ block.1
-      (ap (λ (o : Option Content). places_of (set c.self.inside.contents.items c.args.place (marked false o))) block.1
-        ∙ places_without c.self.inside.contents.items c.args.place within (record block.0 { parked = false }) refl)
+    (ap (λ (o : Option Content). places_of (set c.self.inside.contents.items c.args.place (marked false o))) block.1
+    ∙ places_without c.self.inside.contents.items c.args.place within (record block.0 { parked = false }) refl)
     ∙ ap (λ (p : PoolState). without_place p c.args.place) c.self.view_is

@@ -1,4 +1,4 @@
-use Rattle.std.proofs.Common.{◌≡◌, ap, ◌∙◌, subst, refl}
+use Rattle.std.proofs.Common.{ap, ◌∙◌, subst}
 use Rattle.pool_defs.specs.Pools.{PoolState, used, IsPool}
 use Rattle.packet_pool.proofs.PoolLemmas.{pool_sound}
 use Rattle.packet_pool.proofs.pool.Pool.used.Goals as goal

@@ -1,6 +1,6 @@
-use Rattle.std.proofs.Common.{◌≡◌, ◌==◌, ◌≤◌, ◌<◌, ◌+◌, ◌∷◌, ◌^◌, ℕ, List, length, refl, sym, ap, ◌∙◌, subst, arith}
+use Rattle.std.proofs.Common.{◌≡◌, ◌==◌, ◌<◌, ◌∷◌, length, sym, ap, ◌∙◌, subst, arith}
 use Rattle.std.specs.List.{count_by}
-use Rattle.packet_pool.specs.inside.Regions.{RegionState, link, octets_at, chain}
+use Rattle.packet_pool.specs.inside.Regions.{RegionState, octets_at}
 use Rattle.packet_pool.proofs.RegionLemmas.{chain_length, chain_given, region_given, octets_set_other}
 use Rattle.packet_pool.proofs.region.Region.give_back.Goals as goal
 

@@ -1,12 +1,11 @@
-use Rattle.std.proofs.Common.{◌≡◌, ◌+◌, ◌≤◌, ℕ, List, [], ◌∷◌, ◌++◌, length, length-append, sym, ap, ◌∙◌, subst, arith}
-use Rattle.packet_pool.specs.declared.region.Block.{Block}
+use Rattle.std.proofs.Common.{◌≡◌, ◌+◌, ℕ, [], ◌∷◌, ◌++◌, length, length-append, sym, ap, ◌∙◌, subst, arith}
 use Rattle.packet_pool.proofs.RegionLemmas.{AreLinked, linked_none, linked_push, chain_new, region_new}
 use Rattle.packet_pool.proofs.region.Region.new.Goals as goal
 
 pub loop-number-init : goal.loop-number-init
 loop-number-init c = record {
   size = ap length c.in_ok-blocks.ensures.items;
-  linked = linked_none _ c.in_ok-blocks.ensures.items
+  linked = linked_none _ c.in_ok-blocks.ensures.items;
 }
 
 pub loop-number-preserved : goal.loop-number-preserved
@@ -18,7 +17,7 @@ loop-number-preserved c =
       size = size;
       linked =
           subst AreLinked (sym items)
-          (linked_push _ _ c.loop-number.invariant.linked (c.linked.ensures ∙ ap (λ (n : ℕ). n + 1) (sym c.loop-number.invariant.size)))
+          (linked_push _ _ c.loop-number.invariant.linked (c.linked.ensures ∙ ap (λ (n : ℕ). n + 1) (sym c.loop-number.invariant.size)));
     }
 
 pub invariant_of-result : goal.invariant_of-result

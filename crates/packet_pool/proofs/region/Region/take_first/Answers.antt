@@ -1,6 +1,5 @@
-use Rattle.std.proofs.Common.{◌≡◌, ◌≤◌, ◌<◌, ◌-◌, ◌∷◌, ℕ, List, length, refl, sym, ap, ◌∙◌, subst, arith}
-use Rattle.packet_pool.specs.declared.region.Block.{Block}
-use Rattle.packet_pool.specs.inside.Regions.{RegionState, link, octets_at, chain}
+use Rattle.std.proofs.Common.{◌≤◌, ◌<◌, ◌-◌, ◌∷◌, ℕ, length, sym, ap, ◌∙◌, subst, arith}
+use Rattle.packet_pool.specs.inside.Regions.{RegionState, link, chain}
 use Rattle.packet_pool.proofs.RegionLemmas.{some_free, chain_next, first_within, region_taken, octets_got}
 use Rattle.packet_pool.proofs.region.Region.take_first.Goals as goal
 
@@ -26,7 +25,7 @@ returns-clause-first c =
     let within : c.self.inside.first < length c.self.inside.blocks.items = first_within _ _ _ c.self.invariant some in
     sym (ap (λ (s : RegionState). s.free) c.self.view_is) ∙ chain_next _ _ _ some
     ∙ ap (λ (k : ℕ). c.self.inside.first ∷ chain c.self.inside.blocks.items k (c.self.inside.free - 1))
-      (ap link (octets_got _ _ _ within c.index-block.ensures) ∙ sym c.next-self-inside.ensures)
+    (ap link (octets_got _ _ _ within c.index-block.ensures) ∙ sym c.next-self-inside.ensures)
 
 pub returns-clause-within : goal.returns-clause-within
 returns-clause-within c =

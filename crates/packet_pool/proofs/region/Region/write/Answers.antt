@@ -1,4 +1,4 @@
-use Rattle.std.proofs.Common.{◌≡◌, ◌==◌, ◌<◌, ℕ, List, length, take, sym, ap, ◌∙◌, subst}
+use Rattle.std.proofs.Common.{◌≡◌, ◌==◌, ◌<◌, length, take, sym, ap, ◌∙◌, subst}
 use Rattle.std.specs.List.{count_by}
 use Rattle.packet_pool.specs.inside.Regions.{RegionState, octets_at}
 use Rattle.packet_pool.proofs.RegionLemmas.{chain_written, region_written, octets_set, octets_set_other}
