@@ -1,10 +1,9 @@
 -- A message more that was put: on its channel it is new, on each other one nothing changes.
-use Rattle.std.proofs.Common.{inl, inr, ◌≡◌, ◌⊎◌, ℕ, Bool, List, [], ◌∷◌, ◌++◌, Option, Some, None, refl, sym, ap, ◌∙◌, subst}
+use Rattle.std.proofs.Common.{inl, inr, ◌≡◌, ◌⊎◌, ℕ, List, [], ◌∷◌, ◌++◌, Some, None, sym, ap, ◌∙◌, subst}
 use Rattle.std.proofs.lemmas.List.{append-nil}
 use Rattle.std.specs.List.{Contains}
 use Rattle.std.proofs.lemmas.List.Elements.{Contains-append_left, Contains-push, Contains-push_cases}
-use Rattle.gnb_types.specs.declared.names.NodeId.{NodeId}
-use Rattle.unit_defs.specs.Transactions.{Kind, request, reply}
+use Rattle.unit_defs.specs.Transactions.{request, reply}
 use Rattle.law_channel.specs.Replies.{Talk}
 use Rattle.law_channel.specs.Ends.{Route, Sent, sent_on, Note, asked, told, Put}
 use Rattle.law_channel.proofs.Steps.{Grows}
@@ -36,9 +35,10 @@ module _ {M C P : Type 0} (talk : Talk M C P) (bag : List (Sent M)) where
         new : (n : Note M) → Some (asked i x) ≡ Some n → Put talk (bag ++ request_on ∷ []) q n
         new (asked j y) e =
             let same : x ≡ y = cc in
-            let at : i ≡ j = cc in
-            (subst (λ (z : M). Contains (bag ++ request_on ∷ []) (sent_on talk q q.from q.to z)) same (Contains-push bag request_on),
-            ap talk.kind (sym same) ∙ is ∙ ap (request q.ue) at)
+            let at : i ≡ j = cc in (
+              subst (λ (z : M). Contains (bag ++ request_on ∷ []) (sent_on talk q q.from q.to z)) same (Contains-push bag request_on),
+              ap talk.kind (sym same) ∙ is ∙ ap (request q.ue) at,
+            )
         new (told j y) e = absurd cc
 
         of_asked : (j : ℕ) (y : M) → talk.kind y ≡ request q.ue j
@@ -94,9 +94,10 @@ module _ {M C P : Type 0} (talk : Talk M C P) (bag : List (Sent M)) where
         new : (n : Note M) → Some (told i x) ≡ Some n → Put talk (bag ++ reply_on ∷ []) q n
         new (told j y) e =
             let same : x ≡ y = cc in
-            let at : i ≡ j = cc in
-            (subst (λ (z : M). Contains (bag ++ reply_on ∷ []) (sent_on talk q q.to q.from z)) same (Contains-push bag reply_on),
-            ap talk.kind (sym same) ∙ is ∙ ap (reply q.ue) at)
+            let at : i ≡ j = cc in (
+              subst (λ (z : M). Contains (bag ++ reply_on ∷ []) (sent_on talk q q.to q.from z)) same (Contains-push bag reply_on),
+              ap talk.kind (sym same) ∙ is ∙ ap (reply q.ue) at,
+            )
         new (asked j y) e = absurd cc
 
         of_told : (j : ℕ) (y : M) → talk.kind y ≡ reply q.ue j

@@ -1,5 +1,5 @@
 -- Each move that may be made keeps what holds of all channels; so does each list of them.
-use Rattle.std.proofs.Common.{arith, inl, inr, ◌==◌, ◌≡◌, ◌<◌, ◌⊎◌, ℕ, ◌+◌, Bool, true, false, cond, not, ◌||◌, List, [], ◌∷◌, ◌++◌, Option, Some, None, refl, sym, ap, ◌∙◌, subst, eqb-true}
+use Rattle.std.proofs.Common.{arith, inl, inr, ◌==◌, ◌≡◌, ◌<◌, ◌⊎◌, ℕ, ◌+◌, Bool, true, false, not, ◌||◌, List, [], ◌∷◌, ◌++◌, Option, Some, None, refl, sym, ap, ◌∙◌, subst, eqb-true}
 use Rattle.std.specs.Prelude.{if◌then◌else◌, nat_lt, is_some}
 use Rattle.std.specs.List.{AllByRecursion}
 use Rattle.std.specs.List.Sorted.{IsStrictlySortedBy}
@@ -9,24 +9,24 @@ use Rattle.gnb_types.specs.declared.names.NodeId.{NodeId}
 use Rattle.gnb_types.specs.declared.keys.Channel.{Channel}
 use Rattle.gnb_types.specs.Orders.{channel_cmp}
 use Rattle.tables.specs.Tables.{at, find, IsSorted}
-use Rattle.transaction_defs.specs.Callers.{Opened, Begin, begun, spent as begins_no_more, begin, begin_after, begun_with, last_instance, opened_at, is_open, is_awaited, has_instance, close}
-use Rattle.transaction_defs.specs.Callees.{Kept, Verdict, new, again, stale, verdict, verdict_after, newest, newest_in, kept_at, kept_reply, reply_in, keep, keep_for, taken}
-use Rattle.unit_defs.specs.Ways.{Message, Output, control, Answer, gives, spent, ◌then◌, nothing, puts, instances_spent}
-use Rattle.unit_defs.specs.Transactions.{request, reply, with_instance, Waiting, Transactions, Asked, is_empty, waits_at, with_waiting, begun_as, begin_request, ask, advance, advance_with, ask_at_once, replied, replied_late, answered_again}
+use Rattle.transaction_defs.specs.Callers.{Opened, spent as begins_no_more, begin, begin_after, begun_with, last_instance, opened_at, is_open, is_awaited, has_instance}
+use Rattle.transaction_defs.specs.Callees.{Kept, new, again, stale, verdict, verdict_after, newest, newest_in, kept_at, kept_reply, reply_in}
+use Rattle.unit_defs.specs.Ways.{Message, Output, Answer, gives, spent, ◌then◌, nothing, instances_spent}
+use Rattle.unit_defs.specs.Transactions.{reply, with_instance, Waiting, Transactions, is_empty, waits_at, with_waiting, begun_as, begin_request, ask, advance, advance_with, ask_at_once, replied, replied_late, answered_again}
 use Rattle.law_channel.specs.Replies.{Talk}
-use Rattle.law_channel.specs.Ends.{Route, Asking, asking_at, Answering, answering_at, newest_number, Act, Ends, Sent, Note, asked, told, Put, Once}
-use Rattle.law_channel.specs.Moves.{Move, asks, asks_at_once, advances, waits_as, closes, ages, repeats, takes, replies, replies_late, replies_again, Net, new_net, ends_of, asked_by, answered_by, with_node, with_route, sent_by, moved, after_answer, after_move, IsRequest, IsCancel, MayReply, May, Order, after, MayAll}
+use Rattle.law_channel.specs.Ends.{Route, Asking, asking_at, answering_at, newest_number, Act, Sent, Note, asked, told, Put, Once}
+use Rattle.law_channel.specs.Moves.{Move, asks, asks_at_once, advances, waits_as, closes, ages, repeats, takes, replies, replies_late, replies_again, Net, new_net, ends_of, asked_by, answered_by, with_node, with_route, sent_by, after_answer, after_move, IsRequest, IsCancel, MayReply, May, Order, after, MayAll}
 use Rattle.law_channel.proofs.Keys.{with_route_here, with_route_other}
 use Rattle.law_channel.proofs.Steps.{Grows, once_same, once_begun, once_waiting, once_closed, once_taken, once_answered}
 use Rattle.law_channel.proofs.Bags.{grows_none, request_grows, request_elsewhere, reply_grows, reply_elsewhere, again as put_again}
 use Rattle.law_channel.proofs.Projections.{Asks, Tells, begun_asks, waiting_asks, closed_asks, closed_at, asks_then, asks_nothing, taken_tells, kept_tells, kept_late_tells}
 use Rattle.law_channel.proofs.Nets.{Good, good_asking, good_telling, good_ticking}
 
-none_of : {X : Type 0} (o : Option X) → is_some o ≡ false → o ≡ None
+pub none_of : {X : Type 0} (o : Option X) → is_some o ≡ false → o ≡ None
 none_of None e = refl
 none_of (Some x) e = absurd cc
 
-left_false : (a b : Bool) → (a || b) ≡ false → a ≡ false
+pub left_false : (a b : Bool) → (a || b) ≡ false → a ≡ false
 left_false true b e = e
 left_false false b e = refl
 

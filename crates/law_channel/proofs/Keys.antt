@@ -1,5 +1,5 @@
 -- Nodes, channels and routes are told apart by their tests; what a function with another value in one place gives.
-use Rattle.std.proofs.Common.{inl, inr, eqb-true, ◌==◌, ◌&&◌, ◌≡◌, ◌⊎◌, ℕ, Bool, true, false, cond, refl, sym, ap, ◌∙◌, true≢false}
+use Rattle.std.proofs.Common.{inl, inr, eqb-true, ◌==◌, ◌&&◌, ◌≡◌, ◌⊎◌, Bool, true, false, cond, refl, sym, ap, ◌∙◌, true≢false}
 use Rattle.std.specs.Ordering.{is_eq}
 use Rattle.std.specs.Cmp.{tied_itself, Equal-is}
 use Rattle.std.proofs.lemmas.Bool.{cases_eq, eq-eqb}
@@ -7,8 +7,8 @@ use Rattle.gnb_types.specs.declared.names.NodeId.{NodeId}
 use Rattle.gnb_types.specs.declared.keys.Channel.{Channel}
 use Rattle.gnb_types.specs.Orders.{node_cmp, channel_cmp}
 use Rattle.gnb_types.proofs.OrderLemmas.{node_total, node_exact, channel_total, channel_exact}
-use Rattle.law_channel.specs.Ends.{Route, at_initiator, same_node, same_channel}
-use Rattle.law_channel.specs.Moves.{asked_by, answered_by, same_route, with_node, with_route}
+use Rattle.law_channel.specs.Ends.{Route, same_node, same_channel}
+use Rattle.law_channel.specs.Moves.{same_route, with_node, with_route}
 
 pub node_same : (n : NodeId) → same_node n n ≡ true
 node_same n = ap is_eq (tied_itself node_total n)

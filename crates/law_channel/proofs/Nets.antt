@@ -1,5 +1,5 @@
 -- What holds of all channels, and that each kind of move keeps it.
-use Rattle.std.proofs.Common.{inl, inr, ◌≡◌, ◌⊎◌, ℕ, ◌+◌, Bool, true, false, cond, ◌&&◌, ◌||◌, List, [], ◌∷◌, ◌++◌, Option, Some, None, refl, sym, ap, ◌∙◌, subst}
+use Rattle.std.proofs.Common.{inl, inr, ◌≡◌, ◌⊎◌, Bool, true, false, cond, ◌&&◌, ◌||◌, List, [], ◌++◌, Option, Some, None, refl, sym, ap, ◌∙◌, subst}
 use Rattle.std.specs.Prelude.{if◌then◌else◌}
 use Rattle.std.specs.List.{AllByRecursion}
 use Rattle.gnb_types.specs.declared.names.NodeId.{NodeId}
@@ -10,9 +10,9 @@ use Rattle.transaction_defs.specs.Callers.{Opened, Caller, opened_at, after_tick
 use Rattle.transaction_defs.specs.Callees.{kept_at, Callee}
 use Rattle.unit_defs.specs.Transactions.{Waiting, Transactions, waits_at}
 use Rattle.law_channel.specs.Replies.{Talk}
-use Rattle.law_channel.specs.Ends.{Route, at_initiator, at_responder, same_node, same_channel, Asking, asking_at, Answering, answering_at, answering_in, Act, Ends, Sent, Note, Put, Once}
-use Rattle.law_channel.specs.Moves.{Net, ends_of, asked_by, answered_by, with_node, with_route, expires_now, IsRequest}
-use Rattle.law_channel.proofs.Keys.{node_same, node_told, channel_apart, route_cases, with_node_here, with_node_kept, with_node_but}
+use Rattle.law_channel.specs.Ends.{Route, at_initiator, at_responder, same_node, Asking, asking_at, Answering, answering_at, answering_in, Act, Ends, Sent, Put, Once}
+use Rattle.law_channel.specs.Moves.{Net, ends_of, asked_by, answered_by, with_node, expires_now, IsRequest}
+use Rattle.law_channel.proofs.Keys.{node_told, channel_apart, route_cases, with_node_here, with_node_kept, with_node_but}
 use Rattle.law_channel.proofs.Steps.{Grows, once_same, once_aged, once_expired}
 use Rattle.law_channel.proofs.Projections.{Asks, Tells}
 use Rattle.law_channel.proofs.Ticks.{aged_in, opened_after_tick, sorted_after_tick}

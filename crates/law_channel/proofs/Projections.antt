@@ -1,5 +1,5 @@
 -- What each word of requests and replies changes: the ends at its own key, and nothing at any other.
-use Rattle.std.proofs.Common.{◌≡◌, ℕ, ◌+◌, Bool, true, false, cond, List, [], ◌∷◌, ◌++◌, Option, Some, None, refl, sym, ap, ◌∙◌, subst}
+use Rattle.std.proofs.Common.{◌≡◌, ℕ, Bool, false, cond, List, [], ◌∷◌, Option, Some, None, refl, sym, ap, ◌∙◌, subst}
 use Rattle.std.specs.Prelude.{unwrap_or}
 use Rattle.std.proofs.lemmas.Bool.{eq-eqb}
 use Rattle.gnb_types.specs.declared.keys.Channel.{Channel}
@@ -50,10 +50,12 @@ module _ {M C : Type 0} where
   -- ---- at the initiator
 
   abbrev pub begun_at : Transactions M C → Channel → Option ℕ → ℕ → Transactions M C
-  begun_at t c deadline instance = record t { caller = record {
-    last = put channel_cmp t.caller.last c instance;
-    opened = put channel_cmp t.caller.opened c (record { instance = instance; deadline = deadline; request = None });
-  } }
+  begun_at t c deadline instance = record t {
+    caller = record {
+      last = put channel_cmp t.caller.last c instance;
+      opened = put channel_cmp t.caller.opened c (record { instance = instance; deadline = deadline; request = None });
+    };
+  }
 
   abbrev pub begun_and_kept : Transactions M C → Channel → Option ℕ → ℕ → M → Transactions M C
   begun_and_kept t c deadline instance x = record t { caller = keep_request (begun_at t c deadline instance).caller c x }

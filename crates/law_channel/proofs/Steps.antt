@@ -1,10 +1,10 @@
 -- What each kind of order does to a channel on which all holds.
-use Rattle.std.proofs.Common.{arith, inl, inr, ◌≡◌, ◌<◌, ◌≤◌, ◌⊎◌, ℕ, ◌+◌, ◌-◌, Bool, true, false, List, [], ◌∷◌, Option, Some, None, refl, sym, ap, ◌∙◌, subst}
+use Rattle.std.proofs.Common.{arith, inl, inr, ◌≡◌, ◌<◌, ◌≤◌, ◌⊎◌, ℕ, ◌+◌, ◌-◌, true, false, List, [], ◌∷◌, Option, Some, None, refl, sym, ap, ◌∙◌, subst}
 use Rattle.std.proofs.lemmas.Bool.{cases_lt}
 use Rattle.transaction_defs.specs.Callers.{Opened}
 use Rattle.unit_defs.specs.Transactions.{Waiting}
 use Rattle.law_channel.specs.Replies.{Talk}
-use Rattle.law_channel.specs.Ends.{Asking, Answering, Act, Ends, Note, asked, told, top, InOrder, Once}
+use Rattle.law_channel.specs.Ends.{Act, Ends, Note, asked, told, top, InOrder, Once}
 
 -- C is B, and what o adds to it
 pub record Grows {M : Type 0} (B : Note M → Type 0) (o : Option (Note M)) (C : Note M → Type 0) : Type 0 where
@@ -134,54 +134,88 @@ module _ {M C P : Type 0} (talk : Talk M C P) where
     -- other requests wait
     pub once_waiting : (ws : List (Waiting C)) → Once talk (record s { asking = record s.asking { waits = ws } }) B
     once_waiting ws = record {
-      one_request = k.one_request; given = k.given; was_put = k.was_put; opened = k.opened; taken = k.taken;
-      one_reply = k.one_reply; after_taken = k.after_taken; answers = k.answers;
-      kept_was_put = k.kept_was_put; put_is_kept = k.put_is_kept; closed = k.closed; overtakes = k.overtakes;
-      acts = k.acts; newest_act = k.newest_act;
+      one_request = k.one_request;
+      given = k.given;
+      was_put = k.was_put;
+      opened = k.opened;
+      taken = k.taken;
+      one_reply = k.one_reply;
+      after_taken = k.after_taken;
+      answers = k.answers;
+      kept_was_put = k.kept_was_put;
+      put_is_kept = k.put_is_kept;
+      closed = k.closed;
+      overtakes = k.overtakes;
+      acts = k.acts;
+      newest_act = k.newest_act;
     }
 
     -- a reply to the open request was put
     pub once_closed : (o : Opened M) (y : M) → s.asking.opened ≡ Some o → B (told o.instance y)
         → Once talk (record s { asking = record s.asking { opened = None } }) B
     once_closed o y is b = record {
-      one_request = k.one_request; given = k.given; was_put = k.was_put;
+      one_request = k.one_request;
+      given = k.given;
+      was_put = k.was_put;
       opened = λ q e. absurd cc;
-      taken = k.taken; one_reply = k.one_reply; after_taken = k.after_taken; answers = k.answers;
-      kept_was_put = k.kept_was_put; put_is_kept = k.put_is_kept;
+      taken = k.taken;
+      one_reply = k.one_reply;
+      after_taken = k.after_taken;
+      answers = k.answers;
+      kept_was_put = k.kept_was_put;
+      put_is_kept = k.put_is_kept;
       closed = λ e f.
           let n = (k.opened o is).0 in
           let m : o.instance ≡ s.asking.last = n in
           let w = k.after_taken o.instance y b in
           let v = k.taken in
           (omega arith, λ low. (y, subst (λ (n : ℕ). B (told n y)) m b));
-      overtakes = k.overtakes; acts = k.acts; newest_act = k.newest_act;
+      overtakes = k.overtakes;
+      acts = k.acts;
+      newest_act = k.newest_act;
     }
 
     -- its deadline is nearer
     pub once_aged : (o : Opened M) (deadline : Option ℕ) → s.asking.opened ≡ Some o
         → Once talk (record s { asking = record s.asking { opened = Some (record o { deadline = deadline }) } }) B
     once_aged o deadline is = record {
-      one_request = k.one_request; given = k.given; was_put = k.was_put;
+      one_request = k.one_request;
+      given = k.given;
+      was_put = k.was_put;
       opened = λ q e.
           let w = k.opened o is in
           let n : o.instance ≡ q.instance = cc in
           let same : o.request ≡ q.request = cc in
           (sym n ∙ w.0, (w.1.0, sym same ∙ w.1.1, subst (λ (n : ℕ). B (asked n w.1.0)) n w.1.2));
-      taken = k.taken; one_reply = k.one_reply; after_taken = k.after_taken; answers = k.answers;
-      kept_was_put = k.kept_was_put; put_is_kept = k.put_is_kept;
+      taken = k.taken;
+      one_reply = k.one_reply;
+      after_taken = k.after_taken;
+      answers = k.answers;
+      kept_was_put = k.kept_was_put;
+      put_is_kept = k.put_is_kept;
       closed = λ e f. absurd cc;
-      overtakes = k.overtakes; acts = k.acts; newest_act = k.newest_act;
+      overtakes = k.overtakes;
+      acts = k.acts;
+      newest_act = k.newest_act;
     }
 
     -- it expired
     pub once_expired : Once talk (record s { asking = record s.asking { opened = None }; expired = true }) B
     once_expired = record {
-      one_request = k.one_request; given = k.given; was_put = k.was_put;
+      one_request = k.one_request;
+      given = k.given;
+      was_put = k.was_put;
       opened = λ q e. absurd cc;
-      taken = k.taken; one_reply = k.one_reply; after_taken = k.after_taken; answers = k.answers;
-      kept_was_put = k.kept_was_put; put_is_kept = k.put_is_kept;
+      taken = k.taken;
+      one_reply = k.one_reply;
+      after_taken = k.after_taken;
+      answers = k.answers;
+      kept_was_put = k.kept_was_put;
+      put_is_kept = k.put_is_kept;
       closed = λ e f. absurd cc;
-      overtakes = k.overtakes; acts = k.acts; newest_act = k.newest_act;
+      overtakes = k.overtakes;
+      acts = k.acts;
+      newest_act = k.newest_act;
     }
 
     -- ---- a request is taken
@@ -201,7 +235,10 @@ module _ {M C P : Type 0} (talk : Talk M C P) where
 
     pub once_taken : (i : ℕ) (x : M) → s.answering.newest < i → B (asked i x) → Once talk (took i x) B
     once_taken i x above b = record {
-      one_request = k.one_request; given = k.given; was_put = k.was_put; opened = k.opened;
+      one_request = k.one_request;
+      given = k.given;
+      was_put = k.was_put;
+      opened = k.opened;
       taken = (k.given i x b).1;
       one_reply = k.one_reply;
       after_taken = λ j y t. let w = k.after_taken j y t in (w.0, omega arith);

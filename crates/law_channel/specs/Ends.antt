@@ -1,6 +1,6 @@
 -- One channel: the requests of one node to another for a terminal, and the replies to them. Its two ends are read off what the
 -- two nodes keep, and what was put on it off the messages ever put.
-use Rattle.std.specs.Prelude.{◌≡◌, ◌==◌, ◌⊎◌, ℕ, ◌+◌, ◌<◌, ◌≤◌, Bool, true, false, ◌&&◌, List, [], ◌∷◌, Option, Some, None}
+use Rattle.std.specs.Prelude.{◌≡◌, ◌⊎◌, ℕ, ◌+◌, ◌<◌, ◌≤◌, Bool, true, false, List, [], ◌∷◌, Option, Some, None}
 use Rattle.std.specs.List.{Contains}
 use Rattle.std.specs.Ordering.{eq_by_cmp}
 use Rattle.gnb_types.specs.declared.names.NodeId.{NodeId}
@@ -10,7 +10,7 @@ use Rattle.tables.specs.Tables.{at}
 use Rattle.transaction_defs.specs.Callers.{Opened, opened_at}
 use Rattle.transaction_defs.specs.Callees.{Kept, kept_at, reply_in}
 use Rattle.unit_defs.specs.Messages.{channel}
-use Rattle.unit_defs.specs.Transactions.{Kind, request, reply, Waiting, Transactions, waits_at}
+use Rattle.unit_defs.specs.Transactions.{request, reply, Waiting, Transactions, waits_at}
 use Rattle.law_channel.specs.Replies.{Talk}
 
 -- a channel: from the initiator to the responder, for a terminal (0: for none)

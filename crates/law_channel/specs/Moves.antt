@@ -6,10 +6,10 @@ use Rattle.gnb_types.specs.declared.names.NodeId.{NodeId}
 use Rattle.gnb_types.specs.declared.keys.Channel.{Channel}
 use Rattle.transaction_defs.specs.Callers.{Opened, opened_at, is_awaited, close, after_tick, is_last}
 use Rattle.transaction_defs.specs.Callees.{new, newest, verdict, taken, kept_reply}
-use Rattle.unit_defs.specs.Ways.{Message, Output, control, packet, radio, deliver, dropped, held, opened, closed, failed, no, Answer, gives, spent, ◌then◌, nothing, puts}
+use Rattle.unit_defs.specs.Ways.{Message, Output, control, Answer, gives, spent, ◌then◌, nothing, puts}
 use Rattle.unit_defs.specs.Transactions.{request, reply, with_instance, Waiting, Transactions, no_transactions, ask, ask_at_once, advance, with_waiting, replied, replied_late, answered_again}
 use Rattle.law_channel.specs.Replies.{Talk}
-use Rattle.law_channel.specs.Ends.{Route, at_initiator, at_responder, same_node, asking_at, answering_at, Act, Ends, Sent, Note, asked, told, Put, Once}
+use Rattle.law_channel.specs.Ends.{Route, at_initiator, at_responder, same_node, asking_at, answering_at, Act, Ends, Sent, asked, told, Put, Once}
 
 pub data Move (M C : Type 0) : Type 0 where
   -- a request is put, or waits
