@@ -3,7 +3,7 @@ use Rattle.std.proofs.Common.{inl, inr, ◌≡◌, ◌⊎◌, ℕ, List, [], ◌
 use Rattle.std.proofs.lemmas.List.{append-nil}
 use Rattle.std.specs.List.{Contains}
 use Rattle.std.proofs.lemmas.List.Elements.{Contains-append_left, Contains-push, Contains-push_cases}
-use Rattle.unit_defs.specs.Transactions.{request, reply}
+use Rattle.unit_defs.specs.Transactions.{request, reply, transfer}
 use Rattle.law_channel.specs.Replies.{Talk}
 use Rattle.law_channel.specs.Ends.{Route, Sent, sent_on, Note, asked, told, Put}
 use Rattle.law_channel.proofs.Steps.{Grows}
@@ -145,6 +145,24 @@ module _ {M C P : Type 0} (talk : Talk M C P) (bag : List (Sent M)) where
         only : (n : Note M) → Put talk (bag ++ reply_on ∷ []) r n → Put talk bag r n ⊎ (None ≡ Some n)
         only (asked j y) p = of_asked j y p.1 (Contains-push_cases bag reply_on (sent_on talk r r.from r.to y) p.0)
         only (told j y) p = of_told j y p.1 (Contains-push_cases bag reply_on (sent_on talk r r.to r.from y) p.0)
+
+  -- a message that is neither is on no channel
+  pub transfer_grows : (l : Sent M) (u : ℕ) → talk.kind l.message ≡ transfer u → (r : Route) → Grows (Put talk bag r) None (Put talk (bag ++ l ∷ []) r)
+  transfer_grows l u is r = record { stays = stays_put l r; new = λ n e. absurd cc; only = only }
+    where
+      of_asked : (j : ℕ) (y : M) → talk.kind y ≡ request r.ue j
+          → Contains bag (sent_on talk r r.from r.to y) ⊎ (l ≡ sent_on talk r r.from r.to y) → Put talk bag r (asked j y) ⊎ (None ≡ Some (asked j y))
+      of_asked j y k (inl c) = inl (c, k)
+      of_asked j y k (inr e) = let kinds : transfer u ≡ request r.ue j = sym is ∙ ap (λ (m : Sent M). talk.kind m.message) e ∙ k in absurd cc
+
+      of_told : (j : ℕ) (y : M) → talk.kind y ≡ reply r.ue j
+          → Contains bag (sent_on talk r r.to r.from y) ⊎ (l ≡ sent_on talk r r.to r.from y) → Put talk bag r (told j y) ⊎ (None ≡ Some (told j y))
+      of_told j y k (inl c) = inl (c, k)
+      of_told j y k (inr e) = let kinds : transfer u ≡ reply r.ue j = sym is ∙ ap (λ (m : Sent M). talk.kind m.message) e ∙ k in absurd cc
+
+      only : (n : Note M) → Put talk (bag ++ l ∷ []) r n → Put talk bag r n ⊎ (None ≡ Some n)
+      only (asked j y) p = of_asked j y p.1 (Contains-push_cases bag l (sent_on talk r r.from r.to y) p.0)
+      only (told j y) p = of_told j y p.1 (Contains-push_cases bag l (sent_on talk r r.to r.from y) p.0)
 
   -- what was put before is put again
   pub again : {B D : Note M → Type 0} (n : Note M) → B n → Grows B (Some n) D → Grows B None D

@@ -6,6 +6,7 @@ use Rattle.std.specs.List.Sorted.{IsStrictlySortedBy}
 use Rattle.std.proofs.lemmas.Bool.{ltb-true}
 use Rattle.std.proofs.lemmas.List.{append-nil}
 use Rattle.gnb_types.specs.declared.names.NodeId.{NodeId}
+use Rattle.gnb_types.specs.declared.names.UeId.{UeId}
 use Rattle.gnb_types.specs.declared.keys.Channel.{Channel}
 use Rattle.gnb_types.specs.Orders.{channel_cmp}
 use Rattle.tables.specs.Tables.{at, find, IsSorted}
@@ -13,14 +14,15 @@ use Rattle.transaction_defs.specs.Callers.{Opened, spent as begins_no_more, begi
 use Rattle.transaction_defs.specs.Callees.{Kept, new, again, stale, verdict, verdict_after, newest, newest_in, kept_at, kept_reply, reply_in}
 use Rattle.unit_defs.specs.Ways.{Message, Output, Answer, gives, spent, ◌then◌, nothing, instances_spent}
 use Rattle.unit_defs.specs.Transactions.{reply, with_instance, Waiting, Transactions, is_empty, waits_at, with_waiting, begun_as, begin_request, ask, advance, advance_with, ask_at_once, replied, replied_late, answered_again}
+use Rattle.unit_defs.specs.Messages.{channel}
 use Rattle.law_channel.specs.Replies.{Talk}
 use Rattle.law_channel.specs.Ends.{Route, Asking, asking_at, answering_at, newest_number, Act, Sent, Note, asked, told, Put, Once}
-use Rattle.law_channel.specs.Moves.{Move, asks, asks_at_once, advances, waits_as, closes, ages, repeats, takes, replies, replies_late, replies_again, Net, new_net, ends_of, asked_by, answered_by, with_node, with_route, sent_by, after_answer, after_move, IsRequest, IsCancel, MayReply, May, Order, after, MayAll}
+use Rattle.law_channel.specs.Moves.{Move, asks, asks_at_once, advances, waits_as, closes, ages, repeats, takes, replies, replies_late, replies_again, transfers, forgets, Net, new_net, ends_of, asked_by, answered_by, with_node, with_route, sent_by, after_answer, after_move, IsRequest, IsCancel, MayReply, May, Order, after, MayAll}
 use Rattle.law_channel.proofs.Keys.{with_route_here, with_route_other}
 use Rattle.law_channel.proofs.Steps.{Grows, once_same, once_begun, once_waiting, once_closed, once_taken, once_answered}
-use Rattle.law_channel.proofs.Bags.{grows_none, request_grows, request_elsewhere, reply_grows, reply_elsewhere, again as put_again}
+use Rattle.law_channel.proofs.Bags.{grows_none, request_grows, request_elsewhere, reply_grows, reply_elsewhere, transfer_grows, again as put_again}
 use Rattle.law_channel.proofs.Projections.{Asks, Tells, begun_asks, waiting_asks, closed_asks, closed_at, asks_then, asks_nothing, taken_tells, kept_tells, kept_late_tells}
-use Rattle.law_channel.proofs.Nets.{Good, good_asking, good_telling, good_ticking}
+use Rattle.law_channel.proofs.Nets.{Good, good_asking, good_telling, good_ticking, good_forgetting}
 
 pub none_of : {X : Type 0} (o : Option X) → is_some o ≡ false → o ≡ None
 none_of None e = refl
@@ -238,6 +240,21 @@ module _ {M C P : Type 0} (talk : Talk M C P) {net : Net M C} (good : Good talk 
           let same : w.1.0 ≡ x = cc in
           subst (λ (y : M). Put talk net.bag (asked_by n c) (asked may.0.instance y)) same w.1.2
 
+  -- ---- what is on no channel
+
+  pub good_transfers : (to : NodeId) (ue : ℕ) (x : M) → May talk net n (transfers to ue x) → Good talk (after_move talk net n (transfers to ue x))
+  good_transfers to ue x may =
+      good_asking talk good n (asks_nothing here (channel ue to)) (record { from = n; to = to; ue = ue; message = x } ∷ []) net.expired
+      (once_same talk (grows (asked_by n (channel ue to))) (once_here (channel ue to))) (waits_here (channel ue to))
+      (λ r other. grows r) (λ r other. refl)
+    where
+      grows : (r : Route) → Grows (Put talk net.bag r) None (Put talk (net.bag ++ record { from = n; to = to; ue = ue; message = x } ∷ []) r)
+      grows = transfer_grows talk net.bag (record { from = n; to = to; ue = ue; message = x }) may.0 may.1
+
+  pub good_forgets : (ue : UeId) → Good talk (after_move talk net n (forgets ue))
+  good_forgets ue =
+      subst (λ (b : List (Sent M)). Good talk (record (after_move talk net n (forgets ue)) { bag = b })) (sym (append-nil net.bag)) (good_forgetting talk good n ue)
+
   -- ---- at the responder
 
   abbrev once_there : (c : Channel) → Once talk (ends_of net (answered_by n c)) (Put talk net.bag (answered_by n c))
@@ -341,6 +358,8 @@ module _ {M C P : Type 0} (talk : Talk M C P) {net : Net M C} (good : Good talk 
   good_after (replies c m) may = good_replies c m may
   good_after (replies_late c i m) may = good_replies_late c i m may
   good_after (replies_again c) may = good_replies_again c
+  good_after (transfers to ue x) may = good_transfers to ue x may
+  good_after (forgets ue) may = good_forgets ue
 
 module _ {M C P : Type 0} (talk : Talk M C P) where
   pub good_all : (orders : List (Order talk)) (net : Net M C) → Good talk net → MayAll talk net orders → Good talk (after talk net orders)

@@ -1,21 +1,51 @@
 -- What holds of all channels, and that each kind of move keeps it.
-use Rattle.std.proofs.Common.{inl, inr, ◌≡◌, ◌⊎◌, Bool, true, false, cond, ◌&&◌, ◌||◌, List, [], ◌++◌, Option, Some, None, refl, sym, ap, ◌∙◌, subst}
-use Rattle.std.specs.Prelude.{if◌then◌else◌}
+use Rattle.std.proofs.Common.{inl, inr, ◌≡◌, ◌⊎◌, Bool, true, false, cond, ◌&&◌, ◌||◌, List, [], ◌∷◌, ◌++◌, Option, Some, None, refl, sym, ap, ◌∙◌, subst}
+use Rattle.std.specs.Prelude.{if◌then◌else◌, ◌==◌, map, unwrap_or}
+use Rattle.std.specs.Map.{lookup}
+use Rattle.std.specs.BTreeMap.{is_at}
 use Rattle.std.specs.List.{AllByRecursion}
 use Rattle.gnb_types.specs.declared.names.NodeId.{NodeId}
+use Rattle.gnb_types.specs.declared.names.UeId.{UeId}
 use Rattle.gnb_types.specs.declared.keys.Channel.{Channel}
 use Rattle.gnb_types.specs.Orders.{channel_cmp}
-use Rattle.tables.specs.Tables.{at, IsSorted}
+use Rattle.tables.specs.Tables.{at, find, IsSorted}
 use Rattle.transaction_defs.specs.Callers.{Opened, Caller, opened_at, after_tick, is_last, one_less}
 use Rattle.transaction_defs.specs.Callees.{kept_at, Callee}
 use Rattle.unit_defs.specs.Transactions.{Waiting, Transactions, waits_at}
+use Rattle.unit_defs.specs.CpRecords.{forgotten, unawaited, not_awaited}
 use Rattle.law_channel.specs.Replies.{Talk}
 use Rattle.law_channel.specs.Ends.{Route, at_initiator, at_responder, same_node, Asking, asking_at, Answering, answering_at, answering_in, Act, Ends, Sent, Put, Once}
 use Rattle.law_channel.specs.Moves.{Net, ends_of, asked_by, answered_by, with_node, expires_now, IsRequest}
 use Rattle.law_channel.proofs.Keys.{node_told, channel_apart, route_cases, with_node_here, with_node_kept, with_node_but}
-use Rattle.law_channel.proofs.Steps.{Grows, once_same, once_aged, once_expired}
+use Rattle.law_channel.proofs.Steps.{Grows, once_same, once_waiting, once_aged, once_expired}
 use Rattle.law_channel.proofs.Projections.{Asks, Tells}
 use Rattle.law_channel.proofs.Ticks.{aged_in, opened_after_tick, sorted_after_tick}
+
+-- requests stay requests where no attempt awaits them any more
+all_forgotten : {M C P : Type 0} (talk : Talk M C P) (ue : UeId) (c : Channel) (m : List (Channel × List (Waiting C)))
+    → AllByRecursion (IsRequest talk c.ue) (unwrap_or (lookup (is_at (channel_cmp c)) m) [])
+    → AllByRecursion (IsRequest talk c.ue) (unwrap_or (lookup (is_at (channel_cmp c)) (map (unawaited talk.way ue) m)) [])
+all_forgotten talk ue c [] all = all
+all_forgotten {C = C} talk ue c (e ∷ es) all = by (e.0.ue == ue.0) (is_at (channel_cmp c) e.0) refl all (all_forgotten talk ue c es)
+  where
+    each : (ws : List (Waiting C)) → AllByRecursion (IsRequest talk c.ue) ws → AllByRecursion (IsRequest talk c.ue) (map (not_awaited talk.way) ws)
+    each [] all = tt
+    each (w ∷ ws) all = (all.0, each ws all.1)
+
+    by : (own here : Bool) → is_at (channel_cmp c) e.0 ≡ here
+        → AllByRecursion (IsRequest talk c.ue) (unwrap_or (cond here (Some e.1) (lookup (is_at (channel_cmp c)) es)) [])
+        → (AllByRecursion (IsRequest talk c.ue) (unwrap_or (lookup (is_at (channel_cmp c)) es) [])
+        → AllByRecursion (IsRequest talk c.ue) (unwrap_or (lookup (is_at (channel_cmp c)) (map (unawaited talk.way ue) es)) []))
+        → AllByRecursion (IsRequest talk c.ue) (unwrap_or (lookup (is_at (channel_cmp c))
+        (cond own (e.0, map (not_awaited talk.way) e.1) e ∷ map (unawaited talk.way ue) es)) [])
+    by true true is all rest = subst (λ (b : Bool). AllByRecursion (IsRequest talk c.ue) (unwrap_or (cond b (Some (map (not_awaited talk.way) e.1))
+        (lookup (is_at (channel_cmp c)) (map (unawaited talk.way ue) es))) [])) (sym is) (each e.1 all)
+    by true false is all rest = subst (λ (b : Bool). AllByRecursion (IsRequest talk c.ue) (unwrap_or (cond b (Some (map (not_awaited talk.way) e.1))
+        (lookup (is_at (channel_cmp c)) (map (unawaited talk.way ue) es))) [])) (sym is) (rest all)
+    by false true is all rest = subst (λ (b : Bool). AllByRecursion (IsRequest talk c.ue) (unwrap_or (cond b (Some e.1)
+        (lookup (is_at (channel_cmp c)) (map (unawaited talk.way ue) es))) [])) (sym is) all
+    by false false is all rest = subst (λ (b : Bool). AllByRecursion (IsRequest talk c.ue) (unwrap_or (cond b (Some e.1)
+        (lookup (is_at (channel_cmp c)) (map (unawaited talk.way ue) es))) [])) (sym is) (rest all)
 
 module _ {M C P : Type 0} (talk : Talk M C P) where
   pub record Good (net : Net M C) : Type 0 where
@@ -233,4 +263,57 @@ module _ {M C P : Type 0} (talk : Talk M C P) where
           where
             by : (t : Bool) → IsSorted channel_cmp (cond t ticked (net.nodes m)).caller.opened
             by true = sorted_after_tick (net.nodes n).caller (good.sorted n)
+            by false = good.sorted m
+
+    -- ---- no attempt awaits what waits of a terminal's requests any more
+
+    abbrev pub forgot : UeId → Transactions M C
+    forgot ue = forgotten talk.way ue (net.nodes n)
+
+    pub good_forgetting : (ue : UeId) → Good (record { nodes = with_node net.nodes n (forgot ue); bag = net.bag; acts = net.acts; expired = net.expired })
+    unfolding waits_at at find
+    good_forgetting ue = record { channels = λ r. channel r; waits = λ r. wait r; sorted = λ m. sort m }
+      where
+        answers : (r : Route) → answering_at (with_node net.nodes n (forgot ue) r.to) (at_responder r) ≡ answering_at (net.nodes r.to) (at_responder r)
+        answers r = with_node_kept net.nodes n (forgot ue) (λ (t : Transactions M C). answering_at t (at_responder r)) refl r.to
+
+        channel : (r : Route) → Once talk (ends_of (record { nodes = with_node net.nodes n (forgot ue); bag = net.bag; acts = net.acts; expired = net.expired }) r)
+            (Put talk net.bag r)
+        channel r = subst (λ (s : Ends M C). Once talk s (Put talk net.bag r))
+            (λ i. record {
+              asking = record {
+                last = sym (lasts r) i;
+                opened = sym (opens r) i;
+                waits = waits_at (with_node net.nodes n (forgot ue) r.from) (at_initiator r);
+              };
+              answering = sym (answers r) i;
+              acts = net.acts r;
+              expired = net.expired r;
+            })
+            (once_waiting talk (good.channels r) (waits_at (with_node net.nodes n (forgot ue) r.from) (at_initiator r)))
+          where
+            lasts : (r : Route) → at channel_cmp 0 (with_node net.nodes n (forgot ue) r.from).caller.last (at_initiator r)
+                ≡ at channel_cmp 0 (net.nodes r.from).caller.last (at_initiator r)
+            lasts r = with_node_kept net.nodes n (forgot ue) (λ (t : Transactions M C). at channel_cmp 0 t.caller.last (at_initiator r)) refl r.from
+
+            opens : (r : Route) → opened_at (with_node net.nodes n (forgot ue) r.from).caller (at_initiator r)
+                ≡ opened_at (net.nodes r.from).caller (at_initiator r)
+            opens r = with_node_kept net.nodes n (forgot ue) (λ (t : Transactions M C). opened_at t.caller (at_initiator r)) refl r.from
+
+        wait : (r : Route) → AllByRecursion (IsRequest talk r.ue) (asking_at (with_node net.nodes n (forgot ue) r.from) (at_initiator r)).waits
+        wait r = by (same_node r.from n) refl
+          where
+            by : (here : Bool) → same_node r.from n ≡ here
+                → AllByRecursion (IsRequest talk r.ue) (waits_at (cond here (forgot ue) (net.nodes r.from)) (at_initiator r))
+            by true is =
+                let h : r.from ≡ n = node_told r.from n is in
+                all_forgotten talk ue (at_initiator r) (net.nodes n).waiting
+                (subst (λ (m : NodeId). AllByRecursion (IsRequest talk r.ue) (waits_at (net.nodes m) (at_initiator r))) h (good.waits r))
+            by false is = good.waits r
+
+        sort : (m : NodeId) → IsSorted channel_cmp (with_node net.nodes n (forgot ue) m).caller.opened
+        sort m = by (same_node m n)
+          where
+            by : (t : Bool) → IsSorted channel_cmp (cond t (forgot ue) (net.nodes m)).caller.opened
+            by true = good.sorted n
             by false = good.sorted m

@@ -3,11 +3,13 @@
 use Rattle.std.specs.Prelude.{◌≡◌, ◌==◌, ℕ, Bool, true, false, ◌&&◌, ◌||◌, if◌then◌else◌, List, [], ◌∷◌, ◌++◌, Option, Some, None}
 use Rattle.std.specs.List.{AllByRecursion}
 use Rattle.gnb_types.specs.declared.names.NodeId.{NodeId}
+use Rattle.gnb_types.specs.declared.names.UeId.{UeId}
 use Rattle.gnb_types.specs.declared.keys.Channel.{Channel}
 use Rattle.transaction_defs.specs.Callers.{Opened, opened_at, is_awaited, close, after_tick, is_last}
 use Rattle.transaction_defs.specs.Callees.{new, newest, verdict, taken, kept_reply}
 use Rattle.unit_defs.specs.Ways.{Message, Output, control, Answer, gives, spent, ◌then◌, nothing, puts}
-use Rattle.unit_defs.specs.Transactions.{request, reply, with_instance, Waiting, Transactions, no_transactions, ask, ask_at_once, advance, with_waiting, replied, replied_late, answered_again}
+use Rattle.unit_defs.specs.Transactions.{request, reply, transfer, with_instance, Waiting, Transactions, no_transactions, ask, ask_at_once, advance, with_waiting, replied, replied_late, answered_again}
+use Rattle.unit_defs.specs.CpRecords.{forgotten}
 use Rattle.law_channel.specs.Replies.{Talk}
 use Rattle.law_channel.specs.Ends.{Route, at_initiator, at_responder, same_node, asking_at, answering_at, Act, Ends, Sent, asked, told, Put, Once}
 
@@ -30,6 +32,9 @@ pub data Move (M C : Type 0) : Type 0 where
   replies : (channel : Channel) (message : Message C) → Move M C
   replies_late : (channel : Channel) (instance : ℕ) (message : Message C) → Move M C
   replies_again : (channel : Channel) → Move M C
+  -- a message is put that is no request and no reply; and no attempt awaits what waits of a terminal's requests any more
+  transfers : (to : NodeId) (ue : ℕ) (message : M) → Move M C
+  forgets : (ue : UeId) → Move M C
 
 -- What every node keeps of its requests and replies, and all messages ever put. Beside it stand, of each channel, what the
 -- responder acted on, and whether the open request expired and its cancel isn't put yet.
@@ -91,6 +96,8 @@ module _ {M C P : Type 0} (talk : Talk M C P) where
   moved t (replies c message) = replied talk.way t c message
   moved t (replies_late c instance message) = replied_late talk.way t c instance message
   moved t (replies_again c) = answered_again talk.way t c (kept_reply t.callee c)
+  moved t (transfers to ue message) = puts (control to ue message) t
+  moved t (forgets ue) = nothing (forgotten talk.way ue t)
 
   abbrev pub acts_after : Net M C → NodeId → Move M C → Route → List (Act M)
   acts_after net n (takes c instance message) =
@@ -145,6 +152,8 @@ module _ {M C P : Type 0} (talk : Talk M C P) where
   May net n (replies c message) = (i : ℕ) × MayReply net n c i (talk.way.spell message)
   May net n (replies_late c i message) = MayReply net n c i (talk.way.spell message)
   May net n (replies_again c) = Unit {0}
+  May net n (transfers to ue message) = (u : ℕ) × (talk.kind message ≡ transfer u)
+  May net n (forgets ue) = Unit {0}
 
   -- ---- lists of orders
 
