@@ -10,8 +10,8 @@ use Rattle.law_channel.proofs.Steps.{Grows}
 
 module _ {M C P : Type 0} (talk : Talk M C P) (bag : List (Sent M)) where
   stays_put : (l : Sent M) (r : Route) (n : Note M) → Put talk bag r n → Put talk (bag ++ l ∷ []) r n
-  stays_put l r (asked i x) p = (Contains-append_left bag (l ∷ []) (sent_on talk r r.from r.to x) p.0, p.1)
-  stays_put l r (told i x) p = (Contains-append_left bag (l ∷ []) (sent_on talk r r.to r.from x) p.0, p.1)
+  stays_put l r (asked i x) p = (p.0, Contains-append_left bag (l ∷ []) (sent_on talk r.from r.to p.0 x) p.1, p.2)
+  stays_put l r (told i x) p = (p.0, Contains-append_left bag (l ∷ []) (sent_on talk r.to r.from p.0 x) p.1, p.2)
 
   -- nothing was added at all
   pub grows_none : (r : Route) → Grows (Put talk bag r) None (Put talk (bag ++ []) r)
@@ -23,10 +23,10 @@ module _ {M C P : Type 0} (talk : Talk M C P) (bag : List (Sent M)) where
 
   module _ (q : Route) (i : ℕ) (x : M) where
     abbrev pub request_on : Sent M
-    request_on = sent_on talk q q.from q.to x
+    request_on = sent_on talk q.from q.to q.ue x
 
     abbrev pub reply_on : Sent M
-    reply_on = sent_on talk q q.to q.from x
+    reply_on = sent_on talk q.to q.from q.ue x
 
     -- a request
     pub request_grows : talk.kind x ≡ request q.ue i → Grows (Put talk bag q) (Some (asked i x)) (Put talk (bag ++ request_on ∷ []) q)
@@ -36,56 +36,61 @@ module _ {M C P : Type 0} (talk : Talk M C P) (bag : List (Sent M)) where
         new (asked j y) e =
             let same : x ≡ y = cc in
             let at : i ≡ j = cc in (
-              subst (λ (z : M). Contains (bag ++ request_on ∷ []) (sent_on talk q q.from q.to z)) same (Contains-push bag request_on),
+              q.ue,
+              subst (λ (z : M). Contains (bag ++ request_on ∷ []) (sent_on talk q.from q.to q.ue z)) same (Contains-push bag request_on),
               ap talk.kind (sym same) ∙ is ∙ ap (request q.ue) at,
             )
         new (told j y) e = absurd cc
 
-        of_asked : (j : ℕ) (y : M) → talk.kind y ≡ request q.ue j
-            → Contains bag (sent_on talk q q.from q.to y) ⊎ (request_on ≡ sent_on talk q q.from q.to y)
+        of_asked : (j u : ℕ) (y : M) → talk.kind y ≡ request q.ue j
+            → Contains bag (sent_on talk q.from q.to u y) ⊎ (request_on ≡ sent_on talk q.from q.to u y)
             → Put talk bag q (asked j y) ⊎ (Some (asked i x) ≡ Some (asked j y))
-        of_asked j y k (inl c) = inl (c, k)
-        of_asked j y k (inr e) =
+        of_asked j u y k (inl c) = inl (u, c, k)
+        of_asked j u y k (inr e) =
             let same : x ≡ y = ap (λ (l : Sent M). l.message) e in
             let kinds : request q.ue i ≡ request q.ue j = sym is ∙ ap talk.kind same ∙ k in
             let at : i ≡ j = cc in
             inr (λ t. Some (asked (at t) (same t)))
 
-        of_told : (j : ℕ) (y : M) → talk.kind y ≡ reply q.ue j
-            → Contains bag (sent_on talk q q.to q.from y) ⊎ (request_on ≡ sent_on talk q q.to q.from y)
+        of_told : (j u : ℕ) (y : M) → talk.kind y ≡ reply q.ue j
+            → Contains bag (sent_on talk q.to q.from u y) ⊎ (request_on ≡ sent_on talk q.to q.from u y)
             → Put talk bag q (told j y) ⊎ (Some (asked i x) ≡ Some (told j y))
-        of_told j y k (inl c) = inl (c, k)
-        of_told j y k (inr e) =
+        of_told j u y k (inl c) = inl (u, c, k)
+        of_told j u y k (inr e) =
             let same : x ≡ y = ap (λ (l : Sent M). l.message) e in
             let kinds : request q.ue i ≡ reply q.ue j = sym is ∙ ap talk.kind same ∙ k in
             absurd cc
 
         only : (n : Note M) → Put talk (bag ++ request_on ∷ []) q n → Put talk bag q n ⊎ (Some (asked i x) ≡ Some n)
-        only (asked j y) p = of_asked j y p.1 (Contains-push_cases bag request_on (sent_on talk q q.from q.to y) p.0)
-        only (told j y) p = of_told j y p.1 (Contains-push_cases bag request_on (sent_on talk q q.to q.from y) p.0)
+        only (asked j y) p = of_asked j p.0 y p.2 (Contains-push_cases bag request_on (sent_on talk q.from q.to p.0 y) p.1)
+        only (told j y) p = of_told j p.0 y p.2 (Contains-push_cases bag request_on (sent_on talk q.to q.from p.0 y) p.1)
 
     pub request_elsewhere : talk.kind x ≡ request q.ue i → (r : Route) → (r ≡ q → ⊥)
         → Grows (Put talk bag r) None (Put talk (bag ++ request_on ∷ []) r)
     request_elsewhere is r other = record { stays = stays_put request_on r; new = λ n e. absurd cc; only = only }
       where
-        of_asked : (j : ℕ) (y : M) → talk.kind y ≡ request r.ue j
-            → Contains bag (sent_on talk r r.from r.to y) ⊎ (request_on ≡ sent_on talk r r.from r.to y)
+        of_asked : (j u : ℕ) (y : M) → talk.kind y ≡ request r.ue j
+            → Contains bag (sent_on talk r.from r.to u y) ⊎ (request_on ≡ sent_on talk r.from r.to u y)
             → Put talk bag r (asked j y) ⊎ (None ≡ Some (asked j y))
-        of_asked j y k (inl c) = inl (c, k)
-        of_asked j y k (inr e) = absurd (other (sym (ap (λ (l : Sent M). record { from = l.from; to = l.to; ue = l.ue }) e)))
+        of_asked j u y k (inl c) = inl (u, c, k)
+        of_asked j u y k (inr e) = 
+            let same : x ≡ y = ap (λ (l : Sent M). l.message) e in
+            let kinds : request q.ue i ≡ request r.ue j = sym is ∙ ap talk.kind same ∙ k in
+            let ues : q.ue ≡ r.ue = cc in
+            absurd (other (λ t. record { from = sym (ap (λ (l : Sent M). l.from) e) t; to = sym (ap (λ (l : Sent M). l.to) e) t; ue = sym ues t }))
 
-        of_told : (j : ℕ) (y : M) → talk.kind y ≡ reply r.ue j
-            → Contains bag (sent_on talk r r.to r.from y) ⊎ (request_on ≡ sent_on talk r r.to r.from y)
+        of_told : (j u : ℕ) (y : M) → talk.kind y ≡ reply r.ue j
+            → Contains bag (sent_on talk r.to r.from u y) ⊎ (request_on ≡ sent_on talk r.to r.from u y)
             → Put talk bag r (told j y) ⊎ (None ≡ Some (told j y))
-        of_told j y k (inl c) = inl (c, k)
-        of_told j y k (inr e) =
+        of_told j u y k (inl c) = inl (u, c, k)
+        of_told j u y k (inr e) =
             let same : x ≡ y = ap (λ (l : Sent M). l.message) e in
             let kinds : request q.ue i ≡ reply r.ue j = sym is ∙ ap talk.kind same ∙ k in
             absurd cc
 
         only : (n : Note M) → Put talk (bag ++ request_on ∷ []) r n → Put talk bag r n ⊎ (None ≡ Some n)
-        only (asked j y) p = of_asked j y p.1 (Contains-push_cases bag request_on (sent_on talk r r.from r.to y) p.0)
-        only (told j y) p = of_told j y p.1 (Contains-push_cases bag request_on (sent_on talk r r.to r.from y) p.0)
+        only (asked j y) p = of_asked j p.0 y p.2 (Contains-push_cases bag request_on (sent_on talk r.from r.to p.0 y) p.1)
+        only (told j y) p = of_told j p.0 y p.2 (Contains-push_cases bag request_on (sent_on talk r.to r.from p.0 y) p.1)
 
     -- a reply
     pub reply_grows : talk.kind x ≡ reply q.ue i → Grows (Put talk bag q) (Some (told i x)) (Put talk (bag ++ reply_on ∷ []) q)
@@ -95,74 +100,79 @@ module _ {M C P : Type 0} (talk : Talk M C P) (bag : List (Sent M)) where
         new (told j y) e =
             let same : x ≡ y = cc in
             let at : i ≡ j = cc in (
-              subst (λ (z : M). Contains (bag ++ reply_on ∷ []) (sent_on talk q q.to q.from z)) same (Contains-push bag reply_on),
+              q.ue,
+              subst (λ (z : M). Contains (bag ++ reply_on ∷ []) (sent_on talk q.to q.from q.ue z)) same (Contains-push bag reply_on),
               ap talk.kind (sym same) ∙ is ∙ ap (reply q.ue) at,
             )
         new (asked j y) e = absurd cc
 
-        of_told : (j : ℕ) (y : M) → talk.kind y ≡ reply q.ue j
-            → Contains bag (sent_on talk q q.to q.from y) ⊎ (reply_on ≡ sent_on talk q q.to q.from y)
+        of_told : (j u : ℕ) (y : M) → talk.kind y ≡ reply q.ue j
+            → Contains bag (sent_on talk q.to q.from u y) ⊎ (reply_on ≡ sent_on talk q.to q.from u y)
             → Put talk bag q (told j y) ⊎ (Some (told i x) ≡ Some (told j y))
-        of_told j y k (inl c) = inl (c, k)
-        of_told j y k (inr e) =
+        of_told j u y k (inl c) = inl (u, c, k)
+        of_told j u y k (inr e) =
             let same : x ≡ y = ap (λ (l : Sent M). l.message) e in
             let kinds : reply q.ue i ≡ reply q.ue j = sym is ∙ ap talk.kind same ∙ k in
             let at : i ≡ j = cc in
             inr (λ t. Some (told (at t) (same t)))
 
-        of_asked : (j : ℕ) (y : M) → talk.kind y ≡ request q.ue j
-            → Contains bag (sent_on talk q q.from q.to y) ⊎ (reply_on ≡ sent_on talk q q.from q.to y)
+        of_asked : (j u : ℕ) (y : M) → talk.kind y ≡ request q.ue j
+            → Contains bag (sent_on talk q.from q.to u y) ⊎ (reply_on ≡ sent_on talk q.from q.to u y)
             → Put talk bag q (asked j y) ⊎ (Some (told i x) ≡ Some (asked j y))
-        of_asked j y k (inl c) = inl (c, k)
-        of_asked j y k (inr e) =
+        of_asked j u y k (inl c) = inl (u, c, k)
+        of_asked j u y k (inr e) =
             let same : x ≡ y = ap (λ (l : Sent M). l.message) e in
             let kinds : reply q.ue i ≡ request q.ue j = sym is ∙ ap talk.kind same ∙ k in
             absurd cc
 
         only : (n : Note M) → Put talk (bag ++ reply_on ∷ []) q n → Put talk bag q n ⊎ (Some (told i x) ≡ Some n)
-        only (asked j y) p = of_asked j y p.1 (Contains-push_cases bag reply_on (sent_on talk q q.from q.to y) p.0)
-        only (told j y) p = of_told j y p.1 (Contains-push_cases bag reply_on (sent_on talk q q.to q.from y) p.0)
+        only (asked j y) p = of_asked j p.0 y p.2 (Contains-push_cases bag reply_on (sent_on talk q.from q.to p.0 y) p.1)
+        only (told j y) p = of_told j p.0 y p.2 (Contains-push_cases bag reply_on (sent_on talk q.to q.from p.0 y) p.1)
 
     pub reply_elsewhere : talk.kind x ≡ reply q.ue i → (r : Route) → (r ≡ q → ⊥)
         → Grows (Put talk bag r) None (Put talk (bag ++ reply_on ∷ []) r)
     reply_elsewhere is r other = record { stays = stays_put reply_on r; new = λ n e. absurd cc; only = only }
       where
-        of_told : (j : ℕ) (y : M) → talk.kind y ≡ reply r.ue j
-            → Contains bag (sent_on talk r r.to r.from y) ⊎ (reply_on ≡ sent_on talk r r.to r.from y)
+        of_told : (j u : ℕ) (y : M) → talk.kind y ≡ reply r.ue j
+            → Contains bag (sent_on talk r.to r.from u y) ⊎ (reply_on ≡ sent_on talk r.to r.from u y)
             → Put talk bag r (told j y) ⊎ (None ≡ Some (told j y))
-        of_told j y k (inl c) = inl (c, k)
-        of_told j y k (inr e) = absurd (other (sym (ap (λ (l : Sent M). record { from = l.to; to = l.from; ue = l.ue }) e)))
+        of_told j u y k (inl c) = inl (u, c, k)
+        of_told j u y k (inr e) = 
+            let same : x ≡ y = ap (λ (l : Sent M). l.message) e in
+            let kinds : reply q.ue i ≡ reply r.ue j = sym is ∙ ap talk.kind same ∙ k in
+            let ues : q.ue ≡ r.ue = cc in
+            absurd (other (λ t. record { from = sym (ap (λ (l : Sent M). l.to) e) t; to = sym (ap (λ (l : Sent M). l.from) e) t; ue = sym ues t }))
 
-        of_asked : (j : ℕ) (y : M) → talk.kind y ≡ request r.ue j
-            → Contains bag (sent_on talk r r.from r.to y) ⊎ (reply_on ≡ sent_on talk r r.from r.to y)
+        of_asked : (j u : ℕ) (y : M) → talk.kind y ≡ request r.ue j
+            → Contains bag (sent_on talk r.from r.to u y) ⊎ (reply_on ≡ sent_on talk r.from r.to u y)
             → Put talk bag r (asked j y) ⊎ (None ≡ Some (asked j y))
-        of_asked j y k (inl c) = inl (c, k)
-        of_asked j y k (inr e) =
+        of_asked j u y k (inl c) = inl (u, c, k)
+        of_asked j u y k (inr e) =
             let same : x ≡ y = ap (λ (l : Sent M). l.message) e in
             let kinds : reply q.ue i ≡ request r.ue j = sym is ∙ ap talk.kind same ∙ k in
             absurd cc
 
         only : (n : Note M) → Put talk (bag ++ reply_on ∷ []) r n → Put talk bag r n ⊎ (None ≡ Some n)
-        only (asked j y) p = of_asked j y p.1 (Contains-push_cases bag reply_on (sent_on talk r r.from r.to y) p.0)
-        only (told j y) p = of_told j y p.1 (Contains-push_cases bag reply_on (sent_on talk r r.to r.from y) p.0)
+        only (asked j y) p = of_asked j p.0 y p.2 (Contains-push_cases bag reply_on (sent_on talk r.from r.to p.0 y) p.1)
+        only (told j y) p = of_told j p.0 y p.2 (Contains-push_cases bag reply_on (sent_on talk r.to r.from p.0 y) p.1)
 
   -- a message that is neither is on no channel
-  pub transfer_grows : (l : Sent M) (u : ℕ) → talk.kind l.message ≡ transfer u → (r : Route) → Grows (Put talk bag r) None (Put talk (bag ++ l ∷ []) r)
-  transfer_grows l u is r = record { stays = stays_put l r; new = λ n e. absurd cc; only = only }
+  pub transfer_grows : (l : Sent M) (v : ℕ) → talk.kind l.message ≡ transfer v → (r : Route) → Grows (Put talk bag r) None (Put talk (bag ++ l ∷ []) r)
+  transfer_grows l v is r = record { stays = stays_put l r; new = λ n e. absurd cc; only = only }
     where
-      of_asked : (j : ℕ) (y : M) → talk.kind y ≡ request r.ue j
-          → Contains bag (sent_on talk r r.from r.to y) ⊎ (l ≡ sent_on talk r r.from r.to y) → Put talk bag r (asked j y) ⊎ (None ≡ Some (asked j y))
-      of_asked j y k (inl c) = inl (c, k)
-      of_asked j y k (inr e) = let kinds : transfer u ≡ request r.ue j = sym is ∙ ap (λ (m : Sent M). talk.kind m.message) e ∙ k in absurd cc
+      of_asked : (j u : ℕ) (y : M) → talk.kind y ≡ request r.ue j
+          → Contains bag (sent_on talk r.from r.to u y) ⊎ (l ≡ sent_on talk r.from r.to u y) → Put talk bag r (asked j y) ⊎ (None ≡ Some (asked j y))
+      of_asked j u y k (inl c) = inl (u, c, k)
+      of_asked j u y k (inr e) = let kinds : transfer v ≡ request r.ue j = sym is ∙ ap (λ (m : Sent M). talk.kind m.message) e ∙ k in absurd cc
 
-      of_told : (j : ℕ) (y : M) → talk.kind y ≡ reply r.ue j
-          → Contains bag (sent_on talk r r.to r.from y) ⊎ (l ≡ sent_on talk r r.to r.from y) → Put talk bag r (told j y) ⊎ (None ≡ Some (told j y))
-      of_told j y k (inl c) = inl (c, k)
-      of_told j y k (inr e) = let kinds : transfer u ≡ reply r.ue j = sym is ∙ ap (λ (m : Sent M). talk.kind m.message) e ∙ k in absurd cc
+      of_told : (j u : ℕ) (y : M) → talk.kind y ≡ reply r.ue j
+          → Contains bag (sent_on talk r.to r.from u y) ⊎ (l ≡ sent_on talk r.to r.from u y) → Put talk bag r (told j y) ⊎ (None ≡ Some (told j y))
+      of_told j u y k (inl c) = inl (u, c, k)
+      of_told j u y k (inr e) = let kinds : transfer v ≡ reply r.ue j = sym is ∙ ap (λ (m : Sent M). talk.kind m.message) e ∙ k in absurd cc
 
       only : (n : Note M) → Put talk (bag ++ l ∷ []) r n → Put talk bag r n ⊎ (None ≡ Some n)
-      only (asked j y) p = of_asked j y p.1 (Contains-push_cases bag l (sent_on talk r r.from r.to y) p.0)
-      only (told j y) p = of_told j y p.1 (Contains-push_cases bag l (sent_on talk r r.to r.from y) p.0)
+      only (asked j y) p = of_asked j p.0 y p.2 (Contains-push_cases bag l (sent_on talk r.from r.to p.0 y) p.1)
+      only (told j y) p = of_told j p.0 y p.2 (Contains-push_cases bag l (sent_on talk r.to r.from p.0 y) p.1)
 
   -- what was put before is put again
   pub again : {B D : Note M → Type 0} (n : Note M) → B n → Grows B (Some n) D → Grows B None D

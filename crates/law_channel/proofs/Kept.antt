@@ -229,8 +229,8 @@ module _ {M C P : Type 0} (talk : Talk M C P) {net : Net M C} (good : Good talk 
   pub good_repeats : (c : Channel) (x : M) → May talk net n (repeats c x) → Good talk (after_move talk net n (repeats c x))
   good_repeats c x may =
       good_asking talk good n (asks_nothing here c) (record { from = n; to = c.peer; ue = c.ue; message = x } ∷ []) net.expired
-      (once_same talk (put_again talk net.bag (asked may.0.instance x) was (request_grows talk net.bag (asked_by n c) may.0.instance x was.1)) (once_here c))
-      (waits_here c) (request_elsewhere talk net.bag (asked_by n c) may.0.instance x was.1) (λ r other. refl)
+      (once_same talk (put_again talk net.bag (asked may.0.instance x) was (request_grows talk net.bag (asked_by n c) may.0.instance x was.2)) (once_here c))
+      (waits_here c) (request_elsewhere talk net.bag (asked_by n c) may.0.instance x was.2) (λ r other. refl)
     where
       was : Put talk net.bag (asked_by n c) (asked may.0.instance x)
       was =
@@ -343,8 +343,8 @@ module _ {M C P : Type 0} (talk : Talk M C P) {net : Net M C} (good : Good talk 
           let was = (once_there c).kept_was_put y e in
           good_telling talk good n (tells_nothing c) (record { from = n; to = c.peer; ue = c.ue; message = y } ∷ []) net.acts
           (once_same talk (put_again talk net.bag (told (newest_number (kept_at here.callee c)) y) was
-          (reply_grows talk net.bag (answered_by n c) (newest_number (kept_at here.callee c)) y was.1)) (once_there c))
-          (reply_elsewhere talk net.bag (answered_by n c) (newest_number (kept_at here.callee c)) y was.1) (λ r other. refl)
+          (reply_grows talk net.bag (answered_by n c) (newest_number (kept_at here.callee c)) y was.2)) (once_there c))
+          (reply_elsewhere talk net.bag (answered_by n c) (newest_number (kept_at here.callee c)) y was.2) (λ r other. refl)
 
   pub good_after : (m : Move M C) → May talk net n m → Good talk (after_move talk net n m)
   good_after (asks c w) may = good_asks c w may
@@ -372,8 +372,8 @@ module _ {M C P : Type 0} (talk : Talk M C P) where
   good_new = record { channels = λ r. channel r; waits = λ r. tt; sorted = λ n. sorted_none (Opened M) }
     where
       none_put : (r : Route) (note : Note M) → Put talk [] r note → ⊥
-      none_put r (asked i x) p = let h = p.0 in let l : h.0 < 0 = h.1 in absurd (omega arith)
-      none_put r (told i x) p = let h = p.0 in let l : h.0 < 0 = h.1 in absurd (omega arith)
+      none_put r (asked i x) p = let h = p.1 in let l : h.0 < 0 = h.1 in absurd (omega arith)
+      none_put r (told i x) p = let h = p.1 in let l : h.0 < 0 = h.1 in absurd (omega arith)
 
       channel : (r : Route) → Once talk (ends_of new_net r) (Put talk [] r)
       channel r = record {

@@ -85,13 +85,15 @@ pub data Note (M : Type 0) : Type 0 where
   told : (instance : ℕ) (message : M) → Note M
 
 module _ {M C P : Type 0} (talk : Talk M C P) where
-  abbrev pub sent_on : Route → NodeId → NodeId → M → Sent M
-  sent_on r from to message = record { from = from; to = to; ue = r.ue; message = message }
+  abbrev pub sent_on : NodeId → NodeId → ℕ → M → Sent M
+  sent_on from to ue message = record { from = from; to = to; ue = ue; message = message }
 
-  -- a request goes from the initiator to the responder, a reply back
+  -- A request goes from the initiator to the responder, a reply back. Of which terminal it is, is what the message says.
   abbrev pub Put : List (Sent M) → Route → Note M → Type 0
-  Put bag r (asked instance message) = Contains bag (sent_on r r.from r.to message) × (talk.kind message ≡ request r.ue instance)
-  Put bag r (told instance message) = Contains bag (sent_on r r.to r.from message) × (talk.kind message ≡ reply r.ue instance)
+  Put bag r (asked instance message) =
+      (ue : ℕ) × Contains bag (sent_on r.from r.to ue message) × (talk.kind message ≡ request r.ue instance)
+  Put bag r (told instance message) =
+      (ue : ℕ) × Contains bag (sent_on r.to r.from ue message) × (talk.kind message ≡ reply r.ue instance)
 
   -- ---- exactly once
 

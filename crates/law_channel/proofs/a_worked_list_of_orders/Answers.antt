@@ -12,29 +12,29 @@ returns c = record {
   may = (
     (λ i. refl, refl),
     (
-      (refl, ((0, omega arith, refl), refl)),
+      (refl, (1, (0, omega arith, refl), refl)),
       (
         tt,
         (
           (record { instance = 1; deadline = Some 7; request = Some (preparation 1) }, refl, refl),
           (
-            record { is_newest = refl; is_unanswered = refl; is_reply = refl; request = preparation 1; was_put = ((0, omega arith, refl), refl); fits = refl },
+            record { is_newest = refl; is_unanswered = refl; is_reply = refl; request = preparation 1; was_put = (1, (0, omega arith, refl), refl); fits = refl },
             (
               tt,
               (
                 (λ i. refl, refl),
                 (
-                  (1, prepared 1, refl, ((2, omega arith, refl), refl)),
+                  (1, prepared 1, refl, (1, (2, omega arith, refl), refl)),
                   (
                     refl,
                     (
                       (λ i. refl, λ i. refl),
                       (
-                        (refl, ((5, omega arith, refl), refl)),
+                        (refl, (1, (5, omega arith, refl), refl)),
                         (
-                          (3, record { is_newest = refl; is_unanswered = refl; is_reply = refl; request = cancel 3; was_put = ((5, omega arith, refl), refl); fits = refl }),
+                          (3, record { is_newest = refl; is_unanswered = refl; is_reply = refl; request = cancel 3; was_put = (1, (5, omega arith, refl), refl); fits = refl }),
                           (
-                            (3, confirm 3, refl, ((6, omega arith, refl), refl)),
+                            (3, confirm 3, refl, (1, (6, omega arith, refl), refl)),
                             (
                               (λ i. refl, refl),
                               (
@@ -42,17 +42,17 @@ returns c = record {
                                 (
                                   (λ i. refl, λ i. refl),
                                   (
-                                    (refl, ((8, omega arith, refl), refl)),
+                                    (refl, (1, (8, omega arith, refl), refl)),
                                     (
-                                      (5, record { is_newest = refl; is_unanswered = refl; is_reply = refl; request = cancel 5; was_put = ((8, omega arith, refl), refl); fits = refl }),
+                                      (5, record { is_newest = refl; is_unanswered = refl; is_reply = refl; request = cancel 5; was_put = (1, (8, omega arith, refl), refl); fits = refl }),
                                       (
-                                        (5, confirm 5, refl, ((9, omega arith, refl), refl)),
+                                        (5, confirm 5, refl, (1, (9, omega arith, refl), refl)),
                                         (
                                           (λ i. refl, refl),
                                           (
-                                            (refl, ((10, omega arith, refl), refl)),
+                                            (refl, (1, (10, omega arith, refl), refl)),
                                             (
-                                              (6, record { is_newest = refl; is_unanswered = refl; is_reply = refl; request = release 6; was_put = ((10, omega arith, refl), refl); fits = refl }),
+                                              (6, record { is_newest = refl; is_unanswered = refl; is_reply = refl; request = release 6; was_put = (1, (10, omega arith, refl), refl); fits = refl }),
                                               tt,
                                             ),
                                           ),
