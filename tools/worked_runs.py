@@ -19,8 +19,8 @@ TOP = pathlib.Path(__file__).resolve().parents[1]
 OTHER = TOP / "../shared/oracle"
 CRATE = "law_worked_runs"
 # its laws, and the modules that are written by hand: of a script whose lines are too many to be listed
-LAWS = ["worked_runs", "old_copy_stops_a_run"]
-BY_HAND = ["OldUplinkCopyAndSpan"]
+LAWS = ["worked_runs", "worked_octet_runs", "old_copy_stops_a_run"]
+BY_HAND = ["PlainCodec", "Octets", "OldUplinkCopyAndSpan"]
 EVENTS = "scenario_text.specs.declared.event"
 # the crates whose words are opened to compute a run
 OPENED = ["tables", "transaction_defs", "pdcp_defs", "unit_defs", "unit_octet_defs", "transport_defs", "run_defs", "link_defs", "gtpu", "nr_user_plane",

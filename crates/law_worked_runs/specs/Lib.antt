@@ -1,5 +1,7 @@
 pub mod Short
 pub mod All
+pub mod PlainCodec
+pub mod Octets
 pub mod OldUplinkCopyAndSpan
 pub mod CancelAndTooLate
 pub mod CausesOfFailed

@@ -1,5 +1,5 @@
 -- Short words for the values of the worked scripts.
-use Rattle.std.specs.Prelude.{ℕ, zero, suc, ◌+◌, List, [], ◌∷◌, ◌++◌, Option, Some, None, Bool, true, false, map, if◌then◌else◌}
+use Rattle.std.specs.Prelude.{ℕ, zero, suc, ◌+◌, List, [], ◌∷◌, ◌++◌, Option, None, Bool, false, map, if◌then◌else◌}
 use Rattle.std.specs.Str.{bytes_eq}
 use Rattle.gnb_types.specs.declared.names.Gnb.{Gnb}
 use Rattle.gnb_types.specs.declared.names.NodeId.{NodeId}
@@ -19,7 +19,7 @@ use Rattle.unit_defs.specs.Ways.{Message}
 use Rattle.scenario_text.specs.declared.event.Event.{Event}
 use Rattle.run_defs.specs.Lines.{RunLine, Letter}
 use Rattle.run_defs.specs.States.{Stop}
-use Rattle.run_defs.specs.Runs.{Reading, Run, Happened, Transcript, lines_of, plain_world}
+use Rattle.run_defs.specs.Runs.{Reading, Run, lines_of, plain_world}
 
 abbrev pub ue : ℕ → UeId
 ue n = record { 0 = n }

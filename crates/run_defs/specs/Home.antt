@@ -1,5 +1,5 @@
 -- From which states settling ends: the bearers fit, and the terminals are at home.
-use Rattle.std.specs.Prelude.{◌==◌, ℕ, ◌-◌, Bool, true, false, not, ◌&&◌, ◌||◌, nat_le, List, [], ◌∷◌, ◌++◌, length, map, Option, Some, None}
+use Rattle.std.specs.Prelude.{◌≡◌, ◌==◌, ℕ, ◌-◌, Bool, true, false, not, ◌&&◌, ◌||◌, nat_le, List, [], ◌∷◌, ◌++◌, length, map, Option, Some, None}
 use Rattle.std.specs.List.{flat_map, list_all, list_any}
 use Rattle.gnb_types.specs.declared.names.Gnb.TheVariants.{A, B}
 use Rattle.gnb_types.specs.declared.names.NodeId.{NodeId}
@@ -74,6 +74,9 @@ quota_in (Some plan) = plan.quota
 unfoldable pub fits : {M C L P : Type 0} → State M C L P → EntityKey → Bool
 fits s key = nat_le (reach s key) (window (sn_of s key.ue) (quota_in (find ue_cmp s.plans key.ue)))
 
+abbrev pub Fits : {M C L P : Type 0} → State M C L P → EntityKey → Type 0
+Fits s key = fits s key ≡ true
+
 -- every bearer and direction of every attached terminal
 abbrev pub all_fit : {M C L P : Type 0} → State M C L P → Bool
 all_fit s = list_all (fits s) (attached_entities s)
@@ -125,6 +128,9 @@ is_at_home s ue =
     && not (flies_over_xn s.bag ue)
     && not (asks_over_xn s.units.cp_a (CuCp B) ue || asks_over_xn s.units.cp_b (CuCp A) ue)
     && not (list_any (λ e. is_left_over_in (find ue_cmp e.1.contexts ue)) s.units.ups)
+
+abbrev pub AtHome : {M C L P : Type 0} → State M C L P → UeId → Type 0
+AtHome s ue = is_at_home s ue ≡ true
 
 -- every attached terminal
 abbrev pub all_at_home : {M C L P : Type 0} → State M C L P → Bool

@@ -1,5 +1,4 @@
--- What is said of a transcript: what was offered and delivered, that links keep their order, that units act on what they got, and
--- that a COUNT is a place among what was offered. Told of the steps of any run.
+-- What is said of a transcript: what was offered and delivered, and that links keep their order. Told of the steps of any run.
 use Rattle.std.specs.Prelude.{◌≡◌, ℕ, ◌+◌, ◌-◌, ◌==◌, Bool, true, false, ◌&&◌, if◌then◌else◌, List, [], ◌∷◌, ◌++◌, length, drop, Some, slice_get}
 use Rattle.std.specs.List.{flat_map, list_any}
 use Rattle.std.specs.Ordering.{eq_by_cmp}

@@ -3,20 +3,18 @@
 use Rattle.std.specs.Prelude.{ℕ, Bool, true, false, List, [], ◌∷◌, map, Option, Some, None, is_some, Result, Ok, Err}
 use Rattle.gnb_types.specs.declared.names.NodeId.{NodeId}
 use Rattle.gnb_types.specs.declared.names.NodeId.TheVariants.{CuCp, CuUp, Du, Core, Ue}
-use Rattle.gnb_types.specs.declared.names.SnBits.{SnBits}
 use Rattle.gnb_types.specs.declared.inputs.Input.{Input}
 use Rattle.gnb_types.specs.declared.inputs.Input.TheVariants as ins
 use Rattle.gnb_types.specs.declared.outputs.Output.{Output}
 use Rattle.gnb_types.specs.declared.outputs.Output.TheVariants as outs
 use Rattle.gnb_types.specs.declared.reasons.DropReason.{DropReason}
 use Rattle.gnb_types.specs.declared.reasons.DropReason.TheVariants.{Unexpected}
-use Rattle.link_defs.specs.Decoding.{Link}
 use Rattle.link_defs.specs.Layouts.{forwarded_fresh}
-use Rattle.unit_defs.specs.Ways.{Message, Put, control, packet, radio, deliver, dropped, held, opened, closed, failed, no, Answer, gives, spent}
+use Rattle.unit_defs.specs.Ways.{Message, Put, control, packet, radio, deliver, dropped, held, opened, closed, failed, no, gives, spent}
 use Rattle.unit_defs.specs.Ue.{UeNode}
 use Rattle.unit_defs.specs.Core.{CoreRecord}
 use Rattle.unit_octet_defs.specs.Codec.{Codec}
-use Rattle.unit_octet_defs.specs.Writing.{load_octets, outputs_of}
+use Rattle.unit_octet_defs.specs.Writing.{outputs_of}
 use Rattle.unit_octet_defs.specs.Units.{OctetAnswer, cu_cp_steps, cu_up_steps, du_steps, ue_steps, core_steps}
 use Rattle.scenario_text.specs.declared.event.Event.{Event}
 use Rattle.run_defs.specs.Units.{Units, cp_of, with_cp, up_of, with_up, du_of, with_du, ue_of, with_ue}

@@ -17,9 +17,8 @@
 --                                                      epoch is finished; Busy, where it is too early (token_on)
 --   a tick                                             open requests again; handover_expires; command
 use Rattle.std.specs.Prelude.{◌==◌, ℕ, ◌+◌, Bool, true, false, not, ◌&&◌, if◌then◌else◌, List, [], ◌∷◌, ◌++◌, map, Option, Some, None}
-use Rattle.gnb_types.specs.declared.names.Gnb.{Gnb}
 use Rattle.gnb_types.specs.declared.names.NodeId.{NodeId}
-use Rattle.gnb_types.specs.declared.names.NodeId.TheVariants.{CuCp as cp_node, CuUp, Du, Core, Ue}
+use Rattle.gnb_types.specs.declared.names.NodeId.TheVariants.{CuCp as cp_node}
 use Rattle.gnb_types.specs.declared.names.UeId.{UeId}
 use Rattle.gnb_types.specs.declared.keys.Channel.{Channel}
 use Rattle.gnb_types.specs.declared.reasons.CauseName.{CauseName}
@@ -39,7 +38,7 @@ use Rattle.unit_defs.specs.declared.AttemptKind.{AttemptKind}
 use Rattle.unit_defs.specs.declared.AttemptKind.TheVariants as kinds
 use Rattle.unit_defs.specs.Ways.{Message, f1, e1, xn, core, Input, control_input, tick_input, order_input, control, Way, Answer, ◌then◌, nothing, puts, drops}
 use Rattle.unit_defs.specs.Transactions.{Kind, request, reply, transfer, kind_of, Waiting, Transactions, waits_at, with_waiting, advance, replied, on_request, on_reply}
-use Rattle.unit_defs.specs.Messages.{cause_name, channel, is_same_gnb, shares_interface, are_bearers, statuses_of}
+use Rattle.unit_defs.specs.Messages.{cause_name, channel, shares_interface, are_bearers, statuses_of}
 use Rattle.unit_defs.specs.CpRecords.{Awaited, Attempt, CpContext, CpTerminal, CuCpRecord, terminal_of, with_transactions, attempted, same_node, has_unit, bearers_in, ignores, Row, stays, keeps, gives_up, answered, awaits_answer, after_asked, carry_out}
 use Rattle.unit_defs.specs.CpRows.{CpAt, own_du, name_bearers, is_between_dus, is_between_gnbs, attach, attach_has_tunnels, attach_is_placed, attach_fails, move_has_uplinks, move_is_placed, handover, handover_is_acknowledged, handover_is_declined, handover_expires, handover_is_frozen, handover_is_not_frozen, command, cancel, release, offer_context, offer, offer_has_tunnels, offer_is_declined, offer_is_placed, status, xn_cancelled, xn_released, place_is_renewed, is_switched, path_is_switched, say_accepted, completes, completes_again, returns, arrives, arrives_again}
 

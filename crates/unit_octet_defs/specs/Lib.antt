@@ -2,3 +2,4 @@ pub mod Codec
 pub mod Writing
 pub mod Reading
 pub mod Units
+pub mod Spelling

@@ -11,8 +11,7 @@ use Rattle.std.specs.Prelude.{◌==◌, ℕ, ◌/◌, ◌%◌, ◌^◌, Bool, tr
 use Rattle.std.specs.List.{flat_map}
 use Rattle.std.specs.Ordering.{nat_cmp}
 use Rattle.gnb_types.specs.declared.names.NodeId.{NodeId}
-use Rattle.gnb_types.specs.declared.names.NodeId.TheVariants.{CuCp, Ue, Core}
-use Rattle.gnb_types.specs.declared.names.UeId.{UeId}
+use Rattle.gnb_types.specs.declared.names.NodeId.TheVariants.{CuCp, Ue}
 use Rattle.gnb_types.specs.declared.names.BearerId.{BearerId}
 use Rattle.gnb_types.specs.declared.names.Dir.TheVariants.{Dl, Ul}
 use Rattle.gnb_types.specs.declared.names.SnBits.{SnBits}
@@ -20,7 +19,7 @@ use Rattle.gnb_types.specs.declared.inputs.Input.{Input as OctetInput}
 use Rattle.gnb_types.specs.declared.inputs.Input.TheVariants as ins
 use Rattle.gnb_types.specs.declared.reasons.DropReason.{DropReason}
 use Rattle.gnb_types.specs.declared.reasons.DropReason.TheVariants.{Undecodable, NoContext, NoTunnel, Unexpected}
-use Rattle.gnb_types.specs.Orders.{ue_cmp, bearer_cmp}
+use Rattle.gnb_types.specs.Orders.{bearer_cmp}
 use Rattle.tables.specs.Tables.{find}
 use Rattle.pdcp.specs.Pdus.{Content as PduContent, data_pdu, status_report}
 use Rattle.pdcp_defs.specs.Counts.{near_count, count_below}

@@ -1,10 +1,10 @@
 -- The units over octets: each reads its input and acts on it; what it can't read it drops, and its record is as before.
-use Rattle.std.specs.Prelude.{ℕ, List, Result, Ok, Err}
+use Rattle.std.specs.Prelude.{ℕ, List, Ok, Err}
 use Rattle.gnb_types.specs.declared.names.NodeId.{NodeId}
 use Rattle.gnb_types.specs.declared.names.NodeId.TheVariants.{Core}
 use Rattle.gnb_types.specs.declared.inputs.Input.{Input as OctetInput}
-use Rattle.gnb_types.specs.declared.reasons.DropReason.{DropReason}
-use Rattle.unit_defs.specs.Ways.{Message, Input, Answer, drops}
+use Rattle.gnb_types.specs.declared.reasons.DropReason.TheVariants.{Unexpected}
+use Rattle.unit_defs.specs.Ways.{Input, control_input, Answer, drops}
 use Rattle.unit_defs.specs.CpRecords.{CuCpRecord}
 use Rattle.unit_defs.specs.CuCp.{cu_cp_acts}
 use Rattle.unit_defs.specs.UpRecords.{CuUp}
@@ -13,7 +13,7 @@ use Rattle.unit_defs.specs.Du.{Du, du_acts}
 use Rattle.unit_defs.specs.Ue.{UeNode, ue_acts}
 use Rattle.unit_defs.specs.Core.{CoreRecord, core_acts}
 use Rattle.unit_octet_defs.specs.Codec.{Codec, octet_way}
-use Rattle.unit_octet_defs.specs.Reading.{ReadInput, read_at_cu_cp, read_at_cu_up, read_at_du, read_at_ue}
+use Rattle.unit_octet_defs.specs.Reading.{ReadInput, read_message, read_at_cu_cp, read_at_cu_up, read_at_du, read_at_ue}
 
 -- an answer in octets
 abbrev pub OctetAnswer : Type 0 → Type 0
@@ -37,9 +37,9 @@ module _ (codec : Codec) where
   ue_steps u input = acts_on (ue_acts (octet_way codec) u) u (read_at_ue codec u input)
 
   -- the core takes control messages alone
-  abbrev pub core_read : CoreRecord (List ℕ) (List ℕ) → NodeId → Result (Message (List ℕ)) DropReason → OctetAnswer (CoreRecord (List ℕ) (List ℕ))
-  core_read r from (Ok message) = core_acts (octet_way codec) r from message
-  core_read r from (Err reason) = drops reason r
+  abbrev pub core_takes : CoreRecord (List ℕ) (List ℕ) → Input (List ℕ) (List ℕ) → OctetAnswer (CoreRecord (List ℕ) (List ℕ))
+  core_takes r (control_input from message) = core_acts (octet_way codec) r from message
+  core_takes r input = drops Unexpected r
 
   unfoldable pub core_steps : CoreRecord (List ℕ) (List ℕ) → NodeId → List ℕ → OctetAnswer (CoreRecord (List ℕ) (List ℕ))
-  core_steps r from octets = core_read r from (codec.read from Core octets)
+  core_steps r from octets = acts_on (core_takes r) r (read_message codec Core from octets)
