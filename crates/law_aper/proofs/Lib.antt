@@ -3,3 +3,6 @@ pub mod NumberFacts
 pub mod ForthNumbers
 pub mod ForthStrings
 pub mod Forth
+pub mod Bits
+pub mod Placed
+pub mod Extents
