@@ -6,3 +6,4 @@ pub mod Forth
 pub mod Bits
 pub mod Placed
 pub mod Extents
+pub mod Opened

@@ -92,7 +92,7 @@ pub record Placed (fs : List Field) : Type 0 where
   pub stand : (c : Cursor) (rest : List Bool) → bits_at c ≡ all_bits c.place fs ++ rest → Room c (total c.place fs) → StandAll fs c
   pub moves : (c : Cursor) → after_all fs c ≡ moved_by (total c.place fs) c
 
-moved_none : (c : Cursor) → c ≡ moved_by 0 c
+pub moved_none : (c : Cursor) → c ≡ moved_by 0 c
 moved_none c = let e : c.place ≡ c.place + 0 = omega arith in ap (λ (n : ℕ). record { octets = c.octets; place = n; opens = c.opens }) e
 
 pub moved_twice : (a b : ℕ) (c : Cursor) → moved_by b (moved_by a c) ≡ moved_by (a + b) c
@@ -153,7 +153,7 @@ placed_run path unit units fs h p =
             ∙ ap (λ (xs : List ℕ). Ok xs) (ap (numbers_at (replicate (length units) (unit_width unit))) e ∙ numbers_again (unit_width unit) units rest h)) p
 
 -- ---- joined
-stand_both : (a b : List Field) (c : Cursor) → StandAll a c → StandAll b (after_all a c) → StandAll (a ++ b) c
+pub stand_both : (a b : List Field) (c : Cursor) → StandAll a c → StandAll b (after_all a c) → StandAll (a ++ b) c
 stand_both [] b c s t = t
 stand_both (f ∷ a) b c s t = (s.0, stand_both a b (after_field f c) s.1 t)
 
