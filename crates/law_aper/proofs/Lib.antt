@@ -7,3 +7,4 @@ pub mod Bits
 pub mod Placed
 pub mod Extents
 pub mod Opened
+pub mod PlacedNumbers

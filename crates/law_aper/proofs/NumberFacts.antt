@@ -157,11 +157,14 @@ twos_complement_fits k (negsuc n) some h = omega (arith, half_of k some, pow_pos
 pub signed_octets_positive : (z : ℤ) → 1 ≤ signed_octets_for z
 signed_octets_positive z = octets_positive (2 * unsigned_part z)
 
+least_bounded : (unit tries count n : ℕ) → least_count unit tries count n ≤ count + tries
+least_bounded unit zero count n = omega arith
+least_bounded unit (suc tries) count n =
+    by_cases (nat_lt n (2 ^ (unit * count))) (λ b. cond b count (least_count unit tries (count + 1) n) ≤ count + suc tries)
+        (λ h. omega arith) (λ h. omega (arith, least_bounded unit tries (count + 1) n))
+
+pub octets_at_most : (n : ℕ) → octets_for n ≤ 8
+octets_at_most n = least_bounded 8 7 1 n
+
 pub signed_octets_at_most : (z : ℤ) → signed_octets_for z ≤ 8
-signed_octets_at_most z = least_bounded 8 7 1 (2 * unsigned_part z)
-  where
-    least_bounded : (unit tries count n : ℕ) → least_count unit tries count n ≤ count + tries
-    least_bounded unit zero count n = omega arith
-    least_bounded unit (suc tries) count n =
-        by_cases (nat_lt n (2 ^ (unit * count))) (λ b. cond b count (least_count unit tries (count + 1) n) ≤ count + suc tries)
-            (λ h. omega arith) (λ h. omega (arith, least_bounded unit tries (count + 1) n))
+signed_octets_at_most z = octets_at_most (2 * unsigned_part z)
