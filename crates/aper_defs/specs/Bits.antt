@@ -2,7 +2,7 @@
 use Rattle.std.specs.Prelude.{ℕ, ◌+◌, ◌*◌, ◌/◌, ◌==◌, List, [], ◌∷◌, ◌++◌, length, Bool, fold, nat_lt, if◌then◌else◌}
 use Rattle.std.specs.List.{flat_map}
 use Rattle.bits_core.specs.Bits.{bits_of, pad_of}
-use Rattle.aper_defs.specs.Fields.{Ask, Unit, Field, Path}
+use Rattle.aper_defs.specs.Fields.{Ask, RunUnit, Field, Path}
 use Rattle.aper_defs.specs.Fields.{flag, constrained, digits, signed, small, extent, addition_bits, character, ie_count, ie_id, pad, opening, closing, end, bit, octet, asked, run}
 
 -- A length determinant (X.691, 11.9): an octet below 128; below 16,384 two octets that begin with the bits 10; else the bits 11 and how
@@ -40,7 +40,7 @@ spelled opening n = extent_number n
 spelled closing n = 0
 spelled question n = n
 
-abbrev pub unit_width : Unit → ℕ
+abbrev pub unit_width : RunUnit → ℕ
 unit_width bit = 1
 unit_width octet = 8
 

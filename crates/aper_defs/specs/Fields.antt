@@ -59,10 +59,10 @@ pub data Ask : Type 0 where
   end : Ask
 
 -- what a run is made of
-pub data Unit : Type 0 where
-  bit : Unit
-  octet : Unit
+pub data RunUnit : Type 0 where
+  bit : RunUnit
+  octet : RunUnit
 
 pub data Field : Type 0 where
   asked : (path : Path) (question : Ask) (answer : ℕ) → Field
-  run : (path : Path) (unit : Unit) (units : List ℕ) → Field
+  run : (path : Path) (unit : RunUnit) (units : List ℕ) → Field

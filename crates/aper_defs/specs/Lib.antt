@@ -10,3 +10,4 @@ pub mod Spelling
 pub mod Questions
 pub mod Asking
 pub mod Reading
+pub mod Bounds

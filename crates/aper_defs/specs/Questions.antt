@@ -6,7 +6,7 @@ use Rattle.aper_defs.specs.Trees as trees
 use Rattle.aper_defs.specs.Values.{Value, Values, Options, Ies}
 use Rattle.aper_defs.specs.Values.{raw, no_values, value, no_options, absent, present, no_ies, ie}
 use Rattle.aper_defs.specs.Numbers.{bits_for, octets_for, signed_number, above}
-use Rattle.aper_defs.specs.Fields.{Path, Role, Ask, Unit, flag, constrained, digits, signed, small, extent, character, ie_id, pad, opening, closing, end, whole, part, bit, octet}
+use Rattle.aper_defs.specs.Fields.{Path, Role, Ask, RunUnit, flag, constrained, digits, signed, small, extent, character, ie_id, pad, opening, closing, end, whole, part, bit, octet}
 use Rattle.aper_defs.specs.Fields as fields
 use Rattle.aper_defs.specs.Bits.{part_units}
 use Rattle.aper_defs.specs.Parts.{Content, of_bits, of_octets, of_characters, pad_limit}
@@ -16,7 +16,7 @@ pub data Prog : Type 0 where
   done : (v : Value) → Prog
   ask : (path : Path) (question : Ask) (next : ℕ → Prog) → Prog
   -- so many units as they stand
-  take : (path : Path) (unit : Unit) (count : ℕ) (next : List ℕ → Prog) → Prog
+  take : (path : Path) (unit : RunUnit) (count : ℕ) (next : List ℕ → Prog) → Prog
   -- no value goes on so
   never : Prog
 

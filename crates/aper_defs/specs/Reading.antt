@@ -8,7 +8,7 @@ use Rattle.aper_defs.specs.declared.reason.Reason.TheVariants as reasons
 use Rattle.aper_defs.specs.Trees.{Tree, has_slot, slots_before, slots_left, mandatory_count}
 use Rattle.aper_defs.specs.Values.{Value}
 use Rattle.aper_defs.specs.Numbers.{signed_octets_for, signed_number, in_range}
-use Rattle.aper_defs.specs.Fields.{Path, Role, Extent, Ask, Unit, Field, flag, constrained, digits, signed, small, extent, addition_bits, character, ie_count, ie_id, pad, opening, closing, end, whole, part, asked, run as run_field}
+use Rattle.aper_defs.specs.Fields.{Path, Role, Extent, Ask, RunUnit, Field, flag, constrained, digits, signed, small, extent, addition_bits, character, ie_count, ie_id, pad, opening, closing, end, whole, part, asked, run as run_field}
 use Rattle.aper_defs.specs.Fields as fields
 use Rattle.aper_defs.specs.Bits.{part_units, width_at, unit_width}
 use Rattle.aper_defs.specs.Parts.{in_size}
@@ -176,11 +176,11 @@ after_field (asked path question n) c = answered_at question n c
 after_field (run_field path unit units) c = moved_by (unit_width unit * length units) c
 
 -- units as they stand
-abbrev pub units_within : Unit → ℕ → Cursor → Option Reason → Result (List ℕ) Reason
+abbrev pub units_within : RunUnit → ℕ → Cursor → Option Reason → Result (List ℕ) Reason
 units_within unit count c None = Ok (numbers_at (replicate count (unit_width unit)) (bits_at c))
 units_within unit count c (Some reason) = Err reason
 
-unfoldable pub read_units : Unit → ℕ → Cursor → Result (List ℕ) Reason
+unfoldable pub read_units : RunUnit → ℕ → Cursor → Result (List ℕ) Reason
 read_units unit count c = units_within unit count c (passes c (unit_width unit * count))
 
 -- the first wrong field: the number of its first bit, from 0, why, and the way to the value whose type gives it

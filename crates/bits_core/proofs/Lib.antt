@@ -1,3 +1,3 @@
-mod BitLemmas
+pub mod BitLemmas
 mod ReaderLemmas
 mod WriterLemmas

@@ -1,0 +1,10 @@
+pub mod Standing
+pub mod NumberFacts
+pub mod ForthNumbers
+pub mod ForthStrings
+pub mod Forth
+pub mod Bits
+pub mod Placed
+pub mod Extents
+pub mod Opened
+pub mod PlacedNumbers
