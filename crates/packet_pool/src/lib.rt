@@ -2,10 +2,12 @@
 //! and given up by its reference.
 #![tactic(auto)]
 
-pub mod accounts;
+mod accounts;
 mod contents;
 pub mod pool;
-pub mod region;
+mod region;
+#[cfg(test)]
+mod tests;
 
 pub use accounts::{QuotaError, QuotaUsed};
 pub use pool::{Key, Pool, Ref};

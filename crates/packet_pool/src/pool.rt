@@ -52,7 +52,8 @@ impl Model for Pool {
 }
 
 impl Pool {
-    /// A pool of so many blocks, each of them free, and without quotas. Its memory is taken here, but that of a quota's own entry.
+    /// A pool of so many blocks, at most 65,536 (128 MiB), each of them free, and without quotas. All memory is taken here, but for the
+    /// entry of a quota.
     pub fn new(alloc: Global, blocks: u32) -> Result<Pool, Memory>
         requires { blocks ≤ 65536 }
         ensures { IfOk result (λ pool. pool ≡ new_pool blocks) }
@@ -66,7 +67,8 @@ impl Pool {
         })
     }
 
-    /// Sets so many blocks apart for a key that has no quota.
+    /// Sets so many blocks apart for a key that has no quota. At `NoQuota`, where the quotas would pass the blocks, and out of memory
+    /// nothing has changed.
     pub fn reserve_quota(&mut self, key: Key, n: u32) -> Result<(), QuotaError>
         requires { find entity_cmp self.old.quotas key ≡ None }
         ensures ok { OnOk result (self.new ≡ with_quota self.old key n) }
@@ -103,7 +105,8 @@ impl Pool {
         self.accounts.used(&key)
     }
 
-    /// Puts a packet of a key into a free block.
+    /// Puts a packet of at most `BLOCK` octets into a free block. It is refused where the key uses its whole quota, and only there:
+    /// the quotas never pass the blocks, so one is free.
     pub fn put(&mut self, key: Key, bytes: &[u8]) -> Result<Ref, QuotaUsed>
         requires { length bytes.now ≤ BLOCK }
         ensures sound { IsPool BLOCK self.old }
