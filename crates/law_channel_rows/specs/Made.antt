@@ -3,17 +3,19 @@
 use Rattle.std.specs.Prelude.{◌≡◌, ℕ, Bool, false, List, [], ◌∷◌, ◌++◌, map}
 use Rattle.std.specs.List.{Contains}
 use Rattle.gnb_types.specs.declared.names.NodeId.{NodeId}
-use Rattle.unit_defs.specs.Ways.{Message, Answer, gives, spent}
-use Rattle.unit_defs.specs.Transactions.{Transactions, kind_of}
+use Rattle.gnb_types.specs.declared.keys.Channel.{Channel}
+use Rattle.unit_defs.specs.Ways.{Message, Input, control_input, Answer, gives, spent}
+use Rattle.unit_defs.specs.Transactions.{transfer, Transactions, kind_of}
 use Rattle.law_channel.specs.Replies.{Talk, answers, overtakes}
 use Rattle.law_channel.specs.Ends.{same_node, Sent}
-use Rattle.law_channel.specs.Moves.{Move, Net, sent_by, Order, after, MayAll}
+use Rattle.law_channel.specs.Moves.{Move, Net, asked_by, sent_by, Order, after, MayAll}
 
 module _ {M C P : Type 0} (talk : Talk M C P) where
   -- what is read of a message that is written is what it says
   pub record ReadsWell : Type 0 where
     pub kinds : (m : Message C) → talk.kind (talk.way.spell m) ≡ kind_of m
     pub answers_are : (a b : Message C) → talk.answers (talk.way.spell a) (talk.way.spell b) ≡ answers a b
+    pub passes : (c : C) → (u : ℕ) × (talk.kind (talk.way.pass c) ≡ transfer u)
     pub overtakes_is : (m : Message C) → talk.overtakes (talk.way.spell m) ≡ overtakes m
 
   abbrev pub orders_of : NodeId → List (Move M C) → List (Order talk)
@@ -34,3 +36,12 @@ module _ {M C P : Type 0} (talk : Talk M C P) where
   -- the message was put, from this node to that one
   abbrev pub WasSent : Net M C → NodeId → NodeId → Message C → Type 0
   WasSent net from to m = (ue : ℕ) × Contains net.bag (record { from = from; to = to; ue = ue; message = talk.way.spell m })
+
+  -- what a unit is given of messages was put to it
+  abbrev pub IsPutTo : Net M C → NodeId → Input C P → Type 0
+  IsPutTo net n (control_input from m) = WasSent net from n m
+  IsPutTo net n input = Unit {0}
+
+  -- no request of the node expired without its cancel
+  abbrev pub NoneExpired : Net M C → NodeId → Type 0
+  NoneExpired net n = (c : Channel) → net.expired (asked_by n c) ≡ false
