@@ -1,5 +1,7 @@
 pub mod Askers
+pub mod Bearers
 pub mod Cores
+pub mod CuUps
 pub mod Dus
 pub mod Plays
 pub mod Requests
