@@ -381,6 +381,7 @@ module _ {M C P : Type 0} (talk : Talk M C P) where
         given = λ i x a. absurd (none_put r (asked i x) a);
         was_put = λ i low high. absurd (omega arith);
         opened = λ o e. absurd cc;
+        unexpired = λ o e. refl;
         taken = omega arith;
         one_reply = λ i x y a b. absurd (none_put r (told i x) a);
         after_taken = λ i x a. absurd (none_put r (told i x) a);

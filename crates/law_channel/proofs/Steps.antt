@@ -31,6 +31,7 @@ module _ {M C P : Type 0} (talk : Talk M C P) where
     given = λ i x a. k.given i x (back g (asked i x) a);
     was_put = λ i low high. let w = k.was_put i low high in (w.0, g.stays (asked i w.0) w.1);
     opened = λ o e. let w = k.opened o e in (w.0, (w.1.0, w.1.1, g.stays (asked o.instance w.1.0) w.1.2));
+    unexpired = k.unexpired;
     taken = k.taken;
     one_reply = λ i x y a b. k.one_reply i x y (back g (told i x) a) (back g (told i y) b);
     after_taken = λ i x a. k.after_taken i x (back g (told i x) a);
@@ -110,6 +111,7 @@ module _ {M C P : Type 0} (talk : Talk M C P) where
       opened = λ o e.
           let n : s.asking.last + 1 ≡ o.instance = cc in
           (sym n, (x, cc, subst (λ (n : ℕ). D (asked n x)) n (g.new (asked (s.asking.last + 1) x) refl)));
+      unexpired = λ o e. refl;
       taken = let w = k.taken in omega arith;
       one_reply = λ i y z a b. k.one_reply i y z (told_back g i y a) (told_back g i z b);
       after_taken = λ i y a. k.after_taken i y (told_back g i y a);
@@ -138,6 +140,7 @@ module _ {M C P : Type 0} (talk : Talk M C P) where
       given = k.given;
       was_put = k.was_put;
       opened = k.opened;
+      unexpired = k.unexpired;
       taken = k.taken;
       one_reply = k.one_reply;
       after_taken = k.after_taken;
@@ -158,6 +161,7 @@ module _ {M C P : Type 0} (talk : Talk M C P) where
       given = k.given;
       was_put = k.was_put;
       opened = λ q e. absurd cc;
+      unexpired = λ q e. absurd cc;
       taken = k.taken;
       one_reply = k.one_reply;
       after_taken = k.after_taken;
@@ -187,6 +191,7 @@ module _ {M C P : Type 0} (talk : Talk M C P) where
           let n : o.instance ≡ q.instance = cc in
           let same : o.request ≡ q.request = cc in
           (sym n ∙ w.0, (w.1.0, sym same ∙ w.1.1, subst (λ (n : ℕ). B (asked n w.1.0)) n w.1.2));
+      unexpired = λ q e. k.unexpired o is;
       taken = k.taken;
       one_reply = k.one_reply;
       after_taken = k.after_taken;
@@ -206,6 +211,7 @@ module _ {M C P : Type 0} (talk : Talk M C P) where
       given = k.given;
       was_put = k.was_put;
       opened = λ q e. absurd cc;
+      unexpired = λ q e. absurd cc;
       taken = k.taken;
       one_reply = k.one_reply;
       after_taken = k.after_taken;
@@ -239,6 +245,7 @@ module _ {M C P : Type 0} (talk : Talk M C P) where
       given = k.given;
       was_put = k.was_put;
       opened = k.opened;
+      unexpired = k.unexpired;
       taken = (k.given i x b).1;
       one_reply = k.one_reply;
       after_taken = λ j y t. let w = k.after_taken j y t in (w.0, omega arith);
@@ -305,6 +312,7 @@ module _ {M C P : Type 0} (talk : Talk M C P) where
       given = λ i v a. k.given i v (asks_back i v a);
       was_put = λ i low high. let w = k.was_put i low high in (w.0, g.stays (asked i w.0) w.1);
       opened = λ o e. let w = k.opened o e in (w.0, (w.1.0, w.1.1, g.stays (asked o.instance w.1.0) w.1.2));
+      unexpired = k.unexpired;
       taken = k.taken;
       one_reply = λ i v w a b. one_told i v w (tells_back i v a) (tells_back i w b);
       after_taken = λ i v a. told_taken i v (tells_back i v a);

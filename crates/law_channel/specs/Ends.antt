@@ -116,6 +116,7 @@ module _ {M C P : Type 0} (talk : Talk M C P) where
     -- an open request is the last one put, and this is what is put again
     pub opened : (o : Opened M) → s.asking.opened ≡ Some o
         → (o.instance ≡ s.asking.last) × ((x : M) × (o.request ≡ Some x) × B (asked o.instance x))
+    pub unexpired : (o : Opened M) → s.asking.opened ≡ Some o → s.expired ≡ false
     -- what was taken was put
     pub taken : s.answering.newest ≤ s.asking.last
     -- one reply per instance, after its request was taken, and one that answers it

@@ -1,0 +1,47 @@
+-- A unit's step as moves on channels: what it puts of control messages, and what it keeps of requests and replies then, are those
+-- of a list of moves, each of which may be made.
+use Rattle.std.specs.Prelude.{◌≡◌, ℕ, Bool, false, List, [], ◌∷◌, ◌++◌, map}
+use Rattle.std.specs.List.{Contains}
+use Rattle.gnb_types.specs.declared.names.NodeId.{NodeId}
+use Rattle.gnb_types.specs.declared.keys.Channel.{Channel}
+use Rattle.unit_defs.specs.Ways.{Message, Input, control_input, Answer, gives, spent}
+use Rattle.unit_defs.specs.Transactions.{transfer, Transactions, kind_of}
+use Rattle.law_channel.specs.Replies.{Talk, answers, overtakes}
+use Rattle.law_channel.specs.Ends.{same_node, Sent}
+use Rattle.law_channel.specs.Moves.{Move, Net, asked_by, sent_by, Order, after, MayAll}
+
+module _ {M C P : Type 0} (talk : Talk M C P) where
+  -- what is read of a message that is written is what it says
+  pub record ReadsWell : Type 0 where
+    pub kinds : (m : Message C) → talk.kind (talk.way.spell m) ≡ kind_of m
+    pub answers_are : (a b : Message C) → talk.answers (talk.way.spell a) (talk.way.spell b) ≡ answers a b
+    pub passes : (c : C) → (u : ℕ) × (talk.kind (talk.way.pass c) ≡ transfer u)
+    pub overtakes_is : (m : Message C) → talk.overtakes (talk.way.spell m) ≡ overtakes m
+
+  abbrev pub orders_of : NodeId → List (Move M C) → List (Order talk)
+  orders_of n moves = map (λ m. record { node = n; move = m }) moves
+
+  -- The moves of a node: each may be made; then the node keeps t, all others what they kept, and these messages more were put.
+  pub record Plays (net : Net M C) (n : NodeId) (t : Transactions M C) (sent : List (Sent M)) (moves : List (Move M C)) : Type 0 where
+    pub may : MayAll talk net (orders_of n moves)
+    pub node : (after talk net (orders_of n moves)).nodes n ≡ t
+    pub others : (m : NodeId) → same_node m n ≡ false → (after talk net (orders_of n moves)).nodes m ≡ net.nodes m
+    pub bag : (after talk net (orders_of n moves)).bag ≡ net.bag ++ sent
+
+  -- an answer is that of moves
+  abbrev pub Made : {R : Type 0} → Net M C → NodeId → (R → Transactions M C) → Answer M P R → Type 0
+  Made net n kept (gives outputs r) = (moves : List (Move M C)) × Plays net n (kept r) (sent_by n outputs) moves
+  Made net n kept (spent counter) = Unit {0}
+
+  -- the message was put, from this node to that one
+  abbrev pub WasSent : Net M C → NodeId → NodeId → Message C → Type 0
+  WasSent net from to m = (ue : ℕ) × Contains net.bag (record { from = from; to = to; ue = ue; message = talk.way.spell m })
+
+  -- what a unit is given of messages was put to it
+  abbrev pub IsPutTo : Net M C → NodeId → Input C P → Type 0
+  IsPutTo net n (control_input from m) = WasSent net from n m
+  IsPutTo net n input = Unit {0}
+
+  -- no request of the node expired without its cancel
+  abbrev pub NoneExpired : Net M C → NodeId → Type 0
+  NoneExpired net n = (c : Channel) → net.expired (asked_by n c) ≡ false
