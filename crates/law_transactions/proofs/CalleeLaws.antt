@@ -25,9 +25,12 @@ by_channel P c d same other = by (is_same c d) refl
 module _ {M : Type 0} where
   -- ---- a channel after a call
 
+  abbrev unanswered : ℕ → Option (Kept M)
+  unanswered instance = Some (record { instance = instance; reply = None })
+
   abbrev accepted_in : Option (Kept M) → ℕ → Option (Kept M)
-  accepted_in None instance = Some (record { instance = instance; reply = None })
-  accepted_in (Some k) instance = cond (nat_lt k.instance instance) (Some (record { instance = instance; reply = None })) (Some k)
+  accepted_in None instance = unanswered instance
+  accepted_in (Some k) instance = cond (nat_lt k.instance instance) (unanswered instance) (Some k)
 
   abbrev kept_in : Option (Kept M) → M → Option (Kept M)
   kept_in None reply = None
@@ -42,7 +45,7 @@ module _ {M : Type 0} where
   unfolding accepted verdict newest kept_at taken
   accept_here r c instance = by (kept_at r c) refl
     where
-      here : kept_at (taken r c instance) c ≡ Some (record { instance = instance; reply = None })
+      here : kept_at (taken r c instance) c ≡ unanswered instance
       here = find-put-same channel_total r c _
 
       by : (x : Option (Kept M)) → kept_at r c ≡ x
@@ -52,7 +55,7 @@ module _ {M : Type 0} where
         where
           two : (a b : Bool)
               → kept_at (accepted_as (cond a new (cond b again stale)) r c instance) c
-              ≡ cond a (Some (record { instance = instance; reply = None })) (Some k)
+              ≡ cond a (unanswered instance) (Some k)
           two true b = here
           two false true = is
           two false false = is
@@ -83,7 +86,8 @@ module _ {M : Type 0} where
       by (Some k) = find-put-other channel_total r d _ c other
 
   keep_for_here : (r : Callee M) (c : Channel) (instance : ℕ) (reply : M)
-      → kept_at (keep_for r c instance reply) c ≡ cond (is_newest (newest_in (kept_at r c)) instance) (kept_in (kept_at r c) reply) (kept_at r c)
+      → kept_at (keep_for r c instance reply) c
+      ≡ cond (is_newest (newest_in (kept_at r c)) instance) (kept_in (kept_at r c) reply) (kept_at r c)
   unfolding keep_for newest
   keep_for_here r c instance reply = by (is_newest (newest_in (kept_at r c)) instance)
     where
@@ -110,7 +114,9 @@ module _ {M : Type 0} where
       (keep_here r c reply) (keep_other r c d reply)
   step r c (keeps_for d instance reply) =
       by_channel
-      (λ e b. kept_at (keep_for r e instance reply) c ≡ cond (b && is_newest (newest_in (kept_at r c)) instance) (kept_in (kept_at r c) reply) (kept_at r c))
+      (λ e b.
+      kept_at (keep_for r e instance reply) c
+      ≡ cond (b && is_newest (newest_in (kept_at r c)) instance) (kept_in (kept_at r c) reply) (kept_at r c))
       c d (keep_for_here r c instance reply) (keep_for_other r c d instance reply)
 
   -- ---- the newest instance
@@ -119,7 +125,7 @@ module _ {M : Type 0} where
   newest_accepted None instance = refl
   newest_accepted (Some k) instance = by (nat_lt k.instance instance)
     where
-      by : (b : Bool) → newest_in (cond b (Some (record { instance = instance; reply = None })) (Some k)) ≡ Some (cond b instance k.instance)
+      by : (b : Bool) → newest_in (cond b (unanswered instance) (Some k)) ≡ Some (cond b instance k.instance)
       by true = refl
       by false = refl
 
@@ -153,9 +159,11 @@ module _ {M : Type 0} where
   unfolding newest after_call
   newest_keep_for r c d instance reply =
       ap newest_in (step r c (keeps_for d instance reply))
-      ∙ same_cond (is_same c d && is_newest (newest_in (kept_at r c)) instance) (kept_in (kept_at r c) reply) (kept_at r c) (newest_kept (kept_at r c) reply)
+      ∙ same_cond (is_same c d && is_newest (newest_in (kept_at r c)) instance) (kept_in (kept_at r c) reply) (kept_at r c)
+      (newest_kept (kept_at r c) reply)
 
-  newest_calls : (r : Callee M) (calls : List (Call M)) (c : Channel) → newest (after_calls r calls) c ≡ greatest_from c (newest r c) (requests calls)
+  newest_calls : (r : Callee M) (calls : List (Call M)) (c : Channel)
+      → newest (after_calls r calls) c ≡ greatest_from c (newest r c) (requests calls)
   unfolding after_calls after_call greatest_from requests
   newest_calls r [] c = refl
   newest_calls r (accepts d instance ∷ calls) c =
@@ -222,7 +230,10 @@ above_is_new (e ∷ es) d i = by (is_same d e.0) (seen es d) (above_is_new es d 
         → (not b || nat_lt e.1 i) && is_above es (d, i) ≡ is_new (verdict_after (cond b (greater x e.1) x) i)
     by false x known = known
     by true None known = ap (λ (b : Bool). nat_lt e.1 i && b) known ∙ and_first (nat_lt e.1 i) true (λ _. refl) ∙ sym (new_after e.1 i)
-    by true (Some n) known = ap (λ (b : Bool). nat_lt e.1 i && b) (known ∙ new_after n i) ∙ above_both n e.1 i ∙ sym (new_after (cond (nat_lt n e.1) e.1 n) i)
+    by true (Some n) known =
+        ap (λ (b : Bool). nat_lt e.1 i && b) (known ∙ new_after n i)
+        ∙ above_both n e.1 i
+        ∙ sym (new_after (cond (nat_lt n e.1) e.1 n) i)
 
 below_itself : (i : ℕ) → i < i → ⊥
 below_itself i below = omega arith
@@ -282,11 +293,16 @@ module _ {M : Type 0} where
   fallback last None = None
   fallback last (Some k) = cond (is_newest last k.instance) k.reply None
 
-  -- the reply after calls, of a channel that had x before them
+  -- the newest instance after calls, where n was the newest one before them
+  abbrev last_at : Channel → Option ℕ → List (Call M) → Option ℕ
+  last_at c n calls = greatest_from c n (requests calls)
+
+  -- the reply for the newest instance, of those kept by calls, of a channel that had x before them
+  abbrev answer : Option ℕ → List (ℕ × M) → Option (Kept M) → Option M
+  answer last kept x = or_else (last_for last kept) (fallback last x)
+
   abbrev expected : Channel → Option (Kept M) → List (Call M) → Option M
-  expected c x calls =
-      or_else (last_for (greatest_from c (newest_in x) (requests calls)) (kept_from c (newest_in x) calls))
-      (fallback (greatest_from c (newest_in x) (requests calls)) x)
+  expected c x calls = answer (last_at c (newest_in x) calls) (kept_from c (newest_in x) calls) x
 
   cond_none : (b : Bool) → ◌≡◌ {A = Option M} (cond b None None) None
   cond_none true = refl
@@ -294,24 +310,21 @@ module _ {M : Type 0} where
 
   expected_accept : (c : Channel) (x : Option (Kept M)) (i : ℕ) (calls : List (Call M))
       → expected c (accepted_in x i) calls
-      ≡ or_else (last_for (greatest_from c (greater (newest_in x) i) (requests calls)) (kept_from c (greater (newest_in x) i) calls))
-      (fallback (greatest_from c (greater (newest_in x) i) (requests calls)) x)
+      ≡ answer (last_at c (greater (newest_in x) i) calls) (kept_from c (greater (newest_in x) i) calls) x
   expected_accept c None i calls =
-      ap (or_else (last_for (greatest_from c (Some i) (requests calls)) (kept_from c (Some i) calls)))
-      (cond_none (is_newest (greatest_from c (Some i) (requests calls)) i))
+      ap (or_else (last_for (last_at c (Some i) calls) (kept_from c (Some i) calls))) (cond_none (is_newest (last_at c (Some i) calls) i))
   expected_accept c (Some k) i calls = by (nat_lt k.instance i) refl
     where
       by : (a : Bool) → nat_lt k.instance i ≡ a
-          → expected c (cond a (Some (record { instance = i; reply = None })) (Some k)) calls
-          ≡ or_else (last_for (greatest_from c (Some (cond a i k.instance)) (requests calls)) (kept_from c (Some (cond a i k.instance)) calls))
-          (cond (is_newest (greatest_from c (Some (cond a i k.instance)) (requests calls)) k.instance) k.reply None)
+          → expected c (cond a (unanswered i) (Some k)) calls
+          ≡ answer (last_at c (Some (cond a i k.instance)) calls) (kept_from c (Some (cond a i k.instance)) calls) (Some k)
       by true above =
-          ap (or_else (last_for (greatest_from c (Some i) (requests calls)) (kept_from c (Some i) calls)))
-          (cond_none (is_newest (greatest_from c (Some i) (requests calls)) i)
+          ap (or_else (last_for (last_at c (Some i) calls) (kept_from c (Some i) calls)))
+          (cond_none (is_newest (last_at c (Some i) calls) i)
           ∙ ap (λ (b : Bool). cond b k.reply None) (sym (grows c i (requests calls) k.instance (ltb-true k.instance i above))))
       by false above = refl
 
-  -- a reply is kept for the newest instance k
+  -- a reply is kept for the newest instance
   joined : (l : Option M) (b : Bool) (reply : M) (old : Option M)
       → or_else l (cond b (Some reply) None) ≡ or_else (or_else l (cond b (Some reply) None)) (cond b old None)
   joined None true reply old = refl
@@ -320,25 +333,19 @@ module _ {M : Type 0} where
 
   expected_keep : (c : Channel) (x : Option (Kept M)) (reply : M) (calls : List (Call M))
       → expected c (kept_in x reply) calls
-      ≡ or_else (last_for (greatest_from c (newest_in x) (requests calls)) (kept_as c (newest_in x) reply (kept_from c (newest_in x) calls)))
-      (fallback (greatest_from c (newest_in x) (requests calls)) x)
+      ≡ answer (last_at c (newest_in x) calls) (kept_as c (newest_in x) reply (kept_from c (newest_in x) calls)) x
   unfolding last_for
   expected_keep c None reply calls = refl
   expected_keep c (Some k) reply calls =
-      joined (last_for (greatest_from c (Some k.instance) (requests calls)) (kept_from c (Some k.instance) calls))
-      (is_newest (greatest_from c (Some k.instance) (requests calls)) k.instance) reply k.reply
+      joined (last_for (last_at c (Some k.instance) calls) (kept_from c (Some k.instance) calls))
+      (is_newest (last_at c (Some k.instance) calls) k.instance) reply k.reply
 
   expected_keep_for : (c : Channel) (x : Option (Kept M)) (i : ℕ) (reply : M) (calls : List (Call M)) → is_newest (newest_in x) i ≡ true
-      → expected c (kept_in x reply) calls
-      ≡ or_else (last_for (greatest_from c (newest_in x) (requests calls)) ((i, reply) ∷ kept_from c (newest_in x) calls))
-      (fallback (greatest_from c (newest_in x) (requests calls)) x)
+      → expected c (kept_in x reply) calls ≡ answer (last_at c (newest_in x) calls) ((i, reply) ∷ kept_from c (newest_in x) calls) x
   expected_keep_for c None i reply calls is = absurd (below_itself i (ltb-true i i is))
   expected_keep_for c (Some k) i reply calls is =
       expected_keep c (Some k) reply calls
-      ∙ ap
-      (λ (n : ℕ).
-      or_else (last_for (greatest_from c (Some k.instance) (requests calls)) ((n, reply) ∷ kept_from c (Some k.instance) calls))
-      (fallback (greatest_from c (Some k.instance) (requests calls)) (Some k)))
+      ∙ ap (λ (n : ℕ). answer (last_at c (Some k.instance) calls) ((n, reply) ∷ kept_from c (Some k.instance) calls) (Some k))
       (eqb-true k.instance i is)
 
   expected_step : (c : Channel) (x : Option (Kept M)) (call : Call M) (calls : List (Call M))
@@ -346,23 +353,28 @@ module _ {M : Type 0} where
   unfolding requests greatest_from kept_from
   expected_step c x (accepts d i) calls = by (is_same c d)
     where
-      by : (b : Bool) → expected c (cond b (accepted_in x i) x) calls
-          ≡ or_else (last_for (greatest_from c (cond b (greater (newest_in x) i) (newest_in x)) (requests calls)) (kept_from c (cond b (greater (newest_in x) i) (newest_in x)) calls))
-          (fallback (greatest_from c (cond b (greater (newest_in x) i) (newest_in x)) (requests calls)) x)
+      next : Bool → Option ℕ
+      next b = cond b (greater (newest_in x) i) (newest_in x)
+
+      by : (b : Bool) → expected c (cond b (accepted_in x i) x) calls ≡ answer (last_at c (next b) calls) (kept_from c (next b) calls) x
       by true = expected_accept c x i calls
       by false = refl
   expected_step c x (keeps d reply) calls = by (is_same c d)
     where
+      rest : List (ℕ × M)
+      rest = kept_from c (newest_in x) calls
+
       by : (b : Bool) → expected c (cond b (kept_in x reply) x) calls
-          ≡ or_else (last_for (greatest_from c (newest_in x) (requests calls)) (cond b (kept_as c (newest_in x) reply (kept_from c (newest_in x) calls)) (kept_from c (newest_in x) calls)))
-          (fallback (greatest_from c (newest_in x) (requests calls)) x)
+          ≡ answer (last_at c (newest_in x) calls) (cond b (kept_as c (newest_in x) reply rest) rest) x
       by true = expected_keep c x reply calls
       by false = refl
   expected_step c x (keeps_for d i reply) calls = by (is_same c d) (is_newest (newest_in x) i) refl
     where
+      rest : List (ℕ × M)
+      rest = kept_from c (newest_in x) calls
+
       by : (b a : Bool) → is_newest (newest_in x) i ≡ a → expected c (cond (b && a) (kept_in x reply) x) calls
-          ≡ or_else (last_for (greatest_from c (newest_in x) (requests calls)) (cond (b && a) ((i, reply) ∷ kept_from c (newest_in x) calls) (kept_from c (newest_in x) calls)))
-          (fallback (greatest_from c (newest_in x) (requests calls)) x)
+          ≡ answer (last_at c (newest_in x) calls) (cond (b && a) ((i, reply) ∷ rest) rest) x
       by true true is = expected_keep_for c x i reply calls is
       by true false is = refl
       by false a is = refl

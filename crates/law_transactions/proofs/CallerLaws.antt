@@ -46,11 +46,13 @@ module _ {M : Type 0} where
   abbrev Each : (Channel → ℕ → Type 0) → List (Channel × Opened M) → Type 0
   Each Q es = AllByRecursion (λ e. Q e.0 e.1.instance) es
 
-  each_weaker : (P Q : Channel → ℕ → Type 0) → ((c : Channel) (i : ℕ) → P c i → Q c i) → (es : List (Channel × Opened M)) → Each P es → Each Q es
+  each_weaker : (P Q : Channel → ℕ → Type 0) → ((c : Channel) (i : ℕ) → P c i → Q c i) → (es : List (Channel × Opened M)) → Each P es
+      → Each Q es
   each_weaker P Q weaker [] each = tt
   each_weaker P Q weaker (e ∷ es) each = (weaker e.0 e.1.instance each.0, each_weaker P Q weaker es each.1)
 
-  each_filtered : (Q : Channel → ℕ → Type 0) (p : Channel × Opened M → Bool) (es : List (Channel × Opened M)) → Each Q es → Each Q (filter p es)
+  each_filtered : (Q : Channel → ℕ → Type 0) (p : Channel × Opened M → Bool) (es : List (Channel × Opened M)) → Each Q es
+      → Each Q (filter p es)
   each_filtered Q p [] each = tt
   each_filtered Q p (e ∷ es) each = by (p e) (each_filtered Q p es each.1)
     where
@@ -122,13 +124,17 @@ module _ {M : Type 0} where
 
   rises : (r : Caller M) (c d : Channel) (i : ℕ) → i ≤ at channel_cmp 0 r.last d
       → i ≤ at channel_cmp 0 (put channel_cmp r.last c (at channel_cmp 0 r.last c + 1)) d
-  rises r c d i below = subst (λ (n : ℕ). i ≤ n) (sym (at-put channel_total 0 r.last c (at channel_cmp 0 r.last c + 1) d)) (by (is_same d c) refl)
+  rises r c d i below =
+      subst (λ (n : ℕ). i ≤ n) (sym (at-put channel_total 0 r.last c (at channel_cmp 0 r.last c + 1) d)) (by (is_same d c) refl)
     where
       by : (b : Bool) → is_same d c ≡ b → i ≤ cond b (at channel_cmp 0 r.last c + 1) (at channel_cmp 0 r.last d)
-      by true is = let same : at channel_cmp 0 r.last d ≡ at channel_cmp 0 r.last c = ap (at channel_cmp 0 r.last) (same_channel d c is) in omega arith
+      by true is =
+          let same : at channel_cmp 0 r.last d ≡ at channel_cmp 0 r.last c = ap (at channel_cmp 0 r.last) (same_channel d c is) in
+          omega arith
       by false is = below
 
-  begun_within : (r : Caller M) (c : Channel) (deadline : Option ℕ) → IsWithin r → IsWithin (begun_on r c deadline (at channel_cmp 0 r.last c + 1))
+  begun_within : (r : Caller M) (c : Channel) (deadline : Option ℕ) → IsWithin r
+      → IsWithin (begun_on r c deadline (at channel_cmp 0 r.last c + 1))
   begun_within r c deadline within =
       let next : List (Channel × ℕ) = put channel_cmp r.last c (at channel_cmp 0 r.last c + 1) in
       let here : at channel_cmp 0 next c ≡ at channel_cmp 0 r.last c + 1 =
@@ -150,7 +156,8 @@ module _ {M : Type 0} where
 
   -- ---- the other steps
 
-  each_keep : (Q : Channel → ℕ → Type 0) (r : Caller M) (c : Channel) (request : M) (x : Option (Opened M)) → opened_at r c ≡ x → Each Q r.opened
+  each_keep : (Q : Channel → ℕ → Type 0) (r : Caller M) (c : Channel) (request : M) (x : Option (Opened M)) → opened_at r c ≡ x
+      → Each Q r.opened
       → Each Q (with_request r c request x).opened
   unfolding opened_at
   each_keep Q r c request None is each = each
@@ -225,7 +232,8 @@ module _ {M : Type 0} where
   unfolding close
   taken_past r c i within is =
       let open_one = awaited_open r c i is in
-      let low : open_one.0.instance ≤ at channel_cmp 0 r.last c = each_found (λ d j. j ≤ at channel_cmp 0 r.last d) r.opened c open_one.0 within open_one.1 in
+      let low : open_one.0.instance ≤ at channel_cmp 0 r.last c =
+      each_found (λ d j. j ≤ at channel_cmp 0 r.last d) r.opened c open_one.0 within open_one.1 in
       (subst (λ (n : ℕ). n ≤ at channel_cmp 0 r.last c) open_one.2 low, gone c i r.opened)
 
   not_awaited : (r : Caller M) (c : Channel) (i : ℕ) → IsPast c i r → is_awaited r c i ≡ true → ⊥
@@ -243,7 +251,9 @@ module _ {M : Type 0} where
       by false is = refl
       by true is =
           one_reply (λ n. n ≡ 0) d c j i refl
-          (λ one same. absurd (not_awaited r c i past (subst (λ (e : Channel). is_awaited r e i ≡ true) one (subst (λ (k : ℕ). is_awaited r d k ≡ true) same is))))
+          (λ one same.
+          let awaited : is_awaited r d i ≡ true = subst (λ (k : ℕ). is_awaited r d k ≡ true) same is in
+          absurd (not_awaited r c i past (subst (λ (e : Channel). is_awaited r e i ≡ true) one awaited)))
   past_none r (closes d) c i past = refl
   past_none r ticks c i past = refl
 
@@ -275,7 +285,8 @@ module _ {M : Type 0} where
           (λ one same.
           inr (
             omega arith,
-            subst (λ (e : Channel). IsPast e i (close r d)) one (subst (λ (k : ℕ). IsPast d k (close r d)) same (taken_past r d j within is)),
+            subst (λ (e : Channel). IsPast e i (close r d)) one
+                (subst (λ (k : ℕ). IsPast d k (close r d)) same (taken_past r d j within is)),
           ))
   none_or_past r (closes d) c i within = inl refl
   none_or_past r ticks c i within = inl refl
@@ -289,7 +300,8 @@ module _ {M : Type 0} where
   once r (s ∷ steps) c i within =
       by (none_or_past r s c i within) (once (after_step r s) steps c i (step_within r s within))
     where
-      both : times (taken_by r s ++ taken_replies (after_step r s) steps) c i ≡ times (taken_by r s) c i + times (taken_replies (after_step r s) steps) c i
+      both : times (taken_by r s ++ taken_replies (after_step r s) steps) c i
+          ≡ times (taken_by r s) c i + times (taken_replies (after_step r s) steps) c i
       both = times-append (taken_by r s) (taken_replies (after_step r s) steps) c i
 
       by : NoneOrPast c i (times (taken_by r s) c i) (after_step r s) → times (taken_replies (after_step r s) steps) c i ≤ 1

@@ -11,7 +11,8 @@ ghost use Rattle.transaction_defs.specs.Taken.{Step, taken_replies, times};
 /// The requests that a responder finds new are those that are applied: those above all earlier ones of the same initiator and
 /// terminal.
 pub fn new_requests_are_applied()
-    ensures { (calls : List (Call (List ℕ))) → new_requests [] calls ≡ applied (requests calls) }
+    ensures { (calls : List (Call (List ℕ)))
+        → new_requests [] calls ≡ applied (requests calls) }
 {}
 
 /// The newest instance of a channel is the greatest one that came, and the reply that is kept for it is the last one: nothing

@@ -154,7 +154,8 @@ impl Caller {
 
     fn open(&mut self, channel: Channel, deadline: Option<u16>, instance: u32) -> Result<(), Memory>
         requires { find channel_cmp self.old.opened channel ≡ None }
-        ensures ok { OnOk result (begun_with self.old channel deadline instance ≡ begun instance self.new) }
+        ensures ok { OnOk result
+            (begun_with self.old channel deadline instance ≡ begun instance self.new) }
         ensures err { OnErr result (self.new ≡ self.old) }
     {
         self.opened.put(
@@ -265,7 +266,8 @@ impl Caller {
     /// The tick of one open request.
     #[tactic(auto, unfolding(crate::specs::inside::Ticks::aged_at))]
     fn age(&mut self, channel: &Channel)
-        ensures { self.new ≡ record self.old { opened = aged_at channel_cmp self.old.opened channel.now } }
+        ensures { self.new
+            ≡ record self.old { opened = aged_at channel_cmp self.old.opened channel.now } }
     {
         let Some(opened) = self.opened.get_mut(channel) else {
             return;

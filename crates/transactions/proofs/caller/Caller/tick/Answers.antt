@@ -11,8 +11,8 @@ pub loop-channel-preserved : goal.loop-channel-preserved
 loop-channel-preserved c = record {
   last = ap (λ (r : Caller _). r.last) c.age.ensures ∙ c.loop-channel.invariant.last;
   opened =
-      aged_next channel_total c.as_slice-channel-items.result.now c.loop-channel.channel-index _ c.loop-channel.self.opened c.age.new.self.opened
-      c.loop-channel-test.true (ap (λ (r : Caller _). r.opened) c.age.ensures)
+      aged_next channel_total c.as_slice-channel-items.result.now c.loop-channel.channel-index _ c.loop-channel.self.opened
+      c.age.new.self.opened c.loop-channel-test.true (ap (λ (r : Caller _). r.opened) c.age.ensures)
       ∙ c.loop-channel.invariant.opened;
 }
 
@@ -31,4 +31,5 @@ returns-clause-ok c =
 pub returns-clause-no_more : goal.returns-clause-no_more
 unfolding after_tick
 returns-clause-no_more c =
-    subst (λ (r : Caller _). length r.opened ≤ length c.args.self.now.opened) (sym (returns-clause-ok c)) (no_more channel_total c.args.self.now.opened)
+    subst (λ (r : Caller _). length r.opened ≤ length c.args.self.now.opened) (sym (returns-clause-ok c))
+    (no_more channel_total c.args.self.now.opened)
