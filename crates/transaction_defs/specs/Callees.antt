@@ -40,6 +40,15 @@ verdict r c instance = verdict_after (newest r c) instance
 unfoldable pub taken : {M : Type 0} → Callee M → Channel → ℕ → Callee M
 taken r c instance = put channel_cmp r c (record { instance = instance; reply = None })
 
+-- what is kept after a request came
+abbrev pub accepted_as : {M : Type 0} → Verdict → Callee M → Channel → ℕ → Callee M
+accepted_as new r c instance = taken r c instance
+accepted_as again r c instance = r
+accepted_as stale r c instance = r
+
+unfoldable pub accepted : {M : Type 0} → Callee M → Channel → ℕ → Callee M
+accepted r c instance = accepted_as (verdict r c instance) r c instance
+
 -- ---- the reply of the newest instance
 
 abbrev pub reply_in : {M : Type 0} → Option (Kept M) → Option M

@@ -1,2 +1,4 @@
 pub mod Callers
 pub mod Callees
+pub mod Applied
+pub mod Taken
