@@ -11,7 +11,7 @@ use Rattle.run_defs.specs.Lines.{RunLine, put_message}
 use Rattle.run_defs.specs.Printing.{out_lines}
 use Rattle.run_defs.specs.States.{Stop}
 use Rattle.run_defs.specs.Runs.{lines_of}
-use Rattle.run_defs.specs.UnitRuns.{UnitRun, unit_world, tables}
+use Rattle.run_defs.specs.UnitRuns.{UnitRun, tables}
 use Rattle.law_worked_runs.specs.Short.{Worked}
 use Rattle.law_worked_runs.specs.PlainCodec.{plain_codec}
 
@@ -36,7 +36,7 @@ octet_outcome w =
     let codec = codec_of w in
     let t = UnitRun codec (tables codec) (map (λ s. s.event) w.steps) in
     record {
-      steps = map (λ h. record { event = h.event; lines = out_lines (λ octets. octets) (lines_of (unit_world codec (tables codec)) h) }) t.events;
+      steps = map (λ h. record { event = h.event; lines = out_lines (λ octets. octets) (lines_of h) }) t.events;
       stop = t.stop;
     }
 

@@ -19,7 +19,7 @@ use Rattle.unit_defs.specs.Ways.{Message}
 use Rattle.scenario_text.specs.declared.event.Event.{Event}
 use Rattle.run_defs.specs.Lines.{RunLine, Letter}
 use Rattle.run_defs.specs.States.{Stop}
-use Rattle.run_defs.specs.Runs.{Reading, Run, lines_of, plain_world}
+use Rattle.run_defs.specs.Runs.{Reading, Run, lines_of}
 
 abbrev pub ue : ℕ → UeId
 ue n = record { 0 = n }
@@ -87,7 +87,7 @@ pub record Outcome : Type 0 where
 abbrev pub outcome : Worked → Outcome
 outcome w =
     let t = Run (reading w) (map (λ s. s.event) w.steps) in
-    record { steps = map (λ h. step h.event (lines_of (plain_world (reading w)) h)) t.events; stop = t.stop }
+    record { steps = map (λ h. step h.event (lines_of h)) t.events; stop = t.stop }
 
 -- as it was worked out
 abbrev pub expected : Worked → Outcome

@@ -1,5 +1,5 @@
 -- Which packet the octets of an item carry, and which octets each link has (TS 29.281, 5.2; TS 38.425, 5.5.2; TS 38.323, 6.2).
-use Rattle.std.specs.Prelude.{◌≡◌, ℕ, Bool, List, [], ◌∷◌, Option, Some, None, Contains, ◌⊎◌}
+use Rattle.std.specs.Prelude.{ℕ, ◌≡◌, Bool, List, [], ◌∷◌, Option, Some, None, Contains, ◌⊎◌}
 use Rattle.gnb_types.specs.declared.names.NodeId.{NodeId}
 use Rattle.gnb_types.specs.declared.names.NodeId.TheVariants.{CuUp, Du, Core, Ue}
 use Rattle.gnb_types.specs.declared.names.Dir.{Dir}

@@ -3,6 +3,7 @@ pub mod Printing
 pub mod Units
 pub mod States
 pub mod Steps
+pub mod Conditions
 pub mod Events
 pub mod Settling
 pub mod Runs

@@ -1,6 +1,6 @@
 -- That nothing passes but over the links, and that a COUNT is a place among what was offered. Told of the steps of any run; how control
 -- messages are spelled is an argument.
-use Rattle.std.specs.Prelude.{◌≡◌, ◌==◌, ℕ, Bool, true, false, List, [], ◌∷◌, ◌++◌, map, Option, Some, None, slice_get, Any, All, ◌⊎◌, if◌then◌else◌}
+use Rattle.std.specs.Prelude.{ℕ, ◌≡◌, ◌==◌, Bool, true, false, List, [], ◌∷◌, ◌++◌, map, Option, Some, None, slice_get, Any, All, ◌⊎◌, if◌then◌else◌}
 use Rattle.std.specs.List.{flat_map, list_any}
 use Rattle.gnb_types.specs.declared.names.NodeId.{NodeId}
 use Rattle.gnb_types.specs.declared.names.SnBits.{SnBits}
@@ -12,7 +12,7 @@ use Rattle.scenario_text.specs.declared.event.Event.TheVariants as events
 use Rattle.scenario_text.specs.declared.line.Link.{Link}
 use Rattle.scenario_text.specs.declared.line.Item.{Item}
 use Rattle.run_defs.specs.Lines.{RunLine, put_item, got_item, put_message, delivers}
-use Rattle.run_defs.specs.States.{RunStep, World}
+use Rattle.run_defs.specs.States.{RunStep}
 use Rattle.run_defs.specs.Runs.{Happened}
 use Rattle.run_defs.specs.Said.{same_entity, is_refusal, lines_in, offered_by, Offered}
 use Rattle.run_defs.specs.Carried.{Carries, IsLaidOut}
@@ -79,41 +79,40 @@ ShowsOffered sn offered link item None = Unit {0}
 ShowsOffered sn offered link item (Some count) =
     (packet : List ℕ) → Carries (sn item.ue) link item packet → slice_get offered count ≡ Some packet
 
-module _ {M C L P : Type 0} (world : World M C L P) where
-  abbrev pub acts_of_event : Happened world → List (Act M)
-  acts_of_event h = map (λ step. record { event = h.event; refused = list_any is_refusal (lines_in h.steps); step = step }) h.steps
+abbrev pub acts_of_event : {M : Type 0} → Happened M → List (Act M)
+acts_of_event h = map (λ step. record { event = h.event; refused = list_any is_refusal (lines_in h.steps); step = step }) h.steps
 
-  abbrev pub acts_of : List (Happened world) → List (Act M)
-  acts_of happened = flat_map acts_of_event happened
+abbrev pub acts_of : {M : Type 0} → List (Happened M) → List (Act M)
+acts_of happened = flat_map acts_of_event happened
 
-  -- by the event that set the terminal up
-  abbrev pub sn_by : UeId → Event → Option SnBits
-  sn_by ue (events.Static plan) = if plan.ue.0 == ue.0 then Some plan.sn else None
-  sn_by ue (events.Attach plan) = if plan.ue.0 == ue.0 then Some plan.sn else None
-  sn_by ue event = None
+-- by the event that set the terminal up
+abbrev pub sn_by : UeId → Event → Option SnBits
+sn_by ue (events.Static plan) = if plan.ue.0 == ue.0 then Some plan.sn else None
+sn_by ue (events.Attach plan) = if plan.ue.0 == ue.0 then Some plan.sn else None
+sn_by ue event = None
 
-  abbrev pub sn_or : Option SnBits → SnBits → SnBits
-  sn_or None later = later
-  sn_or (Some sn) later = sn
+abbrev pub sn_or : Option SnBits → SnBits → SnBits
+sn_or None later = later
+sn_or (Some sn) later = sn
 
-  abbrev pub sn_in : List (Happened world) → Lengths
-  sn_in [] ue = Len12
-  sn_in (h ∷ happened) ue =
-      if list_any is_refusal (lines_in h.steps) then sn_in happened ue else sn_or (sn_by ue h.event) (sn_in happened ue)
+abbrev pub sn_in : {M : Type 0} → List (Happened M) → Lengths
+sn_in [] ue = Len12
+sn_in (h ∷ happened) ue =
+    if list_any is_refusal (lines_in h.steps) then sn_in happened ue else sn_or (sn_by ue h.event) (sn_in happened ue)
 
-  abbrev pub Local : (NodeId → NodeId → M → Type 0) → List (Happened world) → Type 0
-  Local IsSpelled happened = LocalFrom (sn_in happened) IsSpelled [] (acts_of happened)
+abbrev pub Local : {M : Type 0} → (NodeId → NodeId → M → Type 0) → List (Happened M) → Type 0
+Local IsSpelled happened = LocalFrom (sn_in happened) IsSpelled [] (acts_of happened)
 
-  abbrev pub IsPlaceLine : Lengths → List (Happened world) → RunLine M → Type 0
-  IsPlaceLine sn past (put_item link item) = ShowsOffered sn (Offered world (item_key item) past) link item item.count
-  IsPlaceLine sn past (got_item link item) = ShowsOffered sn (Offered world (item_key item) past) link item item.count
-  IsPlaceLine sn past (delivers key count packet) = slice_get (Offered world key past) count ≡ Some packet
-  IsPlaceLine sn past line = Unit {0}
+abbrev pub IsPlaceLine : {M : Type 0} → Lengths → List (Happened M) → RunLine M → Type 0
+IsPlaceLine sn past (put_item link item) = ShowsOffered sn (Offered (item_key item) past) link item item.count
+IsPlaceLine sn past (got_item link item) = ShowsOffered sn (Offered (item_key item) past) link item item.count
+IsPlaceLine sn past (delivers key count packet) = slice_get (Offered key past) count ≡ Some packet
+IsPlaceLine sn past line = Unit {0}
 
-  abbrev pub CountMeansFrom : Lengths → List (Happened world) → List (Happened world) → Type 0
-  CountMeansFrom sn past [] = Unit {0}
-  CountMeansFrom sn past (h ∷ happened) =
-      All (IsPlaceLine sn (past ++ h ∷ [])) (lines_in h.steps) × CountMeansFrom sn (past ++ h ∷ []) happened
+abbrev pub CountMeansFrom : {M : Type 0} → Lengths → List (Happened M) → List (Happened M) → Type 0
+CountMeansFrom sn past [] = Unit {0}
+CountMeansFrom sn past (h ∷ happened) =
+    All (IsPlaceLine sn (past ++ h ∷ [])) (lines_in h.steps) × CountMeansFrom sn (past ++ h ∷ []) happened
 
-  abbrev pub CountMeans : List (Happened world) → Type 0
-  CountMeans happened = CountMeansFrom (sn_in happened) [] happened
+abbrev pub CountMeans : {M : Type 0} → List (Happened M) → Type 0
+CountMeans happened = CountMeansFrom (sn_in happened) [] happened

@@ -26,6 +26,23 @@ use Rattle.run_defs.specs.States.{State, new_state, Given, letter_for, item_for,
 use Rattle.run_defs.specs.Events.{static, start, attach, offer, get, air, ack, give, lose_message, lose_item, pump, tick, poll, fail, arrive, come_back, handover, cancel, release, ask, inject_message, inject_item}
 use Rattle.run_defs.specs.Settling.{settle}
 
+-- ---- a transcript: the events with their steps, and why the run stopped, if it did
+
+pub record Happened (M : Type 0) : Type 0 where
+  pub event : Event
+  pub steps : List (RunStep M)
+
+pub record Transcript (M : Type 0) : Type 0 where
+  pub events : List (Happened M)
+  pub stop : Option Stop
+
+abbrev pub event_before : {M : Type 0} → Event → List (RunStep M) → Transcript M → Transcript M
+event_before event steps t = record t { events = record { event = event; steps = steps } ∷ t.events }
+
+-- the lines of an event, after its own
+abbrev pub lines_of : {M : Type 0} → Happened M → List (RunLine M)
+lines_of h = flat_map (λ step. step.lines) h.steps
+
 -- ---- events
 
 module _ {M C L P : Type 0} (world : World M C L P) where
@@ -57,33 +74,18 @@ module _ {M C L P : Type 0} (world : World M C L P) where
   happens (events.InjectMessage from to octets) = inject_message world from to octets
   happens (events.InjectItem end teid octets) = inject_item world (tunnel_end end teid) octets
 
-  -- ---- a script: the steps of each event, up to the one at which the run stops
+  -- ---- a script: each event, up to the one at which the run stops
 
-  pub record Happened : Type 0 where
-    pub event : Event
-    pub steps : List (RunStep M)
-
-  pub record Transcript : Type 0 where
-    pub events : List Happened
-    pub stop : Option Stop
-
-  abbrev pub event_before : Event → List (RunStep M) → Transcript → Transcript
-  event_before event steps t = record t { events = record { event = event; steps = steps } ∷ t.events }
-
-  abbrev pub run_on : Event → (State M C L P → Transcript) → Outcome M C L P → Transcript
+  abbrev pub run_on : Event → (State M C L P → Transcript M) → Outcome M C L P → Transcript M
   run_on event more (goes steps after) = event_before event steps (more after)
   run_on event more (stops steps why) = event_before event steps (record { events = []; stop = Some why })
 
-  unfoldable pub run_from : List Event → State M C L P → Transcript
+  unfoldable pub run_from : List Event → State M C L P → Transcript M
   run_from [] s = record { events = []; stop = None }
   run_from (event ∷ events) s = run_on event (run_from events) (happens event s)
 
-  unfoldable pub run : List Event → Transcript
+  unfoldable pub run : List Event → Transcript M
   run events = run_from events new_state
-
-  -- the lines of an event, after its own
-  abbrev pub lines_of : Happened → List (RunLine M)
-  lines_of h = flat_map (λ step. step.lines) h.steps
 
 -- ---- the link of a tunnel, as its end's record has it
 
@@ -208,5 +210,5 @@ module _ (reading : Reading) where
     show_pdu = pdu_octets;
   }
 
-  unfoldable pub Run : List Event → Transcript plain_world
+  unfoldable pub Run : List Event → Transcript (Message Token)
   Run events = run plain_world events

@@ -1,5 +1,5 @@
 -- What is said of a transcript: what was offered and delivered, and that links keep their order. Told of the steps of any run.
-use Rattle.std.specs.Prelude.{◌≡◌, ℕ, ◌+◌, ◌-◌, ◌==◌, Bool, true, false, ◌&&◌, if◌then◌else◌, List, [], ◌∷◌, ◌++◌, length, drop, Some, slice_get}
+use Rattle.std.specs.Prelude.{ℕ, ◌≡◌, ◌+◌, ◌-◌, ◌==◌, Bool, true, false, ◌&&◌, if◌then◌else◌, List, [], ◌∷◌, ◌++◌, length, drop, Some, slice_get}
 use Rattle.std.specs.List.{flat_map, list_any}
 use Rattle.std.specs.Ordering.{eq_by_cmp}
 use Rattle.gnb_types.specs.declared.keys.EntityKey.{EntityKey}
@@ -10,7 +10,7 @@ use Rattle.scenario_text.specs.declared.line.Link.{Link}
 use Rattle.scenario_text.specs.declared.line.Link.TheVariants.{Tunnel, Radio}
 use Rattle.scenario_text.specs.declared.line.Item.{Item}
 use Rattle.run_defs.specs.Lines.{Letter, RunLine, put_item, got_item, put_message, got_message, delivers, lost_items, was_refused}
-use Rattle.run_defs.specs.States.{RunStep, World}
+use Rattle.run_defs.specs.States.{RunStep}
 use Rattle.run_defs.specs.Runs.{Happened}
 
 -- ---- offered, delivered, and the COUNTs of what was delivered
@@ -30,28 +30,26 @@ offered_by key (events.Offer ue bearer dir packet) =
     if same_entity key (record { ue = ue; bearer = bearer; dir = dir }) then packet ∷ [] else []
 offered_by key event = []
 
-module _ {M C L P : Type 0} (world : World M C L P) where
-  -- the packets of the offers that were not refused
-  abbrev pub Offered : EntityKey → List (Happened world) → List (List ℕ)
-  Offered key happened =
-      flat_map (λ h. if list_any is_refusal (lines_in h.steps) then [] else offered_by key h.event) happened
+-- the packets of the offers that were not refused
+abbrev pub Offered : {M : Type 0} → EntityKey → List (Happened M) → List (List ℕ)
+Offered key happened = flat_map (λ h. if list_any is_refusal (lines_in h.steps) then [] else offered_by key h.event) happened
 
-  abbrev pub all_lines : List (Happened world) → List (RunLine M)
-  all_lines happened = flat_map (λ h. lines_in h.steps) happened
+abbrev pub all_lines : {M : Type 0} → List (Happened M) → List (RunLine M)
+all_lines happened = flat_map (λ h. lines_in h.steps) happened
 
-  abbrev pub packets_of : EntityKey → RunLine M → List (List ℕ)
-  packets_of key (delivers other count packet) = if same_entity key other then packet ∷ [] else []
-  packets_of key line = []
+abbrev pub packets_of : {M : Type 0} → EntityKey → RunLine M → List (List ℕ)
+packets_of key (delivers other count packet) = if same_entity key other then packet ∷ [] else []
+packets_of key line = []
 
-  abbrev pub counts_of : EntityKey → RunLine M → List ℕ
-  counts_of key (delivers other count packet) = if same_entity key other then count ∷ [] else []
-  counts_of key line = []
+abbrev pub counts_of : {M : Type 0} → EntityKey → RunLine M → List ℕ
+counts_of key (delivers other count packet) = if same_entity key other then count ∷ [] else []
+counts_of key line = []
 
-  abbrev pub Delivered : EntityKey → List (Happened world) → List (List ℕ)
-  Delivered key happened = flat_map (packets_of key) (all_lines happened)
+abbrev pub Delivered : {M : Type 0} → EntityKey → List (Happened M) → List (List ℕ)
+Delivered key happened = flat_map (packets_of key) (all_lines happened)
 
-  abbrev pub Counts : EntityKey → List (Happened world) → List ℕ
-  Counts key happened = flat_map (counts_of key) (all_lines happened)
+abbrev pub Counts : {M : Type 0} → EntityKey → List (Happened M) → List ℕ
+Counts key happened = flat_map (counts_of key) (all_lines happened)
 
 -- ---- links: what was put and neither taken nor lost, as a function of the lines alone
 

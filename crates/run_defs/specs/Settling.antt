@@ -1,6 +1,6 @@
 -- `settle`: rounds until every bearer of every attached terminal is quiet, or the rounds are used up. What is refused inside a round
 -- prints nothing and changes nothing.
-use Rattle.std.specs.Prelude.{◌==◌, ℕ, zero, suc, ◌+◌, ◌*◌, ◌-◌, ◌^◌, Bool, true, false, ◌||◌, if◌then◌else◌, List, [], ◌∷◌, length, map, sum, Option, Some, None}
+use Rattle.std.specs.Prelude.{ℕ, ◌==◌, zero, suc, ◌+◌, ◌*◌, ◌-◌, ◌^◌, Bool, true, false, ◌||◌, if◌then◌else◌, List, [], ◌∷◌, length, map, sum, Option, Some, None}
 use Rattle.std.specs.List.{list_all, flat_map}
 use Rattle.gnb_types.specs.declared.names.UeId.{UeId}
 use Rattle.gnb_types.specs.declared.names.BearerId.{BearerId}
@@ -22,7 +22,8 @@ use Rattle.transport_defs.specs.declared.Item.{Item}
 use Rattle.transport_defs.specs.Links.{nth}
 use Rattle.run_defs.specs.States.{State, order_for, World, goes, ◌next◌, goes_on, Outcome, as_step, prints, is_gone, book_of, radio_of}
 use Rattle.run_defs.specs.Steps.{entities_of, bearer_numbers, Done, is_done, is_held, is_refused, does}
-use Rattle.run_defs.specs.Events.{serving_gnb, serving_place, state_at, get_done, ready_home, epoch_of, receiver_of, carry_done, confirm_done, pump, tick, rests, ask_line}
+use Rattle.run_defs.specs.Conditions.{serving_gnb, serving_place, state_at, ready_home, epoch_of, receiver_of, rests, ask_line}
+use Rattle.run_defs.specs.Events.{get_done, carry_done, confirm_done, pump, tick}
 
 -- ---- the attached terminals, their bearers and entities, ascending
 
@@ -38,9 +39,30 @@ bearers_of e = map (λ b. (e.0, b)) (bearer_numbers 1 e.1.bearers)
 abbrev pub attached_bearers : {M C L P : Type 0} → State M C L P → List (UeId × BearerId)
 attached_bearers s = flat_map bearers_of (attached_plans s)
 
+-- what is left of a radio's turn: how often it may be aired and acknowledged, which of the two it is at, and whether anything moved
+-- since it last began to be aired
+pub record Turn : Type 0 where
+  pub key : EntityKey
+  pub airs : ℕ
+  pub acks : ℕ
+  pub airing : Bool
+  pub moved : Bool
+
+abbrev pub to_acks : Turn → Turn
+to_acks turn = record turn { airing = false }
+
+abbrev pub to_airs : Turn → Turn
+to_airs turn = record turn { airing = true; moved = false }
+
+abbrev pub after_air : Turn → Turn
+after_air turn = record turn { airs = turn.airs - 1; moved = true }
+
+abbrev pub after_ack : Turn → Turn
+after_ack turn = record turn { acks = turn.acks - 1; moved = true }
+
 module _ {M C L P : Type 0} (world : World M C L P) where
   -- what is refused is left out
-  abbrev pub quietly_by : State M C L P → Done world → Outcome M C L P
+  abbrev pub quietly_by : State M C L P → Done M C L P → Outcome M C L P
   quietly_by s (is_done outcome) = outcome
   quietly_by s (is_held reason) = goes_on s
   quietly_by s (is_refused reason) = goes_on s
@@ -57,11 +79,11 @@ module _ {M C L P : Type 0} (world : World M C L P) where
 
   abbrev pub move_each : List (UeId × Plan) → State M C L P → Outcome M C L P
   move_each [] s = goes_on s
-  move_each (e ∷ es) s = move_by e.0 s (state_at world s e.0) next move_each es
+  move_each (e ∷ es) s = move_by e.0 s (state_at s e.0) next move_each es
 
   -- ---- 3. each tunnel, in order, is got until it is empty or holds, at most as often as items stood on it when its turn began
 
-  abbrev pub got_in_turn : TunnelEnd → (State M C L P → Outcome M C L P) → State M C L P → Done world → Outcome M C L P
+  abbrev pub got_in_turn : TunnelEnd → (State M C L P → Outcome M C L P) → State M C L P → Done M C L P → Outcome M C L P
   got_in_turn end more s (is_done outcome) = outcome next more
   got_in_turn end more s (is_held reason) = as_step (Some end.node) (goes (held_at (tunnel_link end) reason ∷ []) s)
   got_in_turn end more s (is_refused reason) = goes_on s
@@ -96,32 +118,11 @@ module _ {M C L P : Type 0} (world : World M C L P) where
   abbrev pub further_turns : ℕ
   further_turns = 4096
 
-  -- what is left of a radio's turn: how often it may be aired and acknowledged, which of the two it is at, and whether anything moved
-  -- since it last began to be aired
-  pub record Turn : Type 0 where
-    pub key : EntityKey
-    pub airs : ℕ
-    pub acks : ℕ
-    pub airing : Bool
-    pub moved : Bool
-
-  abbrev pub to_acks : Turn → Turn
-  to_acks turn = record turn { airing = false }
-
-  abbrev pub to_airs : Turn → Turn
-  to_airs turn = record turn { airing = true; moved = false }
-
-  abbrev pub after_air : Turn → Turn
-  after_air turn = record turn { airs = turn.airs - 1; moved = true }
-
-  abbrev pub after_ack : Turn → Turn
-  after_ack turn = record turn { acks = turn.acks - 1; moved = true }
-
   -- one item is carried; a held one ends the airing
-  abbrev pub aired_by : (Turn → State M C L P → Outcome M C L P) → Turn → NodeId → State M C L P → Done world → Outcome M C L P
+  abbrev pub aired_by : (Turn → State M C L P → Outcome M C L P) → Turn → NodeId → State M C L P → Done M C L P → Outcome M C L P
   aired_by again turn home s (is_done outcome) = outcome next again (after_air turn)
   aired_by again turn home s (is_held reason) =
-      as_step (Some (receiver_of world turn.key home)) (goes (held_at (radio_link turn.key (epoch_of world s turn.key.ue)) reason ∷ []) s)
+      as_step (Some (receiver_of turn.key home)) (goes (held_at (radio_link turn.key (epoch_of s turn.key.ue)) reason ∷ []) s)
       next again (to_acks (after_air turn))
   aired_by again turn home s (is_refused reason) = again (to_acks (after_air turn)) s
 
@@ -131,7 +132,7 @@ module _ {M C L P : Type 0} (world : World M C L P) where
       if turn.airs == 0 then again (to_acks turn) s else aired_by again turn home s (carry_done world turn.key home item s)
 
   -- one item is confirmed; where none can be, the radio is aired again, or its turn ends
-  abbrev pub acked_by : (Turn → State M C L P → Outcome M C L P) → Turn → State M C L P → Done world → Outcome M C L P
+  abbrev pub acked_by : (Turn → State M C L P → Outcome M C L P) → Turn → State M C L P → Done M C L P → Outcome M C L P
   acked_by again turn s (is_done outcome) = outcome next again (after_ack turn)
   acked_by again turn s (is_held reason) = again (after_ack turn) s
   acked_by again turn s (is_refused reason) = again (after_ack turn) s
@@ -153,7 +154,7 @@ module _ {M C L P : Type 0} (world : World M C L P) where
       if turn.airing then air_next again turn home s (nth r.items r.carried) else ack_next again turn home s r.items r.carried
 
   abbrev pub turn_step : (Turn → State M C L P → Outcome M C L P) → Turn → State M C L P → Outcome M C L P
-  turn_step again turn s = turn_at again turn s (ready_home world s turn.key.ue)
+  turn_step again turn s = turn_at again turn s (ready_home s turn.key.ue)
 
   abbrev pub turn_times : ℕ → Turn → State M C L P → Outcome M C L P
   turn_times zero turn s = goes_on s
@@ -196,10 +197,10 @@ module _ {M C L P : Type 0} (world : World M C L P) where
   -- ---- all rounds, and what is printed at the end
 
   abbrev pub all_quiet : State M C L P → Bool
-  all_quiet s = list_all (λ e. rests world s e.0 e.1) (attached_bearers s)
+  all_quiet s = list_all (λ e. rests s e.0 e.1) (attached_bearers s)
 
   abbrev pub ask_lines : State M C L P → List (RunLine M)
-  ask_lines s = map (λ e. ask_line world s e.0 e.1) (attached_bearers s)
+  ask_lines s = map (λ e. ask_line s e.0 e.1) (attached_bearers s)
 
   abbrev pub settled : ℕ → State M C L P → Outcome M C L P
   settled rounds s = prints (has_settled rounds ∷ ask_lines s) s

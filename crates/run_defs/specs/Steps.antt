@@ -1,6 +1,6 @@
 -- A step: what one unit does on one input. It takes its item from the list that is its link, its outputs are printed in their order
 -- and added to the links, and then the span of each bearer is looked at.
-use Rattle.std.specs.Prelude.{◌==◌, ℕ, zero, suc, ◌+◌, ◌-◌, Bool, true, false, nat_lt, max, if◌then◌else◌, List, [], ◌∷◌, ◌++◌, length, Option, Some, None}
+use Rattle.std.specs.Prelude.{ℕ, ◌==◌, zero, suc, ◌+◌, ◌-◌, Bool, true, false, nat_lt, max, if◌then◌else◌, List, [], ◌∷◌, ◌++◌, length, Option, Some, None}
 use Rattle.std.specs.List.{flat_map}
 use Rattle.gnb_types.specs.declared.names.NodeId.{NodeId}
 use Rattle.gnb_types.specs.declared.names.NodeId.TheVariants.{Ue}
@@ -68,6 +68,12 @@ count_beside Same taken = taken
 abbrev pub noted : {M C L P : Type 0} → EntityKey → Tag → State M C L P → State M C L P
 noted key (Own count) s = with_book key (record (book_of s key) { numbered = max (book_of s key).numbered (count + 1) }) s
 noted key tag s = s
+
+-- what an input comes to: its step, or the unit holds the item, or refuses the event
+pub data Done (M C L P : Type 0) : Type 0 where
+  is_done : (outcome : Outcome M C L P) → Done M C L P
+  is_held : (reason : HeldReason) → Done M C L P
+  is_refused : (reason : RefuseReason) → Done M C L P
 
 -- the first counter: control messages of the whole run
 abbrev pub letters_spent : ℕ
@@ -199,11 +205,6 @@ module _ {M C L P : Type 0} (world : World M C L P) where
 
   -- ---- a step: held, refused, spent, or done
 
-  pub data Done : Type 0 where
-    is_done : (outcome : Outcome M C L P) → Done
-    is_held : (reason : HeldReason) → Done
-    is_refused : (reason : RefuseReason) → Done
-
   abbrev pub count_letters : List (Put M L P) → ℕ
   count_letters [] = 0
   count_letters (control to ue message ∷ outputs) = count_letters outputs + 1
@@ -217,7 +218,7 @@ module _ {M C L P : Type 0} (world : World M C L P) where
   carried_out node taken first outputs units s =
       first (record s { units = units }) next reconnect_node node next put_out_all node taken outputs next check_spans
 
-  abbrev pub done_with : NodeId → Option ℕ → (State M C L P → Within M C L P) → State M C L P → Stepped M C L P → Done
+  abbrev pub done_with : NodeId → Option ℕ → (State M C L P → Within M C L P) → State M C L P → Stepped M C L P → Done M C L P
   done_with node taken first s (stepped (held reason ∷ []) units) = is_held reason
   done_with node taken first s (stepped (no reason ∷ []) units) = is_refused reason
   done_with node taken first s (stepped outputs units) =
@@ -225,11 +226,11 @@ module _ {M C L P : Type 0} (world : World M C L P) where
       else is_done (as_step (Some node) (carried_out node taken first outputs units s))
   done_with node taken first s (step_spent counter) = is_done (stops [] (spent_counter counter))
 
-  unfoldable pub does : NodeId → Given M L P → Option ℕ → (State M C L P → Within M C L P) → State M C L P → Done
+  unfoldable pub does : NodeId → Given M L P → Option ℕ → (State M C L P → Within M C L P) → State M C L P → Done M C L P
   does node given taken first s = done_with node taken first s (world.answer s.units node given)
 
   -- a step that takes no item, of an event: a refusal is printed
-  abbrev pub ordered_by : State M C L P → Done → Outcome M C L P
+  abbrev pub ordered_by : State M C L P → Done M C L P → Outcome M C L P
   ordered_by s (is_done outcome) = outcome
   ordered_by s (is_held reason) = goes_on s
   ordered_by s (is_refused reason) = refused reason s

@@ -117,7 +117,7 @@ module _ (codec : Codec) where
     show_pdu = λ sn octets. octets;
   }
 
-  unfoldable pub UnitRun : (answer : Meaning) → List Event → Transcript (unit_world answer)
+  unfoldable pub UnitRun : Meaning → List Event → Transcript (List ℕ)
   UnitRun answer events = run (unit_world answer) events
 
   -- ---- the meaning that the procedure tables give
