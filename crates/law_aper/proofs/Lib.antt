@@ -8,3 +8,4 @@ pub mod Placed
 pub mod Extents
 pub mod Opened
 pub mod PlacedNumbers
+pub mod PlacedStrings

@@ -46,7 +46,7 @@ minimal : (n : ℕ) → (nat_lt 1 (octets_for n) && nat_lt n (2 ^ (8 * (octets_f
 minimal n = by_cases (nat_lt 1 (octets_for n)) (λ b. (b && nat_lt n (2 ^ (8 * (octets_for n - 1)))) ≡ false)
     (λ e. is_not_below n (2 ^ (8 * (octets_for n - 1))) (octets_least n (below 1 (octets_for n) e))) (λ e. refl)
 
-allowed_digits : (most n : ℕ) → n ≤ most → n < 2 ^ 64 → Allowed (digits (octets_for n) most) n
+pub allowed_digits : (most n : ℕ) → n ≤ most → n < 2 ^ 64 → Allowed (digits (octets_for n) most) n
 allowed_digits most n h k = record {
   wide = λ c rest e. refl;
   small = λ place. octets_fit n k;
@@ -54,7 +54,7 @@ allowed_digits most n h k = record {
   same = λ c. refl;
 }
 
-allowed_signed : (low high z : ℤ) → is_signed z ≡ true → in_range low high z ≡ false
+pub allowed_signed : (low high z : ℤ) → is_signed z ≡ true → in_range low high z ≡ false
     → Allowed (signed (signed_octets_for z) low high) (twos_complement (signed_octets_for z) z)
 allowed_signed low high z h out =
     let k = signed_octets_for z in
@@ -78,7 +78,7 @@ allowed_small role n h = record {
 printable_small : (c : ℕ) → is_printable c ≡ true → c < 2 ^ 8
 printable_small c h = by_cases (nat_lt c 256) (λ b. c < 2 ^ 8) (λ e. below c 256 e) (λ e. let k : 256 ≤ c = not_below c 256 e in absurd (grind (arith, nat_tests)))
 
-allowed_character : (c : ℕ) → is_printable c ≡ true → Allowed character c
+pub allowed_character : (c : ℕ) → is_printable c ≡ true → Allowed character c
 allowed_character c h = record {
   wide = λ d rest e. refl;
   small = λ place. printable_small c h;
