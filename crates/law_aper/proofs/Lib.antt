@@ -9,3 +9,4 @@ pub mod Extents
 pub mod Opened
 pub mod PlacedNumbers
 pub mod PlacedStrings
+pub mod PlacedAll

@@ -19,16 +19,12 @@ use Rattle.aper_defs.specs.Bounds.{IsSizeBounded}
 use Rattle.aper_defs.specs.Reading.{unless, too_great, is_inside}
 use Rattle.law_aper.proofs.NumberFacts.{by_cases, below, not_below, is_below, is_not_below, at_most, is_at_most, same, first_of_both, second_of_both, octets_positive, octets_fit, octets_least, octets_grow, octets_at_most, bits_fit, above_at_most, signed_again, signed_part_fits, twos_complement_fits, signed_octets_positive, signed_octets_at_most}
 use Rattle.law_aper.proofs.Placed.{Allowed, Placed, placed_none, placed_asked, placed_run, placed_both, AreBelow}
-use Rattle.law_aper.proofs.Extents.{IsWhole, allowed_whole, allowed_last, allowed_part}
+use Rattle.law_aper.proofs.Extents.{unless_true, IsWhole, allowed_whole, allowed_last, allowed_part}
 use Rattle.law_aper.proofs.Opened.{allowed_pad}
 
 pub by_branch : (b : Bool) (x y : List Field) → (b ≡ true → Placed x) → (b ≡ false → Placed y) → Placed (cond b x y)
 by_branch true x y first second = first refl
 by_branch false x y first second = second refl
-
-unless_true : (b : Bool) → b ≡ true → (r : Reason) → unless b r ≡ None
-unless_true true e r = refl
-unless_true false e r = cc
 
 -- ---- what is allowed
 pub allowed_flag : (n : ℕ) → n < 2 → Allowed flag n
@@ -90,7 +86,7 @@ allowed_character c h = record {
 pub padded : (p : Path) (question : Ask) (n : ℕ) (fs : List Field) → Placed (asked p question n ∷ fs) → Placed (asked p pad 0 ∷ asked p question n ∷ fs)
 padded p question n fs h = placed_asked p pad 0 (asked p question n ∷ fs) allowed_pad (λ place opens. refl) h
 
-placed_constrained : (p : Path) (role : Role) (width most n : ℕ) → n ≤ most → n < 2 ^ width → Placed (asked p (constrained role width most) n ∷ [])
+pub placed_constrained : (p : Path) (role : Role) (width most n : ℕ) → n ≤ most → n < 2 ^ width → Placed (asked p (constrained role width most) n ∷ [])
 placed_constrained p role width most n h k = placed_asked p (constrained role width most) n [] (allowed_constrained role width most n h k) (λ place opens. refl) placed_none
 
 placed_large : (p : Path) (span n : ℕ) → n ≤ span → span < 2 ^ 64 → Placed (large_fields p span n)
