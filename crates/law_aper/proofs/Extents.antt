@@ -107,16 +107,16 @@ pub record IsWhole (least most : ℕ) (outside : Option Size) (n : ℕ) : Type 0
   pub limit : most < 16384
   pub past : is_inside outside n ≡ false
 
-unless_true : (b : Bool) (reason : Reason) → b ≡ true → unless b reason ≡ None
-unless_true true reason e = refl
-unless_true false reason e = cc
+pub unless_true : (b : Bool) → b ≡ true → (reason : Reason) → unless b reason ≡ None
+unless_true true e reason = refl
+unless_true false e reason = cc
 
 both_true : (a b : Bool) → a ≡ true → b ≡ true → (a && b) ≡ true
 both_true true b e f = f
 both_true false b e f = cc
 
 judged_in : (least most n : ℕ) → least ≤ n → n ≤ most → judged_length true least most n ≡ None
-judged_in least most n low high = unless_true (nat_le least n && nat_le n most) reasons.Length (both_true _ _ (is_at_most least n low) (is_at_most n most high))
+judged_in least most n low high = unless_true (nat_le least n && nat_le n most) (both_true _ _ (is_at_most least n low) (is_at_most n most high)) reasons.Length
 
 whole_right : (least most : ℕ) (outside : Option Size) (n : ℕ) → IsWhole least most outside n
     → judged_extent (whole least most outside) (form_of (extent_number n)) ≡ None
@@ -162,8 +162,8 @@ last_right before previous outside n h out = go (shape_of n (omega arith))
     past : cond (is_inside outside (before + n)) false true ≡ true
     past = ap (λ b. cond b false true) out
     go : Shape n → judged_extent (part before previous outside) (form_of (extent_number n)) ≡ None
-    go (of_octet l w m f) = ap (judged_extent (part before previous outside)) f ∙ unless_true _ reasons.NotMinimal past
-    go (of_two k l w m f) = ap (judged_extent (part before previous outside)) f ∙ unless_true _ reasons.NotMinimal (both_true (nat_le 128 n) _ (is_at_most 128 n k) past)
+    go (of_octet l w m f) = ap (judged_extent (part before previous outside)) f ∙ unless_true _ past reasons.NotMinimal
+    go (of_two k l w m f) = ap (judged_extent (part before previous outside)) f ∙ unless_true _ (both_true (nat_le 128 n) _ (is_at_most 128 n k) past) reasons.NotMinimal
     go (of_part k w m f) = absurd (omega arith)
 
 pub allowed_last : (before previous : ℕ) (outside : Option Size) (n : ℕ) → n < 16384 → is_inside outside (before + n) ≡ false

@@ -46,7 +46,7 @@ forth_extension p true false K c h = one p flag 0 (λ b. K (b == 1)) c
 forth_extension p false extended K c h = nothing (K false) (K extended) c (ap K (sym (h refl)))
 
 -- INTEGER
-in_or_signed : (low high : ℤ) (extensible : Bool) (z : ℤ) → is_number_of low high extensible z ≡ true → in_range low high z ≡ false
+pub in_or_signed : (low high : ℤ) (extensible : Bool) (z : ℤ) → is_number_of low high extensible z ≡ true → in_range low high z ≡ false
     → (extensible ≡ true) × (is_signed z ≡ true)
 in_or_signed low high extensible z h out = go (in_range low high z) extensible (is_signed z) h out
   where

@@ -8,3 +8,5 @@ pub mod Placed
 pub mod Extents
 pub mod Opened
 pub mod PlacedNumbers
+pub mod PlacedStrings
+pub mod PlacedAll

@@ -19,16 +19,12 @@ use Rattle.aper_defs.specs.Bounds.{IsSizeBounded}
 use Rattle.aper_defs.specs.Reading.{unless, too_great, is_inside}
 use Rattle.law_aper.proofs.NumberFacts.{by_cases, below, not_below, is_below, is_not_below, at_most, is_at_most, same, first_of_both, second_of_both, octets_positive, octets_fit, octets_least, octets_grow, octets_at_most, bits_fit, above_at_most, signed_again, signed_part_fits, twos_complement_fits, signed_octets_positive, signed_octets_at_most}
 use Rattle.law_aper.proofs.Placed.{Allowed, Placed, placed_none, placed_asked, placed_run, placed_both, AreBelow}
-use Rattle.law_aper.proofs.Extents.{IsWhole, allowed_whole, allowed_last, allowed_part}
+use Rattle.law_aper.proofs.Extents.{unless_true, IsWhole, allowed_whole, allowed_last, allowed_part}
 use Rattle.law_aper.proofs.Opened.{allowed_pad}
 
 pub by_branch : (b : Bool) (x y : List Field) → (b ≡ true → Placed x) → (b ≡ false → Placed y) → Placed (cond b x y)
 by_branch true x y first second = first refl
 by_branch false x y first second = second refl
-
-unless_true : (b : Bool) → b ≡ true → (r : Reason) → unless b r ≡ None
-unless_true true e r = refl
-unless_true false e r = cc
 
 -- ---- what is allowed
 pub allowed_flag : (n : ℕ) → n < 2 → Allowed flag n
@@ -46,7 +42,7 @@ minimal : (n : ℕ) → (nat_lt 1 (octets_for n) && nat_lt n (2 ^ (8 * (octets_f
 minimal n = by_cases (nat_lt 1 (octets_for n)) (λ b. (b && nat_lt n (2 ^ (8 * (octets_for n - 1)))) ≡ false)
     (λ e. is_not_below n (2 ^ (8 * (octets_for n - 1))) (octets_least n (below 1 (octets_for n) e))) (λ e. refl)
 
-allowed_digits : (most n : ℕ) → n ≤ most → n < 2 ^ 64 → Allowed (digits (octets_for n) most) n
+pub allowed_digits : (most n : ℕ) → n ≤ most → n < 2 ^ 64 → Allowed (digits (octets_for n) most) n
 allowed_digits most n h k = record {
   wide = λ c rest e. refl;
   small = λ place. octets_fit n k;
@@ -54,7 +50,7 @@ allowed_digits most n h k = record {
   same = λ c. refl;
 }
 
-allowed_signed : (low high z : ℤ) → is_signed z ≡ true → in_range low high z ≡ false
+pub allowed_signed : (low high z : ℤ) → is_signed z ≡ true → in_range low high z ≡ false
     → Allowed (signed (signed_octets_for z) low high) (twos_complement (signed_octets_for z) z)
 allowed_signed low high z h out =
     let k = signed_octets_for z in
@@ -78,7 +74,7 @@ allowed_small role n h = record {
 printable_small : (c : ℕ) → is_printable c ≡ true → c < 2 ^ 8
 printable_small c h = by_cases (nat_lt c 256) (λ b. c < 2 ^ 8) (λ e. below c 256 e) (λ e. let k : 256 ≤ c = not_below c 256 e in absurd (grind (arith, nat_tests)))
 
-allowed_character : (c : ℕ) → is_printable c ≡ true → Allowed character c
+pub allowed_character : (c : ℕ) → is_printable c ≡ true → Allowed character c
 allowed_character c h = record {
   wide = λ d rest e. refl;
   small = λ place. printable_small c h;
@@ -90,7 +86,7 @@ allowed_character c h = record {
 pub padded : (p : Path) (question : Ask) (n : ℕ) (fs : List Field) → Placed (asked p question n ∷ fs) → Placed (asked p pad 0 ∷ asked p question n ∷ fs)
 padded p question n fs h = placed_asked p pad 0 (asked p question n ∷ fs) allowed_pad (λ place opens. refl) h
 
-placed_constrained : (p : Path) (role : Role) (width most n : ℕ) → n ≤ most → n < 2 ^ width → Placed (asked p (constrained role width most) n ∷ [])
+pub placed_constrained : (p : Path) (role : Role) (width most n : ℕ) → n ≤ most → n < 2 ^ width → Placed (asked p (constrained role width most) n ∷ [])
 placed_constrained p role width most n h k = placed_asked p (constrained role width most) n [] (allowed_constrained role width most n h k) (λ place opens. refl) placed_none
 
 placed_large : (p : Path) (span n : ℕ) → n ≤ span → span < 2 ^ 64 → Placed (large_fields p span n)
