@@ -1,4 +1,6 @@
 mod RegionLemmas
 mod AccountLemmas
 mod EntryLemmas
+mod PoolChanges
 mod PoolLemmas
+mod TestLemmas

@@ -299,3 +299,40 @@ module _ (p : PoolState) (place : ℕ) where
   unfolding packet_at
   packet_at_unpark_other q other =
       ap (packet_by p) (find-without-other nat_cmp_total p.parked place q (other_key numbers_ordered q place other))
+
+-- ---- what may be done next, from what a call says of the pool before and after it
+
+pub put_held : (limit : ℕ) (p q : PoolState) (r : ℕ) (x : Stored) → IsPool limit p → find nat_cmp p.refs r ≡ None → q ≡ with_packet p r x
+    → IsSome (packet_of q r)
+put_held limit p q r x sound fresh is =
+    subst (λ (s : PoolState). IsSome (packet_of s r)) (sym is) (subst IsSome (sym (packet_of_put limit p sound r x fresh)) refl)
+
+-- a reference that is held isn't the new one
+pub new_other : (p : PoolState) (r n : ℕ) → find nat_cmp p.refs r ≡ None → IsSome (packet_of p n) → n ≢ r
+new_other p r n fresh held same =
+    some_packet (packet_of p n) refl
+  where
+    some_packet : (o : Option Stored) → packet_of p n ≡ o → ⊥
+    some_packet None is = none_is (packet_of p n) is held
+    some_packet (Some x) is = absurd (true≢false (ap is_some (sym (held_packet p n x is) ∙ ap (find nat_cmp p.refs) same ∙ fresh)))
+
+pub put_keeps : (limit : ℕ) (p q : PoolState) (r n : ℕ) (x : Stored) → IsPool limit p → find nat_cmp p.refs r ≡ None
+    → q ≡ with_packet p r x → IsSome (packet_of p n) → packet_of q n ≡ packet_of p n
+put_keeps limit p q r n x sound fresh is held =
+    ap (λ (s : PoolState). packet_of s n) is ∙ packet_of_put_other limit p sound r x n (new_other p r n fresh held)
+
+pub take_keeps : (p q : PoolState) (r n : ℕ) → q ≡ without_packet p r → n ≢ r → packet_of q n ≡ packet_of p n
+take_keeps p q r n is other = ap (λ (s : PoolState). packet_of s n) is ∙ packet_of_take_other p r n other
+
+pub park_parked : (p q : PoolState) (place r : ℕ) → IsSome (packet_of p r) → q ≡ with_place p place r → IsSome (packet_at q place)
+park_parked p q place r held is = by (packet_of p r) refl held
+  where
+    by : (o : Option Stored) → packet_of p r ≡ o → IsSome o → IsSome (packet_at q place)
+    by None has some = none_is {X = Stored} None refl some
+    by (Some x) has some =
+        subst (λ (s : PoolState). IsSome (packet_at s place)) (sym is) (subst IsSome (sym (packet_at_park p place r x has)) refl)
+
+pub unpark_held : (limit : ℕ) (p q : PoolState) (place r : ℕ) → IsPool limit p → IsSome (packet_at p place)
+    → find nat_cmp p.parked place ≡ Some r → q ≡ without_place p place → IsSome (packet_of q r)
+unpark_held limit p q place r sound parked there is =
+    subst (λ (s : PoolState). IsSome (packet_of s r)) (sym is) (subst IsSome (sym (packet_of_unpark p place limit sound r there)) parked)

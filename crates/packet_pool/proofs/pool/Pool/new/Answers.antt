@@ -1,5 +1,5 @@
 use Rattle.std.proofs.Common.{rules, arith}
-use Rattle.packet_pool.proofs.PoolLemmas.{tied_new, new_state}
+use Rattle.packet_pool.proofs.PoolChanges.{tied_new, new_state}
 use Rattle.packet_pool.proofs.pool.Pool.new.Goals as goal
 
 pub invariant_of-result : goal.invariant_of-result

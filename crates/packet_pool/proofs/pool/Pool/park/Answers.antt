@@ -6,7 +6,8 @@ use Rattle.pool_defs.specs.Pools.{PoolState, packet_of, with_place, IsPool}
 use Rattle.packet_pool.specs.declared.contents.Content.{Content}
 use Rattle.packet_pool.specs.inside.Contents.{marked}
 use Rattle.packet_pool.specs.inside.Pools.{state, places_of, IsTied}
-use Rattle.packet_pool.proofs.PoolLemmas.{pool_sound, held_block, content_within, find_places, place_unparked, places_put, tied_marked, marked_state}
+use Rattle.packet_pool.proofs.PoolChanges.{places_put, tied_marked, marked_state}
+use Rattle.packet_pool.proofs.PoolLemmas.{pool_sound, held_block, content_within, find_places, place_unparked}
 use Rattle.packet_pool.proofs.pool.Pool.park.Goals as goal
 
 pub mark-requires : goal.mark-requires

@@ -6,7 +6,8 @@ use Rattle.pool_defs.specs.Pools.{PoolState, with_packet, used, quota, IsPool}
 use Rattle.packet_pool.specs.declared.region.Block.{Block}
 use Rattle.packet_pool.specs.inside.Regions.{octets_at}
 use Rattle.packet_pool.specs.inside.Contents.{joined}
-use Rattle.packet_pool.proofs.PoolLemmas.{pool_sound, first_free, find_refs, stored_none, tied_put, put_state, on_err}
+use Rattle.packet_pool.proofs.PoolChanges.{first_free, stored_none, tied_put, put_state, on_err}
+use Rattle.packet_pool.proofs.PoolLemmas.{pool_sound, find_refs}
 use Rattle.packet_pool.proofs.pool.Pool.put.Goals as goal
 
 pub returns-in_err-charge-clause-sound : goal.returns-in_err-charge-clause-sound

@@ -1,6 +1,6 @@
 use Rattle.std.proofs.Common.{ap, ◌∙◌}
 use Rattle.pool_defs.specs.Pools.{PoolState, used}
-use Rattle.packet_pool.proofs.PoolLemmas.{tied_released}
+use Rattle.packet_pool.proofs.PoolChanges.{tied_released}
 use Rattle.packet_pool.proofs.pool.Pool.release_quota.Goals as goal
 
 pub release-requires : goal.release-requires

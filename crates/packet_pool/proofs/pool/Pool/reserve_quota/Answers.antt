@@ -4,7 +4,7 @@ use Rattle.gnb_types.specs.Orders.{entity_cmp}
 use Rattle.tables.specs.Tables.{find}
 use Rattle.pool_defs.specs.Pools.{PoolState, reserved}
 use Rattle.packet_pool.specs.inside.Accounts.{total}
-use Rattle.packet_pool.proofs.PoolLemmas.{tied_after}
+use Rattle.packet_pool.proofs.PoolChanges.{tied_after}
 use Rattle.packet_pool.proofs.pool.Pool.reserve_quota.Goals as goal
 
 pub invariant_of-self : goal.invariant_of-self

@@ -4,7 +4,8 @@ use Rattle.pool_defs.specs.Pools.{PoolState, packet_of, without_packet, IsPool}
 use Rattle.packet_pool.specs.declared.contents.Content.{Content}
 use Rattle.packet_pool.specs.inside.Contents.{content_at}
 use Rattle.packet_pool.specs.inside.Pools.{state, IsTied}
-use Rattle.packet_pool.proofs.PoolLemmas.{pool_sound, held_block, content_within, content_got, used_some, not_free, tied_take, take_state}
+use Rattle.packet_pool.proofs.PoolChanges.{content_got, used_some, not_free, tied_take, take_state}
+use Rattle.packet_pool.proofs.PoolLemmas.{pool_sound, held_block, content_within}
 use Rattle.packet_pool.proofs.pool.Pool.take.Goals as goal
 
 pub index_mut-requires : goal.index_mut-requires
