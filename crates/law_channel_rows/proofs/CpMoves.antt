@@ -32,12 +32,12 @@ use Rattle.law_channel_rows.proofs.CpRows.{attach_fine, handover_fine, cancel_fi
 module _ {M C P : Type 0} (talk : Talk M C P) (n : NodeId) where
   -- ---- no request expires by what is said
 
-  none_after : (net : Net M C) (m : Move M C) (a : Answer M P (Transactions M C)) → NoneExpired talk net n
+  pub none_after : (net : Net M C) (m : Move M C) (a : Answer M P (Transactions M C)) → NoneExpired talk net n
       → ((c : Channel) → expired_after talk net n m (asked_by n c) ≡ false) → (c : Channel) → (after_answer talk net n m a).expired (asked_by n c) ≡ false
   none_after net m (gives os t) none stays c = stays c
   none_after net m (spent k) none stays c = none c
 
-  at_once_stays : (net : Net M C) (q : Channel) → NoneExpired talk net n → (c : Channel) → with_route net.expired (asked_by n q) false (asked_by n c) ≡ false
+  pub at_once_stays : (net : Net M C) (q : Channel) → NoneExpired talk net n → (c : Channel) → with_route net.expired (asked_by n q) false (asked_by n c) ≡ false
   at_once_stays net q none c = by (route_cases (asked_by n c) (asked_by n q))
     where
       by : (asked_by n c ≡ asked_by n q) ⊎ (asked_by n c ≡ asked_by n q → ⊥) → with_route net.expired (asked_by n q) false (asked_by n c) ≡ false

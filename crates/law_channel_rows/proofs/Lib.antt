@@ -1,6 +1,7 @@
 pub mod Askers
 pub mod Bearers
 pub mod Cores
+pub mod CpAnswers
 pub mod CpMoves
 pub mod CpRequests
 pub mod CpRows

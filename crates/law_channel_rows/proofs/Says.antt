@@ -25,7 +25,7 @@ module _ {M C P : Type 0} (talk : Talk M C P) (n : NodeId) where
   Gives Q (gives os r) = Q os r
   Gives Q (spent k) = Unit {0}
 
-  begun_keeps : (ue : UeId) (node : NodeId) (r : CuCpRecord M C) (i : Option ℕ) → (after_begun talk.way ue node r i).transactions ≡ r.transactions
+  pub begun_keeps : (ue : UeId) (node : NodeId) (r : CuCpRecord M C) (i : Option ℕ) → (after_begun talk.way ue node r i).transactions ≡ r.transactions
   begun_keeps ue node r None = refl
   begun_keeps ue node r (Some i) = refl
 
@@ -34,7 +34,7 @@ module _ {M C P : Type 0} (talk : Talk M C P) (n : NodeId) where
   noted_keeps ue node false r = refl
 
   -- one move, where the answer is that of the move but for what else is kept
-  from_move : {X : Type 0} (net : Net M C) (m : Move M C) (a : Answer M P X) (t : X → Transactions M C) (f : X → CuCpRecord M C)
+  pub from_move : {X : Type 0} (net : Net M C) (m : Move M C) (a : Answer M P X) (t : X → Transactions M C) (f : X → CuCpRecord M C)
       → May talk net n m → moved talk (net.nodes n) m ≡ (a then (λ x. nothing (t x))) → ((x : X) → (f x).transactions ≡ t x)
       → Gives (λ os s. Plays talk net n s.transactions (sent_by n os) (m ∷ [])) (a then (λ x. nothing (f x)))
   from_move {X} net m a t f may is keeps = by a refl
