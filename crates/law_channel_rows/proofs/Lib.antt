@@ -1,8 +1,13 @@
 pub mod Askers
 pub mod Bearers
 pub mod Cores
+pub mod CpAnswers
+pub mod CpMoves
+pub mod CpRequests
+pub mod CpRows
 pub mod CuUps
 pub mod Dus
 pub mod Plays
 pub mod Requests
+pub mod Says
 pub mod Ticks

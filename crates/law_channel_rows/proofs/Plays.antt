@@ -26,12 +26,12 @@ module _ {M C P : Type 0} (talk : Talk M C P) where
     bag = ap (λ (a : Answer M P (Transactions M C)). (after_answer talk net n m a).bag) is;
   }
 
-  after_both : (net : Net M C) (n : NodeId) (ms ks : List (Move M C))
+  pub after_both : (net : Net M C) (n : NodeId) (ms ks : List (Move M C))
       → after talk net (orders_of talk n (ms ++ ks)) ≡ after talk (after talk net (orders_of talk n ms)) (orders_of talk n ks)
   after_both net n [] ks = refl
   after_both net n (m ∷ ms) ks = after_both (after_move talk net n m) n ms ks
 
-  may_both : (net : Net M C) (n : NodeId) (ms ks : List (Move M C)) → MayAll talk net (orders_of talk n ms)
+  pub may_both : (net : Net M C) (n : NodeId) (ms ks : List (Move M C)) → MayAll talk net (orders_of talk n ms)
       → MayAll talk (after talk net (orders_of talk n ms)) (orders_of talk n ks) → MayAll talk net (orders_of talk n (ms ++ ks))
   may_both net n [] ks first second = second
   may_both net n (m ∷ ms) ks first second = (first.0, may_both (after_move talk net n m) n ms ks first.1 second)

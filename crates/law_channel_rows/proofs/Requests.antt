@@ -100,16 +100,16 @@ module _ {M C P : Type 0} (talk : Talk M C P) (n : NodeId) where
 
   module _ (reads : ReadsWell talk) (net : Net M C) (c : Channel) (m : Message C) (i : ℕ)
       (put : Put talk net.bag (answered_by n c) (asked i (talk.way.spell m))) where
-    abbrev here : Transactions M C
+    abbrev pub here : Transactions M C
     here = net.nodes n
 
-    abbrev after_take : Transactions M C
+    abbrev pub after_take : Transactions M C
     after_take = record here { callee = taken here.callee c i }
 
-    abbrev take_move : Move M C
+    abbrev pub take_move : Move M C
     take_move = takes c i (talk.way.spell m)
 
-    takes_plays : verdict here.callee c i ≡ new → Plays talk net n after_take [] (take_move ∷ [])
+    pub takes_plays : verdict here.callee c i ≡ new → Plays talk net n after_take [] (take_move ∷ [])
     takes_plays is = plays_one talk net n take_move (is, put) [] after_take refl
 
     newest_after : newest (taken here.callee c i) c ≡ Some i
@@ -120,10 +120,10 @@ module _ {M C P : Type 0} (talk : Talk M C P) (n : NodeId) where
     unfolding kept_reply taken kept_at
     unanswered_after = ap reply_in (find-put-same channel_total here.callee c (record { instance = i; reply = None }))
 
-    abbrev taken_net : Net M C
+    abbrev pub taken_net : Net M C
     taken_net = after talk net (orders_of talk n (take_move ∷ []))
 
-    may_reply : (is : verdict here.callee c i ≡ new) (answer : Message C) → kind_of answer ≡ reply c.ue i → answers m answer ≡ true
+    pub may_reply : (is : verdict here.callee c i ≡ new) (answer : Message C) → kind_of answer ≡ reply c.ue i → answers m answer ≡ true
         → May talk taken_net n (replies c answer)
     may_reply is answer kind fits =
         let p = takes_plays is in
@@ -174,6 +174,17 @@ module _ {M C P : Type 0} (talk : Talk M C P) (n : NodeId) where
       where
         by : (v : Verdict) → verdict here.callee c i ≡ v → Made talk net n kept (request_by talk.way same here c i row v)
         by new is = row_made kept is (row after_take) made
+        by again is = again_made kept same at
+        by stale is = ([], subst (λ (t : Transactions M C). Plays talk net n t [] []) at (plays_none talk net n))
+
+    -- the same, where the row's moves may be made after the request was taken
+    pub request_taken : {R : Type 0} (kept : R → Transactions M C) (same : R) (row : Transactions M C → Answer M P R) → here ≡ kept same
+        → (verdict here.callee c i ≡ new → Made talk net n kept (row after_take)) → Made talk net n kept (on_request talk.way same here c i row)
+    unfolding on_request
+    request_taken kept same row at made = by (verdict here.callee c i) refl
+      where
+        by : (v : Verdict) → verdict here.callee c i ≡ v → Made talk net n kept (request_by talk.way same here c i row v)
+        by new is = made is
         by again is = again_made kept same at
         by stale is = ([], subst (λ (t : Transactions M C). Plays talk net n t [] []) at (plays_none talk net n))
 
