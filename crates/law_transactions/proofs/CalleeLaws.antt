@@ -333,7 +333,7 @@ module _ {M : Type 0} where
 
   expected_keep : (c : Channel) (x : Option (Kept M)) (reply : M) (calls : List (Call M))
       → expected c (kept_in x reply) calls
-      ≡ answer (last_at c (newest_in x) calls) (kept_as c (newest_in x) reply (kept_from c (newest_in x) calls)) x
+      ≡ answer (last_at c (newest_in x) calls) (kept_as (newest_in x) reply (kept_from c (newest_in x) calls)) x
   unfolding last_for
   expected_keep c None reply calls = refl
   expected_keep c (Some k) reply calls =
@@ -365,7 +365,7 @@ module _ {M : Type 0} where
       rest = kept_from c (newest_in x) calls
 
       by : (b : Bool) → expected c (cond b (kept_in x reply) x) calls
-          ≡ answer (last_at c (newest_in x) calls) (cond b (kept_as c (newest_in x) reply rest) rest) x
+          ≡ answer (last_at c (newest_in x) calls) (cond b (kept_as (newest_in x) reply rest) rest) x
       by true = expected_keep c x reply calls
       by false = refl
   expected_step c x (keeps_for d i reply) calls = by (is_same c d) (is_newest (newest_in x) i) refl

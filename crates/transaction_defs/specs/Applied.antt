@@ -15,14 +15,16 @@ is_same a b = eq_by_cmp channel_cmp a b
 
 -- ---- the requests that are applied: those above all earlier ones of the same initiator and terminal
 
+-- the request r is above those of its channel among the earlier ones
 unfoldable pub is_above : List Request → Request → Bool
 is_above [] r = true
 is_above (e ∷ earlier) r = (not (is_same r.0 e.0) || nat_lt e.1 r.1) && is_above earlier r
 
--- of requests that come after the earlier ones
+-- of the requests rs, which come after the earlier ones
 unfoldable pub applied_after : List Request → List Request → List Request
 applied_after earlier [] = []
-applied_after earlier (r ∷ rs) = if is_above earlier r then r ∷ applied_after (r ∷ earlier) rs else applied_after (r ∷ earlier) rs
+applied_after earlier (r ∷ rs) =
+    if is_above earlier r then r ∷ applied_after (r ∷ earlier) rs else applied_after (r ∷ earlier) rs
 
 unfoldable pub applied : List Request → List Request
 applied rs = applied_after [] rs
@@ -46,8 +48,13 @@ abbrev pub greater : Option ℕ → ℕ → Option ℕ
 greater None instance = Some instance
 greater (Some newest) instance = Some (if nat_lt newest instance then instance else newest)
 
+-- a reply that is kept is for the newest instance; there is none where none came
+abbrev pub kept_as : {M : Type 0} → Option ℕ → M → List (ℕ × M) → List (ℕ × M)
+kept_as None reply rest = rest
+kept_as (Some newest) reply rest = (newest, reply) ∷ rest
+
 module _ (c : Channel) where
-  -- the greatest instance of the channel c, from the one that came before on
+  -- the greatest instance of the channel c, where `before` was the greatest one of earlier requests
   unfoldable pub greatest_from : Option ℕ → List Request → Option ℕ
   greatest_from before [] = before
   greatest_from before (r ∷ rs) = greatest_from (if is_same c r.0 then greater before r.1 else before) rs
@@ -55,11 +62,7 @@ module _ (c : Channel) where
   unfoldable pub greatest : List Request → Option ℕ
   greatest rs = greatest_from None rs
 
-  abbrev pub kept_as : {M : Type 0} → Option ℕ → M → List (ℕ × M) → List (ℕ × M)
-  kept_as None reply rest = rest
-  kept_as (Some newest) reply rest = (newest, reply) ∷ rest
-
-  -- the replies that are kept on the channel c, each with the instance that is the newest one then
+  -- the replies that are kept on the channel c, each with the instance that is the greatest one then
   unfoldable pub kept_from : {M : Type 0} → Option ℕ → List (Call M) → List (ℕ × M)
   kept_from before [] = []
   kept_from before (accepts d instance ∷ calls) = kept_from (if is_same c d then greater before instance else before) calls
@@ -71,7 +74,7 @@ abbrev pub or_else : {X : Type 0} → Option X → Option X → Option X
 or_else None b = b
 or_else (Some x) b = Some x
 
--- the last of the replies that is for the newest instance
+-- the last of the replies that are for this instance
 unfoldable pub last_for : {M : Type 0} → Option ℕ → List (ℕ × M) → Option M
 last_for newest [] = None
 last_for newest (r ∷ rs) = or_else (last_for newest rs) (if is_newest newest r.0 then Some r.1 else None)

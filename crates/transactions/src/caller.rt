@@ -75,7 +75,7 @@ impl Model for Opened {
 }
 
 impl Opened {
-    /// Ends the request's deadline with this tick?
+    /// Whether this tick is the last one of its deadline.
     fn is_last(&self) -> bool
         ensures { result ≡ is_last self.now.deadline }
     {
@@ -124,8 +124,9 @@ impl Caller {
         }
     }
 
-    /// Opens a request to the peer, for the terminal of this channel, and gives its instance. It expires at the `deadline`th of
-    /// the coming ticks (at the first one also where that is 0). Room for its octets is made.
+    /// Opens a request to the peer, for the terminal of this channel, and gives its instance: the one after the last. It expires
+    /// at the `deadline`th of the coming ticks (at the first one also where that is 0). Room for its octets is made. It is refused
+    /// where a request is open on the channel, and where the last instance was 2^32 - 1; then, and out of memory, nothing changes.
     #[tactic(auto, unfolding(transaction_defs::specs::Callers::begin, transaction_defs::specs::Callers::opened_at))]
     pub fn begin(&mut self, channel: Channel, deadline: Option<u16>) -> Result<u32, BeginError>
         ensures gives { BeginGives (begin self.old channel deadline) self.new result }
@@ -184,7 +185,8 @@ impl Caller {
         opened.request = Some(bytes);
     }
 
-    /// Whether a reply with this instance answers the open request of this channel. The request stays open.
+    /// Whether a reply with this instance answers the open request of this channel. The request stays open: whoever acts on the
+    /// reply closes it.
     #[tactic(auto, unfolding(transaction_defs::specs::Callers::is_awaited, transaction_defs::specs::Callers::opened_at))]
     pub fn reply(&self, channel: &Channel, instance: u32) -> Reply
         ensures { result ≡ reply_as (is_awaited self.now channel.now instance) }
