@@ -1,2 +1,3 @@
 pub mod Tunnels
 pub mod Facts
+pub mod Frames

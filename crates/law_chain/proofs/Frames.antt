@@ -1,0 +1,172 @@
+-- One context changes, or one and the one that it feeds; all others stay. Facts stay as more is offered, delivered and sent.
+use Rattle.std.proofs.Common.{◌≡◌, ◌≢◌, ℕ, ◌+◌, ◌<◌, ◌≤◌, ◌==◌, Bool, true, false, if◌then◌else◌, List, [], ◌∷◌, ◌++◌, is_some, refl, sym, ap, subst, ◌∙◌, true≢false, eqb-true, max, arith}
+use Rattle.std.specs.List.{AllByRecursion}
+use Rattle.law_intervals.specs.Intervals.{upto, HasNoGap, reach}
+use Rattle.law_intervals.proofs.Intervals.{upto-cons, upto-nil, upto-no_gap, upto-reach, HasNoGap-append, reach-append, reach-le}
+use Rattle.chain_defs.specs.Parts.{Item, Member, Part, set, is_open, is_fed}
+use Rattle.chain_defs.specs.Orders.{changed, put_on, passed, sent}
+use Rattle.chain_defs.specs.Guards.{Feeds}
+use Rattle.law_chain.proofs.Facts.{Ghost, View, view, pairs, Own, Numbers, Tunnels, IsFed, IsN3, Spoken, IsPath, IsStation, Fine, Out, out, In, into, Link, Linked, Radio, RadioOf, Kept, Good}
+
+pub apart : {b : Bool} {X : Type 0} → b ≡ true → b ≡ false → X
+apart h k = absurd (true≢false (sym h ∙ k))
+
+differ : (q k : ℕ) → q ≢ k → (q == k) ≡ false
+differ q k h = grind arith
+
+-- ---- functions with a value changed
+
+module _ {X : Type 0} (f : ℕ → X) (k : ℕ) (x : X) where
+  set_by : (q : ℕ) (t : Bool) → t ≡ true → (if t then x else f q) ≡ x
+  set_by q true h = refl
+  set_by q false h = apart h refl
+
+  not_by : (q : ℕ) (t : Bool) → t ≡ false → (if t then x else f q) ≡ f q
+  not_by q true h = apart refl h
+  not_by q false h = refl
+
+  pub set_here : set f k x k ≡ x
+  set_here = set_by k (k == k) (grind arith)
+
+  pub set_far : (q : ℕ) → q ≢ k → set f k x q ≡ f q
+  set_far q h = not_by q (q == k) (differ q k h)
+
+pub put_each : {X Y : Type 0} (P : ℕ → X → Y → Type 0) (cs : ℕ → X) (g : ℕ → Y) (x : ℕ) (c : X) (h : Y) → P x c h
+    → ((q : ℕ) → q ≢ x → P q (cs q) (g q)) → (q : ℕ) → P q (set cs x c q) (set g x h q)
+put_each {X} {Y} P cs g x c h here far q = by (q == x) refl
+  where
+    by : (t : Bool) → (q == x) ≡ t → P q (if t then c else cs q) (if t then h else g q)
+    by true e = subst (λ i. P i c h) (sym (eqb-true q x e)) here
+    by false e = far q (λ (k : q ≡ x). apart (subst (λ i. (i == x) ≡ true) (sym k) (grind arith)) e)
+
+pub put_pairs : {X Y : Type 0} (Q : ℕ → X → Y → ℕ → X → Y → Type 0) (cs : ℕ → X) (g : ℕ → Y) (x : ℕ) (c : X) (h : Y)
+    → ((q r : ℕ) → q ≢ x → r ≢ x → Q q (cs q) (g q) r (cs r) (g r))
+    → Q x c h x c h
+    → ((r : ℕ) → r ≢ x → Q x c h r (cs r) (g r))
+    → ((q : ℕ) → q ≢ x → Q q (cs q) (g q) x c h)
+    → (q r : ℕ) → Q q (set cs x c q) (set g x h q) r (set cs x c r) (set g x h r)
+put_pairs Q cs g x c h all self from to q =
+    put_each (λ i m k. (r : ℕ) → Q i m k r (set cs x c r) (set g x h r)) cs g x c h
+    (put_each (λ r m k. Q x c h r m k) cs g x c h self from)
+    (λ i e. put_each (λ r m k. Q i (cs i) (g i) r m k) cs g x c h (to i e) (λ r n. all i r e n))
+    q
+
+-- ---- facts stay
+
+pub record Later (b c : View) : Type 0 where
+  pub epoch : b.epoch ≤ c.epoch
+  pub offered : b.offered ≤ c.offered
+  pub deliv : b.deliv ≤ c.deliv
+  pub reached : b.epoch ≡ c.epoch → b.reached ≤ c.reached
+
+fed_later : (p : ℕ → List ℕ) (b c : ℕ) (xs : List Item) (held base top hop_held hop_top n3_low : ℕ) (ended : Bool) → b ≤ c
+    → IsFed p b xs held base top hop_held hop_top n3_low ended → IsFed p c xs held base top hop_held hop_top n3_low ended
+fed_later p b c xs held base top hop_held hop_top n3_low ended l f = record {
+  items = f.items; held_base = f.held_base; to_come = f.to_come; all_come = f.all_come; top_hop = f.top_hop;
+  hop_offered = (let h = f.hop_offered in omega arith); at_end = f.at_end;
+}
+
+n3_later : (p : ℕ → List ℕ) (b c : ℕ) (xs : List Item) (low high : ℕ) (gone : Bool) → b ≤ c → IsN3 p b xs low high gone → IsN3 p c xs low high gone
+n3_later p b c xs low high gone l f = record { items = f.items; ordered = f.ordered; offered_all = (let h = f.offered_all in omega arith) }
+
+pub own_later : (p : ℕ → List ℕ) (w : ℕ) (b c : View) (m : Member) (g : Ghost) → Later b c → Own p w b m g → Own p w c m g
+own_later p w b c m g l o = record {
+  lists = o.lists;
+  status = o.status;
+  tunnels = record {
+    is_fed = λ f. fed_later p b.offered c.offered _ _ _ _ _ _ _ _ l.offered (o.tunnels.is_fed f);
+    is_n3 = λ f. n3_later p b.offered c.offered _ _ _ _ l.offered (o.tunnels.is_n3 f);
+    fed_open = o.tunnels.fed_open; shut = o.tunnels.shut; shut_n3 = o.tunnels.shut_n3; closed = o.tunnels.closed;
+  };
+  flags = o.flags;
+  spoken = spoken_later o.spoken;
+  numbers = numbers_later o.numbers;
+}
+  where
+    spoken_later : Spoken m.epoch b.epoch g.sent b.reached → Spoken m.epoch c.epoch g.sent c.reached
+    spoken_later k = record {
+      spoke = (let e = k.spoke in let f = l.epoch in omega arith);
+      spoken = λ (e : m.epoch ≡ c.epoch).
+          let now : b.epoch ≡ c.epoch = (let h = k.spoke in let i = l.epoch in omega arith) in
+          let same : m.epoch ≡ b.epoch = omega arith in
+          let h = k.spoken same in let i = l.reached now in omega arith;
+    }
+    numbers_later : Numbers w b.offered b.deliv g.low g.held g.sent g.base g.next g.top → Numbers w c.offered c.deliv g.low g.held g.sent g.base g.next g.top
+    numbers_later n = record {
+      low_held = n.low_held; held_next = n.held_next; next_top = n.next_top;
+      top_offered = (let h = n.top_offered in let i = l.offered in omega arith);
+      low_deliv = (let h = n.low_deliv in let i = l.deliv in omega arith);
+      sent_held = n.sent_held; base_next = n.base_next; window = n.window; none_waits = n.none_waits; all_held = n.all_held;
+    }
+
+-- of others, where neither the path nor the station changes, and nothing is offered
+pub fine_later : (p : ℕ → List ℕ) (w : ℕ) (b c : View) (q : ℕ) (m : Member) (g : Ghost) → Later b c → c.path ≡ b.path → c.station ≡ b.station
+    → c.offered ≡ b.offered → Fine p w b q m g → Fine p w c q m g
+fine_later p w b c q m g l path station offered f = record {
+  own = λ t. own_later p w b c m g l (f.own t);
+  path = λ e. (let k = f.path (e ∙ path) in record {
+    is_there = k.is_there; is_open = k.is_open; is_last = k.is_last ∙ sym offered; is_not_gone = k.is_not_gone; is_pathed = k.is_pathed });
+  station = λ e. f.station (e ∙ station);
+}
+
+-- ---- one context changes
+
+module _ (p : ℕ → List ℕ) (w : ℕ) (s t : Part) (g : ℕ → Ghost) (x : ℕ) (m : Member) (h : Ghost) where
+  pub kept_one : Kept p w s g
+      → Fine p w (view t) x m h
+      → ((q : ℕ) → q ≢ x → Fine p w (view t) q (s.members q) (g q))
+      → (Feeds m x → ⊥)
+      → ((y : ℕ) → y ≢ x → Linked x m h y (s.members y) (g y))
+      → ((y : ℕ) → y ≢ x → Linked y (s.members y) (g y) x m h)
+      → RadioOf p t
+      → Kept p w (record t { members = set s.members x m }) (set g x h)
+  kept_one k here far self from to radio = record {
+    each = put_each (λ q c i. Fine p w (view t) q c i) s.members g x m h here far;
+    links = put_pairs Linked s.members g x m h (λ q r _ _. k.links q r) (λ f _. absurd (self f)) from to;
+    radio = radio;
+  }
+
+-- ---- a frozen context takes an item, and passes it on
+
+-- what of the ghosts of the one that is fed changes
+abbrev pub given : Ghost → ℕ → ℕ → Bool → Ghost
+given g hop_held hop_top ended = record g { hop_held = hop_held; hop_top = hop_top; ended = ended }
+
+abbrev pub with_items : Member → List Item → Member
+with_items m items = record m { forwarded = m.forwarded ++ items }
+
+module _ (p : ℕ → List ℕ) (w : ℕ) (s : Part) (g : ℕ → Ghost) (x : ℕ) (m : Member) (h : Ghost) (items : List Item) (a b : ℕ) (e : Bool) where
+  pass_on : (y : ℕ) → m.next_hop ≡ y → y ≢ x → Kept p w s g
+      → Fine p w (view s) x m h
+      → Fine p w (view s) y (with_items (s.members y) items) (given (g y) a b e)
+      → Linked x m h y (with_items (s.members y) items) (given (g y) a b e)
+      → ((z : ℕ) → z ≢ x → z ≢ y → Linked z (s.members z) (g z) y (with_items (s.members y) items) (given (g y) a b e))
+      → (Feeds (s.members y) y → ⊥)
+      → ((z : ℕ) → z ≢ x → Linked z (s.members z) (g z) x m h)
+      → Kept p w (put_on (changed s x m) y items) (set (set g x h) y (given (g y) a b e))
+  pass_on y leads far k fine_x fine_y link others self to =
+      subst (λ c. Kept p w (record s { members = set (set s.members x m) y (record c { forwarded = c.forwarded ++ items }) }) (set (set g x h) y (given (g y) a b e)))
+      (sym (set_far s.members x m y far)) (record {
+        each = put_each (λ q c i. Fine p w (view s) q c i) (set s.members x m) (set g x h) y (with_items (s.members y) items) (given (g y) a b e) fine_y
+            (λ q _. put_each (λ r c i. Fine p w (view s) r c i) s.members g x m h fine_x (λ r _. k.each r) q);
+        links = put_pairs Linked (set s.members x m) (set g x h) y (with_items (s.members y) items) (given (g y) a b e)
+            pairs_far
+            (λ f _. absurd (self f))
+            y_feeds
+            feeds_y;
+        radio = k.radio;
+      })
+    where
+      pairs_far : (q r : ℕ) → q ≢ y → r ≢ y → Linked q (set s.members x m q) (set g x h q) r (set s.members x m r) (set g x h r)
+      pairs_far q r far_q far_r = put_pairs (λ i c v j d u. i ≢ y → j ≢ y → Linked i c v j d u) s.members g x m h
+          (λ i j _ _ _ _. k.links i j)
+          (λ _ _ f _. absurd (far (sym leads ∙ f.3)))
+          (λ j _ _ o f _. absurd (o (sym f.3 ∙ leads)))
+          (λ i o _ _. to i o)
+          q r far_q far_r
+      y_feeds : (z : ℕ) → z ≢ y → Linked y (with_items (s.members y) items) (given (g y) a b e) z (set s.members x m z) (set g x h z)
+      y_feeds z o = put_each (λ r c i. Linked y (with_items (s.members y) items) (given (g y) a b e) r c i) s.members g x m h
+          (λ f t. to y far f t) (λ r _. λ f t. k.links y r f t) z
+      feeds_y : (z : ℕ) → z ≢ y → Linked z (set s.members x m z) (set g x h z) y (with_items (s.members y) items) (given (g y) a b e)
+      feeds_y z o = put_each (λ r c i. r ≢ y → Linked r c i y (with_items (s.members y) items) (given (g y) a b e)) s.members g x m h
+          (λ _. link) (λ r far_x far_y. others r far_x far_y) z o
