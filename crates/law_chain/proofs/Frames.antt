@@ -1,7 +1,7 @@
 -- One context changes, or one and the one that it feeds; all others stay. Facts stay as more is offered, delivered and sent.
-use Rattle.std.proofs.Common.{◌≡◌, ◌≢◌, ℕ, ◌+◌, ◌<◌, ◌≤◌, ◌==◌, Bool, true, false, if◌then◌else◌, List, [], ◌∷◌, ◌++◌, is_some, refl, sym, ap, subst, ◌∙◌, true≢false, eqb-true, max, arith}
+use Rattle.std.proofs.Common.{◌≡◌, ◌≢◌, ℕ, zero, suc, ◌+◌, ◌-◌, ◌<◌, ◌≤◌, ◌==◌, Bool, true, false, if◌then◌else◌, List, [], ◌∷◌, ◌++◌, is_some, refl, sym, ap, subst, ◌∙◌, true≢false, eqb-true, max, arith}
 use Rattle.std.specs.List.{AllByRecursion}
-use Rattle.law_intervals.specs.Intervals.{upto, HasNoGap, reach}
+use Rattle.law_intervals.specs.Intervals.{segment, upto, HasNoGap, reach}
 use Rattle.law_intervals.proofs.Intervals.{upto-cons, upto-nil, upto-no_gap, upto-reach, HasNoGap-append, reach-append, reach-le}
 use Rattle.chain_defs.specs.Parts.{Item, Member, Part, set, is_open, is_fed}
 use Rattle.chain_defs.specs.Orders.{changed, put_on, passed, sent}
@@ -10,6 +10,9 @@ use Rattle.law_chain.proofs.Facts.{Ghost, View, view, pairs, Own, Numbers, Tunne
 
 pub apart : {b : Bool} {X : Type 0} → b ≡ true → b ≡ false → X
 apart h k = absurd (true≢false (sym h ∙ k))
+
+pub same : (q k : ℕ) → q ≡ k → (q == k) ≡ true
+same q k h = grind arith
 
 differ : (q k : ℕ) → q ≢ k → (q == k) ≡ false
 differ q k h = grind arith
@@ -37,7 +40,7 @@ put_each {X} {Y} P cs g x c h here far q = by (q == x) refl
   where
     by : (t : Bool) → (q == x) ≡ t → P q (if t then c else cs q) (if t then h else g q)
     by true e = subst (λ i. P i c h) (sym (eqb-true q x e)) here
-    by false e = far q (λ (k : q ≡ x). apart (subst (λ i. (i == x) ≡ true) (sym k) (grind arith)) e)
+    by false e = far q (λ (k : q ≡ x). apart (same q x k) e)
 
 pub put_pairs : {X Y : Type 0} (Q : ℕ → X → Y → ℕ → X → Y → Type 0) (cs : ℕ → X) (g : ℕ → Y) (x : ℕ) (c : X) (h : Y)
     → ((q r : ℕ) → q ≢ x → r ≢ x → Q q (cs q) (g q) r (cs r) (g r))
@@ -170,3 +173,91 @@ module _ (p : ℕ → List ℕ) (w : ℕ) (s : Part) (g : ℕ → Ghost) (x : �
       feeds_y : (z : ℕ) → z ≢ y → Linked z (set s.members x m z) (set g x h z) y (with_items (s.members y) items) (given (g y) a b e)
       feeds_y z o = put_each (λ r c i. r ≢ y → Linked r c i y (with_items (s.members y) items) (given (g y) a b e)) s.members g x m h
           (λ _. link) (λ r far_x far_y. others r far_x far_y) z o
+
+-- what it takes for one of a context to be passed on
+module _ (p : ℕ → List ℕ) (w : ℕ) (s : Part) (g : ℕ → Ghost) (x : ℕ) (m : Member) (h : Ghost) (items : List Item) (a b : ℕ) (e : Bool) where
+  abbrev fed_one : Member
+  fed_one = s.members m.next_hop
+
+  abbrev fed_ghost : Ghost
+  fed_ghost = g m.next_hop
+
+  pub kept_pass : Kept p w s g
+      → Feeds (s.members x) m.next_hop
+      → Fine p w (view s) x m h
+      → (Link x (out (g x)) m.next_hop (into fed_one fed_ghost) → Own p w (view s) fed_one fed_ghost
+          → Own p w (view s) (with_items fed_one items) (given fed_ghost a b e))
+      → (Link x (out (g x)) m.next_hop (into fed_one fed_ghost) → Feeds m m.next_hop
+          → Link x (out h) m.next_hop (into (with_items fed_one items) (given fed_ghost a b e)))
+      → ((z : ℕ) → z ≢ x → Linked z (s.members z) (g z) x m h)
+      → Good p w (passed s x m items)
+  kept_pass k feeds fine own link to = (set (set g x h) m.next_hop (given fed_ghost a b e), by fed_one.is_there refl)
+    where
+      by : (t : Bool) → fed_one.is_there ≡ t → Kept p w (passed s x m items) (set (set g x h) m.next_hop (given fed_ghost a b e))
+      by true t =
+          let l = k.links x m.next_hop feeds t in
+          let f = k.each m.next_hop in
+          pass_on p w s g x m h items a b e m.next_hop refl l.other k fine
+          (record { own = λ _. own l (f.own t); path = f.path; station = f.station })
+          (λ i _. link l i)
+          (λ z far _ i j. absurd (far (sym (k.links z m.next_hop i j).from ∙ l.from)))
+          (λ i. (k.links m.next_hop m.next_hop i t).other refl)
+          to
+      by false t =
+          let f = k.each m.next_hop in
+          pass_on p w s g x m h items a b e m.next_hop refl (λ i. apart feeds.0 (subst (λ c. (s.members c).is_there ≡ false) i t)) k fine
+          (record { own = λ j. apart j t; path = f.path; station = f.station })
+          (λ _ j. apart j t)
+          (λ z _ _ _ j. apart j t)
+          (λ i. apart i.0 t)
+          to
+
+-- ---- the radio
+
+all_append : {X : Type 0} (P : X → Type 0) (xs ys : List X) → AllByRecursion P xs → AllByRecursion P ys → AllByRecursion P (xs ++ ys)
+all_append P [] ys h k = k
+all_append P (x ∷ xs) ys h k = (h.0, all_append P xs ys h.1 k)
+
+segment_packets : (p : ℕ → List ℕ) (a n : ℕ) → AllByRecursion (λ (e : ℕ × List ℕ). e.1 ≡ p e.0) (segment (pairs p) a n)
+unfolding segment
+segment_packets p a zero = tt
+segment_packets p a (suc n) = (refl, segment_packets p (a + 1) n)
+
+packets_upto : (p : ℕ → List ℕ) (a b : ℕ) → AllByRecursion (λ (e : ℕ × List ℕ). e.1 ≡ p e.0) (upto (pairs p) a b)
+unfolding upto
+packets_upto p a b = segment_packets p a (b - a)
+
+pub upto-one : (p : ℕ → List ℕ) (i : ℕ) → (i, p i) ∷ [] ≡ upto (pairs p) i (i + 1)
+upto-one p i =
+    let h : i < i + 1 = omega arith in
+    let l : i + 1 ≤ i + 1 = omega arith in
+    sym (upto-cons (pairs p) i (i + 1) h ∙ ap (λ xs. (i, p i) ∷ xs) (upto-nil (pairs p) (i + 1) (i + 1) l))
+
+-- an interval is sent, by one that speaks to this radio or to another
+pub record Said (p : ℕ → List ℕ) (s : Part) (m : Member) (b : ℕ) (air : List (ℕ × List ℕ)) : Type 0 where
+  pub radio : Radio p s.offered s.terminal.deliv s.terminal.stored air s.delivered
+  pub grows : reach s.terminal.deliv s.air ≤ reach s.terminal.deliv air
+  pub reaches : m.epoch ≡ s.epoch → reach s.terminal.deliv air ≡ max (reach s.terminal.deliv s.air) b
+
+pub said : (p : ℕ → List ℕ) (s : Part) (m : Member) (items : List (ℕ × List ℕ)) (a b : ℕ) → RadioOf p s → items ≡ upto (pairs p) a b
+    → b ≤ s.offered → (m.epoch ≡ s.epoch → a ≤ reach s.terminal.deliv s.air)
+    → Said p s m b (if m.epoch == s.epoch then s.air ++ items else s.air)
+said p s m items a b r is_interval most low = by (m.epoch == s.epoch) refl
+  where
+    by : (t : Bool) → (m.epoch == s.epoch) ≡ t → Said p s m b (if t then s.air ++ items else s.air)
+    by true t =
+        let l = low (eqb-true m.epoch s.epoch t) in
+        let now : reach s.terminal.deliv (s.air ++ items) ≡ max (reach s.terminal.deliv s.air) b =
+            reach-append s.terminal.deliv s.air items ∙ ap (λ xs. reach (reach s.terminal.deliv s.air) xs) is_interval ∙ upto-reach p (reach s.terminal.deliv s.air) a b l in
+        record {
+          radio = record {
+            no_gap = HasNoGap-append s.terminal.deliv s.air items r.no_gap (subst (λ xs. HasNoGap (reach s.terminal.deliv s.air) xs) (sym is_interval) (upto-no_gap p (reach s.terminal.deliv s.air) a b l));
+            packets = all_append _ s.air items r.packets (subst (λ xs. AllByRecursion (λ (e : ℕ × List ℕ). e.1 ≡ p e.0) xs) (sym is_interval) (packets_upto p a b));
+            reached_offered = (let h = r.reached_offered in omega (arith, now));
+            delivered_are = r.delivered_are;
+            none_stored = r.none_stored;
+          };
+          grows = omega (arith, now);
+          reaches = λ _. now;
+        }
+    by false t = record { radio = r; grows = omega arith; reaches = λ e. apart (same m.epoch s.epoch e) t }

@@ -1,3 +1,4 @@
 pub mod Tunnels
 pub mod Facts
 pub mod Frames
+pub mod Taking
