@@ -43,7 +43,7 @@ pub record IsUntouched (m : Member) : Type 0 where
   pub epoch : m.epoch ≡ 0
 
 module _ (sn : SnBits) (quota : ℕ) where
-  pub IsReady : Part → Order → Type 0
+  unfoldable pub IsReady : Part → Order → Type 0
   IsReady s (offers packet) = ⊤
   IsReady s (switches_path to) = ⊤
   IsReady s (makes x target teid) = (s.members x).is_there ≡ false
@@ -80,7 +80,7 @@ module _ (sn : SnBits) (quota : ℕ) where
   IsReady s (sends_again x) = let m = s.members x in (m.is_there ≡ true) × (m.flags.frozen ≡ false)
   IsReady s (carries count packet rest) = s.air ≡ (count, packet) ∷ rest
 
-pub IsOwed : Part → Order → Type 0
+unfoldable pub IsOwed : Part → Order → Type 0
 -- the context that the terminal is at, after the one that feeds it
 IsOwed s (switches_path to) = let m = s.members s.path in (to ≡ s.station) × (m.flags.frozen ≡ true) × (m.next_hop ≡ to)
 -- a new number, which no hop leads to
@@ -97,6 +97,6 @@ IsOwed s (confirms x count) = count < s.terminal.deliv
 IsOwed s (reports x fmc bits) = (fmc ≤ s.terminal.deliv) × (bits ≡ [])
 IsOwed s o = ⊤
 
-pub AreKept : SnBits → ℕ → Part → List Order → Type 0
+unfoldable pub AreKept : SnBits → ℕ → Part → List Order → Type 0
 AreKept sn quota s [] = ⊤
 AreKept sn quota s (o ∷ os) = IsReady sn quota s o × IsOwed s o × AreKept sn quota (after s o) os

@@ -98,7 +98,7 @@ sent s m items = record s { air = if m.epoch == s.epoch then s.air ++ items else
 abbrev pub handed : Part → Bool → Delivery (List ℕ) → Part
 handed s is_known d = if is_known then s else record s { terminal = d.after; delivered = s.delivered ++ d.packets }
 
-pub after : Part → Order → Part
+unfoldable pub after : Part → Order → Part
 after s (offers packet) =
     let m = s.members s.path in
     record (changed s s.path (record m { n3 = m.n3 ++ fresh packet ∷ [] })) { offered = s.offered + 1 }
@@ -170,12 +170,12 @@ after s (carries count packet rest) =
     let t = s.terminal in
     handed (record s { air = rest }) (is_duplicate t count) (deliver (stored t count packet))
 
-pub run : Part → List Order → Part
+unfoldable pub run : Part → List Order → Part
 run s [] = s
 run s (o ∷ os) = run (after s o) os
 
 -- the packets that a list of orders offers
-pub offers_in : List Order → List (List ℕ)
+unfoldable pub offers_in : List Order → List (List ℕ)
 offers_in [] = []
 offers_in (offers packet ∷ os) = packet ∷ offers_in os
 offers_in (o ∷ os) = offers_in os

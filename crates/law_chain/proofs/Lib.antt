@@ -2,3 +2,4 @@ pub mod Tunnels
 pub mod Facts
 pub mod Frames
 pub mod Taking
+pub mod Gets

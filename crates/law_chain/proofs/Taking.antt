@@ -84,13 +84,14 @@ module _ (p : ℕ → List ℕ) (w : ℕ) (b : View) (fed open_ : Bool) (forward
         };
       })
 
-  pub took_end : (rest : List Item) (now : Bool) → now ≡ false → forwarded ≡ end_marker ∷ rest → Took g.held g.sent g.top g.n3_low rest n3 open_ now
+  pub took_end : (rest : List Item) (now : Bool) → now ≡ false → forwarded ≡ end_marker ∷ rest
+      → (g.ended ≡ true) × Took g.held g.sent g.top g.n3_low rest n3 open_ now
   took_end rest now shut h =
       let is = fed_by end_marker rest h in
       let f = t.is_fed is in
       let j = shape-end p g.held g.hop_held g.top g.hop_top g.ended rest (sym f.items ∙ h) in
       let at = f.at_end j.2 in
-      record {
+      (j.2, record {
         tunnels = record {
           is_fed = λ u. apart u shut;
           is_n3 = t.is_n3;
@@ -100,7 +101,7 @@ module _ (p : ℕ → List ℕ) (w : ℕ) (b : View) (fed open_ : Bool) (forward
           closed = t.closed;
         };
         numbers = n;
-      }
+      })
 
   -- ---- from N3, whose hop has ended
 
@@ -158,9 +159,9 @@ module _ (p : ℕ → List ℕ) (w : ℕ) (b : View) (fed open_ : Bool) (forward
   with_fed hop_held hop_top ended items is f = record {
     is_fed = λ _. f; is_n3 = t.is_n3; fed_open = t.fed_open; shut = λ u. apart is u; shut_n3 = λ u _. apart is u; closed = t.closed }
 
-  pub gave_numbered : fed ≡ true → g.ended ≡ false → g.hop_held < g.base → g.hop_top ≤ g.base
+  gave_count : fed ≡ true → g.ended ≡ false → g.hop_held < g.base → g.hop_top ≤ g.base
       → With (g.hop_held + 1) g.hop_top g.ended (numbered g.hop_held (p g.hop_held) ∷ [])
-  gave_numbered is not_ended low tops =
+  gave_count is not_ended low tops =
       let f = t.is_fed is in
       let come = f.to_come low in
       let below : g.hop_top ≤ g.top = (let c = n.base_next in let d = n.next_top in omega arith) in
@@ -171,15 +172,24 @@ module _ (p : ℕ → List ℕ) (w : ℕ) (b : View) (fed open_ : Bool) (forward
         top_hop = f.top_hop; hop_offered = f.hop_offered; at_end = λ u. apart u not_ended;
       })
 
-  pub gave_fresh : fed ≡ true → g.ended ≡ false → g.hop_held ≡ g.base → g.hop_top < b.offered
+  pub gave_numbered : (i : ℕ) (x : List ℕ) → i ≡ g.hop_held → x ≡ p g.hop_held → fed ≡ true → g.ended ≡ false → g.hop_held < g.base → g.hop_top ≤ g.base
+      → With (g.hop_held + 1) g.hop_top g.ended (numbered i x ∷ [])
+  gave_numbered i x count_is packet_is is not_ended low tops =
+      rw (count_is, packet_is) (gave_count is not_ended low tops)
+
+  gave_next : fed ≡ true → g.ended ≡ false → g.hop_held ≡ g.base → g.hop_top < b.offered
       → With g.hop_held (g.hop_top + 1) g.ended (fresh (p g.hop_top) ∷ [])
-  gave_fresh is not_ended all less =
+  gave_next is not_ended all less =
       let f = t.is_fed is in
       with_fed g.hop_held (g.hop_top + 1) g.ended (fresh (p g.hop_top) ∷ []) is (record {
         items = rw (f.items, not_ended) (shape-put p g.held g.hop_held g.top g.hop_top f.top_hop);
         held_base = f.held_base; to_come = f.to_come; all_come = λ _. all;
         top_hop = (let c = f.top_hop in omega arith); hop_offered = omega arith; at_end = λ u. apart u not_ended;
       })
+
+  pub gave_fresh : (x : List ℕ) → x ≡ p g.hop_top → fed ≡ true → g.ended ≡ false → g.hop_held ≡ g.base → g.hop_top < b.offered
+      → With g.hop_held (g.hop_top + 1) g.ended (fresh x ∷ [])
+  gave_fresh x packet_is is not_ended all less = rw packet_is (gave_next is not_ended all less)
 
   pub gave_end : fed ≡ true → g.ended ≡ false → g.hop_held ≡ g.base → g.n3_low ≡ g.hop_top
       → With g.hop_held g.hop_top true (end_marker ∷ [])
