@@ -40,7 +40,6 @@ pub record IsUntouched (m : Member) : Type 0 where
   pub waiting : m.bearer.waiting ≡ []
   pub n3 : m.n3 ≡ []
   pub forwarded : m.forwarded ≡ []
-  pub epoch : m.epoch ≡ 0
 
 module _ (sn : SnBits) (quota : ℕ) where
   unfoldable pub IsReady : Part → Order → Type 0
@@ -91,7 +90,7 @@ IsOwed s (switches x downlink epoch) = (x ≡ s.station) × (epoch ≤ s.epoch)
 IsOwed s (resumes x) = x ≡ s.station
 IsOwed s (releases x) = ((s.members x).flags.frozen ≡ true) × (x ≢ s.station)
 IsOwed s (closes x) = (x ≢ s.station) × (x ≢ s.path)
-IsOwed s (arrives x) = let m = s.members s.station in (m.flags.frozen ≡ true) × (m.next_hop ≡ x) × ((s.members x).is_there ≡ true)
+IsOwed s (arrives x) = let m = s.members s.station in (m.flags.frozen ≡ true) × (m.next_hop ≡ x) × ((s.members x).is_there ≡ true) × ((s.members x).flags.frozen ≡ false)
 -- what is confirmed was received
 IsOwed s (confirms x count) = count < s.terminal.deliv
 IsOwed s (reports x fmc bits) = (fmc ≤ s.terminal.deliv) × (bits ≡ [])

@@ -138,6 +138,39 @@ given g hop_held hop_top ended = record g { hop_held = hop_held; hop_top = hop_t
 abbrev pub with_items : Member → List Item → Member
 with_items m items = record m { forwarded = m.forwarded ++ items }
 
+-- one changes and the one that its hop leads to
+module _ (p : ℕ → List ℕ) (w : ℕ) (s t : Part) (g : ℕ → Ghost) (x : ℕ) (m : Member) (h : Ghost) (y : ℕ) (n : Member) (i : Ghost) where
+  pub kept_two : m.next_hop ≡ y → y ≢ x → Kept p w s g
+      → Fine p w (view t) x m h
+      → Fine p w (view t) y n i
+      → ((q : ℕ) → q ≢ x → q ≢ y → Fine p w (view t) q (s.members q) (g q))
+      → Linked x m h y n i
+      → ((z : ℕ) → z ≢ x → z ≢ y → Linked z (s.members z) (g z) y n i)
+      → (Feeds n y → ⊥)
+      → ((z : ℕ) → z ≢ x → z ≢ y → Linked z (s.members z) (g z) x m h)
+      → Linked y n i x m h
+      → ((z : ℕ) → z ≢ x → z ≢ y → Linked y n i z (s.members z) (g z))
+      → RadioOf p t
+      → Kept p w (record t { members = set (set s.members x m) y n }) (set (set g x h) y i)
+  kept_two leads far k fine_x fine_y fine link others self to back on radio = record {
+    each = put_each (λ q c j. Fine p w (view t) q c j) (set s.members x m) (set g x h) y n i fine_y
+        (λ q far_y. put_each (λ r c j. r ≢ y → Fine p w (view t) r c j) s.members g x m h (λ _. fine_x) (λ r far_x far_y. fine r far_x far_y) q far_y);
+    links = put_pairs Linked (set s.members x m) (set g x h) y n i
+        pairs_far
+        (λ f _. absurd (self f))
+        (λ z o. put_each (λ r c j. r ≢ y → Linked y n i r c j) s.members g x m h (λ _. back) (λ r far_x far_y. on r far_x far_y) z o)
+        (λ z o. put_each (λ r c j. r ≢ y → Linked r c j y n i) s.members g x m h (λ _. link) (λ r far_x far_y. others r far_x far_y) z o);
+    radio = radio;
+  }
+    where
+      pairs_far : (q r : ℕ) → q ≢ y → r ≢ y → Linked q (set s.members x m q) (set g x h q) r (set s.members x m r) (set g x h r)
+      pairs_far q r far_q far_r = put_pairs (λ a c v b d u. a ≢ y → b ≢ y → Linked a c v b d u) s.members g x m h
+          (λ a b _ _ _ _. k.links a b)
+          (λ _ _ f _. absurd (far (sym leads ∙ f.3)))
+          (λ b _ _ o f _. absurd (o (sym f.3 ∙ leads)))
+          (λ a o far_y _. to a o far_y)
+          q r far_q far_r
+
 module _ (p : ℕ → List ℕ) (w : ℕ) (s : Part) (g : ℕ → Ghost) (x : ℕ) (m : Member) (h : Ghost) (items : List Item) (a b : ℕ) (e : Bool) where
   pass_on : (y : ℕ) → m.next_hop ≡ y → y ≢ x → Kept p w s g
       → Fine p w (view s) x m h
@@ -149,30 +182,9 @@ module _ (p : ℕ → List ℕ) (w : ℕ) (s : Part) (g : ℕ → Ghost) (x : �
       → Kept p w (put_on (changed s x m) y items) (set (set g x h) y (given (g y) a b e))
   pass_on y leads far k fine_x fine_y link others self to =
       subst (λ c. Kept p w (record s { members = set (set s.members x m) y (record c { forwarded = c.forwarded ++ items }) }) (set (set g x h) y (given (g y) a b e)))
-      (sym (set_far s.members x m y far)) (record {
-        each = put_each (λ q c i. Fine p w (view s) q c i) (set s.members x m) (set g x h) y (with_items (s.members y) items) (given (g y) a b e) fine_y
-            (λ q _. put_each (λ r c i. Fine p w (view s) r c i) s.members g x m h fine_x (λ r _. k.each r) q);
-        links = put_pairs Linked (set s.members x m) (set g x h) y (with_items (s.members y) items) (given (g y) a b e)
-            pairs_far
-            (λ f _. absurd (self f))
-            y_feeds
-            feeds_y;
-        radio = k.radio;
-      })
-    where
-      pairs_far : (q r : ℕ) → q ≢ y → r ≢ y → Linked q (set s.members x m q) (set g x h q) r (set s.members x m r) (set g x h r)
-      pairs_far q r far_q far_r = put_pairs (λ i c v j d u. i ≢ y → j ≢ y → Linked i c v j d u) s.members g x m h
-          (λ i j _ _ _ _. k.links i j)
-          (λ _ _ f _. absurd (far (sym leads ∙ f.3)))
-          (λ j _ _ o f _. absurd (o (sym f.3 ∙ leads)))
-          (λ i o _ _. to i o)
-          q r far_q far_r
-      y_feeds : (z : ℕ) → z ≢ y → Linked y (with_items (s.members y) items) (given (g y) a b e) z (set s.members x m z) (set g x h z)
-      y_feeds z o = put_each (λ r c i. Linked y (with_items (s.members y) items) (given (g y) a b e) r c i) s.members g x m h
-          (λ f t. to y far f t) (λ r _. λ f t. k.links y r f t) z
-      feeds_y : (z : ℕ) → z ≢ y → Linked z (set s.members x m z) (set g x h z) y (with_items (s.members y) items) (given (g y) a b e)
-      feeds_y z o = put_each (λ r c i. r ≢ y → Linked r c i y (with_items (s.members y) items) (given (g y) a b e)) s.members g x m h
-          (λ _. link) (λ r far_x far_y. others r far_x far_y) z o
+      (sym (set_far s.members x m y far))
+      (kept_two p w s s g x m h y (with_items (s.members y) items) (given (g y) a b e) leads far k fine_x fine_y (λ q _ _. k.each q) link others self
+      (λ z o _. to z o) (λ f t. to y far f t) (λ z _ _ f t. k.links y z f t) k.radio)
 
 -- what it takes for one of a context to be passed on
 module _ (p : ℕ → List ℕ) (w : ℕ) (s : Part) (g : ℕ → Ghost) (x : ℕ) (m : Member) (h : Ghost) (items : List Item) (a b : ℕ) (e : Bool) where

@@ -3,3 +3,4 @@ pub mod Facts
 pub mod Frames
 pub mod Taking
 pub mod Gets
+pub mod Senders

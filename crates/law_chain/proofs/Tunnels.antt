@@ -93,6 +93,10 @@ module _ (p : ℕ → List ℕ) where
           let j = flow-end a b e xs (sym (shape-nil h k a b e o) ∙ i) in
           (o, j.0, j.1, j.2)
 
+  -- with no more COUNTs to come, it doesn't matter which is next
+  pub shape-late : (h k a b : ℕ) (e : Bool) → k ≤ h → shape h k a b e ≡ shape (h + 1) k a b e
+  shape-late h k a b e l = let o : k ≤ h + 1 = omega arith in shape-nil h k a b e l ∙ sym (shape-nil (h + 1) k a b e o)
+
   -- ---- what is put at the end
 
   pub flow-put : (a b : ℕ) → a ≤ b → flow a b false ++ fresh (p b) ∷ [] ≡ flow a (b + 1) false
