@@ -34,6 +34,16 @@ module _ {X : Type 0} (f : ℕ → X) (k : ℕ) (x : X) where
   pub set_far : (q : ℕ) → q ≢ k → set f k x q ≡ f q
   set_far q h = not_by q (q == k) (differ q k h)
 
+-- a value that is there already changes nothing
+pub set_back : {X : Type 0} (f : ℕ → X) (k : ℕ) (x : X) (y : ℕ) → y ≢ k → set (set f k x) y (f y) ≡ set f k x
+set_back f k x y far i q = back q i
+  where
+    by : (q : ℕ) (t : Bool) → (q == y) ≡ t → (if t then f y else set f k x q) ≡ set f k x q
+    by q true e = sym (set_far f k x y far) ∙ ap (set f k x) (sym (eqb-true q y e))
+    by q false e = refl
+    back : (q : ℕ) → set (set f k x) y (f y) q ≡ set f k x q
+    back q = by q (q == y) refl
+
 pub put_each : {X Y : Type 0} (P : ℕ → X → Y → Type 0) (cs : ℕ → X) (g : ℕ → Y) (x : ℕ) (c : X) (h : Y) → P x c h
     → ((q : ℕ) → q ≢ x → P q (cs q) (g q)) → (q : ℕ) → P q (set cs x c q) (set g x h q)
 put_each {X} {Y} P cs g x c h here far q = by (q == x) refl

@@ -4,3 +4,5 @@ pub mod Frames
 pub mod Taking
 pub mod Gets
 pub mod Senders
+pub mod Control
+pub mod Core
