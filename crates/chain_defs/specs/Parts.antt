@@ -69,7 +69,7 @@ abbrev pub no_member : Member
 no_member = record (new_member false 0) { is_there = false }
 
 -- the terminal is at one context, which no handover made
-pub start : ℕ → ℕ → Part
+unfoldable pub start : ℕ → ℕ → Part
 start first teid = record {
   members = set (λ q. no_member) first (new_member false teid);
   path = first;

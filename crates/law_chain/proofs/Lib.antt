@@ -6,3 +6,5 @@ pub mod Gets
 pub mod Senders
 pub mod Control
 pub mod Core
+pub mod Runs
+pub mod Laws
