@@ -8,3 +8,4 @@ pub mod Control
 pub mod Core
 pub mod Runs
 pub mod Laws
+pub mod Relayed

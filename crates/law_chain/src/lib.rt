@@ -4,9 +4,11 @@
 
 ghost use Rattle.std.specs.Prelude.{◌≡◌, ℕ, List, [], ◌∷◌};
 ghost use Rattle.gnb_types.specs.declared.names.SnBits.{SnBits};
+ghost use Rattle.gnb_types.specs.declared.names.SnBits.TheVariants.{Len12};
 ghost use Rattle.chain_defs.specs.Parts.{Item, start};
 ghost use Rattle.chain_defs.specs.Orders.{Order, drops, run, offers_in};
 ghost use Rattle.chain_defs.specs.Guards.{IsReady, AreKept};
+ghost use Rattle.law_chain.specs.Relay.{relay, a, b, c, d, e};
 ghost use Rattle.law_chain.specs.Words.{DeliversInOrder, CountsArePlaces, KeepsWindow};
 
 /// What is delivered is a prefix of what was offered, each packet once, with COUNTs 0, 1, 2 and so on.
@@ -36,4 +38,12 @@ pub fn drops_no_forwarded_packet()
         → AreKept sn quota (start first teid) orders
         → (at count : ℕ) (packet : List ℕ) (rest : List Item)
         → IsReady sn quota (run (start first teid) orders) (drops at count packet rest) → ⊥ }
+{}
+
+/// What is asked of the orders can be met: five packets over three contexts, where the second handover begins before the
+/// first hop is done.
+pub fn forwards_over_two_hops()
+    ensures guards { AreKept Len12 64 (start 1 10) relay }
+    ensures delivered { (run (start 1 10) relay).delivered
+        ≡ (0, a) ∷ (1, b) ∷ (2, c) ∷ (3, d) ∷ (4, e) ∷ [] }
 {}
