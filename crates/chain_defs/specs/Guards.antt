@@ -1,12 +1,11 @@
 -- What each order asks for. `IsReady` is what the unit tests itself, and what stands where it takes from; `IsOwed` is what control
 -- owes, and what is known of the messages that confirm.
-use Rattle.std.specs.Prelude.{◌≡◌, ◌≢◌, ℕ, ◌<◌, ◌≤◌, Bool, true, false, List, [], ◌∷◌, Option, Some, None, is_some, ⊤}
+use Rattle.std.specs.Prelude.{◌≡◌, ◌≢◌, ℕ, ◌<◌, ◌≤◌, true, false, List, [], ◌∷◌, None, is_some, ⊤}
 use Rattle.gnb_types.specs.declared.names.SnBits.{SnBits}
 use Rattle.pdcp_defs.specs.Senders.{has_room, may_restore}
-use Rattle.unit_defs.specs.UpRecords.{UpBearer, UpFlags, TunnelKind, n3, forwarding_down}
+use Rattle.unit_defs.specs.UpRecords.{TunnelKind, n3, forwarding_down}
 use Rattle.unit_defs.specs.UpItems.{first_held, held_as_target}
-use Rattle.unit_defs.specs.UpBearers.{has_downlink}
-use Rattle.chain_defs.specs.Parts.{Item, numbered, fresh, end_marker, Member, Part, is_open, is_fed}
+use Rattle.chain_defs.specs.Parts.{Item, numbered, fresh, end_marker, Member, Part, is_open}
 use Rattle.chain_defs.specs.Orders.{Order, offers, switches_path, makes, freezes, knows, switches, resumes, releases, closes, arrives, fails, keeps_n3, keeps_fresh, passes_n3, passes_fresh, sends, passes_numbered, drops, ends_n3, ends_hop, numbers, confirms, reports, tells_loss, sends_again, carries, after}
 
 -- an item stands first on a tunnel of this context, and isn't held
@@ -90,7 +89,8 @@ IsOwed s (switches x downlink epoch) = (x ≡ s.station) × (epoch ≤ s.epoch)
 IsOwed s (resumes x) = x ≡ s.station
 IsOwed s (releases x) = ((s.members x).flags.frozen ≡ true) × (x ≢ s.station)
 IsOwed s (closes x) = (x ≢ s.station) × (x ≢ s.path)
-IsOwed s (arrives x) = let m = s.members s.station in (m.flags.frozen ≡ true) × (m.next_hop ≡ x) × ((s.members x).is_there ≡ true) × ((s.members x).flags.frozen ≡ false)
+IsOwed s (arrives x) = let m = s.members s.station in (m.flags.frozen ≡ true) × (m.next_hop ≡ x) × ((s.members x).is_there ≡ true) ×
+    ((s.members x).flags.frozen ≡ false)
 -- what is confirmed was received
 IsOwed s (confirms x count) = count < s.terminal.deliv
 IsOwed s (reports x fmc bits) = (fmc ≤ s.terminal.deliv) × (bits ≡ [])

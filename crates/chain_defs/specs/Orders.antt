@@ -1,9 +1,9 @@
 -- What happens to the downlink of one bearer, in small orders: a row of a unit is a list of them.
-use Rattle.std.specs.Prelude.{◌==◌, ℕ, ◌+◌, Bool, true, false, ◌||◌, if◌then◌else◌, List, [], ◌∷◌, ◌++◌, map, Option, Some, None}
+use Rattle.std.specs.Prelude.{◌==◌, ℕ, ◌+◌, Bool, true, false, ◌||◌, if◌then◌else◌, List, [], ◌∷◌, ◌++◌, map, Some, None}
 use Rattle.gnb_types.specs.declared.plans.SnStatus.{SnStatus}
 use Rattle.pdcp_defs.specs.Senders.{numbered as with_next, restored, confirmed_to, confirmed_by}
 use Rattle.pdcp_defs.specs.Receivers.{Delivery, is_duplicate, stored, deliver}
-use Rattle.unit_defs.specs.UpRecords.{Downlink, SourceHop, UpBearer, UpFlags}
+use Rattle.unit_defs.specs.UpRecords.{Downlink, SourceHop, UpBearer}
 use Rattle.unit_defs.specs.UpBearers.{owed, released, thawed}
 use Rattle.chain_defs.specs.Parts.{Item, numbered, fresh, end_marker, Member, Part, set, new_member, no_member}
 
@@ -116,7 +116,8 @@ after s (knows x status) =
     changed s x (record m { flags = record m.flags { has_status = true }; bearer = known m.bearer status })
 after s (switches x downlink epoch) =
     let m = s.members x in
-    let now : Member = record m { flags = record m.flags { frozen = false; arrived = true }; bearer = on_downlink m.bearer downlink; epoch = epoch } in
+    let now : Member = record m
+    { flags = record m.flags { frozen = false; arrived = true }; bearer = on_downlink m.bearer downlink; epoch = epoch } in
     sent (changed s x now) now (if m.flags.has_status then m.bearer.sender.unconfirmed else [])
 after s (resumes x) =
     let m = s.members x in

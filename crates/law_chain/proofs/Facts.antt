@@ -3,7 +3,6 @@
 use Rattle.std.specs.Prelude.{◌≡◌, ◌≢◌, ℕ, ◌+◌, ◌<◌, ◌≤◌, Bool, true, false, List, [], is_some}
 use Rattle.std.specs.List.{AllByRecursion}
 use Rattle.law_intervals.specs.Intervals.{upto, HasNoGap, reach}
-use Rattle.unit_defs.specs.UpRecords.{UpBearer, UpFlags}
 use Rattle.chain_defs.specs.Parts.{Item, Member, Part, is_open, is_fed}
 use Rattle.chain_defs.specs.Guards.{Feeds}
 use Rattle.law_chain.proofs.Tunnels.{flow, shape}
@@ -53,7 +52,8 @@ view s = record {
 abbrev pub pairs : (ℕ → List ℕ) → ℕ → ℕ × List ℕ
 pairs p = λ i. (i, p i)
 
-pub record Lists (p : ℕ → List ℕ) (is_released is_frozen : Bool) (unconfirmed : List (ℕ × List ℕ)) (taken : List ℕ) (waiting : List (List ℕ))
+pub record Lists (p : ℕ → List ℕ) (is_released is_frozen : Bool) (unconfirmed : List (ℕ × List ℕ)) (taken : List ℕ)
+    (waiting : List (List ℕ))
     (low held sent next top : ℕ) : Type 0 where
   pub unconfirmed_are : is_released ≡ false → unconfirmed ≡ upto (pairs p) low held
   pub taken_are : is_released ≡ false → is_frozen ≡ true → taken ≡ upto (λ i. i) sent held
@@ -134,7 +134,8 @@ pub record Numbers (w offered deliv low held sent base next top : ℕ) : Type 0 
   pub all_held : base ≤ held → held ≡ next
 
 pub record Own (p : ℕ → List ℕ) (w : ℕ) (b : View) (m : Member) (g : Ghost) : Type 0 where
-  pub lists : Lists p m.flags.released m.flags.frozen m.bearer.sender.unconfirmed m.bearer.taken_while_frozen m.bearer.waiting g.low g.held g.sent g.next g.top
+  pub lists : Lists p m.flags.released m.flags.frozen m.bearer.sender.unconfirmed m.bearer.taken_while_frozen m.bearer.waiting g.low
+      g.held g.sent g.next g.top
   pub status : Status m.flags.has_status m.bearer.sender.next m.promised g.low g.held g.next
   pub tunnels : Tunnels p b.offered (is_fed m) (is_open m.bearer.n3) m.forwarded m.n3 (ends_of g)
   pub flags : Flags m.flags.frozen m.flags.released (is_some m.bearer.hop) g.sent g.held g.gone

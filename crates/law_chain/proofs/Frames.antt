@@ -1,12 +1,12 @@
 -- One context changes, or one and the one that it feeds; all others stay. Facts stay as more is offered, delivered and sent.
-use Rattle.std.proofs.Common.{◌≡◌, ◌≢◌, ℕ, zero, suc, ◌+◌, ◌-◌, ◌<◌, ◌≤◌, ◌==◌, Bool, true, false, if◌then◌else◌, List, [], ◌∷◌, ◌++◌, is_some, refl, sym, ap, subst, ◌∙◌, true≢false, eqb-true, max, arith}
+use Rattle.std.proofs.Common.{◌≡◌, ◌≢◌, ℕ, zero, suc, ◌+◌, ◌-◌, ◌<◌, ◌≤◌, ◌==◌, Bool, true, false, if◌then◌else◌, List, [], ◌∷◌, ◌++◌, refl, sym, ap, subst, ◌∙◌, true≢false, eqb-true, max, arith}
 use Rattle.std.specs.List.{AllByRecursion}
 use Rattle.law_intervals.specs.Intervals.{segment, upto, HasNoGap, reach}
-use Rattle.law_intervals.proofs.Intervals.{upto-cons, upto-nil, upto-no_gap, upto-reach, HasNoGap-append, reach-append, reach-le}
-use Rattle.chain_defs.specs.Parts.{Item, Member, Part, set, is_open, is_fed}
-use Rattle.chain_defs.specs.Orders.{changed, put_on, passed, sent}
+use Rattle.law_intervals.proofs.Intervals.{upto-cons, upto-nil, upto-no_gap, upto-reach, HasNoGap-append, reach-append}
+use Rattle.chain_defs.specs.Parts.{Item, Member, Part, set}
+use Rattle.chain_defs.specs.Orders.{changed, put_on, passed}
 use Rattle.chain_defs.specs.Guards.{Feeds}
-use Rattle.law_chain.proofs.Facts.{Ghost, View, view, pairs, Own, Numbers, Tunnels, IsFed, IsN3, Spoken, IsPath, IsStation, Fine, Out, out, In, into, Link, Linked, Radio, RadioOf, Kept, Good}
+use Rattle.law_chain.proofs.Facts.{Ghost, View, view, pairs, Own, Numbers, IsFed, IsN3, Spoken, Fine, out, into, Link, Linked, Radio, RadioOf, Kept, Good}
 
 pub apart : {b : Bool} {X : Type 0} → b ≡ true → b ≡ false → X
 apart h k = absurd (true≢false (sym h ∙ k))
@@ -41,6 +41,7 @@ set_back f k x y far i q = back q i
     by : (q : ℕ) (t : Bool) → (q == y) ≡ t → (if t then f y else set f k x q) ≡ set f k x q
     by q true e = sym (set_far f k x y far) ∙ ap (set f k x) (sym (eqb-true q y e))
     by q false e = refl
+
     back : (q : ℕ) → set (set f k x) y (f y) q ≡ set f k x q
     back q = by q (q == y) refl
 
@@ -75,11 +76,17 @@ pub record Later (b c : View) : Type 0 where
 fed_later : (p : ℕ → List ℕ) (b c : ℕ) (xs : List Item) (held base top hop_held hop_top n3_low : ℕ) (ended : Bool) → b ≤ c
     → IsFed p b xs held base top hop_held hop_top n3_low ended → IsFed p c xs held base top hop_held hop_top n3_low ended
 fed_later p b c xs held base top hop_held hop_top n3_low ended l f = record {
-  items = f.items; held_base = f.held_base; to_come = f.to_come; all_come = f.all_come; top_hop = f.top_hop;
-  hop_offered = (let h = f.hop_offered in omega arith); at_end = f.at_end;
+  items = f.items;
+  held_base = f.held_base;
+  to_come = f.to_come;
+  all_come = f.all_come;
+  top_hop = f.top_hop;
+  hop_offered = (let h = f.hop_offered in omega arith);
+  at_end = f.at_end;
 }
 
-n3_later : (p : ℕ → List ℕ) (b c : ℕ) (xs : List Item) (low high : ℕ) (gone : Bool) → b ≤ c → IsN3 p b xs low high gone → IsN3 p c xs low high gone
+n3_later : (p : ℕ → List ℕ) (b c : ℕ) (xs : List Item) (low high : ℕ) (gone : Bool) → b ≤ c → IsN3 p b xs low high gone → IsN3 p c xs
+    low high gone
 n3_later p b c xs low high gone l f = record { items = f.items; ordered = f.ordered; offered_all = (let h = f.offered_all in omega arith) }
 
 pub own_later : (p : ℕ → List ℕ) (w : ℕ) (b c : View) (m : Member) (g : Ghost) → Later b c → Own p w b m g → Own p w c m g
@@ -89,7 +96,10 @@ own_later p w b c m g l o = record {
   tunnels = record {
     is_fed = λ f. fed_later p b.offered c.offered _ _ _ _ _ _ _ _ l.offered (o.tunnels.is_fed f);
     is_n3 = λ f. n3_later p b.offered c.offered _ _ _ _ l.offered (o.tunnels.is_n3 f);
-    fed_open = o.tunnels.fed_open; shut = o.tunnels.shut; shut_n3 = o.tunnels.shut_n3; closed = o.tunnels.closed;
+    fed_open = o.tunnels.fed_open;
+    shut = o.tunnels.shut;
+    shut_n3 = o.tunnels.shut_n3;
+    closed = o.tunnels.closed;
   };
   flags = o.flags;
   spoken = spoken_later o.spoken;
@@ -104,21 +114,35 @@ own_later p w b c m g l o = record {
           let same : m.epoch ≡ b.epoch = omega arith in
           let h = k.spoken same in let i = l.reached now in omega arith;
     }
-    numbers_later : Numbers w b.offered b.deliv g.low g.held g.sent g.base g.next g.top → Numbers w c.offered c.deliv g.low g.held g.sent g.base g.next g.top
+
+    numbers_later : Numbers w b.offered b.deliv g.low g.held g.sent g.base g.next g.top → Numbers w c.offered c.deliv g.low g.held
+        g.sent g.base g.next g.top
     numbers_later n = record {
-      low_held = n.low_held; held_next = n.held_next; next_top = n.next_top;
+      low_held = n.low_held;
+      held_next = n.held_next;
+      next_top = n.next_top;
       top_offered = (let h = n.top_offered in let i = l.offered in omega arith);
       low_deliv = (let h = n.low_deliv in let i = l.deliv in omega arith);
-      sent_held = n.sent_held; base_next = n.base_next; window = n.window; none_waits = n.none_waits; all_held = n.all_held;
+      sent_held = n.sent_held;
+      base_next = n.base_next;
+      window = n.window;
+      none_waits = n.none_waits;
+      all_held = n.all_held;
     }
 
 -- of others, where neither the path nor the station changes, and nothing is offered
-pub fine_later : (p : ℕ → List ℕ) (w : ℕ) (b c : View) (q : ℕ) (m : Member) (g : Ghost) → Later b c → c.path ≡ b.path → c.station ≡ b.station
+pub fine_later : (p : ℕ → List ℕ) (w : ℕ) (b c : View) (q : ℕ) (m : Member) (g : Ghost) → Later b c → c.path ≡ b.path → c.station ≡
+    b.station
     → c.offered ≡ b.offered → Fine p w b q m g → Fine p w c q m g
 fine_later p w b c q m g l path station offered f = record {
   own = λ t. own_later p w b c m g l (f.own t);
   path = λ e. (let k = f.path (e ∙ path) in record {
-    is_there = k.is_there; is_open = k.is_open; is_last = k.is_last ∙ sym offered; is_not_gone = k.is_not_gone; is_pathed = k.is_pathed });
+    is_there = k.is_there;
+    is_open = k.is_open;
+    is_last = k.is_last ∙ sym offered;
+    is_not_gone = k.is_not_gone;
+    is_pathed = k.is_pathed;
+  });
   station = λ e. f.station (e ∙ station);
 }
 
@@ -164,7 +188,8 @@ module _ (p : ℕ → List ℕ) (w : ℕ) (s t : Part) (g : ℕ → Ghost) (x : 
       → Kept p w (record t { members = set (set s.members x m) y n }) (set (set g x h) y i)
   kept_two leads far k fine_x fine_y fine link others self to back on radio = record {
     each = put_each (λ q c j. Fine p w (view t) q c j) (set s.members x m) (set g x h) y n i fine_y
-        (λ q far_y. put_each (λ r c j. r ≢ y → Fine p w (view t) r c j) s.members g x m h (λ _. fine_x) (λ r far_x far_y. fine r far_x far_y) q far_y);
+        (λ q far_y. put_each (λ r c j. r ≢ y → Fine p w (view t) r c j) s.members g x m h (λ _. fine_x)
+        (λ r far_x far_y. fine r far_x far_y) q far_y);
     links = put_pairs Linked (set s.members x m) (set g x h) y n i
         pairs_far
         (λ f _. absurd (self f))
@@ -191,9 +216,11 @@ module _ (p : ℕ → List ℕ) (w : ℕ) (s : Part) (g : ℕ → Ghost) (x : �
       → ((z : ℕ) → z ≢ x → Linked z (s.members z) (g z) x m h)
       → Kept p w (put_on (changed s x m) y items) (set (set g x h) y (given (g y) a b e))
   pass_on y leads far k fine_x fine_y link others self to =
-      subst (λ c. Kept p w (record s { members = set (set s.members x m) y (record c { forwarded = c.forwarded ++ items }) }) (set (set g x h) y (given (g y) a b e)))
+      subst (λ c. Kept p w (record s { members = set (set s.members x m) y (record c { forwarded = c.forwarded ++ items }) })
+      (set (set g x h) y (given (g y) a b e)))
       (sym (set_far s.members x m y far))
-      (kept_two p w s s g x m h y (with_items (s.members y) items) (given (g y) a b e) leads far k fine_x fine_y (λ q _ _. k.each q) link others self
+      (kept_two p w s s g x m h y (with_items (s.members y) items) (given (g y) a b e) leads far k fine_x fine_y (λ q _ _. k.each q)
+      link others self
       (λ z o _. to z o) (λ f t. to y far f t) (λ z _ _ f t. k.links y z f t) k.radio)
 
 -- what it takes for one of a context to be passed on
@@ -208,9 +235,9 @@ module _ (p : ℕ → List ℕ) (w : ℕ) (s : Part) (g : ℕ → Ghost) (x : �
       → Feeds (s.members x) m.next_hop
       → Fine p w (view s) x m h
       → (Link x (out (g x)) m.next_hop (into fed_one fed_ghost) → Own p w (view s) fed_one fed_ghost
-          → Own p w (view s) (with_items fed_one items) (given fed_ghost a b e))
+      → Own p w (view s) (with_items fed_one items) (given fed_ghost a b e))
       → (Link x (out (g x)) m.next_hop (into fed_one fed_ghost) → Feeds m m.next_hop
-          → Link x (out h) m.next_hop (into (with_items fed_one items) (given fed_ghost a b e)))
+      → Link x (out h) m.next_hop (into (with_items fed_one items) (given fed_ghost a b e)))
       → ((z : ℕ) → z ≢ x → Linked z (s.members z) (g z) x m h)
       → Good p w (passed s x m items)
   kept_pass k feeds fine own link to = (set (set g x h) m.next_hop (given fed_ghost a b e), by fed_one.is_there refl)
@@ -270,11 +297,15 @@ said p s m items a b r is_interval most low = by (m.epoch == s.epoch) refl
     by true t =
         let l = low (eqb-true m.epoch s.epoch t) in
         let now : reach s.terminal.deliv (s.air ++ items) ≡ max (reach s.terminal.deliv s.air) b =
-            reach-append s.terminal.deliv s.air items ∙ ap (λ xs. reach (reach s.terminal.deliv s.air) xs) is_interval ∙ upto-reach p (reach s.terminal.deliv s.air) a b l in
+        reach-append s.terminal.deliv s.air items ∙ ap (λ xs. reach (reach s.terminal.deliv s.air) xs) is_interval ∙ upto-reach p
+        (reach s.terminal.deliv s.air) a b l in
         record {
           radio = record {
-            no_gap = HasNoGap-append s.terminal.deliv s.air items r.no_gap (subst (λ xs. HasNoGap (reach s.terminal.deliv s.air) xs) (sym is_interval) (upto-no_gap p (reach s.terminal.deliv s.air) a b l));
-            packets = all_append _ s.air items r.packets (subst (λ xs. AllByRecursion (λ (e : ℕ × List ℕ). e.1 ≡ p e.0) xs) (sym is_interval) (packets_upto p a b));
+            no_gap = HasNoGap-append s.terminal.deliv s.air items r.no_gap
+                (subst (λ xs. HasNoGap (reach s.terminal.deliv s.air) xs) (sym is_interval)
+                (upto-no_gap p (reach s.terminal.deliv s.air) a b l));
+            packets = all_append _ s.air items r.packets
+                (subst (λ xs. AllByRecursion (λ (e : ℕ × List ℕ). e.1 ≡ p e.0) xs) (sym is_interval) (packets_upto p a b));
             reached_offered = (let h = r.reached_offered in omega (arith, now));
             delivered_are = r.delivered_are;
             none_stored = r.none_stored;

@@ -1,16 +1,16 @@
 -- The laws of one bearer's downlink, from what holds after every list of orders.
-use Rattle.std.proofs.Common.{◌≡◌, ℕ, zero, suc, ◌+◌, ◌-◌, ◌<◌, ◌≤◌, max, Bool, true, false, List, [], ◌∷◌, ◌++◌, length, take, Some, slice_get, refl, sym, ap, subst, ◌∙◌, nat_lt, arith}
+use Rattle.std.proofs.Common.{◌≡◌, ℕ, zero, suc, ◌+◌, ◌-◌, ◌<◌, ◌≤◌, max, Bool, true, false, List, [], ◌∷◌, ◌++◌, length, take, Some, slice_get, refl, sym, ap, ◌∙◌, nat_lt, arith}
 use Rattle.std.specs.List.{AllByRecursion, enumerate_from}
 use Rattle.gnb_types.specs.declared.names.SnBits.{SnBits}
 use Rattle.law_intervals.specs.Intervals.{segment, upto, reach}
 use Rattle.law_intervals.proofs.Intervals.{upto-nil, upto-cons, upto-length, reach-le}
-use Rattle.pdcp_defs.specs.Senders.{Sender, window, first, first_of}
-use Rattle.chain_defs.specs.Parts.{Item, numbered, fresh, end_marker, Member, Part, start, is_open, is_fed}
+use Rattle.pdcp_defs.specs.Senders.{window, first, first_of}
+use Rattle.chain_defs.specs.Parts.{Item, numbered, fresh, Part, start, is_open, is_fed}
 use Rattle.chain_defs.specs.Orders.{Order, drops, run, offers_in}
 use Rattle.chain_defs.specs.Guards.{IsReady, AreKept}
 use Rattle.law_chain.specs.Words.{DeliversInOrder, IsInPlace, IsItemInPlace, CountsArePlaces, KeepsWindow}
 use Rattle.law_chain.proofs.Tunnels.{shape, flow, ends}
-use Rattle.law_chain.proofs.Facts.{Ghost, View, view, pairs, Ends, ends_of, Own, Tunnels, Kept, Good}
+use Rattle.law_chain.proofs.Facts.{pairs, Ends, ends_of, Tunnels, Good}
 use Rattle.law_chain.proofs.Core.{never_drops}
 use Rattle.law_chain.proofs.Runs.{stream, agrees, all_offered, kept_run, good_start}
 
@@ -62,8 +62,10 @@ module _ (sn : SnBits) (quota x teid : ℕ) (os : List Order) (kept : AreKept sn
   unfolding DeliversInOrder upto p s
   delivers_in_order =
       let r = good.1.radio in
-      let few : s.terminal.deliv ≤ length (offers_in os) = (let a = r.reached_offered in let b = reach-le s.terminal.deliv s.air in let c = offered in omega arith) in
-      let as_many : length s.delivered ≡ s.terminal.deliv = ap length r.delivered_are ∙ upto-length (pairs p) 0 s.terminal.deliv ∙ omega arith in
+      let few : s.terminal.deliv ≤ length (offers_in os) =
+      (let a = r.reached_offered in let b = reach-le s.terminal.deliv s.air in let c = offered in omega arith) in
+      let as_many : length s.delivered ≡ s.terminal.deliv = ap length r.delivered_are ∙ upto-length (pairs p) 0 s.terminal.deliv ∙ omega
+      arith in
       let from : (i : ℕ) → p (0 + i) ≡ stream (offers_in os) i = λ i. (let e : 0 + i ≡ i = omega arith in ap p e) in
       let same : s.terminal.deliv - 0 ≡ s.terminal.deliv = omega arith in
       r.delivered_are ∙ ap (segment (pairs p) 0) same ∙ first_ones p (offers_in os) 0 s.terminal.deliv from few
@@ -80,15 +82,18 @@ module _ (sn : SnBits) (quota x teid : ℕ) (os : List Order) (kept : AreKept sn
   on_air n (e ∷ es) h l =
       (in_place e.0 (let a = reach-le (max n (e.0 + 1)) es in omega arith) ∙ ap (λ y. Some y) (sym h.0), on_air (max n (e.0 + 1)) es h.1 l)
 
-  forwarded : (fed : Bool) (open_ : Bool) (xs n3 : List Item) (e : Ends) → Tunnels p s.offered fed open_ xs n3 e → e.base ≤ s.offered → e.held ≤ s.offered
+  forwarded : (fed : Bool) (open_ : Bool) (xs n3 : List Item) (e : Ends) → Tunnels p s.offered fed open_ xs n3 e → e.base ≤ s.offered →
+      e.held ≤ s.offered
       → AllByRecursion (IsItemInPlace (offers_in os)) xs
   unfolding shape flow ends
   forwarded true open_ xs n3 e t l h =
       let f = t.is_fed refl in
-      rw f.items (all_append (IsItemInPlace (offers_in os)) (upto (λ i. numbered i (p i)) e.held e.hop_held) (flow p e.top e.hop_top e.ended)
-          (all_upto (IsItemInPlace (offers_in os)) (λ i. numbered i (p i)) e.held e.hop_held (λ i o. in_place i (let a = f.held_base in omega arith)))
-          (all_append (IsItemInPlace (offers_in os)) (upto (λ i. fresh (p i)) e.top e.hop_top) (ends e.ended)
-              (all_upto (IsItemInPlace (offers_in os)) (λ i. fresh (p i)) e.top e.hop_top (λ _ _. tt)) (at_end e.ended)))
+      rw f.items
+      (all_append (IsItemInPlace (offers_in os)) (upto (λ i. numbered i (p i)) e.held e.hop_held) (flow p e.top e.hop_top e.ended)
+      (all_upto (IsItemInPlace (offers_in os)) (λ i. numbered i (p i)) e.held e.hop_held
+      (λ i o. in_place i (let a = f.held_base in omega arith)))
+      (all_append (IsItemInPlace (offers_in os)) (upto (λ i. fresh (p i)) e.top e.hop_top) (ends e.ended)
+      (all_upto (IsItemInPlace (offers_in os)) (λ i. fresh (p i)) e.top e.hop_top (λ _ _. tt)) (at_end e.ended)))
     where
       at_end : (b : Bool) → AllByRecursion (IsItemInPlace (offers_in os)) (ends b)
       at_end true = (tt, tt)
@@ -101,14 +106,16 @@ module _ (sn : SnBits) (quota x teid : ℕ) (os : List Order) (kept : AreKept sn
     unconfirmed = λ q there keeps.
         let o = (good.1.each q).own there in
         let n = o.numbers in
-        rw (o.lists.unconfirmed_are keeps) (all_upto (λ (e : ℕ × List ℕ). IsInPlace (offers_in os) e.0 e.1) (pairs p) (good.0 q).low (good.0 q).held
-            (λ i l. in_place i (let a = n.low_held in let b = n.held_next in let c = n.next_top in let d = n.top_offered in omega arith)));
+        rw (o.lists.unconfirmed_are keeps)
+        (all_upto (λ (e : ℕ × List ℕ). IsInPlace (offers_in os) e.0 e.1) (pairs p) (good.0 q).low (good.0 q).held
+        (λ i l. in_place i (let a = n.low_held in let b = n.held_next in let c = n.next_top in let d = n.top_offered in omega arith)));
     forwarded = λ q there.
         let o = (good.1.each q).own there in
         let n = o.numbers in
         let base : (good.0 q).base ≤ s.offered = (let b = n.base_next in let c = n.next_top in let d = n.top_offered in omega arith) in
         let held : (good.0 q).held ≤ s.offered = (let b = n.held_next in let c = n.next_top in let d = n.top_offered in omega arith) in
-        forwarded (is_fed (s.members q)) (is_open (s.members q).bearer.n3) (s.members q).forwarded (s.members q).n3 (ends_of (good.0 q)) o.tunnels base held;
+        forwarded (is_fed (s.members q)) (is_open (s.members q).bearer.n3) (s.members q).forwarded (s.members q).n3 (ends_of (good.0 q))
+        o.tunnels base held;
     on_air = on_air s.terminal.deliv s.air good.1.radio.packets good.1.radio.reached_offered;
   }
 
@@ -124,8 +131,10 @@ module _ (sn : SnBits) (quota x teid : ℕ) (os : List Order) (kept : AreKept sn
   keeps_window q there keeps known =
       let o = (good.1.each q).own there in
       let n = o.numbers in
-      rw (o.lists.unconfirmed_are keeps, o.status.next_is known) (window_by (good.0 q).next (good.0 q).low (good.0 q).held (window sn quota) n.low_held n.window)
+      rw (o.lists.unconfirmed_are keeps, o.status.next_is known)
+      (window_by (good.0 q).next (good.0 q).low (good.0 q).held (window sn quota) n.low_held n.window)
 
-  pub no_duplicate : (q count : ℕ) (packet : List ℕ) (rest : List Item) → IsReady sn quota (run (start x teid) os) (drops q count packet rest) → ⊥
+  pub no_duplicate : (q count : ℕ) (packet : List ℕ) (rest : List Item) → IsReady sn quota (run (start x teid) os)
+      (drops q count packet rest) → ⊥
   unfolding IsReady s
   no_duplicate q count packet rest r = never_drops p sn quota s good.0 good.1 q count packet rest r.0 r.1 r.2

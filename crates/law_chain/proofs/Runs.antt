@@ -1,19 +1,17 @@
 -- What holds at the start and is kept by each order holds after every list of orders.
-use Rattle.std.proofs.Common.{◌≡◌, ℕ, zero, suc, ◌+◌, ◌-◌, ◌<◌, ◌≤◌, Bool, true, false, List, [], ◌∷◌, ◌++◌, length, take, Some, slice_get, refl, sym, ap, subst, ◌∙◌, true≢false, nat_lt, arith}
+use Rattle.std.proofs.Common.{◌≡◌, ℕ, zero, suc, ◌+◌, ◌≤◌, Bool, true, false, List, [], ◌∷◌, length, refl, sym, ap, subst, ◌∙◌, true≢false, arith}
 use Rattle.std.specs.Prelude.{⊤}
-use Rattle.std.specs.List.{AllByRecursion, enumerate_from}
 use Rattle.gnb_types.specs.declared.names.SnBits.{SnBits}
 use Rattle.law_intervals.specs.Intervals.{segment, upto, HasNoGap, reach}
-use Rattle.law_intervals.proofs.Intervals.{upto-nil, upto-cons, upto-length, reach-le}
-use Rattle.pdcp_defs.specs.Senders.{window, first, first_of}
+use Rattle.pdcp_defs.specs.Senders.{window}
 use Rattle.pdcp_defs.specs.Receivers.{Delivery, is_duplicate, stored, deliver}
 use Rattle.unit_defs.specs.UpBearers.{made}
-use Rattle.chain_defs.specs.Parts.{Item, numbered, fresh, end_marker, Member, Part, set, start, no_member, new_member}
+use Rattle.chain_defs.specs.Parts.{Part, set, start, no_member, new_member}
 use Rattle.chain_defs.specs.Orders.{Order, offers, switches_path, makes, freezes, knows, switches, resumes, releases, closes, arrives, fails, keeps_n3, keeps_fresh, passes_n3, passes_fresh, sends, passes_numbered, drops, ends_n3, ends_hop, numbers, confirms, reports, tells_loss, sends_again, carries, handed, after, run, offers_in}
 use Rattle.chain_defs.specs.Guards.{IsReady, IsOwed, AreKept}
-use Rattle.law_chain.proofs.Tunnels.{shape, flow, shape-none, flow-none}
-use Rattle.law_chain.proofs.Facts.{Ghost, View, view, pairs, Own, Fine, Linked, Kept, Good}
-use Rattle.law_chain.proofs.Frames.{put_each, set_here, set_far}
+use Rattle.law_chain.proofs.Tunnels.{flow-none}
+use Rattle.law_chain.proofs.Facts.{Ghost, view, Fine, Linked, Kept, Good}
+use Rattle.law_chain.proofs.Frames.{put_each}
 use Rattle.law_chain.proofs.Gets.{kept_keeps_n3, kept_keeps_fresh, kept_passes_n3, kept_passes_fresh, kept_sends, kept_passes_numbered, kept_ends_n3, kept_ends_hop}
 use Rattle.law_chain.proofs.Senders.{kept_numbers, kept_confirms, kept_reports, kept_tells_loss, kept_sends_again}
 use Rattle.law_chain.proofs.Control.{kept_makes, kept_freezes, kept_knows, kept_switches, kept_resumes, kept_releases, kept_closes, kept_arrives, kept_fails}
@@ -83,17 +81,23 @@ offers_after : (p : ℕ → List ℕ) (s : Part) (o : Order) (os : List Order) �
     → OfferIs p s o × Agrees p (after s o).offered (offers_in os)
 unfolding after offers_in Agrees OfferIs
 offers_after p s (offers packet) os h = h
-offers_after p s (carries count packet rest) os h = (tt, subst (λ n. Agrees p n (offers_in os)) (sym (heard (is_duplicate s.terminal count) (deliver (stored s.terminal count packet)))) h)
+offers_after p s (carries count packet rest) os h = (
+  tt,
+  subst (λ n. Agrees p n (offers_in os)) (sym (heard (is_duplicate s.terminal count) (deliver (stored s.terminal count packet))))
+      h,
+)
   where
     heard : (b : Bool) (d : Delivery (List ℕ)) → (handed (record s { air = rest }) b d).offered ≡ s.offered
     heard true d = refl
     heard false d = refl
 offers_after p s _ os h = (tt, h)
 
-counts_after : (s : Part) (o : Order) (os : List Order) → (after s o).offered + length (offers_in os) ≡ s.offered + length (offers_in (o ∷ os))
+counts_after : (s : Part) (o : Order) (os : List Order) → (after s o).offered + length (offers_in os) ≡ s.offered + length
+    (offers_in (o ∷ os))
 unfolding after offers_in
 counts_after s (offers packet) os = omega arith
-counts_after s (carries count packet rest) os = ap (λ n. n + length (offers_in os)) (heard (is_duplicate s.terminal count) (deliver (stored s.terminal count packet)))
+counts_after s (carries count packet rest) os = ap (λ n. n + length (offers_in os))
+    (heard (is_duplicate s.terminal count) (deliver (stored s.terminal count packet)))
   where
     heard : (b : Bool) (d : Delivery (List ℕ)) → (handed (record s { air = rest }) b d).offered ≡ s.offered
     heard true d = refl
@@ -116,34 +120,67 @@ kept_run p sn quota s (o ∷ os) k a h =
 -- ---- the start
 
 at_start : Ghost
-at_start = record { low = 0; held = 0; sent = 0; base = 0; next = 0; top = 0; hop_held = 0; hop_top = 0; n3_low = 0; n3_high = 0; from = 0;
-  ended = false; gone = false; pathed = true }
+at_start = record {
+  low = 0;
+  held = 0;
+  sent = 0;
+  base = 0;
+  next = 0;
+  top = 0;
+  hop_held = 0;
+  hop_top = 0;
+  n3_low = 0;
+  n3_high = 0;
+  from = 0;
+  ended = false;
+  gone = false;
+  pathed = true;
+}
 
 pub good_start : (p : ℕ → List ℕ) (w x teid : ℕ) → Good p w (start x teid)
 unfolding at_start made reach HasNoGap upto segment start
-good_start p w x teid = (set (λ _. at_start) x at_start, record {
-  each = put_each (λ q m g. Fine p w (view (start x teid)) q m g) (λ _. no_member) (λ _. at_start) x (new_member false teid) at_start
-      (record {
-        own = λ _. record {
-          lists = record { unconfirmed_are = λ _. refl; taken_are = λ _ _. refl; waiting_are = λ _. refl };
-          status = record { next_is = λ _. refl; promised_is = λ _. refl; early = λ _. refl };
-          tunnels = record {
-            is_fed = λ e. absurd (true≢false (sym e));
-            is_n3 = λ _. record { items = sym (flow-none p 0 0 none); ordered = none; offered_all = none };
-            fed_open = λ _. refl; shut = λ _. (none, refl); shut_n3 = λ _ _. refl; closed = λ e. absurd (true≢false e) };
-          flags = record { serves = λ _. (refl, refl); leads = λ e. absurd (true≢false (sym e)); gone_frozen = λ e. e };
-          spoken = record { spoke = none; spoken = λ _. none };
-          numbers = record {
-            low_held = none; held_next = none; next_top = none; top_offered = none; low_deliv = none; sent_held = none; base_next = none;
-            window = omega arith; none_waits = λ _. refl; all_held = λ _. refl };
-        };
-        path = λ _. record { is_there = refl; is_open = refl; is_last = refl; is_not_gone = refl; is_pathed = refl };
-        station = λ _. record { is_there = refl; keeps = refl; is_not_gone = refl } })
-      (λ q far. record { own = λ e. absurd (true≢false (sym e)); path = λ e. absurd (far e); station = λ e. absurd (far e) });
-  links = λ q r. put_each (λ i m g. Linked i m g r (set (λ _. no_member) x (new_member false teid) r) (set (λ _. at_start) x at_start r)) (λ _. no_member) (λ _. at_start) x
-      (new_member false teid) at_start (λ e _. absurd (true≢false (sym e.1))) (λ i far e _. absurd (true≢false (sym e.0))) q;
-  radio = record { no_gap = tt; packets = tt; reached_offered = none; delivered_are = refl; none_stored = refl };
-})
+good_start p w x teid = (
+  set (λ _. at_start) x at_start,
+  record {
+    each = put_each (λ q m g. Fine p w (view (start x teid)) q m g) (λ _. no_member) (λ _. at_start) x (new_member false teid) at_start
+        (record {
+          own = λ _. record {
+            lists = record { unconfirmed_are = λ _. refl; taken_are = λ _ _. refl; waiting_are = λ _. refl };
+            status = record { next_is = λ _. refl; promised_is = λ _. refl; early = λ _. refl };
+            tunnels = record {
+              is_fed = λ e. absurd (true≢false (sym e));
+              is_n3 = λ _. record { items = sym (flow-none p 0 0 none); ordered = none; offered_all = none };
+              fed_open = λ _. refl;
+              shut = λ _. (none, refl);
+              shut_n3 = λ _ _. refl;
+              closed = λ e. absurd (true≢false e);
+            };
+            flags = record { serves = λ _. (refl, refl); leads = λ e. absurd (true≢false (sym e)); gone_frozen = λ e. e };
+            spoken = record { spoke = none; spoken = λ _. none };
+            numbers = record {
+              low_held = none;
+              held_next = none;
+              next_top = none;
+              top_offered = none;
+              low_deliv = none;
+              sent_held = none;
+              base_next = none;
+              window = omega arith;
+              none_waits = λ _. refl;
+              all_held = λ _. refl;
+            };
+          };
+          path = λ _. record { is_there = refl; is_open = refl; is_last = refl; is_not_gone = refl; is_pathed = refl };
+          station = λ _. record { is_there = refl; keeps = refl; is_not_gone = refl };
+        })
+        (λ q far. record { own = λ e. absurd (true≢false (sym e)); path = λ e. absurd (far e); station = λ e. absurd (far e) });
+    links = λ q r. put_each
+        (λ i m g. Linked i m g r (set (λ _. no_member) x (new_member false teid) r) (set (λ _. at_start) x at_start r)) (λ _. no_member)
+        (λ _. at_start) x
+        (new_member false teid) at_start (λ e _. absurd (true≢false (sym e.1))) (λ i far e _. absurd (true≢false (sym e.0))) q;
+    radio = record { no_gap = tt; packets = tt; reached_offered = none; delivered_are = refl; none_stored = refl };
+  },
+)
   where
     none : 0 ≤ 0
     none = omega arith

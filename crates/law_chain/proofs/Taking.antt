@@ -1,10 +1,10 @@
 -- An item is taken from a tunnel, or put on the next one: what the tunnels hold then.
-use Rattle.std.proofs.Common.{◌≡◌, ℕ, ◌+◌, ◌<◌, ◌≤◌, Bool, true, false, not, ◌&&◌, List, [], ◌∷◌, ◌++◌, Option, Some, None, refl, sym, ap, subst, ◌∙◌, true≢false, arith}
-use Rattle.unit_defs.specs.UpItems.{first_held, held_as_target}
+use Rattle.std.proofs.Common.{◌≡◌, ℕ, ◌+◌, ◌<◌, ◌≤◌, Bool, true, false, not, List, [], ◌∷◌, ◌++◌, None, refl, sym, ap, ◌∙◌, true≢false, arith}
+use Rattle.unit_defs.specs.UpItems.{first_held}
 use Rattle.gnb_types.specs.declared.reasons.HeldReason.TheVariants.{NoStatus, NotArrived, Early}
 use Rattle.chain_defs.specs.Parts.{Item, numbered, fresh, end_marker}
-use Rattle.law_chain.proofs.Tunnels.{flow, shape, flow-fresh, flow-end, shape-numbered, shape-fresh, shape-end, shape-put, shape-close, shape-put_numbered}
-use Rattle.law_chain.proofs.Facts.{Ghost, View, Ends, ends_of, Tunnels, IsFed, IsN3, Numbers, Out, out, In, Link}
+use Rattle.law_chain.proofs.Tunnels.{flow-fresh, flow-end, shape-numbered, shape-fresh, shape-end, shape-put, shape-close, shape-put_numbered}
+use Rattle.law_chain.proofs.Facts.{Ghost, View, ends_of, Tunnels, IsFed, Numbers}
 use Rattle.law_chain.proofs.Frames.{apart, given}
 
 -- one that was not held has its status; on N3 the hop has ended
@@ -40,23 +40,42 @@ module _ (p : ℕ → List ℕ) (w : ℕ) (b : View) (fed open_ : Bool) (forward
       let f = t.is_fed is in
       let j = shape-numbered p g.held g.hop_held g.top g.hop_top g.ended i x rest (sym f.items ∙ h) in
       let low : g.held < g.base = (let c = j.0 in let d = f.held_base in omega arith) in
-      let tops : g.top ≡ g.base = n.none_waits low in
-      (j.1, j.2, low, tops, record {
-        tunnels = record {
-          is_fed = λ _. record {
-            items = j.3; held_base = f.held_base; to_come = λ _. (let c = j.0 in omega arith); all_come = f.all_come; top_hop = f.top_hop;
-            hop_offered = f.hop_offered; at_end = f.at_end;
+      let tops : g.top ≡ g.base = n.none_waits low in (
+        j.1,
+        j.2,
+        low,
+        tops,
+        record {
+          tunnels = record {
+            is_fed = λ _. record {
+              items = j.3;
+              held_base = f.held_base;
+              to_come = λ _. (let c = j.0 in omega arith);
+              all_come = f.all_come;
+              top_hop = f.top_hop;
+              hop_offered = f.hop_offered;
+              at_end = f.at_end;
+            };
+            is_n3 = t.is_n3;
+            fed_open = t.fed_open;
+            shut = λ u. apart is u;
+            shut_n3 = λ u _. apart is u;
+            closed = t.closed;
           };
-          is_n3 = t.is_n3; fed_open = t.fed_open; shut = λ u. apart is u; shut_n3 = λ u _. apart is u; closed = t.closed;
-        };
-        numbers = record {
-          low_held = (let c = n.low_held in omega arith);
-          held_next = (let c = n.base_next in omega arith);
-          next_top = n.next_top; top_offered = n.top_offered; low_deliv = n.low_deliv; sent_held = sent_low; base_next = n.base_next; window = n.window;
-          none_waits = λ _. tops;
-          all_held = λ l. (let c = n.base_next in let d = n.next_top in omega arith);
-        };
-      })
+          numbers = record {
+            low_held = (let c = n.low_held in omega arith);
+            held_next = (let c = n.base_next in omega arith);
+            next_top = n.next_top;
+            top_offered = n.top_offered;
+            low_deliv = n.low_deliv;
+            sent_held = sent_low;
+            base_next = n.base_next;
+            window = n.window;
+            none_waits = λ _. tops;
+            all_held = λ l. (let c = n.base_next in let d = n.next_top in omega arith);
+          };
+        },
+      )
 
   pub took_fresh : (x : List ℕ) (rest : List Item) → forwarded ≡ fresh x ∷ rest
       → (x ≡ p g.top) × (g.base ≤ g.held) × (g.top < b.offered) × Took g.held g.sent (g.top + 1) g.n3_low rest n3 open_ fed
@@ -67,22 +86,41 @@ module _ (p : ℕ → List ℕ) (w : ℕ) (b : View) (fed open_ : Bool) (forward
       let below : g.base < g.hop_top = (let c = n.base_next in let d = n.next_top in let e = j.1 in omega arith) in
       let all = f.all_come below in
       let come : g.base ≤ g.held = (let c = j.0 in omega arith) in
-      let less : g.top < b.offered = (let c = j.1 in let d = f.hop_offered in omega arith) in
-      (j.2, come, less, record {
-        tunnels = record {
-          is_fed = λ _. record {
-            items = j.3; held_base = f.held_base; to_come = f.to_come; all_come = f.all_come; top_hop = (let c = j.1 in omega arith);
-            hop_offered = f.hop_offered; at_end = f.at_end;
+      let less : g.top < b.offered = (let c = j.1 in let d = f.hop_offered in omega arith) in (
+        j.2,
+        come,
+        less,
+        record {
+          tunnels = record {
+            is_fed = λ _. record {
+              items = j.3;
+              held_base = f.held_base;
+              to_come = f.to_come;
+              all_come = f.all_come;
+              top_hop = (let c = j.1 in omega arith);
+              hop_offered = f.hop_offered;
+              at_end = f.at_end;
+            };
+            is_n3 = t.is_n3;
+            fed_open = t.fed_open;
+            shut = λ u. apart is u;
+            shut_n3 = λ u _. apart is u;
+            closed = t.closed;
           };
-          is_n3 = t.is_n3; fed_open = t.fed_open; shut = λ u. apart is u; shut_n3 = λ u _. apart is u; closed = t.closed;
-        };
-        numbers = record {
-          low_held = n.low_held; held_next = n.held_next; next_top = (let c = n.next_top in omega arith); top_offered = omega arith;
-          low_deliv = n.low_deliv; sent_held = n.sent_held; base_next = n.base_next; window = n.window;
-          none_waits = λ l. absurd (let c : g.held < g.base = l in omega arith);
-          all_held = n.all_held;
-        };
-      })
+          numbers = record {
+            low_held = n.low_held;
+            held_next = n.held_next;
+            next_top = (let c = n.next_top in omega arith);
+            top_offered = omega arith;
+            low_deliv = n.low_deliv;
+            sent_held = n.sent_held;
+            base_next = n.base_next;
+            window = n.window;
+            none_waits = λ l. absurd (let c : g.held < g.base = l in omega arith);
+            all_held = n.all_held;
+          };
+        },
+      )
 
   pub took_end : (rest : List Item) (now : Bool) → now ≡ false → forwarded ≡ end_marker ∷ rest
       → (g.ended ≡ true) × Took g.held g.sent g.top g.n3_low rest n3 open_ now
@@ -90,18 +128,20 @@ module _ (p : ℕ → List ℕ) (w : ℕ) (b : View) (fed open_ : Bool) (forward
       let is = fed_by end_marker rest h in
       let f = t.is_fed is in
       let j = shape-end p g.held g.hop_held g.top g.hop_top g.ended rest (sym f.items ∙ h) in
-      let at = f.at_end j.2 in
-      (j.2, record {
-        tunnels = record {
-          is_fed = λ u. apart u shut;
-          is_n3 = t.is_n3;
-          fed_open = λ u. apart u shut;
-          shut = λ _. ((let c = j.0 in let d = at.0 in omega arith), j.3);
-          shut_n3 = λ _ _. at.1 ∙ (let c = j.1 in let d = f.top_hop in let e : g.hop_top ≡ g.top = omega arith in e);
-          closed = t.closed;
-        };
-        numbers = n;
-      })
+      let at = f.at_end j.2 in (
+        j.2,
+        record {
+          tunnels = record {
+            is_fed = λ u. apart u shut;
+            is_n3 = t.is_n3;
+            fed_open = λ u. apart u shut;
+            shut = λ _. ((let c = j.0 in let d = at.0 in omega arith), j.3);
+            shut_n3 = λ _ _. at.1 ∙ (let c = j.1 in let d = f.top_hop in let e : g.hop_top ≡ g.top = omega arith in e);
+            closed = t.closed;
+          };
+          numbers = n;
+        },
+      )
 
   -- ---- from N3, whose hop has ended
 
@@ -112,23 +152,33 @@ module _ (p : ℕ → List ℕ) (w : ℕ) (b : View) (fed open_ : Bool) (forward
       let j = flow-fresh p g.n3_low g.n3_high g.gone x rest (sym f.items ∙ h) in
       let same = t.shut_n3 shut is_open in
       let come = (t.shut shut).0 in
-      let less : g.top < b.offered = (let c = j.0 in let d = f.offered_all in omega arith) in
-      (j.1 ∙ ap p same, come, less, record {
-        tunnels = record {
-          is_fed = λ u. apart u shut;
-          is_n3 = λ _. record { items = j.2; ordered = (let c = j.0 in omega arith); offered_all = f.offered_all };
-          fed_open = λ u. apart u shut;
-          shut = t.shut;
-          shut_n3 = λ _ _. ap (λ i. i + 1) same;
-          closed = t.closed;
-        };
-        numbers = record {
-          low_held = n.low_held; held_next = n.held_next; next_top = (let c = n.next_top in omega arith); top_offered = omega arith;
-          low_deliv = n.low_deliv; sent_held = n.sent_held; base_next = n.base_next; window = n.window;
-          none_waits = λ l. absurd (let c : g.held < g.base = l in omega arith);
-          all_held = n.all_held;
-        };
-      })
+      let less : g.top < b.offered = (let c = j.0 in let d = f.offered_all in omega arith) in (
+        j.1 ∙ ap p same,
+        come,
+        less,
+        record {
+          tunnels = record {
+            is_fed = λ u. apart u shut;
+            is_n3 = λ _. record { items = j.2; ordered = (let c = j.0 in omega arith); offered_all = f.offered_all };
+            fed_open = λ u. apart u shut;
+            shut = t.shut;
+            shut_n3 = λ _ _. ap (λ i. i + 1) same;
+            closed = t.closed;
+          };
+          numbers = record {
+            low_held = n.low_held;
+            held_next = n.held_next;
+            next_top = (let c = n.next_top in omega arith);
+            top_offered = omega arith;
+            low_deliv = n.low_deliv;
+            sent_held = n.sent_held;
+            base_next = n.base_next;
+            window = n.window;
+            none_waits = λ l. absurd (let c : g.held < g.base = l in omega arith);
+            all_held = n.all_held;
+          };
+        },
+      )
 
   pub took_n3_end : (rest : List Item) → fed ≡ false → open_ ≡ true → n3 ≡ end_marker ∷ rest
       → (g.gone ≡ true) × (g.base ≤ g.held) × (g.n3_high ≡ g.top) × Took g.held g.sent g.top g.n3_low forwarded rest false fed
@@ -136,18 +186,22 @@ module _ (p : ℕ → List ℕ) (w : ℕ) (b : View) (fed open_ : Bool) (forward
       let f = t.is_n3 is_open in
       let j = flow-end p g.n3_low g.n3_high g.gone rest (sym f.items ∙ h) in
       let same = t.shut_n3 shut is_open in
-      let all : g.n3_high ≡ g.top = (let c = j.0 in let d = f.ordered in omega arith) in
-      (j.1, (t.shut shut).0, all, record {
-        tunnels = record {
-          is_fed = λ u. apart u shut;
-          is_n3 = λ u. absurd (true≢false (sym u));
-          fed_open = λ u. apart u shut;
-          shut = t.shut;
-          shut_n3 = λ _ u. absurd (true≢false (sym u));
-          closed = λ _. j.1;
-        };
-        numbers = n;
-      })
+      let all : g.n3_high ≡ g.top = (let c = j.0 in let d = f.ordered in omega arith) in (
+        j.1,
+        (t.shut shut).0,
+        all,
+        record {
+          tunnels = record {
+            is_fed = λ u. apart u shut;
+            is_n3 = λ u. absurd (true≢false (sym u));
+            fed_open = λ u. apart u shut;
+            shut = t.shut;
+            shut_n3 = λ _ u. absurd (true≢false (sym u));
+            closed = λ _. j.1;
+          };
+          numbers = n;
+        },
+      )
 
   -- ---- put on the forwarding tunnel of one that is fed
 
@@ -157,7 +211,13 @@ module _ (p : ℕ → List ℕ) (w : ℕ) (b : View) (fed open_ : Bool) (forward
   with_fed : (hop_held hop_top : ℕ) (ended : Bool) (items : List Item) → fed ≡ true
       → IsFed p b.offered (forwarded ++ items) g.held g.base g.top hop_held hop_top g.n3_low ended → With hop_held hop_top ended items
   with_fed hop_held hop_top ended items is f = record {
-    is_fed = λ _. f; is_n3 = t.is_n3; fed_open = t.fed_open; shut = λ u. apart is u; shut_n3 = λ u _. apart is u; closed = t.closed }
+    is_fed = λ _. f;
+    is_n3 = t.is_n3;
+    fed_open = t.fed_open;
+    shut = λ u. apart is u;
+    shut_n3 = λ u _. apart is u;
+    closed = t.closed;
+  }
 
   gave_count : fed ≡ true → g.ended ≡ false → g.hop_held < g.base → g.hop_top ≤ g.base
       → With (g.hop_held + 1) g.hop_top g.ended (numbered g.hop_held (p g.hop_held) ∷ [])
@@ -167,12 +227,16 @@ module _ (p : ℕ → List ℕ) (w : ℕ) (b : View) (fed open_ : Bool) (forward
       let below : g.hop_top ≤ g.top = (let c = n.base_next in let d = n.next_top in omega arith) in
       with_fed (g.hop_held + 1) g.hop_top g.ended (numbered g.hop_held (p g.hop_held) ∷ []) is (record {
         items = rw (f.items, not_ended) (shape-put_numbered p g.held g.hop_held g.top g.hop_top come below);
-        held_base = omega arith; to_come = λ _. omega arith;
+        held_base = omega arith;
+        to_come = λ _. omega arith;
         all_come = λ l. absurd (let c : g.base < g.hop_top = l in omega arith);
-        top_hop = f.top_hop; hop_offered = f.hop_offered; at_end = λ u. apart u not_ended;
+        top_hop = f.top_hop;
+        hop_offered = f.hop_offered;
+        at_end = λ u. apart u not_ended;
       })
 
-  pub gave_numbered : (i : ℕ) (x : List ℕ) → i ≡ g.hop_held → x ≡ p g.hop_held → fed ≡ true → g.ended ≡ false → g.hop_held < g.base → g.hop_top ≤ g.base
+  pub gave_numbered : (i : ℕ) (x : List ℕ) → i ≡ g.hop_held → x ≡ p g.hop_held → fed ≡ true → g.ended ≡ false → g.hop_held < g.base →
+      g.hop_top ≤ g.base
       → With (g.hop_held + 1) g.hop_top g.ended (numbered i x ∷ [])
   gave_numbered i x count_is packet_is is not_ended low tops =
       rw (count_is, packet_is) (gave_count is not_ended low tops)
@@ -183,8 +247,12 @@ module _ (p : ℕ → List ℕ) (w : ℕ) (b : View) (fed open_ : Bool) (forward
       let f = t.is_fed is in
       with_fed g.hop_held (g.hop_top + 1) g.ended (fresh (p g.hop_top) ∷ []) is (record {
         items = rw (f.items, not_ended) (shape-put p g.held g.hop_held g.top g.hop_top f.top_hop);
-        held_base = f.held_base; to_come = f.to_come; all_come = λ _. all;
-        top_hop = (let c = f.top_hop in omega arith); hop_offered = omega arith; at_end = λ u. apart u not_ended;
+        held_base = f.held_base;
+        to_come = f.to_come;
+        all_come = λ _. all;
+        top_hop = (let c = f.top_hop in omega arith);
+        hop_offered = omega arith;
+        at_end = λ u. apart u not_ended;
       })
 
   pub gave_fresh : (x : List ℕ) → x ≡ p g.hop_top → fed ≡ true → g.ended ≡ false → g.hop_held ≡ g.base → g.hop_top < b.offered
@@ -197,6 +265,10 @@ module _ (p : ℕ → List ℕ) (w : ℕ) (b : View) (fed open_ : Bool) (forward
       let f = t.is_fed is in
       with_fed g.hop_held g.hop_top true (end_marker ∷ []) is (record {
         items = rw (f.items, not_ended) (shape-close p g.held g.hop_held g.top g.hop_top);
-        held_base = f.held_base; to_come = f.to_come; all_come = f.all_come; top_hop = f.top_hop; hop_offered = f.hop_offered;
+        held_base = f.held_base;
+        to_come = f.to_come;
+        all_come = f.all_come;
+        top_hop = f.top_hop;
+        hop_offered = f.hop_offered;
         at_end = λ _. (all, lows);
       })

@@ -51,7 +51,8 @@ module _ (p : ℕ → List ℕ) where
     where
       by : (t : Bool) → nat_lt a b ≡ t → (u : Bool) → flow a b u ≡ end_marker ∷ xs → (b ≤ a) × (u ≡ true) × (xs ≡ [])
       by true l u k = let o : a < b = grind arith in let j = sym (flow-cons a b u o) ∙ k in absurd cc
-      by false l true k = let o : b ≤ a = grind arith in let j : end_marker ∷ [] ≡ end_marker ∷ xs = sym (flow-nil a b true o) ∙ k in (o, refl, cc)
+      by false l true k = let o : b ≤ a = grind arith in let j : end_marker ∷ [] ≡ end_marker ∷ xs = sym (flow-nil a b true o) ∙ k in
+          (o, refl, cc)
       by false l false k = let o : b ≤ a = grind arith in let j : [] ≡ end_marker ∷ xs = sym (flow-nil a b false o) ∙ k in absurd cc
 
   flow-numbered : (a b : ℕ) (e : Bool) (c : ℕ) (x : List ℕ) (xs : List Item) → flow a b e ≡ numbered c x ∷ xs → ⊥

@@ -1,6 +1,5 @@
 -- Intervals at their two ends, their parts, and lists without a gap.
-use Rattle.std.proofs.Common.{◌≡◌, ℕ, zero, suc, ◌+◌, ◌-◌, ◌<◌, ◌≤◌, max, Bool, true, false, cond, List, [], ◌∷◌, ◌++◌, map, length, filter, refl, sym, ap, ◌∙◌, subst, append_assoc, true≢false, nat_lt, arith}
-use Rattle.std.proofs.lemmas.List.{append-nil}
+use Rattle.std.proofs.Common.{◌≡◌, ℕ, zero, suc, ◌+◌, ◌-◌, ◌<◌, ◌≤◌, max, Bool, true, false, cond, List, [], ◌∷◌, ◌++◌, map, length, filter, refl, sym, ap, ◌∙◌, nat_lt, arith}
 use Rattle.law_intervals.specs.Intervals.{segment, upto, HasNoGap, reach}
 
 module _ {X : Type 0} (f : ℕ → X) where
@@ -107,7 +106,9 @@ module _ {X : Type 0} (f : ℕ → X) (q : X → Bool) (m : ℕ) (below : (i : �
           let e : max (a + 1) m ≡ a + 1 = omega arith in
           let k : a + 1 + n ≡ a + suc n = omega arith in
           let o : max a m ≡ a = omega arith in
-          rw (above a l (omega arith), o) (ap (λ xs. f a ∷ xs) (rest ∙ ap (λ i. upto f i (a + 1 + n)) e ∙ ap (λ i. upto f (a + 1) i) k) ∙ sym (upto-cons f a (a + suc n) (omega arith)))
+          rw (above a l (omega arith), o)
+          (ap (λ xs. f a ∷ xs) (rest ∙ ap (λ i. upto f i (a + 1 + n)) e ∙ ap (λ i. upto f (a + 1) i) k) ∙ sym
+          (upto-cons f a (a + suc n) (omega arith)))
 
   pub upto-filter : (a b : ℕ) → ((i : ℕ) → m ≤ i → i < b → q (f i) ≡ true) → filter q (upto f a b) ≡ upto f (max a m) b
   unfolding upto segment
