@@ -7,18 +7,19 @@ use Rattle.aper_defs.specs.Numbers.{above}
 
 abbrev pub IsSizeBounded : Option Size → Type 0
 IsSizeBounded None = Unit {0}
-IsSizeBounded (Some size) = size.high < 65536
+IsSizeBounded (Some size) = (size.low ≤ size.high) × (size.high < 65536)
 
 unfoldable mutual
   pub IsBounded : Tree → Type 0
   IsBounded boolean = Unit {0}
   IsBounded (integer low high extensible) = above low high < 2 ^ 64
-  IsBounded (enumerated names extensible) = names ≤ 256
+  IsBounded (enumerated names extensible) = (1 ≤ names) × (names ≤ 256)
   IsBounded (bit_string size) = IsSizeBounded size
   IsBounded (octet_string size) = IsSizeBounded size
   IsBounded (printable_string size) = IsSizeBounded size
   IsBounded (sequence extensible root additions) = ArePartsBounded root × ArePartsBounded additions
-  IsBounded (choice extensible root additions) = (part_count root ≤ 256) × ArePartsBounded root × ArePartsBounded additions
+  IsBounded (choice extensible root additions) =
+      (1 ≤ part_count root) × (part_count root ≤ 256) × ArePartsBounded root × ArePartsBounded additions
   IsBounded (sequence_of size t) = IsSizeBounded size × IsBounded t
   IsBounded (container rows) = AreRowsBounded rows
   IsBounded (pdu procedures) = AreProceduresBounded procedures

@@ -208,7 +208,7 @@ mutual
   placed p boolean (truth true) b h = placed_flag p 1 [] (omega arith) placed_none
   placed p boolean (truth false) b h = placed_flag p 0 [] (omega arith) placed_none
   placed p (integer low high extensible) (number z) b h = placed_integer p low high extensible z h b
-  placed p (enumerated names extensible) (enumeral i) b h = placed_index p names extensible i h b
+  placed p (enumerated names extensible) (enumeral i) b h = placed_index p names extensible i h b.1
   placed p (bit_string size) (bits bs) b h = placed_string p of_bits size (map bit_value bs) b (bits_below bs)
   placed p (octet_string size) (octets os) b h = placed_string p of_octets size os b (octets_below os h.1)
   placed p (printable_string size) (text cs) b h = placed_string p of_characters size cs b h.1
@@ -223,9 +223,9 @@ mutual
       (placed_both (mark_fields p more) (addition_fields p additions more) (placed_marks p extensible more h.1)
       (placed_additions p additions more b.1 h.2))))
   placed p (choice extensible root additions) (chosen i v) b h =
-      placed_both (index_fields p (part_count root) extensible i) _ (placed_index p (part_count root) extensible i h.0 b.0)
+      placed_both (index_fields p (part_count root) extensible i) _ (placed_index p (part_count root) extensible i h.0 b.1)
       (by_either (nat_lt i (part_count root)) _ _ _ _
-      (λ e g. placed_alternative p root i v b.1 g) (λ e g. placed_added p additions (i - part_count root) v b.2 g) h.1)
+      (λ e g. placed_alternative p root i v b.2 g) (λ e g. placed_added p additions (i - part_count root) v b.3 g) h.1)
   placed p (sequence_of size t) (list vs) b h =
       placed_both (count_fields p size (value_count vs)) (each_from (λ i w. layout (fields.member i ∷ p) t w) 0 vs)
       (placed_count p size (value_count vs) h.0 b.0)

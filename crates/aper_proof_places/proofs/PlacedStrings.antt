@@ -176,7 +176,7 @@ placed_string p content (Some size) units bound u =
     placed_both (extension_fields p size.extensible (cond (in_size size (length units)) false true)) _
     (placed_extension p size.extensible (cond (in_size size (length units)) false true))
     (by_branch (in_size size (length units)) _ _
-    (λ root. placed_sized p content size units root bound u)
+    (λ root. placed_sized p content size units root bound.1 u)
     (λ out. placed_all_parts p content (Some size) units out u))
 
 placed_short : (p : Path) (outside : Option Size) (n : ℕ) → n ≤ 16383 → is_inside outside n ≡ false
