@@ -207,7 +207,7 @@ mutual
   pub placed : (p : Path) (t : Tree) (v : Value) → IsBounded t → Has p t v → Placed (layout p t v)
   placed p boolean (truth true) b h = placed_flag p 1 [] (omega arith) placed_none
   placed p boolean (truth false) b h = placed_flag p 0 [] (omega arith) placed_none
-  placed p (integer low high extensible) (number z) b h = placed_integer p low high extensible z h b
+  placed p (integer low high extensible) (number z) b h = placed_integer p low high extensible z h b.1
   placed p (enumerated names extensible) (enumeral i) b h = placed_index p names extensible i h b.1
   placed p (bit_string size) (bits bs) b h = placed_string p of_bits size (map bit_value bs) b (bits_below bs)
   placed p (octet_string size) (octets os) b h = placed_string p of_octets size os b (octets_below os h.1)
