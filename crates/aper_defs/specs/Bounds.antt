@@ -1,5 +1,6 @@
 -- Types within the bounds of the profile, as far as an encoding depends on them.
-use Rattle.std.specs.Prelude.{ℕ, ◌^◌, ◌<◌, ◌≤◌, Option, Some, None}
+use Rattle.std.specs.Prelude.{◌≡◌, true, ◌^◌, ◌<◌, ◌≤◌, Option, Some, None}
+use Rattle.std.specs.Int.Signed.{le_z}
 use Rattle.asn1_types.specs.declared.definition.Size.{Size}
 use Rattle.aper_defs.specs.Trees.{Tree, Parts, Rows, Procedures, Outcome, part_count}
 use Rattle.aper_defs.specs.Trees.{boolean, integer, enumerated, bit_string, octet_string, printable_string, sequence, choice, sequence_of, container, pdu, no_parts, part, no_rows, row, no_procedures, procedure, no_outcome, outcome}
@@ -7,18 +8,19 @@ use Rattle.aper_defs.specs.Numbers.{above}
 
 abbrev pub IsSizeBounded : Option Size → Type 0
 IsSizeBounded None = Unit {0}
-IsSizeBounded (Some size) = size.high < 65536
+IsSizeBounded (Some size) = (size.low ≤ size.high) × (size.high < 65536)
 
 unfoldable mutual
   pub IsBounded : Tree → Type 0
   IsBounded boolean = Unit {0}
-  IsBounded (integer low high extensible) = above low high < 2 ^ 64
-  IsBounded (enumerated names extensible) = names ≤ 256
+  IsBounded (integer low high extensible) = (le_z low high ≡ true) × (above low high < 2 ^ 64)
+  IsBounded (enumerated names extensible) = (1 ≤ names) × (names ≤ 256)
   IsBounded (bit_string size) = IsSizeBounded size
   IsBounded (octet_string size) = IsSizeBounded size
   IsBounded (printable_string size) = IsSizeBounded size
   IsBounded (sequence extensible root additions) = ArePartsBounded root × ArePartsBounded additions
-  IsBounded (choice extensible root additions) = (part_count root ≤ 256) × ArePartsBounded root × ArePartsBounded additions
+  IsBounded (choice extensible root additions) =
+      (1 ≤ part_count root) × (part_count root ≤ 256) × ArePartsBounded root × ArePartsBounded additions
   IsBounded (sequence_of size t) = IsSizeBounded size × IsBounded t
   IsBounded (container rows) = AreRowsBounded rows
   IsBounded (pdu procedures) = AreProceduresBounded procedures

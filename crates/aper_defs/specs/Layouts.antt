@@ -19,13 +19,16 @@ raw_fields p inside v = []
 abbrev pub flag_fields : Path → Parts → Options → List Field
 flag_fields p no_parts vs = []
 flag_fields p (part name optional t others) no_options = []
-flag_fields p (part name optional t others) (absent vs) = if optional then asked p flag 0 ∷ flag_fields p others vs else flag_fields p others vs
-flag_fields p (part name optional t others) (present v vs) = if optional then asked p flag 1 ∷ flag_fields p others vs else flag_fields p others vs
+flag_fields p (part name optional t others) (absent vs) =
+    if optional then asked p flag 0 ∷ flag_fields p others vs else flag_fields p others vs
+flag_fields p (part name optional t others) (present v vs) =
+    if optional then asked p flag 1 ∷ flag_fields p others vs else flag_fields p others vs
 
 -- how many additions there may be, and which of them are there (X.691, 19.7 and 19.8)
 abbrev pub mark_fields : Path → Options → List Field
 mark_fields p more = if has_options more
-    then asked p (small fields.length) (length (presence more) - 1) ∷ asked p (addition_bits (length (presence more))) (number_of (presence more)) ∷ []
+    then asked p (small fields.length) (length (presence more) - 1) ∷ asked p (addition_bits (length (presence more)))
+    (number_of (presence more)) ∷ []
     else []
 
 abbrev pub raw_additions : Path → Options → List Field

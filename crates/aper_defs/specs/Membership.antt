@@ -35,7 +35,8 @@ is_count_of (Some most) (Some size) n = in_size size n || (size.extensible && na
 
 -- The characters of PrintableString (X.680, 41.4): letters, digits, space and '()+,-./:=?
 abbrev pub is_printable : ℕ → Bool
-is_printable c = (nat_le 97 c && nat_le c 122) || (nat_le 65 c && nat_le c 90) || (nat_le 39 c && nat_le c 58 && (if c == 42 then false else true)) || (c == 32) || (c == 61) || (c == 63)
+is_printable c = (nat_le 97 c && nat_le c 122) || (nat_le 65 c && nat_le c 90) ||
+    (nat_le 39 c && nat_le c 58 && (if c == 42 then false else true)) || (c == 32) || (c == 61) || (c == 63)
 
 abbrev pub are_octets : List ℕ → Bool
 are_octets os = list_all (λ o. nat_lt o 256) os

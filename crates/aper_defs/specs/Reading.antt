@@ -111,10 +111,13 @@ judged_length true least most n = unless (nat_le least n && nat_le n most) reaso
 
 abbrev pub judged_extent : Extent → Form → Option Reason
 judged_extent (whole least most outside) (octet_form n) = judged_length (if is_inside outside n then false else true) least most n
-judged_extent (whole least most outside) (two_octets n) = judged_length (nat_le 128 n && (if is_inside outside n then false else true)) least most n
+judged_extent (whole least most outside) (two_octets n) = judged_length
+    (nat_le 128 n && (if is_inside outside n then false else true)) least most n
 judged_extent (whole least most outside) (units_form count) = Some reasons.Length
-judged_extent (part before previous outside) (octet_form n) = unless (if is_inside outside (before + n) then false else true) reasons.NotMinimal
-judged_extent (part before previous outside) (two_octets n) = unless (nat_le 128 n && (if is_inside outside (before + n) then false else true)) reasons.NotMinimal
+judged_extent (part before previous outside) (octet_form n) = unless
+    (if is_inside outside (before + n) then false else true) reasons.NotMinimal
+judged_extent (part before previous outside) (two_octets n) = unless
+    (nat_le 128 n && (if is_inside outside (before + n) then false else true)) reasons.NotMinimal
 judged_extent (part before previous outside) (units_form count) = judged_length (nat_le (4 * part_units) previous) 1 4 count
 
 -- why the number that stands at a place is no answer
@@ -124,7 +127,8 @@ judged (constrained role width most) c m = unless (nat_le m most) (too_great rol
 judged (digits count most) c m =
     if nat_lt 1 count && nat_lt m (2 ^ (8 * (count - 1))) then Some reasons.NotMinimal else unless (nat_le m most) reasons.Range
 judged (signed count low high) c m =
-    unless (nat_le count (signed_octets_for (signed_number count m)) && (if in_range low high (signed_number count m) then false else true)) reasons.NotMinimal
+    unless (nat_le count (signed_octets_for (signed_number count m)) &&
+    (if in_range low high (signed_number count m) then false else true)) reasons.NotMinimal
 judged (small role) c m = unless (nat_lt m 64) (too_great role)
 judged (extent bounds) c m = judged_extent bounds (form_of m)
 judged (addition_bits count) c m = unless (nat_lt 0 m) reasons.EmptyAdditions
@@ -132,7 +136,8 @@ judged character c m = unless (is_printable m) reasons.Character
 judged (ie_count least) c m = unless (nat_le least m) reasons.Required
 judged (ie_id known left after) c m =
     if has_slot m known && (if has_slot m left then false else true) then Some reasons.Order
-    else unless ((if has_slot m known then mandatory_count (slots_before m left) == 0 else true) && nat_le (mandatory_count (slots_left known m left)) after) reasons.Required
+    else unless ((if has_slot m known then mandatory_count (slots_before m left) == 0 else true) && nat_le
+    (mandatory_count (slots_left known m left)) after) reasons.Required
 judged pad c m = unless (m == 0) reasons.Padding
 judged opening c m = judged_extent (whole 1 16383 None) (form_of m)
 judged closing c m = unless (m == 0) reasons.Padding
@@ -166,7 +171,8 @@ opens_after question n place opens = opens
 -- the place after an answer, and after a field
 abbrev pub answered_at : Ask → ℕ → Cursor → Cursor
 answered_at question n c =
-    let place = c.place + width_at c.place question n in record { octets = c.octets; place = place; opens = opens_after question n place c.opens }
+    let place = c.place + width_at c.place question n in
+    record { octets = c.octets; place = place; opens = opens_after question n place c.opens }
 
 abbrev pub moved_by : ℕ → Cursor → Cursor
 moved_by width c = record { octets = c.octets; place = c.place + width; opens = c.opens }

@@ -1,12 +1,1 @@
-pub mod Standing
-pub mod NumberFacts
-pub mod ForthNumbers
-pub mod ForthStrings
-pub mod Forth
-pub mod Bits
-pub mod Placed
-pub mod Extents
-pub mod Opened
-pub mod PlacedNumbers
-pub mod PlacedStrings
-pub mod PlacedAll
+pub mod Spelled

@@ -1,26 +1,18 @@
 -- The fields of numbers, strings and counts stand where their bits are.
-use Rattle.std.proofs.Common.{◌≡◌, ℕ, zero, suc, ◌+◌, ◌-◌, ◌*◌, ◌/◌, ◌^◌, ◌<◌, ◌≤◌, ◌==◌, nat_lt, cond, ◌&&◌, ◌||◌, min, Bool, true, false, List, [], ◌∷◌, ◌++◌, length, map, take, drop, None, Some, Option, refl, sym, ap, subst, ◌∙◌, arith}
+use Rattle.std.proofs.Common.{◌≡◌, ℕ, ◌-◌, ◌*◌, ◌^◌, ◌<◌, ◌≤◌, ◌==◌, nat_lt, cond, ◌&&◌, Bool, true, false, List, [], ◌∷◌, Some, refl, ap, ◌∙◌, arith}
 use Rattle.std.specs.Prelude.{ℤ, nat_le}
-use Rattle.std.specs.List.{list_all}
-use Rattle.std.proofs.lemmas.List.{length-take, length-drop}
 use Rattle.std.proofs.lemmas.Bool.Decides.{nat_tests}
-use Rattle.std.proofs.Math.Nat.{pow-le-pow_right}
-use Rattle.asn1_types.specs.declared.definition.Size.{Size}
-use Rattle.bits_core.specs.Bits.{bit_value}
-use Rattle.aper_defs.specs.declared.reason.Reason.{Reason}
 use Rattle.aper_defs.specs.declared.reason.Reason.TheVariants as reasons
-use Rattle.aper_defs.specs.Numbers.{bits_for, octets_for, signed_octets_for, twos_complement, signed_number, is_signed, in_range, above}
+use Rattle.aper_defs.specs.Numbers.{bits_for, octets_for, signed_octets_for, twos_complement, signed_number, is_signed, in_range}
 use Rattle.aper_defs.specs.Fields.{Path, Role, Ask, Field, bit, octet, flag, constrained, digits, signed, small, extent, character, pad, whole, part, asked, run as run_field}
 use Rattle.aper_defs.specs.Fields as fields
-use Rattle.aper_defs.specs.Bits.{part_units}
-use Rattle.aper_defs.specs.Parts.{large_fields, number_fields, extension_fields, integer_fields, index_fields, Content, of_bits, of_octets, of_characters, unit_fields, pad_limit, in_size, part_of_fields, next_part, part_fields, all_part_fields, sized_fields, string_fields, count_fields}
-use Rattle.aper_defs.specs.Membership.{is_number_of, is_index_of, is_count_of, is_printable, are_octets}
-use Rattle.aper_defs.specs.Bounds.{IsSizeBounded}
-use Rattle.aper_defs.specs.Reading.{unless, too_great, is_inside}
-use Rattle.law_aper.proofs.NumberFacts.{by_cases, below, not_below, is_below, is_not_below, at_most, is_at_most, same, first_of_both, second_of_both, octets_positive, octets_fit, octets_least, octets_grow, octets_at_most, bits_fit, above_at_most, signed_again, signed_part_fits, twos_complement_fits, signed_octets_positive, signed_octets_at_most}
-use Rattle.law_aper.proofs.Placed.{Allowed, Placed, placed_none, placed_asked, placed_run, placed_both, AreBelow}
-use Rattle.law_aper.proofs.Extents.{unless_true, IsWhole, allowed_whole, allowed_last, allowed_part}
-use Rattle.law_aper.proofs.Opened.{allowed_pad}
+use Rattle.aper_defs.specs.Parts.{large_fields, number_fields, extension_fields}
+use Rattle.aper_defs.specs.Membership.{is_printable}
+use Rattle.aper_defs.specs.Reading.{unless, too_great}
+use Rattle.aper_proof_answers.proofs.NumberFacts.{by_cases, below, not_below, is_below, is_not_below, is_at_most, same, octets_fit, octets_least, octets_grow, octets_at_most, bits_fit, signed_again, signed_part_fits, twos_complement_fits, signed_octets_positive}
+use Rattle.aper_proof_places.proofs.Placed.{Allowed, Placed, placed_none, placed_asked}
+use Rattle.aper_proof_places.proofs.Extents.{unless_true}
+use Rattle.aper_proof_places.proofs.Opened.{allowed_pad}
 
 pub by_branch : (b : Bool) (x y : List Field) → (b ≡ true → Placed x) → (b ≡ false → Placed y) → Placed (cond b x y)
 by_branch true x y first second = first refl
@@ -46,7 +38,8 @@ pub allowed_digits : (most n : ℕ) → n ≤ most → n < 2 ^ 64 → Allowed (d
 allowed_digits most n h k = record {
   wide = λ c rest e. refl;
   small = λ place. octets_fit n k;
-  right = λ c. ap (λ b. cond b (Some reasons.NotMinimal) (unless (nat_le n most) reasons.Range)) (minimal n) ∙ unless_true (nat_le n most) (is_at_most n most h) reasons.Range;
+  right = λ c. ap (λ b. cond b (Some reasons.NotMinimal) (unless (nat_le n most) reasons.Range)) (minimal n)
+      ∙ unless_true (nat_le n most) (is_at_most n most h) reasons.Range;
   same = λ c. refl;
 }
 
@@ -72,7 +65,8 @@ allowed_small role n h = record {
 }
 
 printable_small : (c : ℕ) → is_printable c ≡ true → c < 2 ^ 8
-printable_small c h = by_cases (nat_lt c 256) (λ b. c < 2 ^ 8) (λ e. below c 256 e) (λ e. let k : 256 ≤ c = not_below c 256 e in absurd (grind (arith, nat_tests)))
+printable_small c h = by_cases (nat_lt c 256) (λ b. c < 2 ^ 8) (λ e. below c 256 e)
+    (λ e. let k : 256 ≤ c = not_below c 256 e in absurd (grind (arith, nat_tests)))
 
 pub allowed_character : (c : ℕ) → is_printable c ≡ true → Allowed character c
 allowed_character c h = record {
@@ -83,33 +77,39 @@ allowed_character c h = record {
 }
 
 -- ---- numbers
-pub padded : (p : Path) (question : Ask) (n : ℕ) (fs : List Field) → Placed (asked p question n ∷ fs) → Placed (asked p pad 0 ∷ asked p question n ∷ fs)
+pub padded : (p : Path) (question : Ask) (n : ℕ) (fs : List Field) → Placed (asked p question n ∷ fs)
+    → Placed (asked p pad 0 ∷ asked p question n ∷ fs)
 padded p question n fs h = placed_asked p pad 0 (asked p question n ∷ fs) allowed_pad (λ place opens. refl) h
 
-pub placed_constrained : (p : Path) (role : Role) (width most n : ℕ) → n ≤ most → n < 2 ^ width → Placed (asked p (constrained role width most) n ∷ [])
-placed_constrained p role width most n h k = placed_asked p (constrained role width most) n [] (allowed_constrained role width most n h k) (λ place opens. refl) placed_none
+pub placed_constrained : (p : Path) (role : Role) (width most n : ℕ) → n ≤ most → n < 2 ^ width
+    → Placed (asked p (constrained role width most) n ∷ [])
+placed_constrained p role width most n h k = placed_asked p (constrained role width most) n [] (allowed_constrained role width most n h k)
+    (λ place opens. refl) placed_none
 
 placed_large : (p : Path) (span n : ℕ) → n ≤ span → span < 2 ^ 64 → Placed (large_fields p span n)
 placed_large p span n h k =
     let most = octets_for span - 1 in
     let count : octets_for n ≤ octets_for span = octets_grow n span h in
     let few : octets_for span ≤ 8 = octets_at_most span in
-    placed_asked p (constrained fields.value (bits_for most) most) (octets_for n - 1) (asked p pad 0 ∷ asked p (digits (octets_for n) span) n ∷ [])
-        (allowed_constrained fields.value (bits_for most) most (octets_for n - 1) (omega arith) (omega (arith, bits_fit most (omega arith), count)))
-        (λ place opens. refl)
-        (padded p (digits (octets_for n) span) n [] (placed_asked p (digits (octets_for n) span) n [] (allowed_digits span n h (omega arith)) (λ place opens. refl) placed_none))
+    placed_asked p (constrained fields.value (bits_for most) most) (octets_for n - 1)
+    (asked p pad 0 ∷ asked p (digits (octets_for n) span) n ∷ [])
+    (allowed_constrained fields.value (bits_for most) most (octets_for n - 1) (omega arith)
+    (omega (arith, bits_fit most (omega arith), count)))
+    (λ place opens. refl)
+    (padded p (digits (octets_for n) span) n []
+    (placed_asked p (digits (octets_for n) span) n [] (allowed_digits span n h (omega arith)) (λ place opens. refl) placed_none))
 
 pub placed_number : (p : Path) (role : Role) (span n : ℕ) → n ≤ span → span < 2 ^ 64 → Placed (number_fields p role span n)
 unfolding number_fields
 placed_number p role span n h k =
     by_branch (span == 0) _ _ (λ e. placed_none)
-        (λ e. by_branch (nat_lt span 255) _ _
-            (λ f. placed_constrained p role (bits_for span) span n h (omega (arith, h, bits_fit span (omega (arith, below span 255 f)))))
-            (λ f. by_branch (span == 255) _ _
-                (λ g. padded p (constrained role 8 span) n [] (placed_constrained p role 8 span n h (omega (arith, same span 255 g))))
-                (λ g. by_branch (nat_lt span 65536) _ _
-                    (λ i. padded p (constrained role 16 span) n [] (placed_constrained p role 16 span n h (omega (arith, below span 65536 i))))
-                    (λ i. placed_large p span n h k))))
+    (λ e. by_branch (nat_lt span 255) _ _
+    (λ f. placed_constrained p role (bits_for span) span n h (omega (arith, h, bits_fit span (omega (arith, below span 255 f)))))
+    (λ f. by_branch (span == 255) _ _
+    (λ g. padded p (constrained role 8 span) n [] (placed_constrained p role 8 span n h (omega (arith, same span 255 g))))
+    (λ g. by_branch (nat_lt span 65536) _ _
+    (λ i. padded p (constrained role 16 span) n [] (placed_constrained p role 16 span n h (omega (arith, below span 65536 i))))
+    (λ i. placed_large p span n h k))))
 
 pub placed_extension : (p : Path) (extensible extended : Bool) → Placed (extension_fields p extensible extended)
 placed_extension p false extended = placed_none

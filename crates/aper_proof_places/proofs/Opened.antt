@@ -1,19 +1,18 @@
 -- Open types stand where their bits are: their contents end where their length says.
-use Rattle.std.proofs.Common.{◌≡◌, ℕ, zero, suc, ◌+◌, ◌-◌, ◌*◌, ◌%◌, ◌/◌, ◌^◌, ◌<◌, ◌≤◌, ◌==◌, nat_lt, cond, ◌&&◌, Bool, true, false, List, [], ◌∷◌, ◌++◌, length, None, Some, Option, Result, Ok, Err, refl, sym, ap, subst, ◌∙◌, arith, append_assoc, append-nil}
-use Rattle.std.specs.Prelude.{nat_le}
+use Rattle.std.proofs.Common.{◌≡◌, ℕ, ◌+◌, ◌*◌, ◌%◌, ◌≤◌, ◌==◌, nat_lt, cond, ◌&&◌, Bool, true, false, List, [], ◌∷◌, ◌++◌, length, Ok, refl, sym, ap, subst, ◌∙◌, arith, append_assoc}
 use Rattle.std.proofs.lemmas.Bool.Decides.{nat_tests}
 use Rattle.std.proofs.lemmas.Nat.{pow_pos}
 use Rattle.bits_core.specs.Bits.{bits_of, pad_of}
 use Rattle.bits_core.proofs.BitLemmas.{length-bits_of}
 use Rattle.aper_defs.specs.declared.reason.Reason.TheVariants as reasons
-use Rattle.aper_defs.specs.Fields.{Path, Ask, Field, pad, opening, closing, end, asked}
-use Rattle.aper_defs.specs.Bits.{width_at, spelled, field_bits, put_all, extent_width, closed, octet_count, open_fields}
-use Rattle.aper_defs.specs.Reading.{Opened, Cursor, unless, bits_at, is_within, ends_at, start_of, asked_width, read, answer_of, answered_at, moved_by, bit_limit}
-use Rattle.law_aper.proofs.Standing.{StandAll, after_all, after_all-append}
-use Rattle.law_aper.proofs.NumberFacts.{by_cases, same, is_same, is_at_most}
-use Rattle.law_aper.proofs.Bits.{all_bits, total, length-all_bits, total-append, all_bits-append, put_all-nil, total-aligned}
-use Rattle.law_aper.proofs.Extents.{allowed_opening}
-use Rattle.law_aper.proofs.Placed.{Room, room_less, room_after, within_less, bits_after, reads, Allowed, reads_allowed, Placed, placed_asked, placed_none, stand_both, moved_twice}
+use Rattle.aper_defs.specs.Fields.{Path, Field, pad, opening, closing, end, asked}
+use Rattle.aper_defs.specs.Bits.{width_at, spelled, put_all, extent_width, closed, octet_count, open_fields}
+use Rattle.aper_defs.specs.Reading.{Cursor, unless, bits_at, is_within, ends_at, start_of, read, answered_at, moved_by}
+use Rattle.aper_proof_answers.proofs.Standing.{StandAll, after_all, after_all-append}
+use Rattle.aper_proof_answers.proofs.NumberFacts.{by_cases, same, is_same, is_at_most}
+use Rattle.aper_proof_places.proofs.Bits.{all_bits, total, length-all_bits, total-append, all_bits-append, put_all-nil, total-aligned}
+use Rattle.aper_proof_places.proofs.Extents.{allowed_opening}
+use Rattle.aper_proof_places.proofs.Placed.{Room, room_less, room_after, within_less, bits_after, reads, Allowed, reads_allowed, Placed, stand_both}
 
 pub allowed_pad : Allowed pad 0
 allowed_pad = record {
@@ -66,7 +65,8 @@ pub octets_some : (inside : Path) (fs : List Field) → 1 ≤ octet_count (close
 octets_some inside fs = omega (arith, octets_are inside fs, (whole_octets (total 0 fs)).1)
 
 -- a closing is read after the contents, where these began at the start of the innermost encoding
-pub reads_closing : (fs : List Field) (c : Cursor) (rest : List Bool) → start_of c.opens % 8 ≡ 0 → c.place ≡ start_of c.opens + total (start_of c.opens) fs
+pub reads_closing : (fs : List Field) (c : Cursor) (rest : List Bool) → start_of c.opens % 8 ≡ 0
+    → c.place ≡ start_of c.opens + total (start_of c.opens) fs
     → bits_at c ≡ bits_of (width_at c.place closing (empty_mark fs)) 0 ++ rest → Room c (width_at c.place closing (empty_mark fs))
     → read closing c ≡ Ok (empty_mark fs)
 reads_closing fs c rest aligned at there room =
@@ -75,9 +75,9 @@ reads_closing fs c rest aligned at there room =
     let first : (c.place == start) ≡ (total 0 fs == 0) = grind (arith, nat_tests) in
     let here : (total 0 fs == 0) ≡ (length (put_all [] fs) == 0) = ap (λ (n : ℕ). n == 0) (sym (size_is fs)) in
     reads closing (empty_mark fs) c rest
-        (ap (λ b. cond b 8 (pad_of c.place)) (first ∙ here) ∙ swapped (length (put_all [] fs) == 0) (pad_of c.place))
-        (pow_pos (width_at c.place closing (empty_mark fs))) refl
-        (ap (λ b. cond b 1 0) (first ∙ here)) there room
+    (ap (λ b. cond b 8 (pad_of c.place)) (first ∙ here) ∙ swapped (length (put_all [] fs) == 0) (pad_of c.place))
+    (pow_pos (width_at c.place closing (empty_mark fs))) refl
+    (ap (λ b. cond b 1 0) (first ∙ here)) there room
   where
     swapped : (b : Bool) (w : ℕ) → cond b 8 w ≡ cond (cond b 1 0 == 0) w 8
     swapped true w = refl
@@ -117,7 +117,8 @@ module _ (p inside : Path) (fs : List Field) (fits : octet_count (closed inside 
   start_whole c =
       let a : (c.place + pad_of c.place) % 8 ≡ 0 = omega arith in omega (arith, width_whole (octet_count (closed inside fs)))
 
-  open_total : (c : Cursor) → total c.place (open_fields p inside fs) ≡ pad_of c.place + (extent_width (octet_count (closed inside fs)) + 8 * octet_count (closed inside fs))
+  open_total : (c : Cursor) → total c.place (open_fields p inside fs) ≡ pad_of c.place +
+      (extent_width (octet_count (closed inside fs)) + 8 * octet_count (closed inside fs))
   open_total c = let e = end_total inside fs (begun c).place (start_whole c) in omega (arith, e)
 
   open_moves : (c : Cursor) → after_all (open_fields p inside fs) c ≡ moved_by (total c.place (open_fields p inside fs)) c
@@ -128,7 +129,7 @@ module _ (p inside : Path) (fs : List Field) (fits : octet_count (closed inside 
       let size = total s fs in
       let width = width_at (s + size) closing (empty_mark fs) in
       let sum : s + size + width + 0 ≡ c.place + total c.place (open_fields p inside fs) =
-          omega (arith, open_total c, closing_is fs s (start_whole c), octets_are inside fs, total-aligned s fs (start_whole c)) in
+      omega (arith, open_total c, closing_is fs s (start_whole c), octets_are inside fs, total-aligned s fs (start_whole c)) in
       ap (λ gs. after_all gs d) (regrouped inside fs)
       ∙ after_all-append fs (end_fields inside fs) d
       ∙ ap (after_all (end_fields inside fs)) (placed.moves d)
@@ -142,12 +143,16 @@ module _ (p inside : Path) (fs : List Field) (fits : octet_count (closed inside 
       let w2 = extent_width (octet_count (closed inside fs)) in
       let x = spelled opening (octet_count (closed inside fs)) in
       let tail = all_bits (c.place + w1 + w2) (closed inside fs ++ asked inside end 0 ∷ []) in
-      let split : bits_at c ≡ bits_of w1 0 ++ ((bits_of w2 x ++ tail) ++ rest) = e ∙ append_assoc (bits_of w1 0) (bits_of w2 x ++ tail) rest in
-      let at_length : bits_at (answered_at pad 0 c) ≡ (bits_of w2 x ++ tail) ++ rest = bits_after c w1 (bits_of w1 0) ((bits_of w2 x ++ tail) ++ rest) split (length-bits_of w1 0) in
-      bits_after (answered_at pad 0 c) w2 (bits_of w2 x) (tail ++ rest) (at_length ∙ append_assoc (bits_of w2 x) tail rest) (length-bits_of w2 x)
+      let split : bits_at c ≡ bits_of w1 0 ++ ((bits_of w2 x ++ tail) ++ rest) = e
+      ∙ append_assoc (bits_of w1 0) (bits_of w2 x ++ tail) rest in
+      let at_length : bits_at (answered_at pad 0 c) ≡ (bits_of w2 x ++ tail) ++ rest = bits_after c w1 (bits_of w1 0)
+      ((bits_of w2 x ++ tail) ++ rest) split (length-bits_of w1 0) in
+      bits_after (answered_at pad 0 c) w2 (bits_of w2 x) (tail ++ rest) (at_length ∙ append_assoc (bits_of w2 x) tail rest)
+      (length-bits_of w2 x)
       ∙ ap (λ gs. all_bits (c.place + w1 + w2) gs ++ rest) (regrouped inside fs)
 
-  length_read : (c : Cursor) (rest : List Bool) → bits_at c ≡ all_bits c.place (open_fields p inside fs) ++ rest → Room c (total c.place (open_fields p inside fs))
+  length_read : (c : Cursor) (rest : List Bool) → bits_at c ≡ all_bits c.place (open_fields p inside fs) ++ rest
+      → Room c (total c.place (open_fields p inside fs))
       → (read pad c ≡ Ok 0) × (read opening (answered_at pad 0 c) ≡ Ok (octet_count (closed inside fs)))
   length_read c rest e r =
       let n = octet_count (closed inside fs) in
@@ -155,15 +160,20 @@ module _ (p inside : Path) (fs : List Field) (fits : octet_count (closed inside 
       let w2 = extent_width n in
       let x = spelled opening n in
       let tail = all_bits (c.place + w1 + w2) (closed inside fs ++ asked inside end 0 ∷ []) in
-      let split : bits_at c ≡ bits_of w1 0 ++ ((bits_of w2 x ++ tail) ++ rest) = e ∙ append_assoc (bits_of w1 0) (bits_of w2 x ++ tail) rest in
-      let at_length : bits_at (answered_at pad 0 c) ≡ (bits_of w2 x ++ tail) ++ rest = bits_after c w1 (bits_of w1 0) ((bits_of w2 x ++ tail) ++ rest) split (length-bits_of w1 0) in
-      let room : Room c (w1 + (w2 + 8 * n)) = subst (Room c) (open_total c) r in
-      (reads_allowed pad 0 c ((bits_of w2 x ++ tail) ++ rest) allowed_pad split (room_less c w1 (w1 + (w2 + 8 * n)) (omega arith) room),
-        reads_allowed opening n (answered_at pad 0 c) (tail ++ rest) (allowed_opening n (octets_some inside fs) fits) (at_length ∙ append_assoc (bits_of w2 x) tail rest)
-            (room_less (answered_at pad 0 c) w2 (w2 + 8 * n) (omega arith) (room_after c w1 (w2 + 8 * n) room)))
+      let split : bits_at c ≡ bits_of w1 0 ++ ((bits_of w2 x ++ tail) ++ rest) = e
+      ∙ append_assoc (bits_of w1 0) (bits_of w2 x ++ tail) rest in
+      let at_length : bits_at (answered_at pad 0 c) ≡ (bits_of w2 x ++ tail) ++ rest = bits_after c w1 (bits_of w1 0)
+      ((bits_of w2 x ++ tail) ++ rest) split (length-bits_of w1 0) in
+      let room : Room c (w1 + (w2 + 8 * n)) = subst (Room c) (open_total c) r in (
+        reads_allowed pad 0 c ((bits_of w2 x ++ tail) ++ rest) allowed_pad split (room_less c w1 (w1 + (w2 + 8 * n)) (omega arith) room),
+        reads_allowed opening n (answered_at pad 0 c) (tail ++ rest) (allowed_opening n (octets_some inside fs) fits) (at_length
+            ∙ append_assoc (bits_of w2 x) tail rest)
+            (room_less (answered_at pad 0 c) w2 (w2 + 8 * n) (omega arith) (room_after c w1 (w2 + 8 * n) room)),
+      )
 
   -- there is room for the contents up to the end that is told
-  contents_room : (c : Cursor) (width : ℕ) → Room c (total c.place (open_fields p inside fs)) → width ≤ 8 * octet_count (closed inside fs) → Room (begun c) width
+  contents_room : (c : Cursor) (width : ℕ) → Room c (total c.place (open_fields p inside fs)) → width ≤ 8 * octet_count (closed inside fs)
+      → Room (begun c) width
   contents_room c width r h =
       let n = octet_count (closed inside fs) in
       let w1 = pad_of c.place in
@@ -177,7 +187,8 @@ module _ (p inside : Path) (fs : List Field) (fits : octet_count (closed inside 
         there = omega (arith, room.there);
       }
 
-  contents_stand : (c : Cursor) (rest : List Bool) → bits_at c ≡ all_bits c.place (open_fields p inside fs) ++ rest → Room c (total c.place (open_fields p inside fs))
+  contents_stand : (c : Cursor) (rest : List Bool) → bits_at c ≡ all_bits c.place (open_fields p inside fs) ++ rest
+      → Room c (total c.place (open_fields p inside fs))
       → StandAll (fs ++ end_fields inside fs) (begun c)
   unfolding end_fields
   contents_stand c rest e r =
@@ -191,7 +202,8 @@ module _ (p inside : Path) (fs : List Field) (fits : octet_count (closed inside 
       let sum : size + width ≡ 8 * n = omega (arith, closing_is fs s whole, octets_are inside fs, total-aligned s fs whole) in
       let after = all_bits (s + size) (end_fields inside fs) in
       let all : bits_at d ≡ all_bits s fs ++ (after ++ rest) =
-          after_length c rest e ∙ ap (λ (xs : List Bool). xs ++ rest) (all_bits-append s fs (end_fields inside fs)) ∙ append_assoc (all_bits s fs) after rest in
+      after_length c rest e ∙ ap (λ (xs : List Bool). xs ++ rest) (all_bits-append s fs (end_fields inside fs))
+      ∙ append_assoc (all_bits s fs) after rest in
       let d2 = moved_by size d in
       let at_closing : bits_at d2 ≡ after ++ rest = bits_after d size (all_bits s fs) (after ++ rest) all (length-all_bits s fs) in
       let more = all_bits (s + size + width) (asked inside end 0 ∷ []) in
@@ -205,15 +217,21 @@ module _ (p inside : Path) (fs : List Field) (fits : octet_count (closed inside 
       let here : (d3.place == s + 8 * n) ≡ true = is_same (s + size + width) (s + 8 * n) (omega (arith, sum)) in
       let ends : read end d3 ≡ Ok 0 = reads_end d3 (more ++ rest) here at_end room3 in
       stand_both fs (end_fields inside fs) d
-          (placed.stand d (after ++ rest) all (room_less d size (size + width) (omega arith) room))
-          (subst (StandAll (end_fields inside fs)) (sym (placed.moves d)) (closes, (ends, tt)))
+      (placed.stand d (after ++ rest) all (room_less d size (size + width) (omega arith) room))
+      (subst (StandAll (end_fields inside fs)) (sym (placed.moves d)) (closes, (ends, tt)))
 
 -- an open type whose contents stand wherever their bits are
-pub placed_open : (p inside : Path) (fs : List Field) → octet_count (closed inside fs) ≤ 16383 → Placed fs → Placed (open_fields p inside fs)
+pub placed_open : (p inside : Path) (fs : List Field) → octet_count (closed inside fs) ≤ 16383 → Placed fs
+    → Placed (open_fields p inside fs)
 placed_open p inside fs fits placed = record {
   stand = λ c rest e r.
-    let reading = length_read p inside fs fits placed c rest e r in
-    (reading.0, (reading.1,
-      subst (λ gs. StandAll gs (answered_at opening (octet_count (closed inside fs)) (answered_at pad 0 c))) (sym (regrouped inside fs)) (contents_stand p inside fs fits placed c rest e r)));
+      let reading = length_read p inside fs fits placed c rest e r in (
+        reading.0,
+        (
+          reading.1,
+          subst (λ gs. StandAll gs (answered_at opening (octet_count (closed inside fs)) (answered_at pad 0 c)))
+              (sym (regrouped inside fs)) (contents_stand p inside fs fits placed c rest e r),
+        ),
+      );
   moves = open_moves p inside fs fits placed;
 }

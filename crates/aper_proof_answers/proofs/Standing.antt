@@ -1,10 +1,9 @@
 -- Fields that stand at a place, one after another.
-use Rattle.std.proofs.Common.{◌≡◌, ℕ, ◌*◌, cond, List, [], ◌∷◌, ◌++◌, length, Bool, true, false, Result, Ok, Err, refl, sym, ap, ◌∙◌}
-use Rattle.aper_defs.specs.Values.{Value}
+use Rattle.std.proofs.Common.{◌≡◌, ℕ, ◌*◌, cond, List, [], ◌∷◌, ◌++◌, length, Bool, true, false, Ok, refl, sym, ap, ◌∙◌}
 use Rattle.aper_defs.specs.Fields.{Path, Ask, RunUnit, Field, asked, run as run_field}
 use Rattle.aper_defs.specs.Bits.{unit_width}
 use Rattle.aper_defs.specs.Questions.{Prog, ask, take}
-use Rattle.aper_defs.specs.Reading.{Cursor, Fault, read, read_units, run, goes_on, answered_at, moved_by, after_field}
+use Rattle.aper_defs.specs.Reading.{Cursor, read, read_units, run, goes_on, answered_at, moved_by, after_field}
 
 -- the field stands at the place
 abbrev pub Stands : Field → Cursor → Type 0

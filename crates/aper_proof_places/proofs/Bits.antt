@@ -1,10 +1,10 @@
 -- The bits of fields from a place on, and how many they are.
-use Rattle.std.proofs.Common.{◌≡◌, ℕ, zero, suc, ◌+◌, ◌-◌, ◌*◌, ◌%◌, ◌/◌, ◌<◌, ◌≤◌, ◌==◌, cond, Bool, true, false, List, [], ◌∷◌, ◌++◌, length, fold, refl, sym, ap, ◌∙◌, arith, append_assoc, append-nil}
+use Rattle.std.proofs.Common.{◌≡◌, ℕ, ◌+◌, ◌*◌, ◌%◌, ◌/◌, ◌==◌, cond, Bool, List, [], ◌∷◌, ◌++◌, length, refl, sym, ap, ◌∙◌, arith, append_assoc, append-nil}
 use Rattle.std.specs.List.{flat_map}
 use Rattle.std.proofs.lemmas.List.{length-append}
 use Rattle.bits_core.specs.Bits.{bits_of, pad_of}
 use Rattle.bits_core.proofs.BitLemmas.{length-bits_of}
-use Rattle.aper_defs.specs.Fields.{Ask, RunUnit, Field, flag, constrained, digits, signed, small, extent, addition_bits, character, ie_count, ie_id, pad, opening, closing, end, asked, run as run_field}
+use Rattle.aper_defs.specs.Fields.{Ask, Field, flag, constrained, digits, signed, small, extent, addition_bits, character, ie_count, ie_id, pad, opening, closing, end, asked, run as run_field}
 use Rattle.aper_defs.specs.Bits.{width_at, spelled, unit_width, field_bits, put, put_all}
 
 abbrev pub field_width : ℕ → Field → ℕ
@@ -21,7 +21,12 @@ total place (f ∷ fs) = field_width place f + total (place + field_width place 
 
 unit_bits : (width : ℕ) (units : List ℕ) → length (flat_map (bits_of width) units) ≡ width * length units
 unit_bits width [] = omega arith
-unit_bits width (x ∷ units) = omega (arith, length-append (bits_of width x) (flat_map (bits_of width) units), length-bits_of width x, unit_bits width units)
+unit_bits width (x ∷ units) = omega (
+  arith,
+  length-append (bits_of width x) (flat_map (bits_of width) units),
+  length-bits_of width x,
+  unit_bits width units,
+)
 
 pub length-field_bits : (place : ℕ) (f : Field) → length (field_bits place f) ≡ field_width place f
 length-field_bits place (asked p question n) = length-bits_of (width_at place question n) (spelled question n)
@@ -30,7 +35,12 @@ length-field_bits place (run_field p unit units) = unit_bits (unit_width unit) u
 pub length-all_bits : (place : ℕ) (fs : List Field) → length (all_bits place fs) ≡ total place fs
 length-all_bits place [] = refl
 length-all_bits place (f ∷ fs) =
-    omega (arith, length-append (field_bits place f) (all_bits (place + field_width place f) fs), length-field_bits place f, length-all_bits (place + field_width place f) fs)
+    omega (
+      arith,
+      length-append (field_bits place f) (all_bits (place + field_width place f) fs),
+      length-field_bits place f,
+      length-all_bits (place + field_width place f) fs,
+    )
 
 pub total-append : (place : ℕ) (a b : List Field) → total place (a ++ b) ≡ total place a + total (place + total place a) b
 total-append place [] b = let e : place ≡ place + 0 = omega arith in omega (arith, ap (λ (n : ℕ). total n b) e)
@@ -54,7 +64,8 @@ unfolding put_all
 put_all-is bits [] = sym (append-nil bits)
 put_all-is bits (f ∷ fs) =
     let place = length bits in
-    let size : length (put bits f) ≡ place + field_width place f = length-append bits (field_bits place f) ∙ ap (λ (n : ℕ). place + n) (length-field_bits place f) in
+    let size : length (put bits f) ≡ place + field_width place f = length-append bits (field_bits place f)
+    ∙ ap (λ (n : ℕ). place + n) (length-field_bits place f) in
     put_all-is (put bits f) fs
     ∙ ap (λ (n : ℕ). put bits f ++ all_bits n fs) size
     ∙ append_assoc bits (field_bits place f) (all_bits (place + field_width place f) fs)
@@ -94,14 +105,16 @@ pub total-same : (octets place : ℕ) (fs : List Field) → total (8 * octets + 
 total-same octets place [] = refl
 total-same octets place (f ∷ fs) =
     let w = field_width place f in
-    let e : 8 * octets + place + field_width (8 * octets + place) f ≡ 8 * octets + (place + w) = omega (arith, field_width-same octets place f) in
+    let e : 8 * octets + place + field_width (8 * octets + place) f ≡ 8 * octets + (place + w) = omega
+    (arith, field_width-same octets place f) in
     omega (arith, field_width-same octets place f, ap (λ (n : ℕ). total n fs) e, total-same octets (place + w) fs)
 
 pub all_bits-same : (octets place : ℕ) (fs : List Field) → all_bits (8 * octets + place) fs ≡ all_bits place fs
 all_bits-same octets place [] = refl
 all_bits-same octets place (f ∷ fs) =
     let w = field_width place f in
-    let e : 8 * octets + place + field_width (8 * octets + place) f ≡ 8 * octets + (place + w) = omega (arith, field_width-same octets place f) in
+    let e : 8 * octets + place + field_width (8 * octets + place) f ≡ 8 * octets + (place + w) = omega
+    (arith, field_width-same octets place f) in
     ap (λ (xs : List Bool). xs ++ all_bits (8 * octets + place + field_width (8 * octets + place) f) fs) (field_bits-same octets place f)
     ∙ ap (λ (n : ℕ). field_bits place f ++ all_bits n fs) e
     ∙ ap (λ (xs : List Bool). field_bits place f ++ xs) (all_bits-same octets (place + w) fs)

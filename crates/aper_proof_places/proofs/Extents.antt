@@ -1,16 +1,16 @@
 -- Length determinants are read as they are written.
-use Rattle.std.proofs.Common.{◌≡◌, ℕ, zero, suc, ◌+◌, ◌-◌, ◌*◌, ◌%◌, ◌/◌, ◌^◌, ◌<◌, ◌≤◌, ◌==◌, nat_lt, cond, ◌&&◌, Bool, true, false, List, [], ◌∷◌, ◌++◌, length, None, Some, Option, refl, sym, ap, subst, ◌∙◌, arith}
+use Rattle.std.proofs.Common.{◌≡◌, ℕ, ◌+◌, ◌-◌, ◌*◌, ◌%◌, ◌/◌, ◌^◌, ◌<◌, ◌≤◌, ◌==◌, nat_lt, cond, ◌&&◌, Bool, true, false, List, ◌∷◌, ◌++◌, None, Option, refl, sym, ap, subst, ◌∙◌, arith}
 use Rattle.std.specs.Prelude.{nat_le}
 use Rattle.std.proofs.lemmas.Bool.Decides.{nat_tests}
 use Rattle.asn1_types.specs.declared.definition.Size.{Size}
 use Rattle.bits_core.specs.Bits.{bits_of}
 use Rattle.aper_defs.specs.declared.reason.Reason.{Reason}
 use Rattle.aper_defs.specs.declared.reason.Reason.TheVariants as reasons
-use Rattle.aper_defs.specs.Fields.{Ask, Extent, extent, opening, whole, part}
+use Rattle.aper_defs.specs.Fields.{extent, opening, whole, part}
 use Rattle.aper_defs.specs.Bits.{part_units, extent_width, extent_number}
-use Rattle.aper_defs.specs.Reading.{Cursor, bits_at, told_width, Form, octet_form, two_octets, units_form, form_of, told, is_inside, unless, judged_length, judged_extent}
-use Rattle.law_aper.proofs.NumberFacts.{by_cases, below, not_below, is_below, is_not_below, is_at_most}
-use Rattle.law_aper.proofs.Placed.{Allowed}
+use Rattle.aper_defs.specs.Reading.{told_width, octet_form, two_octets, units_form, form_of, told, is_inside, unless, judged_length, judged_extent}
+use Rattle.aper_proof_answers.proofs.NumberFacts.{by_cases, below, not_below, is_below, is_not_below, is_at_most}
+use Rattle.aper_proof_places.proofs.Placed.{Allowed}
 
 first_bits : (a b : Bool) (xs : List Bool) → told_width (a ∷ b ∷ xs) ≡ cond a (cond b 8 16) 8
 first_bits true true xs = refl
@@ -45,7 +45,8 @@ width_of_part k rest h =
 pub data Shape (n : ℕ) : Type 0 where
   of_octet : n < 128 → extent_width n ≡ 8 → extent_number n ≡ n → form_of (extent_number n) ≡ octet_form n → Shape n
   of_two : 128 ≤ n → n < 16384 → extent_width n ≡ 16 → extent_number n ≡ 32768 + n → form_of (extent_number n) ≡ two_octets n → Shape n
-  of_part : 16384 ≤ n → extent_width n ≡ 8 → extent_number n ≡ 192 + n / part_units → form_of (extent_number n) ≡ units_form (n / part_units) → Shape n
+  of_part : 16384 ≤ n → extent_width n ≡ 8 → extent_number n ≡ 192 + n / part_units
+      → form_of (extent_number n) ≡ units_form (n / part_units) → Shape n
 
 octet_form_of : (n : ℕ) → n < 128 → form_of n ≡ octet_form n
 octet_form_of n h = ap (λ b. cond b (octet_form n) (cond (nat_lt n 256) (units_form (n - 192)) (two_octets (n - 32768)))) (is_below n 128 h)
@@ -67,16 +68,18 @@ part_form_of k h =
 pub shape_of : (n : ℕ) → n < 1048576 → Shape n
 shape_of n h =
     by_cases (nat_lt n 128) (λ b. Shape n)
-        (λ e. let w : extent_width n ≡ 8 = ap (λ b. cond b 8 (cond (nat_lt n part_units) 16 8)) e in
-            let m : extent_number n ≡ n = ap (λ b. cond b n (cond (nat_lt n part_units) (32768 + n) (192 + n / part_units))) e in
-            of_octet (below n 128 e) w m (ap form_of m ∙ octet_form_of n (below n 128 e)))
-        (λ e. by_cases (nat_lt n part_units) (λ b. Shape n)
-            (λ f. let w : extent_width n ≡ 16 = ap (λ b. cond b 8 (cond (nat_lt n part_units) 16 8)) e ∙ ap (λ b. cond b 16 8) f in
-                let m : extent_number n ≡ 32768 + n = ap (λ b. cond b n (cond (nat_lt n part_units) (32768 + n) (192 + n / part_units))) e ∙ ap (λ b. cond b (32768 + n) (192 + n / part_units)) f in
-                of_two (not_below n 128 e) (below n part_units f) w m (ap form_of m ∙ two_form_of n))
-            (λ f. let w : extent_width n ≡ 8 = ap (λ b. cond b 8 (cond (nat_lt n part_units) 16 8)) e ∙ ap (λ b. cond b 16 8) f in
-                let m : extent_number n ≡ 192 + n / part_units = ap (λ b. cond b n (cond (nat_lt n part_units) (32768 + n) (192 + n / part_units))) e ∙ ap (λ b. cond b (32768 + n) (192 + n / part_units)) f in
-                of_part (not_below n part_units f) w m (ap form_of m ∙ part_form_of (n / part_units) (omega arith))))
+    (λ e. let w : extent_width n ≡ 8 = ap (λ b. cond b 8 (cond (nat_lt n part_units) 16 8)) e in
+    let m : extent_number n ≡ n = ap (λ b. cond b n (cond (nat_lt n part_units) (32768 + n) (192 + n / part_units))) e in
+    of_octet (below n 128 e) w m (ap form_of m ∙ octet_form_of n (below n 128 e)))
+    (λ e. by_cases (nat_lt n part_units) (λ b. Shape n)
+    (λ f. let w : extent_width n ≡ 16 = ap (λ b. cond b 8 (cond (nat_lt n part_units) 16 8)) e ∙ ap (λ b. cond b 16 8) f in
+    let m : extent_number n ≡ 32768 + n = ap (λ b. cond b n (cond (nat_lt n part_units) (32768 + n) (192 + n / part_units))) e
+    ∙ ap (λ b. cond b (32768 + n) (192 + n / part_units)) f in
+    of_two (not_below n 128 e) (below n part_units f) w m (ap form_of m ∙ two_form_of n))
+    (λ f. let w : extent_width n ≡ 8 = ap (λ b. cond b 8 (cond (nat_lt n part_units) 16 8)) e ∙ ap (λ b. cond b 16 8) f in
+    let m : extent_number n ≡ 192 + n / part_units = ap (λ b. cond b n (cond (nat_lt n part_units) (32768 + n) (192 + n / part_units))) e
+    ∙ ap (λ b. cond b (32768 + n) (192 + n / part_units)) f in
+    of_part (not_below n part_units f) w m (ap form_of m ∙ part_form_of (n / part_units) (omega arith))))
 
 -- its width is read, and its number fits
 pub width_read : (n : ℕ) (rest : List Bool) → n < 1048576 → told_width (bits_of (extent_width n) (extent_number n) ++ rest) ≡ extent_width n
@@ -84,7 +87,9 @@ width_read n rest h = go (shape_of n h)
   where
     at : (w m : ℕ) → extent_width n ≡ w → extent_number n ≡ m → told_width (bits_of w m ++ rest) ≡ w
         → told_width (bits_of (extent_width n) (extent_number n) ++ rest) ≡ extent_width n
-    at w m e f g = ap (λ (x : ℕ). told_width (bits_of x (extent_number n) ++ rest)) e ∙ ap (λ (x : ℕ). told_width (bits_of w x ++ rest)) f ∙ g ∙ sym e
+    at w m e f g = ap (λ (x : ℕ). told_width (bits_of x (extent_number n) ++ rest)) e ∙ ap (λ (x : ℕ). told_width (bits_of w x ++ rest)) f
+        ∙ g ∙ sym e
+
     go : Shape n → told_width (bits_of (extent_width n) (extent_number n) ++ rest) ≡ extent_width n
     go (of_octet l w m f) = at 8 n w m (width_of_octet n rest l)
     go (of_two k l w m f) = at 16 (32768 + n) w m (width_of_two n rest l)
@@ -95,6 +100,7 @@ number_fits n h = go (shape_of n h)
   where
     at : (w m : ℕ) → extent_width n ≡ w → extent_number n ≡ m → m < 2 ^ w → extent_number n < 2 ^ extent_width n
     at w m e f g = subst (λ (x : ℕ). extent_number n < 2 ^ x) (sym e) (subst (λ (x : ℕ). x < 2 ^ w) (sym f) g)
+
     go : Shape n → extent_number n < 2 ^ extent_width n
     go (of_octet l w m f) = at 8 n w m (omega arith)
     go (of_two k l w m f) = at 16 (32768 + n) w m (omega arith)
@@ -116,7 +122,8 @@ both_true true b e f = f
 both_true false b e f = cc
 
 judged_in : (least most n : ℕ) → least ≤ n → n ≤ most → judged_length true least most n ≡ None
-judged_in least most n low high = unless_true (nat_le least n && nat_le n most) (both_true _ _ (is_at_most least n low) (is_at_most n most high)) reasons.Length
+judged_in least most n low high = unless_true (nat_le least n && nat_le n most)
+    (both_true _ _ (is_at_most least n low) (is_at_most n most high)) reasons.Length
 
 whole_right : (least most : ℕ) (outside : Option Size) (n : ℕ) → IsWhole least most outside n
     → judged_extent (whole least most outside) (form_of (extent_number n)) ≡ None
@@ -124,11 +131,13 @@ whole_right least most outside n h = go (shape_of n (omega (arith, h.high, h.lim
   where
     past : cond (is_inside outside n) false true ≡ true
     past = ap (λ b. cond b false true) h.past
+
     go : Shape n → judged_extent (whole least most outside) (form_of (extent_number n)) ≡ None
     go (of_octet l w m f) = ap (judged_extent (whole least most outside)) f
         ∙ ap (λ b. judged_length b least most n) past ∙ judged_in least most n h.low h.high
     go (of_two k l w m f) = ap (judged_extent (whole least most outside)) f
-        ∙ ap (λ b. judged_length b least most n) (both_true (nat_le 128 n) _ (is_at_most 128 n k) past) ∙ judged_in least most n h.low h.high
+        ∙ ap (λ b. judged_length b least most n) (both_true (nat_le 128 n) _ (is_at_most 128 n k) past)
+        ∙ judged_in least most n h.low h.high
     go (of_part k w m f) = absurd (omega (arith, h.high, h.limit))
 
 told_again : (n : ℕ) → n < 16384 → told (form_of (extent_number n)) ≡ n
@@ -139,7 +148,8 @@ told_again n h = go (shape_of n (omega arith))
     go (of_two k l w m f) = ap told f
     go (of_part k w m f) = absurd (omega arith)
 
-pub allowed_whole : (least most : ℕ) (outside : Option Size) (n : ℕ) → IsWhole least most outside n → Allowed (extent (whole least most outside)) n
+pub allowed_whole : (least most : ℕ) (outside : Option Size) (n : ℕ) → IsWhole least most outside n
+    → Allowed (extent (whole least most outside)) n
 allowed_whole least most outside n h =
     let limit : n < 1048576 = omega (arith, h.high, h.limit) in record {
       wide = λ c rest e. ap told_width e ∙ width_read n rest limit;
@@ -161,9 +171,11 @@ last_right before previous outside n h out = go (shape_of n (omega arith))
   where
     past : cond (is_inside outside (before + n)) false true ≡ true
     past = ap (λ b. cond b false true) out
+
     go : Shape n → judged_extent (part before previous outside) (form_of (extent_number n)) ≡ None
     go (of_octet l w m f) = ap (judged_extent (part before previous outside)) f ∙ unless_true _ past reasons.NotMinimal
-    go (of_two k l w m f) = ap (judged_extent (part before previous outside)) f ∙ unless_true _ (both_true (nat_le 128 n) _ (is_at_most 128 n k) past) reasons.NotMinimal
+    go (of_two k l w m f) = ap (judged_extent (part before previous outside)) f
+        ∙ unless_true _ (both_true (nat_le 128 n) _ (is_at_most 128 n k) past) reasons.NotMinimal
     go (of_part k w m f) = absurd (omega arith)
 
 pub allowed_last : (before previous : ℕ) (outside : Option Size) (n : ℕ) → n < 16384 → is_inside outside (before + n) ≡ false
@@ -182,6 +194,7 @@ part_right before previous outside k low high full = go (shape_of n (omega arith
   where
     n : ℕ
     n = part_units * k
+
     go : Shape (part_units * k) → judged_extent (part before previous outside) (form_of (extent_number (part_units * k))) ≡ None
     go (of_octet l w m f) = absurd (omega arith)
     go (of_two g l w m f) = absurd (omega arith)

@@ -1,19 +1,17 @@
 -- Fields whose bits are at a place, with room for them, stand there.
-use Rattle.std.proofs.Common.{◌≡◌, ℕ, zero, suc, ◌+◌, ◌-◌, ◌*◌, ◌%◌, ◌/◌, ◌^◌, ◌<◌, ◌≤◌, ◌==◌, nat_lt, cond, ◌&&◌, Bool, true, false, List, [], ◌∷◌, ◌++◌, length, take, drop, replicate, None, Some, Option, Result, Ok, Err, refl, sym, ap, subst, ◌∙◌, arith, append_assoc, append-nil}
+use Rattle.std.proofs.Common.{◌≡◌, ℕ, ◌+◌, ◌*◌, ◌^◌, ◌<◌, ◌≤◌, nat_lt, cond, ◌&&◌, Bool, true, List, [], ◌∷◌, ◌++◌, length, take, drop, replicate, None, Some, Ok, refl, sym, ap, subst, ◌∙◌, arith, append_assoc}
 use Rattle.std.specs.Prelude.{nat_le}
 use Rattle.std.specs.List.{flat_map}
-use Rattle.std.proofs.lemmas.List.{length-append, take_at, drop_at, drop-drop}
-use Rattle.std.proofs.lemmas.Bool.Decides.{nat_tests}
-use Rattle.bits_core.specs.Bits.{bits_of, number_of, numbers_at, octet_bits, pad_of, zeros}
+use Rattle.std.proofs.lemmas.List.{take_at, drop_at, drop-drop}
+use Rattle.bits_core.specs.Bits.{bits_of, number_of, numbers_at, octet_bits}
 use Rattle.bits_core.proofs.BitLemmas.{length-bits_of, number_is}
-use Rattle.aper_defs.specs.declared.reason.Reason.{Reason}
 use Rattle.aper_defs.specs.declared.reason.Reason.TheVariants as reasons
-use Rattle.aper_defs.specs.Fields.{Path, Ask, RunUnit, Field, pad, opening, closing, end, asked, run as run_field}
-use Rattle.aper_defs.specs.Bits.{width_at, spelled, unit_width, field_bits, put_all}
-use Rattle.aper_defs.specs.Reading.{Opened, Cursor, bits_at, is_within, passes, bit_limit, asked_width, judged, answered, read, read_within, answer_of, opens_after, answered_at, moved_by, after_field, read_units, units_within}
-use Rattle.law_aper.proofs.Standing.{Stands, StandAll, after_all, after_all-append}
-use Rattle.law_aper.proofs.NumberFacts.{at_most, is_at_most, is_below, is_not_below, first_of_both, second_of_both}
-use Rattle.law_aper.proofs.Bits.{field_width, all_bits, total, length-field_bits, length-all_bits, total-append, all_bits-append}
+use Rattle.aper_defs.specs.Fields.{Path, Ask, RunUnit, Field, asked, run as run_field}
+use Rattle.aper_defs.specs.Bits.{width_at, spelled, unit_width, field_bits}
+use Rattle.aper_defs.specs.Reading.{Opened, Cursor, bits_at, is_within, passes, bit_limit, asked_width, judged, answered, read, read_within, answer_of, opens_after, moved_by, after_field, read_units, units_within}
+use Rattle.aper_proof_answers.proofs.Standing.{Stands, StandAll, after_all, after_all-append}
+use Rattle.aper_proof_answers.proofs.NumberFacts.{at_most, is_at_most, is_not_below, first_of_both, second_of_both}
+use Rattle.aper_proof_places.proofs.Bits.{field_width, all_bits, total, length-field_bits, length-all_bits, total-append, all_bits-append}
 
 -- ---- room for so many bits
 pub record Room (c : Cursor) (width : ℕ) : Type 0 where
@@ -23,8 +21,10 @@ pub record Room (c : Cursor) (width : ℕ) : Type 0 where
 
 pub room_passes : (c : Cursor) (width : ℕ) → Room c width → passes c width ≡ None
 room_passes c width r =
-    ap (λ b. cond b (cond (nat_lt bit_limit (c.place + width)) (Some reasons.TooLong) (cond (nat_lt (8 * length c.octets) (c.place + width)) (Some reasons.Truncated) None)) (Some reasons.Overrun)) r.within
-    ∙ ap (λ b. cond b (Some reasons.TooLong) (cond (nat_lt (8 * length c.octets) (c.place + width)) (Some reasons.Truncated) None)) (is_not_below bit_limit (c.place + width) r.limit)
+    ap (λ b. cond b (cond (nat_lt bit_limit (c.place + width)) (Some reasons.TooLong)
+    (cond (nat_lt (8 * length c.octets) (c.place + width)) (Some reasons.Truncated) None)) (Some reasons.Overrun)) r.within
+    ∙ ap (λ b. cond b (Some reasons.TooLong) (cond (nat_lt (8 * length c.octets) (c.place + width)) (Some reasons.Truncated) None))
+    (is_not_below bit_limit (c.place + width) r.limit)
     ∙ ap (λ b. cond b (Some reasons.Truncated) None) (is_not_below (8 * length c.octets) (c.place + width) r.there)
 
 pub within_less : (opens : List Opened) (a b : ℕ) → a ≤ b → is_within b opens ≡ true → is_within a opens ≡ true
@@ -50,7 +50,8 @@ room_after c a b r =
     }
 
 -- ---- a field that is read
-pub bits_after : (c : Cursor) (width : ℕ) (xs rest : List Bool) → bits_at c ≡ xs ++ rest → length xs ≡ width → bits_at (moved_by width c) ≡ rest
+pub bits_after : (c : Cursor) (width : ℕ) (xs rest : List Bool) → bits_at c ≡ xs ++ rest → length xs ≡ width
+    → bits_at (moved_by width c) ≡ rest
 bits_after c width xs rest e size =
     sym (drop-drop width c.place (octet_bits c.octets)) ∙ ap (drop width) e ∙ drop_at xs rest width size
 
@@ -96,7 +97,8 @@ pub moved_none : (c : Cursor) → c ≡ moved_by 0 c
 moved_none c = let e : c.place ≡ c.place + 0 = omega arith in ap (λ (n : ℕ). record { octets = c.octets; place = n; opens = c.opens }) e
 
 pub moved_twice : (a b : ℕ) (c : Cursor) → moved_by b (moved_by a c) ≡ moved_by (a + b) c
-moved_twice a b c = let e : c.place + a + b ≡ c.place + (a + b) = omega arith in ap (λ (n : ℕ). record { octets = c.octets; place = n; opens = c.opens }) e
+moved_twice a b c = let e : c.place + a + b ≡ c.place + (a + b) = omega arith in ap
+    (λ (n : ℕ). record { octets = c.octets; place = n; opens = c.opens }) e
 
 pub placed_none : Placed []
 placed_none = record { stand = λ c rest e r. tt; moves = moved_none }
@@ -107,15 +109,17 @@ placed_field : (f : Field) (fs : List Field) → ((c : Cursor) → after_field f
     → Placed fs → Placed (f ∷ fs)
 placed_field f fs step here p = record {
   stand = λ c rest e r.
-    let w = field_width c.place f in
-    let more = all_bits (c.place + w) fs in
-    let split : bits_at c ≡ field_bits c.place f ++ (more ++ rest) = e ∙ append_assoc (field_bits c.place f) more rest in
-    let after : bits_at (moved_by w c) ≡ more ++ rest = bits_after c w (field_bits c.place f) (more ++ rest) split (length-field_bits c.place f) in
-    (here c (more ++ rest) split (room_less c w (w + total (c.place + w) fs) (omega arith) r),
-      subst (StandAll fs) (sym (step c)) (p.stand (moved_by w c) rest after (room_after c w (total (c.place + w) fs) r)));
+      let w = field_width c.place f in
+      let more = all_bits (c.place + w) fs in
+      let split : bits_at c ≡ field_bits c.place f ++ (more ++ rest) = e ∙ append_assoc (field_bits c.place f) more rest in
+      let after : bits_at (moved_by w c) ≡ more ++ rest = bits_after c w (field_bits c.place f) (more ++ rest) split
+      (length-field_bits c.place f) in (
+        here c (more ++ rest) split (room_less c w (w + total (c.place + w) fs) (omega arith) r),
+        subst (StandAll fs) (sym (step c)) (p.stand (moved_by w c) rest after (room_after c w (total (c.place + w) fs) r)),
+      );
   moves = λ c.
-    let w = field_width c.place f in
-    ap (after_all fs) (step c) ∙ p.moves (moved_by w c) ∙ moved_twice w (total (c.place + w) fs) c;
+      let w = field_width c.place f in
+      ap (after_all fs) (step c) ∙ p.moves (moved_by w c) ∙ moved_twice w (total (c.place + w) fs) c;
 }
 
 pub placed_asked : (path : Path) (question : Ask) (n : ℕ) (fs : List Field) → Allowed question n
@@ -123,8 +127,9 @@ pub placed_asked : (path : Path) (question : Ask) (n : ℕ) (fs : List Field) �
     → Placed fs → Placed (asked path question n ∷ fs)
 placed_asked path question n fs a still p =
     placed_field (asked path question n) fs
-        (λ c. ap (λ (os : List Opened). record { octets = c.octets; place = c.place + width_at c.place question n; opens = os }) (still (c.place + width_at c.place question n) c.opens))
-        (λ c rest e r. reads_allowed question n c rest a e r) p
+    (λ c. ap (λ (os : List Opened). record { octets = c.octets; place = c.place + width_at c.place question n; opens = os })
+    (still (c.place + width_at c.place question n) c.opens))
+    (λ c rest e r. reads_allowed question n c rest a e r) p
 
 -- ---- runs
 abbrev pub AreBelow : ℕ → List ℕ → Type 0
@@ -139,8 +144,10 @@ numbers_again width (x ∷ xs) rest h =
     let split : (bits_of width x ++ others) ++ rest ≡ bits_of width x ++ (others ++ rest) = append_assoc (bits_of width x) others rest in
     let size : length (bits_of width x) ≡ width = length-bits_of width x in
     ap (λ (bs : List Bool). number_of (take width bs) ∷ numbers_at (replicate (length xs) width) (drop width bs)) split
-    ∙ ap (λ (bs : List Bool). number_of bs ∷ numbers_at (replicate (length xs) width) (drop width (bits_of width x ++ (others ++ rest)))) (take_at (bits_of width x) (others ++ rest) width size)
-    ∙ ap (λ (bs : List Bool). number_of (bits_of width x) ∷ numbers_at (replicate (length xs) width) bs) (drop_at (bits_of width x) (others ++ rest) width size)
+    ∙ ap (λ (bs : List Bool). number_of bs ∷ numbers_at (replicate (length xs) width) (drop width (bits_of width x ++ (others ++ rest))))
+    (take_at (bits_of width x) (others ++ rest) width size)
+    ∙ ap (λ (bs : List Bool). number_of (bits_of width x) ∷ numbers_at (replicate (length xs) width) bs)
+    (drop_at (bits_of width x) (others ++ rest) width size)
     ∙ ap (λ (n : ℕ). n ∷ numbers_at (replicate (length xs) width) (others ++ rest)) (number_is width x h.0)
     ∙ ap (λ (ns : List ℕ). x ∷ ns) (numbers_again width xs rest h.1)
 
@@ -149,8 +156,9 @@ pub placed_run : (path : Path) (unit : RunUnit) (units : List ℕ) (fs : List Fi
 unfolding read_units
 placed_run path unit units fs h p =
     placed_field (run_field path unit units) fs (λ c. refl)
-        (λ c rest e r. ap (units_within unit (length units) c) (room_passes c (unit_width unit * length units) r)
-            ∙ ap (λ (xs : List ℕ). Ok xs) (ap (numbers_at (replicate (length units) (unit_width unit))) e ∙ numbers_again (unit_width unit) units rest h)) p
+    (λ c rest e r. ap (units_within unit (length units) c) (room_passes c (unit_width unit * length units) r)
+    ∙ ap (λ (xs : List ℕ). Ok xs) (ap (numbers_at (replicate (length units) (unit_width unit))) e
+    ∙ numbers_again (unit_width unit) units rest h)) p
 
 -- ---- joined
 pub stand_both : (a b : List Field) (c : Cursor) → StandAll a c → StandAll b (after_all a c) → StandAll (a ++ b) c
@@ -160,17 +168,17 @@ stand_both (f ∷ a) b c s t = (s.0, stand_both a b (after_field f c) s.1 t)
 pub placed_both : (a b : List Field) → Placed a → Placed b → Placed (a ++ b)
 placed_both a b p q = record {
   stand = λ c rest e r.
-    let w = total c.place a in
-    let more = all_bits (c.place + w) b in
-    let room : Room c (w + total (c.place + w) b) = subst (Room c) (total-append c.place a b) r in
-    let split : bits_at c ≡ all_bits c.place a ++ (more ++ rest) =
-    e ∙ ap (λ (xs : List Bool). xs ++ rest) (all_bits-append c.place a b) ∙ append_assoc (all_bits c.place a) more rest in
-    let after : bits_at (moved_by w c) ≡ more ++ rest =
-    bits_after c w (all_bits c.place a) (more ++ rest) split (length-all_bits c.place a) in
-    stand_both a b c (p.stand c (more ++ rest) split (room_less c w (w + total (c.place + w) b) (omega arith) room))
-        (subst (StandAll b) (sym (p.moves c)) (q.stand (moved_by w c) rest after (room_after c w (total (c.place + w) b) room)));
+      let w = total c.place a in
+      let more = all_bits (c.place + w) b in
+      let room : Room c (w + total (c.place + w) b) = subst (Room c) (total-append c.place a b) r in
+      let split : bits_at c ≡ all_bits c.place a ++ (more ++ rest) =
+      e ∙ ap (λ (xs : List Bool). xs ++ rest) (all_bits-append c.place a b) ∙ append_assoc (all_bits c.place a) more rest in
+      let after : bits_at (moved_by w c) ≡ more ++ rest =
+      bits_after c w (all_bits c.place a) (more ++ rest) split (length-all_bits c.place a) in
+      stand_both a b c (p.stand c (more ++ rest) split (room_less c w (w + total (c.place + w) b) (omega arith) room))
+      (subst (StandAll b) (sym (p.moves c)) (q.stand (moved_by w c) rest after (room_after c w (total (c.place + w) b) room)));
   moves = λ c.
-    let w = total c.place a in
-    after_all-append a b c ∙ ap (after_all b) (p.moves c) ∙ q.moves (moved_by w c) ∙ moved_twice w (total (c.place + w) b) c
-    ∙ ap (λ (n : ℕ). moved_by n c) (sym (total-append c.place a b));
+      let w = total c.place a in
+      after_all-append a b c ∙ ap (after_all b) (p.moves c) ∙ q.moves (moved_by w c) ∙ moved_twice w (total (c.place + w) b) c
+      ∙ ap (λ (n : ℕ). moved_by n c) (sym (total-append c.place a b));
 }

@@ -1,5 +1,5 @@
 -- The layout of a value answers what is asked for its type, and gives the value.
-use Rattle.std.proofs.Common.{◌≡◌, ℕ, zero, suc, ◌+◌, ◌-◌, ◌*◌, ◌<◌, ◌≤◌, Bool, true, false, cond, ◌==◌, nat_lt, List, [], ◌∷◌, ◌++◌, length, map, None, Some, Option, refl, sym, ap, subst, ◌∙◌, arith}
+use Rattle.std.proofs.Common.{◌≡◌, ℕ, zero, suc, ◌+◌, ◌-◌, ◌≤◌, Bool, true, false, cond, ◌==◌, nat_lt, List, [], ◌∷◌, ◌++◌, length, map, None, refl, sym, ap, ◌∙◌, arith}
 use Rattle.bits_core.specs.Bits.{bit_value, bits_of, number_of}
 use Rattle.bits_core.proofs.BitLemmas.{bits_of-number_of}
 use Rattle.aper_defs.specs.Trees.{Tree, Parts, Rows, Procedures, Outcome, Slot, slots, slots_left, mandatory_count, part_count}
@@ -9,17 +9,17 @@ use Rattle.aper_defs.specs.Values.{truth, number, enumeral, bits, octets, text, 
 use Rattle.aper_defs.specs.Fields.{Path, Ask, Field, flag, constrained, small, extent, addition_bits, ie_id, pad, opening, closing, end, whole, octet, asked, run as run_field}
 use Rattle.aper_defs.specs.Fields as fields
 use Rattle.aper_defs.specs.Bits.{closed, octet_count, open_fields, put_all}
-use Rattle.aper_defs.specs.Parts.{of_bits, of_octets, of_characters, extension_fields, integer_fields, index_fields, string_fields, count_fields}
+use Rattle.aper_defs.specs.Parts.{of_bits, of_octets, of_characters, extension_fields, index_fields, string_fields, count_fields}
 use Rattle.aper_defs.specs.Layouts.{raw_fields, flag_fields, mark_fields, raw_additions, ie_fields, message_head, layout, component_fields, addition_fields, alternative_fields, added_fields, row_fields, body_fields, outcome_fields}
-use Rattle.aper_defs.specs.Membership.{Either, is_count_of, IsRaw, FitsOpen, EachFrom, AreRaw, AreAdditions, AreElements, some_present, Has, HasComponents, HasAdditions, HasAlternative, HasAdded, HasRow, HasBody, HasOutcome}
+use Rattle.aper_defs.specs.Membership.{Either, is_count_of, IsRaw, EachFrom, AreRaw, AreAdditions, AreElements, Has, HasComponents, HasAdditions, HasAlternative, HasAdded, HasRow, HasBody, HasOutcome}
 use Rattle.aper_defs.specs.Questions.{Prog, ask, ask_aligned, ask_extension, ask_index, ask_open, ask_raw, ask_flags, ask_members, ask_raw_additions, ask_ies}
 use Rattle.aper_defs.specs.Questions as questions
 use Rattle.aper_defs.specs.Asking.{ask_marks, asks, ask_components, ask_additions, ask_alternative, ask_added, ask_row, ask_body, ask_outcome}
 use Rattle.aper_defs.specs.Reading.{Cursor, run, answered_at}
-use Rattle.law_aper.proofs.Standing.{Leads, StandAll, StandAll-append, after_all, after_all-append, answered, taken, both, nothing, asked_so, asks_on, one, by_test}
-use Rattle.law_aper.proofs.NumberFacts.{by_cases, below, not_below, is_below, is_not_below, same}
-use Rattle.law_aper.proofs.ForthNumbers.{aligned, forth_extension, forth_integer, forth_index}
-use Rattle.law_aper.proofs.ForthStrings.{forth_string, forth_count}
+use Rattle.aper_proof_answers.proofs.Standing.{Leads, StandAll-append, after_all, after_all-append, answered, taken, both, nothing, asks_on, one}
+use Rattle.aper_proof_answers.proofs.NumberFacts.{not_below}
+use Rattle.aper_proof_answers.proofs.ForthNumbers.{aligned, forth_extension, forth_integer, forth_index}
+use Rattle.aper_proof_answers.proofs.ForthStrings.{forth_string, forth_count}
 
 -- ---- bits of BOOLEAN and BIT STRING
 bit_again : (b : Bool) → (bit_value b == 1) ≡ b
@@ -28,7 +28,8 @@ bit_again false = refl
 
 bits_again : (bs : List Bool) → map (λ b. b == 1) (map bit_value bs) ≡ bs
 bits_again [] = refl
-bits_again (b ∷ bs) = ap (λ (x : Bool). x ∷ map (λ n. n == 1) (map bit_value bs)) (bit_again b) ∙ ap (λ (xs : List Bool). b ∷ xs) (bits_again bs)
+bits_again (b ∷ bs) = ap (λ (x : Bool). x ∷ map (λ n. n == 1) (map bit_value bs)) (bit_again b)
+    ∙ ap (λ (xs : List Bool). b ∷ xs) (bits_again bs)
 
 length_of_bits : (bs : List Bool) → length (map bit_value bs) ≡ length bs
 length_of_bits [] = refl
@@ -86,7 +87,8 @@ forth_flags p (part name true t others) (present v vs) K c h s =
 forth_flags p (part name false t others) (present v vs) K c h s = forth_flags p others vs (λ marks. K (true ∷ marks)) c h.1 s
 
 marks_lead : (p : Path) (m : Bool) (ms : List Bool) (K : List Bool → Prog) (c : Cursor)
-    → Leads (asked p (small fields.length) (length (m ∷ ms) - 1) ∷ asked p (addition_bits (length (m ∷ ms))) (number_of (m ∷ ms)) ∷ []) (ask_marks p true K) (K (m ∷ ms)) c
+    → Leads (asked p (small fields.length) (length (m ∷ ms) - 1) ∷ asked p (addition_bits (length (m ∷ ms))) (number_of (m ∷ ms)) ∷ [])
+    (ask_marks p true K) (K (m ∷ ms)) c
 marks_lead p m ms K c s =
     let n = length (m ∷ ms) - 1 in
     let size : n + 1 ≡ length (m ∷ ms) = omega arith in
@@ -110,9 +112,10 @@ pub forth_members : (f : ℕ → Value → List Field) (each_one : ℕ → (Valu
     → Leads (each_from f i vs) (ask_members each_one i (value_count vs) K) (K vs) c
 forth_members f each_one P leads i no_values K c h s = refl
 forth_members f each_one P leads i (value v others) K c h s =
-    both (f i v) (each_from f (suc i) others) _ (ask_members each_one (suc i) (value_count others) (λ vs. K (value v vs))) (K (value v others)) c
-        (leads i v (λ w. ask_members each_one (suc i) (value_count others) (λ vs. K (value w vs))) c h.0)
-        (forth_members f each_one P leads (suc i) others (λ vs. K (value v vs)) _ h.1) s
+    both (f i v) (each_from f (suc i) others) _ (ask_members each_one (suc i) (value_count others) (λ vs. K (value v vs)))
+    (K (value v others)) c
+    (leads i v (λ w. ask_members each_one (suc i) (value_count others) (λ vs. K (value w vs))) c h.0)
+    (forth_members f each_one P leads (suc i) others (λ vs. K (value v vs)) _ h.1) s
 
 pub forth_raw_additions : (p : Path) (more : Options) (K : Options → Prog) (c : Cursor) → AreRaw more
     → Leads (raw_additions p more) (ask_raw_additions p (presence more) K) (K more) c
@@ -120,8 +123,8 @@ forth_raw_additions p no_options K c h s = refl
 forth_raw_additions p (absent more) K c h s = forth_raw_additions p more (λ os. K (absent os)) c h s
 forth_raw_additions p (present v more) K c h s =
     both (raw_fields p p v) (raw_additions p more) _ (ask_raw_additions p (presence more) (λ os. K (present v os))) (K (present v more)) c
-        (forth_raw p p v (λ w. ask_raw_additions p (presence more) (λ os. K (present w os))) c h.0)
-        (forth_raw_additions p more (λ os. K (present v os)) _ h.1) s
+    (forth_raw p p v (λ w. ask_raw_additions p (presence more) (λ os. K (present w os))) c h.0)
+    (forth_raw_additions p more (λ os. K (present v os)) _ h.1) s
 
 pub forth_ies : (p : Path) (known : List Slot) (f : ℕ → Value → List Field) (body : ℕ → (Value → Prog) → Prog) (P : ℕ → Value → Type 0)
     → ((id : ℕ) (v : Value) (K : Value → Prog) (c : Cursor) → P id v → Leads (f id v) (body id K) (K v) c)
@@ -136,9 +139,10 @@ forth_ies p known f body P leads left (ie id criticality v others) K c h s =
     let e : Cursor = answered_at (constrained fields.index 2 2) criticality d in
     aligned p (ie_id known left count) id (λ x. ask p (constrained fields.index 2 2) (λ y. body x (on x y))) c (s.0, (s.1.0, tt))
     ∙ answered p (constrained fields.index 2 2) (λ y. body id (on id y)) d criticality s.1.1.0
-    ∙ both (f id v) (ie_fields p known f after others) (body id (on id criticality)) (on id criticality v) (K (ie id criticality v others)) e
-        (leads id v (on id criticality) e h.2)
-        (forth_ies p known f body P leads after others (λ os. K (ie id criticality v os)) _ h.4) s.1.1.1
+    ∙ both (f id v) (ie_fields p known f after others) (body id (on id criticality)) (on id criticality v)
+    (K (ie id criticality v others)) e
+    (leads id v (on id criticality) e h.2)
+    (forth_ies p known f body P leads after others (λ os. K (ie id criticality v os)) _ h.4) s.1.1.1
 
 -- ---- each form of type
 either_true : (b : Bool) (A B : Type 0) → b ≡ true → Either b A B → A
@@ -150,7 +154,8 @@ either_false true A B e h = cc
 either_false false A B e h = h
 
 -- the fields of the branch that a test takes, where what is known depends on it
-by_either : (b : Bool) (A B : Type 0) (x y : List Field) (P Q R : Prog) (c : Cursor) → (b ≡ true → A → Leads x P R c) → (b ≡ false → B → Leads y Q R c)
+by_either : (b : Bool) (A B : Type 0) (x y : List Field) (P Q R : Prog) (c : Cursor) → (b ≡ true → A → Leads x P R c)
+    → (b ≡ false → B → Leads y Q R c)
     → Either b A B → Leads (cond b x y) (cond b P Q) R c
 by_either true A B x y P Q R c first second h = first refl h
 by_either false A B x y P Q R c first second h = second refl h
@@ -160,7 +165,6 @@ not_extended extensible no_options h e = refl
 not_extended extensible (absent more) h e = cc (h.0, e)
 not_extended extensible (present v more) h e = cc (h.0, e)
 
-
 -- ---- PDUs
 -- what is asked for a PDU, given what is asked for a body
 abbrev pub ask_message : Path → (ℕ → ℕ → (Value → Prog) → Prog) → (Value → Prog) → Prog
@@ -169,7 +173,8 @@ ask_message p body K = ask p flag (λ b. cond (b == 1)
     (ask p (constrained fields.index 2 2) (λ index. ask_aligned p (constrained fields.index 8 255) (λ code.
     ask p (constrained fields.index 2 2) (λ criticality. body index code (λ v. K (message index code criticality v)))))))
 
-message_leads : (p : Path) (body : ℕ → ℕ → (Value → Prog) → Prog) (fs : List Field) (index code criticality : ℕ) (v : Value) (K : Value → Prog) (c : Cursor)
+message_leads : (p : Path) (body : ℕ → ℕ → (Value → Prog) → Prog) (fs : List Field) (index code criticality : ℕ) (v : Value) (K : Value
+    → Prog) (c : Cursor)
     → ((L : Value → Prog) (d : Cursor) → Leads fs (body index code L) (L v) d)
     → Leads (message_head p index code criticality ++ fs) (ask_message p body K) (K (message index code criticality v)) c
 message_leads p body fs index code criticality v K c leads s =
@@ -180,7 +185,8 @@ message_leads p body fs index code criticality v K c leads s =
     let K3 = λ (i j k : ℕ). body i j (λ w. K (message i j k w)) in
     let K2 = λ (i j : ℕ). ask p (constrained fields.index 2 2) (K3 i j) in
     let K1 = λ (i : ℕ). ask_aligned p (constrained fields.index 8 255) (K2 i) in
-    answered p flag (λ b. cond (b == 1) (ask p (small fields.index) (λ n. ask_raw p p (λ w. K (message (3 + n) 0 0 w)))) (ask p (constrained fields.index 2 2) K1)) c 0 s.0
+    answered p flag (λ b. cond (b == 1) (ask p (small fields.index) (λ n. ask_raw p p (λ w. K (message (3 + n) 0 0 w))))
+    (ask p (constrained fields.index 2 2) K1)) c 0 s.0
     ∙ answered p (constrained fields.index 2 2) K1 c1 index s.1.0
     ∙ aligned p (constrained fields.index 8 255) code (K2 index) c2 (s.1.1.0, (s.1.1.1.0, tt))
     ∙ answered p (constrained fields.index 2 2) (K3 index code) c3 criticality s.1.1.1.1.0
@@ -188,35 +194,42 @@ message_leads p body fs index code criticality v K c leads s =
 
 past_leads : (p : Path) (body : ℕ → ℕ → (Value → Prog) → Prog) (index code criticality : ℕ) (v : Value) (K : Value → Prog) (c : Cursor)
     → 3 ≤ index → code ≡ 0 → criticality ≡ 0 → IsRaw v
-    → Leads (asked p flag 1 ∷ asked p (small fields.index) (index - 3) ∷ raw_fields p p v) (ask_message p body K) (K (message index code criticality v)) c
+    → Leads (asked p flag 1 ∷ asked p (small fields.index) (index - 3) ∷ raw_fields p p v) (ask_message p body K)
+    (K (message index code criticality v)) c
 past_leads p body index code criticality v K c past no_code no_criticality is_raw s =
     let c1 : Cursor = answered_at flag 1 c in
     let c2 : Cursor = answered_at (small fields.index) (index - 3) c1 in
     let again : 3 + (index - 3) ≡ index = omega (arith, past) in
     let K1 = λ (n : ℕ). ask_raw p p (λ w. K (message (3 + n) 0 0 w)) in
-    answered p flag (λ b. cond (b == 1) (ask p (small fields.index) K1) (ask p (constrained fields.index 2 2) (λ i. ask_aligned p (constrained fields.index 8 255) (λ j. ask p (constrained fields.index 2 2) (λ k. body i j (λ w. K (message i j k w))))))) c 1 s.0
+    answered p flag (λ b. cond (b == 1) (ask p (small fields.index) K1)
+    (ask p (constrained fields.index 2 2) (λ i. ask_aligned p (constrained fields.index 8 255)
+    (λ j. ask p (constrained fields.index 2 2) (λ k. body i j (λ w. K (message i j k w))))))) c 1 s.0
     ∙ answered p (small fields.index) K1 c1 (index - 3) s.1.0
     ∙ forth_raw p p v (λ w. K (message (3 + (index - 3)) 0 0 w)) c2 is_raw s.1.1
     ∙ ap (λ (n : ℕ). run (K (message n 0 0 v)) (after_all (raw_fields p p v) c2)) again
     ∙ ap (λ (n : ℕ). run (K (message index n 0 v)) (after_all (raw_fields p p v) c2)) (sym no_code)
     ∙ ap (λ (n : ℕ). run (K (message index code n v)) (after_all (raw_fields p p v) c2)) (sym no_criticality)
 
-by_fields : (b : Bool) (A B : Type 0) (x y : List Field) (P R : Prog) (c : Cursor) → (b ≡ true → A → Leads x P R c) → (b ≡ false → B → Leads y P R c)
+by_fields : (b : Bool) (A B : Type 0) (x y : List Field) (P R : Prog) (c : Cursor) → (b ≡ true → A → Leads x P R c)
+    → (b ≡ false → B → Leads y P R c)
     → Either b A B → Leads (cond b x y) P R c
 by_fields true A B x y P R c first second h = first refl h
 by_fields false A B x y P R c first second h = second refl h
 
 mutual
   unfolding Has layout asks
+
   pub forth : (p : Path) (t : Tree) (v : Value) (K : Value → Prog) (c : Cursor) → Has p t v → Leads (layout p t v) (asks p t K) (K v) c
   forth p boolean (truth b) K c h =
-      asks_on (asked p flag (bit_value b) ∷ []) _ _ _ c (one p flag (bit_value b) (λ n. K (truth (n == 1))) c) (ap (λ x. K (truth x)) (bit_again b))
+      asks_on (asked p flag (bit_value b) ∷ []) _ _ _ c (one p flag (bit_value b) (λ n. K (truth (n == 1))) c)
+      (ap (λ x. K (truth x)) (bit_again b))
   forth p (integer low high extensible) (number z) K c h = forth_integer p low high extensible z (λ y. K (number y)) c h
   forth p (enumerated names extensible) (enumeral i) K c h = forth_index p names extensible i (λ j. K (enumeral j)) c h
   forth p (bit_string size) (bits bs) K c h =
       asks_on (string_fields p of_bits size (map bit_value bs)) _ _ _ c
-          (forth_string p of_bits size (map bit_value bs) (λ xs. K (bits (map (λ b. b == 1) xs))) c (ap (is_count_of None size) (length_of_bits bs) ∙ h))
-          (ap (λ xs. K (bits xs)) (bits_again bs))
+      (forth_string p of_bits size (map bit_value bs) (λ xs. K (bits (map (λ b. b == 1) xs))) c
+      (ap (is_count_of None size) (length_of_bits bs) ∙ h))
+      (ap (λ xs. K (bits xs)) (bits_again bs))
   forth p (octet_string size) (octets os) K c h = forth_string p of_octets size os (λ xs. K (octets xs)) c h.0
   forth p (printable_string size) (text cs) K c h = forth_string p of_characters size cs (λ xs. K (text xs)) c h.0
   forth p (sequence extensible root additions) (components vs more) K c h =
@@ -224,49 +237,53 @@ mutual
       let K2 = λ (x : Bool) (th : List Bool). ask_components p root th (K3 x) in
       let K1 = λ (x : Bool). ask_flags p root (K2 x) in
       let x = has_options more in
-      both (extension_fields p extensible x) (flag_fields p root vs ++ (component_fields p root vs ++ (mark_fields p more ++ addition_fields p additions more)))
-          (ask_extension p extensible K1) (K1 x) (K (components vs more)) c
-          (forth_extension p extensible x K1 c (not_extended extensible more h.1))
-          (both (flag_fields p root vs) (component_fields p root vs ++ (mark_fields p more ++ addition_fields p additions more))
-          (K1 x) (K2 x (there root vs)) (K (components vs more)) _
-          (forth_flags p root vs (K2 x) _ h.0)
-          (both (component_fields p root vs) (mark_fields p more ++ addition_fields p additions more)
-          (K2 x (there root vs)) (K3 x vs) (K (components vs more)) _
-          (forth_components p root vs (K3 x) _ h.0)
-          (both (mark_fields p more) (addition_fields p additions more) (K3 x vs) (ask_additions p additions (presence more) (λ os. K (components vs os))) (K (components vs more)) _
-          (forth_marks p more (λ added. ask_additions p additions added (λ os. K (components vs os))) _)
-          (forth_additions p additions more (λ os. K (components vs os)) _ h.2))))
+      both (extension_fields p extensible x) (flag_fields p root vs ++
+      (component_fields p root vs ++ (mark_fields p more ++ addition_fields p additions more)))
+      (ask_extension p extensible K1) (K1 x) (K (components vs more)) c
+      (forth_extension p extensible x K1 c (not_extended extensible more h.1))
+      (both (flag_fields p root vs) (component_fields p root vs ++ (mark_fields p more ++ addition_fields p additions more))
+      (K1 x) (K2 x (there root vs)) (K (components vs more)) _
+      (forth_flags p root vs (K2 x) _ h.0)
+      (both (component_fields p root vs) (mark_fields p more ++ addition_fields p additions more)
+      (K2 x (there root vs)) (K3 x vs) (K (components vs more)) _
+      (forth_components p root vs (K3 x) _ h.0)
+      (both (mark_fields p more) (addition_fields p additions more) (K3 x vs)
+      (ask_additions p additions (presence more) (λ os. K (components vs os))) (K (components vs more)) _
+      (forth_marks p more (λ added. ask_additions p additions added (λ os. K (components vs os))) _)
+      (forth_additions p additions more (λ os. K (components vs os)) _ h.2))))
   forth p (choice extensible root additions) (chosen i v) K c h =
       let count = part_count root in
-      let K1 = λ (j : ℕ). cond (nat_lt j count) (ask_alternative p root j (λ w. K (chosen j w))) (ask_added p additions (j - count) (λ w. K (chosen j w))) in
-      both (index_fields p count extensible i) (cond (nat_lt i count) (alternative_fields p root i v) (added_fields p additions (i - count) v))
-          (ask_index p count extensible K1) (K1 i) (K (chosen i v)) c
-          (forth_index p count extensible i K1 c h.0)
-          (by_either (nat_lt i count) _ _ _ _ _ _ (K (chosen i v)) _
-          (λ e g. forth_alternative p root i v (λ w. K (chosen i w)) _ g)
-          (λ e g. forth_added p additions (i - count) v (λ w. K (chosen i w)) _ g) h.1)
+      let K1 = λ (j : ℕ). cond (nat_lt j count) (ask_alternative p root j (λ w. K (chosen j w)))
+      (ask_added p additions (j - count) (λ w. K (chosen j w))) in
+      both (index_fields p count extensible i)
+      (cond (nat_lt i count) (alternative_fields p root i v) (added_fields p additions (i - count) v))
+      (ask_index p count extensible K1) (K1 i) (K (chosen i v)) c
+      (forth_index p count extensible i K1 c h.0)
+      (by_either (nat_lt i count) _ _ _ _ _ _ (K (chosen i v)) _
+      (λ e g. forth_alternative p root i v (λ w. K (chosen i w)) _ g)
+      (λ e g. forth_added p additions (i - count) v (λ w. K (chosen i w)) _ g) h.1)
   forth p (sequence_of size t) (list vs) K c h =
       let each_one = λ (i : ℕ). asks (fields.member i ∷ p) t in
       both (count_fields p size (value_count vs)) (each_from (λ i w. layout (fields.member i ∷ p) t w) 0 vs)
-          _ (ask_members each_one 0 (value_count vs) (λ ws. K (list ws))) (K (list vs)) c
-          (forth_count p size (value_count vs) (λ n. ask_members each_one 0 n (λ ws. K (list ws))) c h.0)
-          (forth_members (λ i w. layout (fields.member i ∷ p) t w) each_one (λ i w. Has (fields.member i ∷ p) t w)
-          (λ i w L d g. forth (fields.member i ∷ p) t w L d g) 0 vs (λ ws. K (list ws)) _ h.1)
+      _ (ask_members each_one 0 (value_count vs) (λ ws. K (list ws))) (K (list vs)) c
+      (forth_count p size (value_count vs) (λ n. ask_members each_one 0 n (λ ws. K (list ws))) c h.0)
+      (forth_members (λ i w. layout (fields.member i ∷ p) t w) each_one (λ i w. Has (fields.member i ∷ p) t w)
+      (λ i w L d g. forth (fields.member i ∷ p) t w L d g) 0 vs (λ ws. K (list ws)) _ h.1)
   forth p (container rows) (elements ies) K c h =
       let known = slots rows in
       let question = fields.ie_count (mandatory_count known) in
       let on = λ (n : ℕ). ask_ies p known (λ id. ask_row p rows id) n known (λ xs. K (elements xs)) in
       both (asked p pad 0 ∷ asked p question (ie_count ies) ∷ []) (ie_fields p known (λ id w. row_fields p rows id w) known ies)
-          (ask_aligned p question on) (on (ie_count ies)) (K (elements ies)) c
-          (aligned p question (ie_count ies) on c)
-          (forth_ies p known (λ id w. row_fields p rows id w) (λ id. ask_row p rows id) (λ id w. HasRow p rows id w)
-          (λ id w L d g. forth_row p rows id w L d g) known ies (λ xs. K (elements xs)) _ h.1)
+      (ask_aligned p question on) (on (ie_count ies)) (K (elements ies)) c
+      (aligned p question (ie_count ies) on c)
+      (forth_ies p known (λ id w. row_fields p rows id w) (λ id. ask_row p rows id) (λ id w. HasRow p rows id w)
+      (λ id w L d g. forth_row p rows id w L d g) known ies (λ xs. K (elements xs)) _ h.1)
   forth p (pdu procedures) (message index code criticality body) K c h =
       by_fields (nat_lt index 3) _ _ (message_head p index code criticality ++ body_fields p procedures index code body)
-          (asked p flag 1 ∷ asked p (small fields.index) (index - 3) ∷ raw_fields p p body) _ (K (message index code criticality body)) c
-          (λ e g. message_leads p (λ i j. ask_body p procedures i j) (body_fields p procedures index code body) index code criticality body K c
-          (λ L d. forth_body p procedures index code body L d g.2))
-          (λ e g. past_leads p (λ i j. ask_body p procedures i j) index code criticality body K c (not_below index 3 e) g.1 g.2 g.3) h
+      (asked p flag 1 ∷ asked p (small fields.index) (index - 3) ∷ raw_fields p p body) _ (K (message index code criticality body)) c
+      (λ e g. message_leads p (λ i j. ask_body p procedures i j) (body_fields p procedures index code body) index code criticality body K c
+      (λ L d. forth_body p procedures index code body L d g.2))
+      (λ e g. past_leads p (λ i j. ask_body p procedures i j) index code criticality body K c (not_below index 3 e) g.1 g.2 g.3) h
   forth p t v K c h = absurd h
 
   forth_components : (p : Path) (parts : Parts) (vs : Options) (K : Options → Prog) (c : Cursor) → HasComponents p parts vs
@@ -275,9 +292,9 @@ mutual
   forth_components p (part name optional t others) (absent vs) K c h = forth_components p others vs (λ ws. K (absent ws)) c h.1
   forth_components p (part name optional t others) (present v vs) K c h =
       both (layout (fields.component name ∷ p) t v) (component_fields p others vs) _
-          (ask_components p others (there others vs) (λ ws. K (present v ws))) (K (present v vs)) c
-          (forth (fields.component name ∷ p) t v (λ w. ask_components p others (there others vs) (λ ws. K (present w ws))) c h.0)
-          (forth_components p others vs (λ ws. K (present v ws)) _ h.1)
+      (ask_components p others (there others vs) (λ ws. K (present v ws))) (K (present v vs)) c
+      (forth (fields.component name ∷ p) t v (λ w. ask_components p others (there others vs) (λ ws. K (present w ws))) c h.0)
+      (forth_components p others vs (λ ws. K (present v ws)) _ h.1)
   forth_components p parts vs K c h = absurd h
 
   forth_additions : (p : Path) (parts : Parts) (more : Options) (K : Options → Prog) (c : Cursor) → HasAdditions p parts more
@@ -287,10 +304,10 @@ mutual
   forth_additions p (part name optional t others) (absent more) K c h = forth_additions p others more (λ os. K (absent os)) c h
   forth_additions p (part name optional t others) (present v more) K c h =
       both (open_fields p (fields.component name ∷ p) (layout (fields.component name ∷ p) t v)) (addition_fields p others more) _
-          (ask_additions p others (presence more) (λ os. K (present v os))) (K (present v more)) c
-          (forth_open p (fields.component name ∷ p) (layout (fields.component name ∷ p) t v) (asks (fields.component name ∷ p) t) v
-          (λ w. ask_additions p others (presence more) (λ os. K (present w os))) c (λ L d. forth (fields.component name ∷ p) t v L d h.0))
-          (forth_additions p others more (λ os. K (present v os)) _ h.2)
+      (ask_additions p others (presence more) (λ os. K (present v os))) (K (present v more)) c
+      (forth_open p (fields.component name ∷ p) (layout (fields.component name ∷ p) t v) (asks (fields.component name ∷ p) t) v
+      (λ w. ask_additions p others (presence more) (λ os. K (present w os))) c (λ L d. forth (fields.component name ∷ p) t v L d h.0))
+      (forth_additions p others more (λ os. K (present v os)) _ h.2)
 
   forth_alternative : (p : Path) (parts : Parts) (i : ℕ) (v : Value) (K : Value → Prog) (c : Cursor) → HasAlternative p parts i v
       → Leads (alternative_fields p parts i v) (ask_alternative p parts i K) (K v) c
@@ -303,7 +320,7 @@ mutual
   forth_added p no_parts i v K c h = forth_raw p p v K c h
   forth_added p (part name optional t others) zero v K c h =
       forth_open p (fields.component name ∷ p) (layout (fields.component name ∷ p) t v) (asks (fields.component name ∷ p) t) v K c
-          (λ L d. forth (fields.component name ∷ p) t v L d h.0)
+      (λ L d. forth (fields.component name ∷ p) t v L d h.0)
   forth_added p (part name optional t others) (suc i) v K c h = forth_added p others i v K c h
 
   forth_row : (p : Path) (rows : Rows) (id : ℕ) (v : Value) (K : Value → Prog) (c : Cursor) → HasRow p rows id v
@@ -311,25 +328,26 @@ mutual
   forth_row p no_rows id v K c h = forth_raw p (fields.element id ∷ p) v K c h
   forth_row p (row other mandatory t others) id v K c h =
       by_either (other == id) _ _ _ _ _ _ (K v) c
-          (λ e g. forth_open p (fields.element id ∷ p) (layout (fields.element id ∷ p) t v) (asks (fields.element id ∷ p) t) v K c
-          (λ L d. forth (fields.element id ∷ p) t v L d g.0))
-          (λ e g. forth_row p others id v K c g) h
+      (λ e g. forth_open p (fields.element id ∷ p) (layout (fields.element id ∷ p) t v) (asks (fields.element id ∷ p) t) v K c
+      (λ L d. forth (fields.element id ∷ p) t v L d g.0))
+      (λ e g. forth_row p others id v K c g) h
 
-  forth_body : (p : Path) (procedures : Procedures) (index code : ℕ) (v : Value) (K : Value → Prog) (c : Cursor) → HasBody p procedures index code v
+  forth_body : (p : Path) (procedures : Procedures) (index code : ℕ) (v : Value) (K : Value → Prog) (c : Cursor)
+      → HasBody p procedures index code v
       → Leads (body_fields p procedures index code v) (ask_body p procedures index code K) (K v) c
   forth_body p no_procedures index code v K c h = forth_raw p (fields.outcome index ∷ p) v K c h
   forth_body p (procedure other initiating successful unsuccessful others) index code v K c h =
       by_either (other == code) _ _ _ _ _ _ (K v) c
-          (λ e g. by_either (index == 0) _ _ _ _ _ _ (K v) c
-          (λ e2 g2. forth_outcome p index initiating v K c g2)
-          (λ e2 g2. by_either (index == 1) _ _ _ _ _ _ (K v) c
-          (λ e3 g3. forth_outcome p index successful v K c g3)
-          (λ e3 g3. forth_outcome p index unsuccessful v K c g3) g2) g)
-          (λ e g. forth_body p others index code v K c g) h
+      (λ e g. by_either (index == 0) _ _ _ _ _ _ (K v) c
+      (λ e2 g2. forth_outcome p index initiating v K c g2)
+      (λ e2 g2. by_either (index == 1) _ _ _ _ _ _ (K v) c
+      (λ e3 g3. forth_outcome p index successful v K c g3)
+      (λ e3 g3. forth_outcome p index unsuccessful v K c g3) g2) g)
+      (λ e g. forth_body p others index code v K c g) h
 
   forth_outcome : (p : Path) (index : ℕ) (o : Outcome) (v : Value) (K : Value → Prog) (c : Cursor) → HasOutcome p index o v
       → Leads (outcome_fields p index o v) (ask_outcome p index o K) (K v) c
   forth_outcome p index no_outcome v K c h = forth_raw p (fields.outcome index ∷ p) v K c h
   forth_outcome p index (outcome t) v K c h =
       forth_open p (fields.outcome index ∷ p) (layout (fields.outcome index ∷ p) t v) (asks (fields.outcome index ∷ p) t) v K c
-          (λ L d. forth (fields.outcome index ∷ p) t v L d h.0)
+      (λ L d. forth (fields.outcome index ∷ p) t v L d h.0)

@@ -1,0 +1,5 @@
+use Rattle.law_aper.proofs.Spelled.{spelled_decoded}
+use Rattle.law_aper.proofs.a_spelling_is_read_as_its_value.Goals as goal
+
+pub returns : goal.returns
+returns c = spelled_decoded
