@@ -1,19 +1,16 @@
 -- One call of a key changes what its key's calls depend on in one way, and nothing of another key's.
-use Rattle.std.proofs.Common.{◌≡◌, ◌≢◌, ◌==◌, ℕ, ◌+◌, ◌-◌, ◌<◌, Bool, true, false, cond, ◌&&◌, ◌⊎◌, inl, inr, List, [], ◌∷◌, Option, Some, None, refl, sym, ap, ◌∙◌, subst, true≢false, eqb-true, add-zero, arith}
+use Rattle.std.proofs.Common.{◌≡◌, ◌==◌, ℕ, ◌+◌, ◌-◌, ◌<◌, Bool, true, false, cond, ◌&&◌, inl, inr, List, [], ◌∷◌, Option, Some, None, refl, sym, ap, ◌∙◌, subst, true≢false, add-zero, arith}
 use Rattle.std.specs.Prelude.{IsSome, is_some, nat_lt}
-use Rattle.std.specs.Ordering.{nat_cmp, eq_by_cmp, is_eq}
-use Rattle.std.specs.Cmp.{tied_itself}
+use Rattle.std.specs.Ordering.{nat_cmp}
 use Rattle.std.specs.List.{count_by}
 use Rattle.std.specs.Map.{values_of}
 use Rattle.std.proofs.lemmas.Bool.Decides.{nat_tests}
 use Rattle.gnb_types.specs.declared.keys.EntityKey.{EntityKey}
-use Rattle.gnb_types.specs.Orders.{entity_cmp}
-use Rattle.gnb_types.proofs.OrderLemmas.{entity_total}
 use Rattle.tables.specs.Tables.{find}
 use Rattle.pool_defs.specs.Pools.{Stored, PoolState, is_of, used, quota, is_parked, packet_of, packet_by, packet_at, with_packet, without_packet, with_place, without_place, IsPool}
 use Rattle.pool_defs.proofs.PoolLaws.{found_parked, held_apart, held_packet, packet_of_put, used_put, used_take, packet_at_park, packet_of_unpark}
 use Rattle.law_pool.specs.Calls.{Call, Answer, accepted, refused, shown, done, unnamed, put_packet, show_bytes, take_ref, park_ref, show_parked, unpark_ref, key_of, Fate, held, laid, spent, Naming, is_key, with_fate, renamed, with_new, Answers, ShowsPacket, ShowsHeld, ShowsLaid, Takes, Parks, Unparks, no_names, Runs, own_calls, own_answers}
-use Rattle.law_pool.proofs.Statuses.{Sight, nothing, out, in_place, sight, IsOwned, AreNames, same_key, own_key, other_fate, owned_held, owned_laid, names_after, kept_put, kept_take, kept_park, kept_unpark}
+use Rattle.law_pool.proofs.Statuses.{Sight, nothing, out, in_place, sight, AreNames, same_key, own_key, owned_held, owned_laid, names_after, kept_put, kept_take, kept_park, kept_unpark}
 
 record Status : Type 0 where
   seen : ℕ → Sight

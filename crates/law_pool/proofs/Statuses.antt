@@ -1,16 +1,15 @@
 -- What a key's own calls depend on: what its names stand for, how many references it was given, what it uses and what it may use.
-use Rattle.std.proofs.Common.{◌≡◌, ◌≢◌, ◌==◌, ℕ, ◌+◌, ◌-◌, ◌<◌, Bool, true, false, cond, ◌&&◌, ◌⊎◌, inl, inr, List, [], ◌∷◌, Option, Some, None, refl, sym, ap, ◌∙◌, subst, true≢false, eqb-true, arith}
-use Rattle.std.specs.Prelude.{IsSome, is_some, nat_lt}
-use Rattle.std.specs.Ordering.{nat_cmp, eq_by_cmp, is_eq}
+use Rattle.std.proofs.Common.{◌≡◌, ◌≢◌, ◌==◌, ℕ, Bool, true, false, cond, ◌&&◌, Option, Some, None, refl, sym, ap, ◌∙◌, subst, true≢false, eqb-true}
+use Rattle.std.specs.Prelude.{IsSome, is_some}
+use Rattle.std.specs.Ordering.{nat_cmp, is_eq}
 use Rattle.std.specs.Cmp.{tied_itself, Equal-is}
-use Rattle.std.proofs.lemmas.Bool.Decides.{nat_tests}
 use Rattle.gnb_types.specs.declared.keys.EntityKey.{EntityKey}
 use Rattle.gnb_types.specs.Orders.{entity_cmp}
 use Rattle.gnb_types.proofs.OrderLemmas.{entity_total, entity_exact}
 use Rattle.tables.specs.Tables.{find}
-use Rattle.pool_defs.specs.Pools.{Stored, PoolState, used, quota, is_parked, packet_of, packet_by, packet_at, with_packet, without_packet, with_place, without_place, IsPool}
-use Rattle.pool_defs.proofs.PoolLaws.{same_number, found_parked, held_apart, held_packet, new_other, packet_of_put, packet_of_put_other, packet_at_put, used_put, packet_of_take_other, packet_at_take, used_take, packet_of_park_other, packet_at_park, packet_at_park_other, packet_of_unpark, packet_of_unpark_other, packet_at_unpark_other}
-use Rattle.law_pool.specs.Calls.{Call, Answer, accepted, refused, shown, done, unnamed, put_packet, show_bytes, take_ref, park_ref, show_parked, unpark_ref, key_of, Fate, held, laid, spent, Naming, is_key, with_fate, renamed, with_new, Answers}
+use Rattle.pool_defs.specs.Pools.{Stored, PoolState, is_parked, packet_of, packet_by, packet_at, with_packet, without_packet, with_place, without_place, IsPool}
+use Rattle.pool_defs.proofs.PoolLaws.{same_number, found_parked, held_apart, new_other, packet_of_put_other, packet_at_put, packet_of_take_other, packet_at_take, packet_of_park_other, packet_at_park_other, packet_of_unpark_other, packet_at_unpark_other}
+use Rattle.law_pool.specs.Calls.{Fate, held, laid, spent, is_key}
 
 -- what stands for a name
 pub data Sight : Type 0 where
