@@ -1,0 +1,2 @@
+mod Isolation
+mod Statuses
