@@ -196,7 +196,7 @@ module _ {M C P : Type 0} (talk : Talk M C P) (n : NodeId) where
       (all_none ss (after talk net (orders_of talk n (moves_of talk ue s))) ue (one_none net ue s none))
 
   -- moves, and then those of an answer
-  made_after : {R : Type 0} (k : R → Transactions M C) (net : Net M C) (ms : List (Move M C)) (t : Transactions M C) → Plays talk net n t [] ms
+  pub made_after : {R : Type 0} (k : R → Transactions M C) (net : Net M C) (ms : List (Move M C)) (t : Transactions M C) → Plays talk net n t [] ms
       → (a : Answer M P R) → Made talk (after talk net (orders_of talk n ms)) n k a → Made talk net n k a
   made_after k net ms t first (gives os r) second = (ms ++ second.0, plays_then talk net n t (k r) [] (sent_by n os) ms second.0 first second.1)
   made_after k net ms t first (spent j) second = tt

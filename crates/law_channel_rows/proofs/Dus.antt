@@ -35,7 +35,7 @@ use Rattle.law_channel.specs.Moves.{asks, ages, Net, sent_by}
 use Rattle.law_channel.proofs.Nets.{Good}
 use Rattle.law_channel_rows.specs.Made.{ReadsWell, Made, WasSent, IsPutTo, NoneExpired}
 use Rattle.law_channel_rows.proofs.Askers.{one_made, reply_made, transfer_made}
-use Rattle.law_channel_rows.proofs.Ticks.{repeats_of, tick_plays}
+use Rattle.law_channel_rows.proofs.Ticks.{moves_due, tick_plays}
 use Rattle.law_channel_rows.proofs.Requests.{sent_both, Leaves, Replies, leaves_then, leaves_replies, replies_then, replies_here, request_made, leaves_made, drops_made}
 
 module _ {M C P : Type 0} (talk : Talk M C P) (n : NodeId) where
@@ -279,7 +279,7 @@ module _ {M C P : Type 0} (talk : Talk M C P) (n : NodeId) where
   tick_made net good r at =
       subst (λ (t : Transactions M C). Made talk net n kept (gives (flat_map (due_output talk.way) (due t.caller))
       (with_transactions r (record t { caller = after_tick t.caller })))) at
-      (ages ∷ repeats_of talk n (due_output talk.way) (λ c x. refl) (λ c. refl) (net.nodes n).caller.opened,
+      (ages ∷ moves_due talk n (due (net.nodes n).caller),
       tick_plays talk n (due_output talk.way) (λ c x. refl) (λ c. refl) net good)
 
   pub du_made : ReadsWell talk → (net : Net M C) → Good talk net → NoneExpired talk net n → (r : Du M C) → net.nodes n ≡ r.transactions

@@ -5,6 +5,7 @@ pub mod CpAnswers
 pub mod CpMoves
 pub mod CpRequests
 pub mod CpRows
+pub mod CpTicks
 pub mod CuUps
 pub mod Dus
 pub mod Plays

@@ -16,7 +16,7 @@ returns c = record {
       (
         tt,
         (
-          (record { instance = 1; deadline = Some 7; request = Some (preparation 1) }, refl, refl),
+          (1, (1, (0, omega arith, refl), refl)),
           (
             record { is_newest = refl; is_unanswered = refl; is_reply = refl; request = preparation 1; was_put = (1, (0, omega arith, refl), refl); fits = refl },
             (
