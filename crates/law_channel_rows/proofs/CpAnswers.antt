@@ -28,6 +28,7 @@ use Rattle.law_channel.specs.Moves.{Move, asks, asks_at_once, advances, waits_as
 use Rattle.law_channel.proofs.Keys.{with_node_here}
 use Rattle.law_channel.proofs.Nets.{Good}
 use Rattle.law_channel_rows.specs.Made.{ReadsWell, orders_of, Plays, Made, NoneExpired}
+use Rattle.law_channel_rows.specs.Owed.{MayAnswerLate, Owes}
 use Rattle.law_channel_rows.specs.Rows.{moves_of, moves_of_all, IsAllowed, RowPlays, Speaks, RowSpeaks}
 use Rattle.law_channel_rows.proofs.Plays.{plays_none, plays_one, plays_then, good_moves, after_both}
 use Rattle.law_channel_rows.proofs.Requests.{sent_both, drops_made}
@@ -36,11 +37,6 @@ use Rattle.law_channel_rows.proofs.CpRows.{has_tunnels_fine, is_placed_fine, fai
 use Rattle.law_channel_rows.proofs.CpMoves.{none_after, at_once_stays, row_may, plays_made}
 
 module _ {M C P : Type 0} (talk : Talk M C P) (n : NodeId) where
-  -- a target's offer may be answered late
-  abbrev pub MayAnswerLate : Net M C → CpAt → Attempt → Type 0
-  MayAnswerLate net at a = (answer : Message C) → kind_of answer ≡ reply at.ue.0 a.instance → is_preparation answer ≡ true
-      → MayReply talk net n (channel at.ue.0 (other_cp at)) a.instance (talk.way.spell answer)
-
   module _ (reads : ReadsWell talk) (net : Net M C) (none : NoneExpired talk net n) (at : CpAt) where
     abbrev Fine : Row C → Type 0
     Fine what = IsAllowed talk net n at.ue what
@@ -92,7 +88,7 @@ module _ {M C P : Type 0} (talk : Talk M C P) (n : NodeId) where
         caused_fine (cause_name cause) (λ name. handover_is_not_frozen talk.way at name t c) (λ name. spoken _ (is_not_frozen_fine talk reads at name t c))
     prepared_fine m t c a = tt
 
-    offered_fine : (m : Message C) (t : CpTerminal) (c : CpContext) (a : Attempt) → MayAnswerLate net at a → FineIf (in_offered talk.way at m t c a)
+    offered_fine : (m : Message C) (t : CpTerminal) (c : CpContext) (a : Attempt) → MayAnswerLate talk n net at a → FineIf (in_offered talk.way at m t c a)
     unfolding offer_is_declined offer_is_placed kind_of
     offered_fine (e1 (e1s.BearerContextSetupResponse ue instance uplinks n3 (Some down) (Some up))) t c a late =
         listed_fine (name_bearers c uplinks && name_bearers c n3 && name_bearers c down && name_bearers c up) _
@@ -122,7 +118,7 @@ module _ {M C P : Type 0} (talk : Talk M C P) (n : NodeId) where
     fine_if true x y p q = p
     fine_if false x y p q = q
 
-    state_fine : (m : Message C) (t : CpTerminal) (c : CpContext) (s : StateName) (a : Attempt) → (s ≡ states.Offered → MayAnswerLate net at a)
+    state_fine : (m : Message C) (t : CpTerminal) (c : CpContext) (s : StateName) (a : Attempt) → (s ≡ states.Offered → MayAnswerLate talk n net at a)
         → FineIf (in_state talk.way at m t c s a)
     state_fine m t c states.Attaching a late = attaching_fine m t c a
     state_fine m t c states.Preparing a late = fine_if (is_between_dus a.kind) _ _ (moving_fine m t c a) (preparing_fine m t c a)
@@ -139,12 +135,12 @@ module _ {M C P : Type 0} (talk : Talk M C P) (n : NodeId) where
 
     -- an answer that the attempt awaits, or none; where the offer of a target is answered, that may be done
     pub answer_fine : (from : NodeId) (i : ℕ) (m : Message C) (t : CpTerminal)
-        → ((c : CpContext) (a : Attempt) → t.context ≡ Some c → c.attempt ≡ Some a → c.state ≡ states.Offered → MayAnswerLate net at (answered a from))
+        → ((c : CpContext) (a : Attempt) → t.context ≡ Some c → c.attempt ≡ Some a → c.state ≡ states.Offered → MayAnswerLate talk n net at (answered a from))
         → FineAnswer (answer talk.way at from i m t)
     unfolding answer
     answer_fine from i m t late = by t.context refl
       where
-        chosen : (c : CpContext) (a : Attempt) → (c.state ≡ states.Offered → MayAnswerLate net at (answered a from)) → (b : Bool)
+        chosen : (c : CpContext) (a : Attempt) → (c.state ≡ states.Offered → MayAnswerLate talk n net at (answered a from)) → (b : Bool)
             → FineAnswer (if b then answers_with (in_state talk.way at m t c c.state (answered a from)) else answers_none)
         chosen c a may true = state_fine m t c c.state (answered a from) may
         chosen c a may false = tt
@@ -159,7 +155,7 @@ module _ {M C P : Type 0} (talk : Talk M C P) (n : NodeId) where
 
   -- ---- the reply closes its request, its row is made, and what waits longest is put
 
-  after_close : (net : Net M C) (c : Channel) (at : CpAt) (a : Attempt) → MayAnswerLate net at a → MayAnswerLate (after_move talk net n (closes c)) at a
+  after_close : (net : Net M C) (c : Channel) (at : CpAt) (a : Attempt) → MayAnswerLate talk n net at a → MayAnswerLate talk n (after_move talk net n (closes c)) at a
   after_close net c at a may answer kind fits =
       let was = may answer kind fits in
       record {
@@ -240,13 +236,8 @@ module _ {M C P : Type 0} (talk : Talk M C P) (n : NodeId) where
       by true = all.1
       by false = all
 
-  -- the answers of a target's offer may be given
-  abbrev pub Owes : Net M C → CuCpRecord M C → Type 0
-  Owes net r = (ue : UeId) (c : CpContext) (a : Attempt) → (terminal_of r ue).context ≡ Some c → c.attempt ≡ Some a → c.state ≡ states.Offered
-      → MayAnswerLate net (at_of r ue) a
-
   module _ (reads : ReadsWell talk) (net : Net M C) (good : Good talk net) (none : NoneExpired talk net n) (r : CuCpRecord M C) (at : net.nodes n ≡ r.transactions)
-      (owes : Owes net r) (ch : Channel) (i : ℕ) (m : Message C) (put : Put talk net.bag (asked_by n ch) (told i (talk.way.spell m))) where
+      (owes : Owes talk n net r) (ch : Channel) (i : ℕ) (m : Message C) (put : Put talk net.bag (asked_by n ch) (told i (talk.way.spell m))) where
     abbrev owner : UeId
     owner = record { 0 = ch.ue }
 

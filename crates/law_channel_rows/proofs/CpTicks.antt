@@ -20,15 +20,16 @@ use Rattle.law_channel.specs.Ends.{Sent}
 use Rattle.law_channel.specs.Moves.{Move, ages, repeats, Net, sent_by, moved, after}
 use Rattle.law_channel.proofs.Nets.{Good}
 use Rattle.law_channel_rows.specs.Made.{ReadsWell, orders_of, Plays, Made, WasSent, IsPutTo, NoneExpired}
+use Rattle.law_channel_rows.specs.Owed.{Owes}
 use Rattle.law_channel_rows.specs.Rows.{IsAllowed}
 use Rattle.law_channel_rows.proofs.Plays.{plays_none, plays_one, plays_then}
-use Rattle.law_channel_rows.proofs.Requests.{sent_both, drops_made, request_taken, takes_plays, taken_net, after_take, may_reply}
+use Rattle.law_channel_rows.proofs.Requests.{sent_both, drops_made, request_taken, takes_plays, taken_net, after_take, may_answer}
 use Rattle.law_channel_rows.proofs.Says.{kept, row_says}
 use Rattle.law_channel_rows.proofs.Ticks.{AllDue, all_due, still_due, ages_plays}
 use Rattle.law_channel_rows.proofs.CpRows.{expires_fine, command_fine}
 use Rattle.law_channel_rows.proofs.CpMoves.{plays_made, ordered_made, transferred_made}
 use Rattle.law_channel_rows.proofs.CpRequests.{asked_made}
-use Rattle.law_channel_rows.proofs.CpAnswers.{Owes, reply_made, made_after}
+use Rattle.law_channel_rows.proofs.CpAnswers.{reply_made, made_after}
 
 module _ {M C P : Type 0} (talk : Talk M C P) (n : NodeId) where
   -- moves, and then those of what is done after
@@ -109,3 +110,38 @@ module _ {M C P : Type 0} (talk : Talk M C P) (n : NodeId) where
         (still_due talk n net.bag [] (after talk net (orders_of talk n (ages ∷ []))).bag aged.bag (due r.transactions.caller)
         (subst (λ (t : Transactions M C). AllDue talk n net.bag (due t.caller)) at (all_due talk n net good))))
         (λ x q out place grew. commands_made (ues_of talk.way q) x q place))
+
+    -- ---- control messages, and the table
+
+    module _ (net : Net M C) (good : Good talk net) (none : NoneExpired talk net n) (r : CuCpRecord M C) (at : net.nodes n ≡ r.transactions) (owes : Owes talk n net r) where
+      control_by_made : (from : NodeId) (m : Message C) → WasSent talk net from n m → (k : Kind) → kind_of m ≡ k
+          → Made talk net n (kept talk n) (control_by talk.way from m r k)
+      control_by_made from m sent (request ue i) is =
+          subst (λ (t : Transactions M C). Made talk net n (kept talk n)
+          (on_request talk.way r t (channel ue from) i (λ u. asked talk.way from m (with_transactions r u)))) at
+          (request_taken talk n reads net (channel ue from) m i (sent.0, sent.1, reads.kinds m ∙ is) (kept talk n) r
+          (λ u. asked talk.way from m (with_transactions r u)) at
+          (λ fresh.
+              made_after talk n (kept talk n) net _ _ (takes_plays talk n reads net (channel ue from) m i (sent.0, sent.1, reads.kinds m ∙ is) fresh) _
+              (asked_made talk n reads (taken_net talk n reads net (channel ue from) m i (sent.0, sent.1, reads.kinds m ∙ is)) none
+              (with_transactions r (after_take talk n reads net (channel ue from) m i (sent.0, sent.1, reads.kinds m ∙ is)))
+              (takes_plays talk n reads net (channel ue from) m i (sent.0, sent.1, reads.kinds m ∙ is) fresh).node from m ue i
+              (λ answer kind fits. may_answer talk n reads net (channel ue from) m i (sent.0, sent.1, reads.kinds m ∙ is) fresh answer kind fits) is)))
+      control_by_made from m sent (reply ue i) is =
+          reply_made talk n reads net good none r at owes (channel ue from) i m (sent.0, sent.1, reads.kinds m ∙ is)
+      control_by_made from m sent (transfer ue) is = transferred_made talk n reads net none r at from m
+
+      control_made : (from : NodeId) (m : Message C) → WasSent talk net from n m → Made talk net n (kept talk n) (control_came talk.way from m r)
+      unfolding control_came
+      control_made from m sent = by (is_peer r.gnb from)
+        where
+          by : (b : Bool) → Made talk net n (kept talk n) (if b then control_by talk.way from m r (kind_of m) else drops Unexpected r)
+          by true = control_by_made from m sent (kind_of m) refl
+          by false = drops_made talk n net (kept talk n) r Unexpected at
+
+      pub cu_cp_made : (input : Input C P) → IsPutTo talk net n input → Made talk net n (kept talk n) (cu_cp_acts talk.way r input)
+      unfolding cu_cp_acts
+      cu_cp_made (control_input from m) put = control_made from m put
+      cu_cp_made tick_input put = tick_made net good r at
+      cu_cp_made (order_input order) put = ordered_made talk n reads net none r at order
+      cu_cp_made input put = drops_made talk n net (kept talk n) r Unexpected at

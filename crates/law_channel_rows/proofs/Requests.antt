@@ -123,11 +123,11 @@ module _ {M C P : Type 0} (talk : Talk M C P) (n : NodeId) where
     abbrev pub taken_net : Net M C
     taken_net = after talk net (orders_of talk n (take_move ∷ []))
 
-    pub may_reply : (is : verdict here.callee c i ≡ new) (answer : Message C) → kind_of answer ≡ reply c.ue i → answers m answer ≡ true
-        → May talk taken_net n (replies c answer)
-    may_reply is answer kind fits =
+    pub may_answer : (is : verdict here.callee c i ≡ new) (answer : Message C) → kind_of answer ≡ reply c.ue i → answers m answer ≡ true
+        → MayReply talk taken_net n c i (talk.way.spell answer)
+    may_answer is answer kind fits =
         let p = takes_plays is in
-        (i, record {
+        record {
           is_newest = ap (λ (t : Transactions M C). newest t.callee c) p.node ∙ newest_after;
           is_unanswered = ap (λ (t : Transactions M C). kept_reply t.callee c) p.node ∙ unanswered_after;
           is_reply = reads.kinds answer ∙ kind;
@@ -136,7 +136,11 @@ module _ {M C P : Type 0} (talk : Talk M C P) (n : NodeId) where
           Contains-append_left net.bag [] (record { from = c.peer; to = n; ue = put.0; message = talk.way.spell m }) put.1,
           put.2);
           fits = reads.answers_are m answer ∙ fits;
-        })
+        }
+
+    may_reply : (is : verdict here.callee c i ≡ new) (answer : Message C) → kind_of answer ≡ reply c.ue i → answers m answer ≡ true
+        → May talk taken_net n (replies c answer)
+    may_reply is answer kind fits = (i, may_answer is answer kind fits)
 
     pub row_made : {R : Type 0} (kept : R → Transactions M C) (is : verdict here.callee c i ≡ new) (a : Answer M P R)
         → Replies kept after_take c m i a → Made talk net n kept a

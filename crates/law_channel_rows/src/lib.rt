@@ -1,5 +1,5 @@
-//! Laws: what units do to requests and replies is what may be done on a channel: each step of the core, of a DU and of a CU-UP is a
-//! list of orders, each of which may be made. Each function does nothing: its contract is the law.
+//! Laws: what units do to requests and replies is what may be done on a channel: each step of the core, of a DU, of a CU-UP and
+//! of a CU-CP is a list of orders, each of which may be made. Each function does nothing: its contract is the law.
 #![tactic(auto)]
 
 ghost use Rattle.std.specs.Prelude.{◌≡◌, List};
@@ -10,8 +10,11 @@ ghost use Rattle.unit_defs.specs.Core.{CoreRecord, core_acts};
 ghost use Rattle.unit_defs.specs.Du.{Du, du_acts};
 ghost use Rattle.unit_defs.specs.UpRecords.{CuUp};
 ghost use Rattle.unit_defs.specs.CuUp.{cu_up_acts};
+ghost use Rattle.unit_defs.specs.CpRecords.{CuCpRecord};
+ghost use Rattle.unit_defs.specs.CuCp.{cu_cp_acts};
 ghost use Rattle.law_channel.specs.Replies.{Talk};
 ghost use Rattle.law_channel.specs.Moves.{Net, new_net, Order, after, MayAll};
+ghost use Rattle.law_channel_rows.specs.Owed.{Owes};
 ghost use Rattle.law_channel_rows.specs.Made.{ReadsWell, WasSent, IsPutTo, NoneExpired, Made};
 
 /// What the core does with a message that was put to it is a list of orders that may be made: none; a request taken, and answered
@@ -38,4 +41,14 @@ pub fn a_cu_up_makes_moves<M, C, P>()
         → (r : CuUp M C) → (after talk new_net orders).nodes n ≡ r.transactions
         → (input : Input C P) → IsPutTo talk (after talk new_net orders) n input
         → Made talk (after talk new_net orders) n (λ s. s.transactions) (cu_up_acts talk.way r input) }
+{}
+
+/// The same of a CU-CP, where the request of each offered target is the newest that it took, unanswered.
+pub fn a_cu_cp_makes_moves<M, C, P>()
+    ensures { (talk : Talk M C P) → ReadsWell talk → (orders : List (Order talk)) → MayAll talk new_net orders
+        → (n : NodeId) → NoneExpired talk (after talk new_net orders) n
+        → (r : CuCpRecord M C) → (after talk new_net orders).nodes n ≡ r.transactions
+        → Owes talk n (after talk new_net orders) r
+        → (input : Input C P) → IsPutTo talk (after talk new_net orders) n input
+        → Made talk (after talk new_net orders) n (λ s. s.transactions) (cu_cp_acts talk.way r input) }
 {}
