@@ -8,6 +8,7 @@ pub mod CpRows
 pub mod CpTicks
 pub mod CuUps
 pub mod Dus
+pub mod Goes
 pub mod Plays
 pub mod Requests
 pub mod Says

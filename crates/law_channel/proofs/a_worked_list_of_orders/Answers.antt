@@ -1,4 +1,4 @@
-use Rattle.std.proofs.Common.{arith, Some, refl}
+use Rattle.std.proofs.Common.{arith, refl}
 use Rattle.tables.specs.Tables.{find, put, without, at}
 use Rattle.transaction_defs.specs.Callers.{opened_at, is_open, begin, keep_request, is_awaited, close, after_tick}
 use Rattle.transaction_defs.specs.Callees.{kept_at, newest, verdict, taken, kept_reply, keep, keep_for}
