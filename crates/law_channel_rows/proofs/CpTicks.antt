@@ -1,23 +1,21 @@
 -- A tick of a CU-CP: open requests again, or what expires is cancelled; then the commands. And the whole table of a CU-CP.
-use Rattle.std.proofs.Common.{◌≡◌, ℕ, Bool, true, false, List, [], ◌∷◌, ◌++◌, Option, Some, None, refl, sym, ap, ◌∙◌, subst}
+use Rattle.std.proofs.Common.{◌≡◌, Bool, true, false, List, [], ◌∷◌, ◌++◌, Option, Some, None, refl, sym, ap, ◌∙◌, subst}
 use Rattle.std.specs.Prelude.{if◌then◌else◌}
 use Rattle.gnb_types.specs.declared.names.NodeId.{NodeId}
 use Rattle.gnb_types.specs.declared.names.UeId.{UeId}
-use Rattle.gnb_types.specs.declared.keys.Channel.{Channel}
 use Rattle.gnb_types.specs.declared.reasons.DropReason.TheVariants.{Unexpected}
 use Rattle.transaction_defs.specs.Callers.{Due, repeats as due_again, expires, due, after_tick}
-use Rattle.transaction_defs.specs.Callees.{verdict, new}
 use Rattle.unit_defs.specs.declared.StateName.{StateName}
 use Rattle.unit_defs.specs.declared.StateName.TheVariants as states
-use Rattle.unit_defs.specs.Ways.{Message, control, Input, control_input, packet_input, radio_input, confirm_input, offer_input, tick_input, order_input, Answer, gives, spent, with_outputs, ◌then◌, nothing, puts, drops}
+use Rattle.unit_defs.specs.Ways.{Message, control, Input, control_input, tick_input, order_input, Answer, gives, spent, with_outputs, ◌then◌, nothing, drops}
 use Rattle.unit_defs.specs.Messages.{channel}
 use Rattle.unit_defs.specs.Transactions.{Kind, request, reply, transfer, kind_of, Transactions, on_request}
-use Rattle.unit_defs.specs.CpRecords.{Attempt, CpContext, CpTerminal, CuCpRecord, terminal_of, with_transactions, Row, row, row_spent, carry_out}
+use Rattle.unit_defs.specs.CpRecords.{Attempt, CpContext, CuCpRecord, terminal_of, with_transactions, Row, carry_out}
 use Rattle.unit_defs.specs.CpRows.{handover_expires, command}
 use Rattle.unit_defs.specs.CuCp.{is_peer, at_of, asked, control_by, control_came, expired_on, due_one, due_each, command_by, command_on, command_each, ues_of, tick, cu_cp_acts}
 use Rattle.law_channel.specs.Replies.{Talk}
 use Rattle.law_channel.specs.Ends.{Sent}
-use Rattle.law_channel.specs.Moves.{Move, ages, repeats, Net, sent_by, moved, after}
+use Rattle.law_channel.specs.Moves.{ages, repeats, Net, sent_by, after}
 use Rattle.law_channel.proofs.Nets.{Good}
 use Rattle.law_channel_rows.specs.Made.{ReadsWell, orders_of, Plays, Made, WasSent, IsPutTo, NoneExpired}
 use Rattle.law_channel_rows.specs.Owed.{Owes}
@@ -41,10 +39,11 @@ module _ {M C P : Type 0} (talk : Talk M C P) (n : NodeId) where
     where
       by : (b : Answer M P (CuCpRecord M C)) → Made talk (after talk net (orders_of talk n first.0)) n (kept talk n) b
           → Made talk net n (kept talk n) (with_outputs os b)
-      by (gives more x) second =
-          (first.0 ++ second.0,
-          subst (λ (out : List (Sent M)). Plays talk net n x.transactions out (first.0 ++ second.0)) (sym (sent_both n os more))
-          (plays_then talk net n q.transactions x.transactions (sent_by n os) (sent_by n more) first.0 second.0 first.1 second.1))
+      by (gives more x) second = (
+        first.0 ++ second.0,
+        subst (λ (out : List (Sent M)). Plays talk net n x.transactions out (first.0 ++ second.0)) (sym (sent_both n os more))
+            (plays_then talk net n q.transactions x.transactions (sent_by n os) (sent_by n more) first.0 second.0 first.1 second.1),
+      )
       by (spent k) second = tt
   made_then net (spent k) f first next = tt
 
@@ -59,9 +58,11 @@ module _ {M C P : Type 0} (talk : Talk M C P) (n : NodeId) where
     due_made : (d : Due M) (net : Net M C) (r : CuCpRecord M C) → net.nodes n ≡ r.transactions → AllDue talk n net.bag (d ∷ [])
         → Made talk net n (kept talk n) (due_one talk.way r d)
     unfolding handover_expires
-    due_made (due_again c x) net r at was =
-        (repeats c x ∷ [], subst (λ (t : Transactions M C). Plays talk net n t (record { from = n; to = c.peer; ue = c.ue; message = x } ∷ []) (repeats c x ∷ [])) at
-        (plays_one talk net n (repeats c x) was.0 (control c.peer c.ue x ∷ []) (net.nodes n) refl))
+    due_made (due_again c x) net r at was = (
+      repeats c x ∷ [],
+      subst (λ (t : Transactions M C). Plays talk net n t (record { from = n; to = c.peer; ue = c.ue; message = x } ∷ []) (repeats c x ∷ [])) at
+          (plays_one talk net n (repeats c x) was.0 (control c.peer c.ue x ∷ []) (net.nodes n) refl),
+    )
     due_made (expires c) net r at was = allowed_made net (record { 0 = c.ue }) r at _ (by (terminal_of r (record { 0 = c.ue })).context)
       where
         by : (q : Option CpContext) → IsAllowed talk net n (record { 0 = c.ue }) (expired_on talk.way (at_of r (record { 0 = c.ue })) (terminal_of r (record { 0 = c.ue })) q)
@@ -103,7 +104,7 @@ module _ {M C P : Type 0} (talk : Talk M C P) (n : NodeId) where
         let aged = ages_plays talk n net in
         let now : CuCpRecord M C = with_transactions r (record r.transactions { caller = after_tick r.transactions.caller }) in
         let node : (after talk net (orders_of talk n (ages ∷ []))).nodes n ≡ now.transactions =
-            aged.node ∙ ap (λ (t : Transactions M C). record t { caller = after_tick t.caller }) at in
+        aged.node ∙ ap (λ (t : Transactions M C). record t { caller = after_tick t.caller }) at in
         made_after talk n (kept talk n) net (ages ∷ []) _ aged (due_each talk.way (due r.transactions.caller) now then (λ s. command_each talk.way (ues_of talk.way s) s))
         (made_then (after talk net (orders_of talk n (ages ∷ []))) (due_each talk.way (due r.transactions.caller) now) (λ s. command_each talk.way (ues_of talk.way s) s)
         (dues_made (due r.transactions.caller) (after talk net (orders_of talk n (ages ∷ []))) now node
@@ -122,11 +123,11 @@ module _ {M C P : Type 0} (talk : Talk M C P) (n : NodeId) where
           (request_taken talk n reads net (channel ue from) m i (sent.0, sent.1, reads.kinds m ∙ is) (kept talk n) r
           (λ u. asked talk.way from m (with_transactions r u)) at
           (λ fresh.
-              made_after talk n (kept talk n) net _ _ (takes_plays talk n reads net (channel ue from) m i (sent.0, sent.1, reads.kinds m ∙ is) fresh) _
-              (asked_made talk n reads (taken_net talk n reads net (channel ue from) m i (sent.0, sent.1, reads.kinds m ∙ is)) none
-              (with_transactions r (after_take talk n reads net (channel ue from) m i (sent.0, sent.1, reads.kinds m ∙ is)))
-              (takes_plays talk n reads net (channel ue from) m i (sent.0, sent.1, reads.kinds m ∙ is) fresh).node from m ue i
-              (λ answer kind fits. may_answer talk n reads net (channel ue from) m i (sent.0, sent.1, reads.kinds m ∙ is) fresh answer kind fits) is)))
+          made_after talk n (kept talk n) net _ _ (takes_plays talk n reads net (channel ue from) m i (sent.0, sent.1, reads.kinds m ∙ is) fresh) _
+          (asked_made talk n reads (taken_net talk n reads net (channel ue from) m i (sent.0, sent.1, reads.kinds m ∙ is)) none
+          (with_transactions r (after_take talk n reads net (channel ue from) m i (sent.0, sent.1, reads.kinds m ∙ is)))
+          (takes_plays talk n reads net (channel ue from) m i (sent.0, sent.1, reads.kinds m ∙ is) fresh).node from m ue i
+          (λ answer kind fits. may_answer talk n reads net (channel ue from) m i (sent.0, sent.1, reads.kinds m ∙ is) fresh answer kind fits) is)))
       control_by_made from m sent (reply ue i) is =
           reply_made talk n reads net good none r at owes (channel ue from) i m (sent.0, sent.1, reads.kinds m ∙ is)
       control_by_made from m sent (transfer ue) is = transferred_made talk n reads net none r at from m

@@ -1,10 +1,9 @@
 -- A list of orders goes on with the moves of a step.
-use Rattle.std.proofs.Common.{◌≡◌, Bool, false, List, [], ◌∷◌, ◌++◌, refl, sym, ap, ◌∙◌, subst}
+use Rattle.std.proofs.Common.{◌≡◌, List, [], ◌∷◌, ◌++◌, refl, ap, ◌∙◌}
 use Rattle.gnb_types.specs.declared.names.NodeId.{NodeId}
 use Rattle.unit_defs.specs.Ways.{Output}
 use Rattle.unit_defs.specs.Transactions.{Transactions}
 use Rattle.law_channel.specs.Replies.{Talk}
-use Rattle.law_channel.specs.Ends.{same_node}
 use Rattle.law_channel.specs.Moves.{Move, Net, new_net, sent_by, after_move, Order, after, MayAll}
 use Rattle.law_channel_rows.specs.Made.{orders_of, Plays, GoesOn}
 

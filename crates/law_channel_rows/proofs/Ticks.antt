@@ -1,5 +1,5 @@
 -- A tick: what is open is aged, and each open request that didn't expire is put again.
-use Rattle.std.proofs.Common.{◌≡◌, ℕ, Bool, true, false, cond, List, [], ◌∷◌, ◌++◌, Option, Some, None, refl, sym, ap, ◌∙◌, subst, append_assoc, true≢false}
+use Rattle.std.proofs.Common.{◌≡◌, ℕ, Bool, true, false, cond, List, [], ◌∷◌, ◌++◌, Option, Some, None, refl, sym, ap, ◌∙◌, subst}
 use Rattle.std.specs.Prelude.{if◌then◌else◌}
 use Rattle.std.specs.List.{flat_map, AllByRecursion}
 use Rattle.std.specs.Map.{lookup, keys_of}
@@ -15,14 +15,13 @@ use Rattle.gnb_types.specs.declared.keys.Channel.{Channel}
 use Rattle.gnb_types.specs.Orders.{channel_cmp}
 use Rattle.gnb_types.proofs.OrderLemmas.{channel_total}
 use Rattle.tables.specs.Tables.{find, IsSorted}
-use Rattle.transaction_defs.specs.Callers.{Opened, Caller, opened_at, after_tick, Due, repeats as due_again, expires, due, due_of, repeated, is_last, one_less}
+use Rattle.transaction_defs.specs.Callers.{Opened, opened_at, after_tick, Due, repeats as due_again, expires, due, due_of, repeated, is_last}
 use Rattle.unit_defs.specs.Ways.{Output, control}
 use Rattle.unit_defs.specs.Transactions.{Transactions}
 use Rattle.law_channel.specs.Replies.{Talk}
 use Rattle.law_channel.specs.Ends.{Sent, asked, Put}
 use Rattle.law_channel.specs.Moves.{Move, ages, repeats, Net, asked_by, sent_by, after}
 use Rattle.law_channel.proofs.Nets.{Good}
-use Rattle.law_channel.proofs.Ticks.{aged_in, opened_after_tick}
 use Rattle.law_channel_rows.specs.Made.{orders_of, Plays}
 use Rattle.law_channel_rows.proofs.Plays.{plays_none, plays_one, plays_then}
 use Rattle.law_channel_rows.proofs.Requests.{sent_both}
@@ -44,16 +43,18 @@ module _ {X : Type 0} where
   found_past : (e : Channel × X) (es fs : List (Channel × X)) → AllByRecursion (λ y. channel_cmp e.0 y ≡ Less) (keys_of fs) → AreFound es fs → AreFound (e ∷ es) fs
   unfolding find
   found_past e es [] below found = tt
-  found_past e es (f ∷ fs) below found =
-      (ap (λ (b : Bool). cond b (Some e.1) (lookup (is_at (channel_cmp f.0)) es)) (not_before e.0 f.0 below.0) ∙ found.0,
-      found_past e es fs below.1 found.1)
+  found_past e es (f ∷ fs) below found = (
+    ap (λ (b : Bool). cond b (Some e.1) (lookup (is_at (channel_cmp f.0)) es)) (not_before e.0 f.0 below.0) ∙ found.0,
+    found_past e es fs below.1 found.1,
+  )
 
   pub all_found : (es : List (Channel × X)) → IsSorted channel_cmp es → AreFound es es
   unfolding find
   all_found [] sorted = tt
-  all_found (e ∷ es) sorted =
-      (ap (λ (r : Ordering). cond (is_eq r) (Some e.1) (lookup (is_at (channel_cmp e.0)) es)) (tied_itself channel_total e.0),
-      found_past e es es (sorted_head channel_cmp e.0 (keys_of es) sorted) (all_found es (sorted_tail channel_cmp e.0 (keys_of es) sorted)))
+  all_found (e ∷ es) sorted = (
+    ap (λ (r : Ordering). cond (is_eq r) (Some e.1) (lookup (is_at (channel_cmp e.0)) es)) (tied_itself channel_total e.0),
+    found_past e es es (sorted_head channel_cmp e.0 (keys_of es) sorted) (all_found es (sorted_tail channel_cmp e.0 (keys_of es) sorted)),
+  )
 
 module _ {M C P : Type 0} (talk : Talk M C P) (n : NodeId) where
   -- what is due was put before
@@ -92,10 +93,14 @@ module _ {M C P : Type 0} (talk : Talk M C P) (n : NodeId) where
   -- more was put meanwhile
   pub still_due : (bag out now : List (Sent M)) → now ≡ bag ++ out → (ds : List (Due M)) → AllDue bag ds → AllDue now ds
   still_due bag out now is [] all = tt
-  still_due bag out now is (due_again c x ∷ ds) all =
-      ((all.0.0, subst (λ (b : List (Sent M)). Put talk b (asked_by n c) (asked all.0.0 x)) (sym is)
-      (all.0.1.0, Contains-append_left bag out (record { from = n; to = c.peer; ue = all.0.1.0; message = x }) all.0.1.1, all.0.1.2)),
-      still_due bag out now is ds all.1)
+  still_due bag out now is (due_again c x ∷ ds) all = (
+    (
+      all.0.0,
+      subst (λ (b : List (Sent M)). Put talk b (asked_by n c) (asked all.0.0 x)) (sym is)
+          (all.0.1.0, Contains-append_left bag out (record { from = n; to = c.peer; ue = all.0.1.0; message = x }) all.0.1.1, all.0.1.2),
+    ),
+    still_due bag out now is ds all.1,
+  )
   still_due bag out now is (expires c ∷ ds) all = (tt, still_due bag out now is ds all.1)
 
   abbrev pub ticked : Transactions M C → Transactions M C

@@ -1,6 +1,6 @@
 -- A unit's step as moves on channels: what it puts of control messages, and what it keeps of requests and replies then, are those
 -- of a list of moves, each of which may be made.
-use Rattle.std.specs.Prelude.{◌≡◌, ℕ, Bool, false, List, [], ◌∷◌, ◌++◌, map}
+use Rattle.std.specs.Prelude.{◌≡◌, ℕ, false, List, ◌++◌, map}
 use Rattle.std.specs.List.{Contains}
 use Rattle.gnb_types.specs.declared.names.NodeId.{NodeId}
 use Rattle.gnb_types.specs.declared.keys.Channel.{Channel}

@@ -14,6 +14,7 @@ ghost use Rattle.unit_defs.specs.CuUp.{cu_up_acts};
 ghost use Rattle.unit_defs.specs.CpRecords.{CuCpRecord};
 ghost use Rattle.unit_defs.specs.CuCp.{cu_cp_acts};
 ghost use Rattle.law_channel.specs.Replies.{Talk};
+ghost use Rattle.law_channel.specs.Example.{plain_talk};
 ghost use Rattle.law_channel.specs.Moves.{Net, new_net, sent_by, Order, after, MayAll};
 ghost use Rattle.law_channel_rows.specs.Owed.{Owes};
 ghost use Rattle.law_channel_rows.specs.Made.{ReadsWell, WasSent, IsPutTo, NoneExpired, Made, GoesOn};
@@ -62,4 +63,9 @@ pub fn a_step_goes_on<M, C, P, R>()
         → (n : NodeId) (kept : R → Transactions M C) (outputs : List (Output M P)) (r : R)
         → Made talk (after talk new_net orders) n kept (gives outputs r)
         → GoesOn talk orders n (kept r) (sent_by n outputs) }
+{}
+
+/// Messages that stand for themselves are read as what they say.
+pub fn messages_read_well()
+    ensures { ReadsWell plain_talk }
 {}
