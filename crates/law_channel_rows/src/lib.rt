@@ -22,14 +22,16 @@ ghost use Rattle.law_channel_rows.specs.Made.{ReadsWell, WasSent, IsPutTo, NoneE
 /// What the core does with a message that was put to it is a list of orders that may be made: none; a request taken, and answered
 /// or not; or the kept reply put again.
 pub fn the_core_makes_moves<M, C, P>()
-    ensures { (talk : Talk M C P) → ReadsWell talk → (net : Net M C) (r : CoreRecord M C) → net.nodes Core ≡ r.transactions
+    ensures { (talk : Talk M C P) → ReadsWell talk → (net : Net M C) (r : CoreRecord M C)
+        → net.nodes Core ≡ r.transactions
         → (from : NodeId) (m : Message C) → WasSent talk net from Core m
         → Made talk net Core (λ s. s.transactions) (core_acts talk.way r from m) }
 {}
 
 /// The same of a DU and every input, after any list of orders that were made when they might be.
 pub fn a_du_makes_moves<M, C, P>()
-    ensures { (talk : Talk M C P) → ReadsWell talk → (orders : List (Order talk)) → MayAll talk new_net orders
+    ensures { (talk : Talk M C P) → ReadsWell talk → (orders : List (Order talk))
+        → MayAll talk new_net orders
         → (n : NodeId) → NoneExpired talk (after talk new_net orders) n
         → (r : Du M C) → (after talk new_net orders).nodes n ≡ r.transactions
         → (input : Input C P) → IsPutTo talk (after talk new_net orders) n input
@@ -38,7 +40,8 @@ pub fn a_du_makes_moves<M, C, P>()
 
 /// The same of a CU-UP.
 pub fn a_cu_up_makes_moves<M, C, P>()
-    ensures { (talk : Talk M C P) → ReadsWell talk → (orders : List (Order talk)) → MayAll talk new_net orders
+    ensures { (talk : Talk M C P) → ReadsWell talk → (orders : List (Order talk))
+        → MayAll talk new_net orders
         → (n : NodeId) → NoneExpired talk (after talk new_net orders) n
         → (r : CuUp M C) → (after talk new_net orders).nodes n ≡ r.transactions
         → (input : Input C P) → IsPutTo talk (after talk new_net orders) n input
@@ -47,7 +50,8 @@ pub fn a_cu_up_makes_moves<M, C, P>()
 
 /// The same of a CU-CP, where the request of each offered target is the newest that it took, unanswered.
 pub fn a_cu_cp_makes_moves<M, C, P>()
-    ensures { (talk : Talk M C P) → ReadsWell talk → (orders : List (Order talk)) → MayAll talk new_net orders
+    ensures { (talk : Talk M C P) → ReadsWell talk → (orders : List (Order talk))
+        → MayAll talk new_net orders
         → (n : NodeId) → NoneExpired talk (after talk new_net orders) n
         → (r : CuCpRecord M C) → (after talk new_net orders).nodes n ≡ r.transactions
         → Owes talk n (after talk new_net orders) r
