@@ -73,7 +73,7 @@ module _ {M C P : Type 0} (talk : Talk M C P) (bag : List (Sent M)) where
             → Contains bag (sent_on talk r.from r.to u y) ⊎ (request_on ≡ sent_on talk r.from r.to u y)
             → Put talk bag r (asked j y) ⊎ (None ≡ Some (asked j y))
         of_asked j u y k (inl c) = inl (u, c, k)
-        of_asked j u y k (inr e) = 
+        of_asked j u y k (inr e) =
             let same : x ≡ y = ap (λ (l : Sent M). l.message) e in
             let kinds : request q.ue i ≡ request r.ue j = sym is ∙ ap talk.kind same ∙ k in
             let ues : q.ue ≡ r.ue = cc in
@@ -137,7 +137,7 @@ module _ {M C P : Type 0} (talk : Talk M C P) (bag : List (Sent M)) where
             → Contains bag (sent_on talk r.to r.from u y) ⊎ (reply_on ≡ sent_on talk r.to r.from u y)
             → Put talk bag r (told j y) ⊎ (None ≡ Some (told j y))
         of_told j u y k (inl c) = inl (u, c, k)
-        of_told j u y k (inr e) = 
+        of_told j u y k (inr e) =
             let same : x ≡ y = ap (λ (l : Sent M). l.message) e in
             let kinds : reply q.ue i ≡ reply r.ue j = sym is ∙ ap talk.kind same ∙ k in
             let ues : q.ue ≡ r.ue = cc in

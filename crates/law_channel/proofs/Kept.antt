@@ -229,16 +229,8 @@ module _ {M C P : Type 0} (talk : Talk M C P) {net : Net M C} (good : Good talk 
   pub good_repeats : (c : Channel) (x : M) → May talk net n (repeats c x) → Good talk (after_move talk net n (repeats c x))
   good_repeats c x may =
       good_asking talk good n (asks_nothing here c) (record { from = n; to = c.peer; ue = c.ue; message = x } ∷ []) net.expired
-      (once_same talk (put_again talk net.bag (asked may.0.instance x) was (request_grows talk net.bag (asked_by n c) may.0.instance x was.2)) (once_here c))
-      (waits_here c) (request_elsewhere talk net.bag (asked_by n c) may.0.instance x was.2) (λ r other. refl)
-    where
-      was : Put talk net.bag (asked_by n c) (asked may.0.instance x)
-      was =
-          let w = (once_here c).opened may.0 may.1 in
-          let request_is : may.0.request ≡ Some w.1.0 = w.1.1 in
-          let asked_is : may.0.request ≡ Some x = may.2 in
-          let same : w.1.0 ≡ x = cc in
-          subst (λ (y : M). Put talk net.bag (asked_by n c) (asked may.0.instance y)) same w.1.2
+      (once_same talk (put_again talk net.bag (asked may.0 x) may.1 (request_grows talk net.bag (asked_by n c) may.0 x may.1.2)) (once_here c))
+      (waits_here c) (request_elsewhere talk net.bag (asked_by n c) may.0 x may.1.2) (λ r other. refl)
 
   -- ---- what is on no channel
 

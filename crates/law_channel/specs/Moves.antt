@@ -24,7 +24,7 @@ pub data Move (M C : Type 0) : Type 0 where
   waits_as : (channel : Channel) (waiting : List (Waiting C)) → Move M C
   -- the reply to the open request was taken
   closes : (channel : Channel) → Move M C
-  -- a tick: what expires is closed; and an open request is put again
+  -- a tick: what expires is closed; and a request that was put before is put again
   ages : Move M C
   repeats : (channel : Channel) (message : M) → Move M C
   -- a new request is taken; it is answered, at once or later, and answered again
@@ -147,7 +147,7 @@ module _ {M C P : Type 0} (talk : Talk M C P) where
   May net n (waits_as c ws) = AllByRecursion (IsRequest c.ue) ws
   May net n (closes c) = (i : ℕ) × (y : M) × (is_awaited (net.nodes n).caller c i ≡ true) × Put talk net.bag (asked_by n c) (told i y)
   May net n ages = Unit {0}
-  May net n (repeats c message) = (o : Opened M) × (opened_at (net.nodes n).caller c ≡ Some o) × (o.request ≡ Some message)
+  May net n (repeats c message) = (i : ℕ) × Put talk net.bag (asked_by n c) (asked i message)
   May net n (takes c i message) = (verdict (net.nodes n).callee c i ≡ new) × Put talk net.bag (answered_by n c) (asked i message)
   May net n (replies c message) = (i : ℕ) × MayReply net n c i (talk.way.spell message)
   May net n (replies_late c i message) = MayReply net n c i (talk.way.spell message)

@@ -27,7 +27,8 @@ pub fn every_channel_is_exact<M, C, P>()
 pub fn requests_act_in_the_order_of_issue<M, C, P>()
     ensures order { (talk : Talk M C P) (orders : List (Order talk)) → MayAll talk new_net orders
         → (r : Route) → Descends ((after talk new_net orders).acts r) }
-    ensures only_cancels { (talk : Talk M C P) (orders : List (Order talk)) → MayAll talk new_net orders
+    ensures only_cancels { (talk : Talk M C P) (orders : List (Order talk))
+        → MayAll talk new_net orders
         → (r : Route) (i : ℕ) (x : M) → Put talk (after talk new_net orders).bag r (asked i x)
         → (ends_of (after talk new_net orders) r).answering.newest + 1 < i
         → talk.overtakes x ≡ true }
@@ -50,7 +51,8 @@ pub fn a_reply_is_to_the_open_request<M, C, P, R>()
 /// before is put again.
 pub fn an_old_request_changes_nothing<M, C, P, R>()
     ensures { (talk : Talk M C P) (orders : List (Order talk)) → MayAll talk new_net orders
-        → (n : NodeId) (c : Channel) (i : ℕ) (x : M) (same : R) (row : Transactions M C → Answer M P R)
+        → (n : NodeId) (c : Channel) (i : ℕ) (x : M) (same : R)
+        → (row : Transactions M C → Answer M P R)
         → Put talk (after talk new_net orders).bag (answered_by n c) (asked i x)
         → i ≤ (ends_of (after talk new_net orders) (answered_by n c)).answering.newest
         → InVain talk (Put talk (after talk new_net orders).bag (answered_by n c)) same c i
@@ -60,11 +62,14 @@ pub fn an_old_request_changes_nothing<M, C, P, R>()
 /// What waits, waits for an open request: to ask, also at once, keeps that; and where a request was closed, what waits longest is put.
 pub fn what_waits_waits_for_an_open_request<M, C, P>()
     ensures asked { (talk : Talk M C P) (t : Transactions M C) (c : Channel) (w : Waiting C) (k : Channel)
-        → ((q : Channel) → WaitsForOpen t q) → IfGives (λ u. WaitsForOpen u k) (moved talk t (asks c w)) }
+        → ((q : Channel) → WaitsForOpen t q)
+        → IfGives (λ u. WaitsForOpen u k) (moved talk t (asks c w)) }
     ensures at_once { (talk : Talk M C P) (t : Transactions M C) (c : Channel) (w : Waiting C) (k : Channel)
-        → ((q : Channel) → WaitsForOpen t q) → IfGives (λ u. WaitsForOpen u k) (moved talk t (asks_at_once c w)) }
+        → ((q : Channel) → WaitsForOpen t q)
+        → IfGives (λ u. WaitsForOpen u k) (moved talk t (asks_at_once c w)) }
     ensures advanced { (talk : Talk M C P) (t : Transactions M C) (c k : Channel)
-        → (same_channel k c ≡ false → WaitsForOpen t k) → IfGives (λ u. WaitsForOpen u k) (moved talk t (advances c)) }
+        → (same_channel k c ≡ false → WaitsForOpen t k)
+        → IfGives (λ u. WaitsForOpen u k) (moved talk t (advances c)) }
 {}
 
 /// A worked list of orders: each may be made, and the target acts on these requests.

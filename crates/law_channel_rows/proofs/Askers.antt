@@ -7,10 +7,10 @@ use Rattle.gnb_types.specs.declared.keys.Channel.{Channel}
 use Rattle.gnb_types.specs.declared.reasons.DropReason.TheVariants.{Stale}
 use Rattle.transaction_defs.specs.Callers.{Opened, opened_at, is_awaited, has_instance, close}
 use Rattle.unit_defs.specs.Ways.{Output, control, Answer, gives, spent, ◌then◌, nothing, puts, drops}
-use Rattle.unit_defs.specs.Transactions.{Waiting, Transactions, Asked, transfer, advance, on_reply}
+use Rattle.unit_defs.specs.Transactions.{Transactions, Asked, transfer, advance, on_reply}
 use Rattle.law_channel.specs.Replies.{Talk}
 use Rattle.law_channel.specs.Ends.{told, Sent, Put}
-use Rattle.law_channel.specs.Moves.{Move, advances, closes, transfers, Net, asked_by, sent_by, moved, after, May, IsRequest}
+use Rattle.law_channel.specs.Moves.{Move, advances, closes, transfers, Net, asked_by, sent_by, moved, after, May}
 use Rattle.law_channel.proofs.Nets.{Good}
 use Rattle.law_channel_rows.specs.Made.{orders_of, Plays, Made}
 use Rattle.law_channel_rows.proofs.Plays.{plays_one, plays_then}
@@ -31,10 +31,12 @@ module _ {M C P : Type 0} (talk : Talk M C P) (n : NodeId) where
   one_made kept net m x may is f keeps = by x refl
     where
       by : (y : Answer M P (Asked M C)) → x ≡ y → Made talk net n kept (y then (λ a. nothing (f a)))
-      by (gives os a) e =
-          (m ∷ [], subst (λ (t : Transactions M C). Plays talk net n t (sent_by n (os ++ [])) (m ∷ [])) (sym (keeps a))
-          (subst (λ (s : List (Sent M)). Plays talk net n a.transactions s (m ∷ [])) (sym (ap (sent_by n) (append-nil os)))
-          (one_plays net m x may is os a e)))
+      by (gives os a) e = (
+        m ∷ [],
+        subst (λ (t : Transactions M C). Plays talk net n t (sent_by n (os ++ [])) (m ∷ [])) (sym (keeps a))
+            (subst (λ (s : List (Sent M)). Plays talk net n a.transactions s (m ∷ [])) (sym (ap (sent_by n) (append-nil os)))
+            (one_plays net m x may is os a e)),
+      )
       by (spent k) e = tt
 
   -- ---- the reply to the open request was taken
@@ -63,13 +65,14 @@ module _ {M C P : Type 0} (talk : Talk M C P) (n : NodeId) where
     next_made kept f keeps = by (advance talk.way closed_here c) refl
       where
         by : (x : Answer M P (Asked M C)) → advance talk.way closed_here c ≡ x → Made talk net n kept (x then (λ a. nothing (f a)))
-        by (gives os a) e =
-            (closes c ∷ advances c ∷ [],
-            subst (λ (t : Transactions M C). Plays talk net n t (sent_by n (os ++ [])) (closes c ∷ advances c ∷ [])) (sym (keeps a))
-            (subst (λ (s : List (Sent M)). Plays talk net n a.transactions s (closes c ∷ advances c ∷ [])) (sym (ap (sent_by n) (append-nil os)))
-            (plays_then talk net n closed_here a.transactions [] (sent_by n os) (closes c ∷ []) (advances c ∷ []) closes_plays
-            (one_plays closed_net (advances c) (advance talk.way closed_here c) may_advance
-            (ap (λ (t : Transactions M C). moved talk t (advances c)) closes_plays.node) os a e))))
+        by (gives os a) e = (
+          closes c ∷ advances c ∷ [],
+          subst (λ (t : Transactions M C). Plays talk net n t (sent_by n (os ++ [])) (closes c ∷ advances c ∷ [])) (sym (keeps a))
+              (subst (λ (s : List (Sent M)). Plays talk net n a.transactions s (closes c ∷ advances c ∷ [])) (sym (ap (sent_by n) (append-nil os)))
+              (plays_then talk net n closed_here a.transactions [] (sent_by n os) (closes c ∷ []) (advances c ∷ []) closes_plays
+              (one_plays closed_net (advances c) (advance talk.way closed_here c) may_advance
+              (ap (λ (t : Transactions M C). moved talk t (advances c)) closes_plays.node) os a e))),
+        )
         by (spent k) e = tt
 
   -- ---- an awaited reply; a message that is neither request nor reply
@@ -91,7 +94,8 @@ module _ {M C P : Type 0} (talk : Talk M C P) (n : NodeId) where
 
   pub transfer_made : {R : Type 0} (net : Net M C) (kept : R → Transactions M C) (to : NodeId) (ue : ℕ) (x : M) (u : ℕ) → talk.kind x ≡ transfer u
       → (r : R) → net.nodes n ≡ kept r → Made talk net n kept (puts (control to ue x) r)
-  transfer_made net kept to ue x u is r at =
-      (transfers to ue x ∷ [],
-      subst (λ (t : Transactions M C). Plays talk net n t (record { from = n; to = to; ue = ue; message = x } ∷ []) (transfers to ue x ∷ [])) at
-      (plays_one talk net n (transfers to ue x) (u, is) (control to ue x ∷ []) (net.nodes n) refl))
+  transfer_made net kept to ue x u is r at = (
+    transfers to ue x ∷ [],
+    subst (λ (t : Transactions M C). Plays talk net n t (record { from = n; to = to; ue = ue; message = x } ∷ []) (transfers to ue x ∷ [])) at
+        (plays_one talk net n (transfers to ue x) (u, is) (control to ue x ∷ []) (net.nodes n) refl),
+  )

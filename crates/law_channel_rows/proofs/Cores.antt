@@ -1,11 +1,9 @@
 -- The core: a path switch is taken and answered.
-use Rattle.std.proofs.Common.{inl, ◌≡◌, ℕ, List, [], ◌∷◌, Option, Some, None, refl, sym, ap, ◌∙◌, subst}
+use Rattle.std.proofs.Common.{inl, ◌≡◌, ℕ, List, [], ◌∷◌, Option, Some, None, refl, ◌∙◌, subst}
 use Rattle.std.specs.Prelude.{map}
 use Rattle.gnb_types.specs.declared.names.NodeId.{NodeId}
 use Rattle.gnb_types.specs.declared.names.NodeId.TheVariants.{CuCp, CuUp, Du, Core, Ue}
 use Rattle.gnb_types.specs.declared.names.UeId.{UeId}
-use Rattle.gnb_types.specs.declared.keys.Channel.{Channel}
-use Rattle.gnb_types.specs.declared.plans.Peer.{Peer}
 use Rattle.gnb_types.specs.declared.plans.Tunnel.{Tunnel}
 use Rattle.gnb_types.specs.declared.reasons.DropReason.TheVariants.{Unexpected}
 use Rattle.gnb_types.specs.Orders.{ue_cmp}
@@ -18,7 +16,7 @@ use Rattle.unit_defs.specs.Core.{CoreRecord, CorePath, end_of, old_ends, moved, 
 use Rattle.law_channel.specs.Replies.{Talk}
 use Rattle.law_channel.specs.Moves.{Net, sent_by}
 use Rattle.law_channel_rows.specs.Made.{ReadsWell, Made, WasSent}
-use Rattle.law_channel_rows.proofs.Requests.{Leaves, Replies, replies_here, request_made, drops_made}
+use Rattle.law_channel_rows.proofs.Requests.{Replies, replies_here, request_made, drops_made}
 
 module _ {M C P : Type 0} (talk : Talk M C P) where
   no_letters : (ue : UeId) (up : NodeId) (ts : List Tunnel) → sent_by Core (map (end_of talk.way ue up) ts) ≡ []

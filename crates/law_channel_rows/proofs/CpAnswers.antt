@@ -1,5 +1,5 @@
 -- What a CU-CP does on an awaited reply: it closes its request, makes the row of its state, and puts what waits longest.
-use Rattle.std.proofs.Common.{inl, inr, ◌≡◌, ◌⊎◌, ℕ, ◌+◌, Bool, true, false, not, ◌&&◌, List, [], ◌∷◌, ◌++◌, Option, Some, None, refl, sym, ap, ◌∙◌, subst}
+use Rattle.std.proofs.Common.{◌≡◌, ℕ, Bool, true, false, ◌&&◌, List, [], ◌∷◌, ◌++◌, Option, Some, None, refl, sym, ap, ◌∙◌, subst}
 use Rattle.std.specs.Prelude.{if◌then◌else◌}
 use Rattle.std.specs.List.{AllByRecursion}
 use Rattle.std.proofs.lemmas.List.Elements.{Contains-append_left}
@@ -16,31 +16,27 @@ use Rattle.transaction_defs.specs.Callers.{close, is_awaited}
 use Rattle.transaction_defs.specs.Callees.{newest, kept_reply}
 use Rattle.unit_defs.specs.declared.StateName.{StateName}
 use Rattle.unit_defs.specs.declared.StateName.TheVariants as states
-use Rattle.unit_defs.specs.Ways.{Message, f1, e1, xn, core, Output, Answer, gives, spent, with_outputs, ◌then◌, nothing, drops}
+use Rattle.unit_defs.specs.Ways.{Message, f1, e1, xn, core, Answer, gives, spent, with_outputs, ◌then◌, drops}
 use Rattle.unit_defs.specs.Messages.{channel, cause_name, are_bearers, statuses_of}
-use Rattle.unit_defs.specs.Transactions.{Kind, reply, kind_of, Waiting, Transactions, waits_at, with_waiting, advance, on_reply}
+use Rattle.unit_defs.specs.Transactions.{kind_of, Waiting, Transactions, waits_at, with_waiting, advance, on_reply}
 use Rattle.unit_defs.specs.CpRecords.{Awaited, Attempt, CpContext, CpTerminal, CuCpRecord, terminal_of, with_transactions, bearers_in, answered, awaits_answer, after_asked, waiting_of, Say, asks as says_ask, cancels as says_cancel, replies as says_reply, replies_late as says_late, sends, fails, ignores, refuses, forgets as says_forget, Row, row, row_spent, carry_out}
-use Rattle.unit_defs.specs.CpRows.{CpAt, other_cp, name_bearers, is_between_dus, is_between_gnbs, attach_has_tunnels, attach_is_placed, attach_fails, move_has_uplinks, move_is_placed, handover_is_acknowledged, handover_is_declined, handover_is_frozen, handover_is_not_frozen, offer_has_tunnels, offer_is_declined, offer_is_placed, own_peer, place_is_renewed, is_switched, path_is_switched}
-use Rattle.unit_defs.specs.CuCp.{at_of, listed, caused, only_closes, in_attaching, in_moving, in_preparing, in_prepared, in_offered, in_switching, in_releasing, in_state, Answered, answers_none, answers_with, answer_of, answer_on, answer, is_up_release, without_release, is_setup_failure, after_failed_setup, put_next, closed_at, answered_by, reply_came}
-use Rattle.law_channel.specs.Replies.{Talk, is_preparation}
+use Rattle.unit_defs.specs.CpRows.{CpAt, other_cp, name_bearers, is_between_dus, is_between_gnbs, attach_fails, handover_is_declined, handover_is_not_frozen, offer_is_declined, offer_is_placed, own_peer}
+use Rattle.unit_defs.specs.CuCp.{at_of, listed, caused, in_attaching, in_moving, in_preparing, in_prepared, in_offered, in_switching, in_releasing, in_state, Answered, answers_none, answers_with, answer_of, answer_on, answer, is_up_release, without_release, is_setup_failure, put_next, closed_at, answered_by, reply_came}
+use Rattle.law_channel.specs.Replies.{Talk}
 use Rattle.law_channel.specs.Ends.{told, Sent, Put}
-use Rattle.law_channel.specs.Moves.{Move, asks, asks_at_once, advances, waits_as, closes, transfers, forgets, replies, replies_late, Net, asked_by, sent_by, moved, after_answer, after_move, MayReply, May, MayAll, after, IsRequest}
+use Rattle.law_channel.specs.Moves.{Move, asks, asks_at_once, advances, waits_as, closes, replies, replies_late, Net, asked_by, sent_by, moved, after_move, after, IsRequest}
 use Rattle.law_channel.proofs.Keys.{with_node_here}
 use Rattle.law_channel.proofs.Nets.{Good}
 use Rattle.law_channel_rows.specs.Made.{ReadsWell, orders_of, Plays, Made, NoneExpired}
-use Rattle.law_channel_rows.specs.Rows.{moves_of, moves_of_all, IsAllowed, RowPlays, Speaks, RowSpeaks}
-use Rattle.law_channel_rows.proofs.Plays.{plays_none, plays_one, plays_then, good_moves, after_both}
+use Rattle.law_channel_rows.specs.Owed.{MayAnswerLate, Owes}
+use Rattle.law_channel_rows.specs.Rows.{moves_of, moves_of_all, IsAllowed, RowPlays, RowSpeaks}
+use Rattle.law_channel_rows.proofs.Plays.{plays_one, plays_then, good_moves, after_both}
 use Rattle.law_channel_rows.proofs.Requests.{sent_both, drops_made}
 use Rattle.law_channel_rows.proofs.Says.{kept, Gives, row_says, from_move, begun_keeps}
 use Rattle.law_channel_rows.proofs.CpRows.{has_tunnels_fine, is_placed_fine, fails_fine, move_has_uplinks_fine, move_is_placed_fine, acknowledged_fine, declined_fine, is_frozen_fine, is_not_frozen_fine, offer_has_tunnels_fine, renewed_fine, is_switched_fine, path_is_switched_fine}
-use Rattle.law_channel_rows.proofs.CpMoves.{none_after, at_once_stays, row_may, plays_made}
+use Rattle.law_channel_rows.proofs.CpMoves.{none_after, at_once_stays, row_may}
 
 module _ {M C P : Type 0} (talk : Talk M C P) (n : NodeId) where
-  -- a target's offer may be answered late
-  abbrev pub MayAnswerLate : Net M C → CpAt → Attempt → Type 0
-  MayAnswerLate net at a = (answer : Message C) → kind_of answer ≡ reply at.ue.0 a.instance → is_preparation answer ≡ true
-      → MayReply talk net n (channel at.ue.0 (other_cp at)) a.instance (talk.way.spell answer)
-
   module _ (reads : ReadsWell talk) (net : Net M C) (none : NoneExpired talk net n) (at : CpAt) where
     abbrev Fine : Row C → Type 0
     Fine what = IsAllowed talk net n at.ue what
@@ -92,7 +88,7 @@ module _ {M C P : Type 0} (talk : Talk M C P) (n : NodeId) where
         caused_fine (cause_name cause) (λ name. handover_is_not_frozen talk.way at name t c) (λ name. spoken _ (is_not_frozen_fine talk reads at name t c))
     prepared_fine m t c a = tt
 
-    offered_fine : (m : Message C) (t : CpTerminal) (c : CpContext) (a : Attempt) → MayAnswerLate net at a → FineIf (in_offered talk.way at m t c a)
+    offered_fine : (m : Message C) (t : CpTerminal) (c : CpContext) (a : Attempt) → MayAnswerLate talk n net at a → FineIf (in_offered talk.way at m t c a)
     unfolding offer_is_declined offer_is_placed kind_of
     offered_fine (e1 (e1s.BearerContextSetupResponse ue instance uplinks n3 (Some down) (Some up))) t c a late =
         listed_fine (name_bearers c uplinks && name_bearers c n3 && name_bearers c down && name_bearers c up) _
@@ -122,7 +118,7 @@ module _ {M C P : Type 0} (talk : Talk M C P) (n : NodeId) where
     fine_if true x y p q = p
     fine_if false x y p q = q
 
-    state_fine : (m : Message C) (t : CpTerminal) (c : CpContext) (s : StateName) (a : Attempt) → (s ≡ states.Offered → MayAnswerLate net at a)
+    state_fine : (m : Message C) (t : CpTerminal) (c : CpContext) (s : StateName) (a : Attempt) → (s ≡ states.Offered → MayAnswerLate talk n net at a)
         → FineIf (in_state talk.way at m t c s a)
     state_fine m t c states.Attaching a late = attaching_fine m t c a
     state_fine m t c states.Preparing a late = fine_if (is_between_dus a.kind) _ _ (moving_fine m t c a) (preparing_fine m t c a)
@@ -139,12 +135,12 @@ module _ {M C P : Type 0} (talk : Talk M C P) (n : NodeId) where
 
     -- an answer that the attempt awaits, or none; where the offer of a target is answered, that may be done
     pub answer_fine : (from : NodeId) (i : ℕ) (m : Message C) (t : CpTerminal)
-        → ((c : CpContext) (a : Attempt) → t.context ≡ Some c → c.attempt ≡ Some a → c.state ≡ states.Offered → MayAnswerLate net at (answered a from))
+        → ((c : CpContext) (a : Attempt) → t.context ≡ Some c → c.attempt ≡ Some a → c.state ≡ states.Offered → MayAnswerLate talk n net at (answered a from))
         → FineAnswer (answer talk.way at from i m t)
     unfolding answer
     answer_fine from i m t late = by t.context refl
       where
-        chosen : (c : CpContext) (a : Attempt) → (c.state ≡ states.Offered → MayAnswerLate net at (answered a from)) → (b : Bool)
+        chosen : (c : CpContext) (a : Attempt) → (c.state ≡ states.Offered → MayAnswerLate talk n net at (answered a from)) → (b : Bool)
             → FineAnswer (if b then answers_with (in_state talk.way at m t c c.state (answered a from)) else answers_none)
         chosen c a may true = state_fine m t c c.state (answered a from) may
         chosen c a may false = tt
@@ -159,7 +155,7 @@ module _ {M C P : Type 0} (talk : Talk M C P) (n : NodeId) where
 
   -- ---- the reply closes its request, its row is made, and what waits longest is put
 
-  after_close : (net : Net M C) (c : Channel) (at : CpAt) (a : Attempt) → MayAnswerLate net at a → MayAnswerLate (after_move talk net n (closes c)) at a
+  after_close : (net : Net M C) (c : Channel) (at : CpAt) (a : Attempt) → MayAnswerLate talk n net at a → MayAnswerLate talk n (after_move talk net n (closes c)) at a
   after_close net c at a may answer kind fits =
       let was = may answer kind fits in
       record {
@@ -196,7 +192,7 @@ module _ {M C P : Type 0} (talk : Talk M C P) (n : NodeId) where
       (all_none ss (after talk net (orders_of talk n (moves_of talk ue s))) ue (one_none net ue s none))
 
   -- moves, and then those of an answer
-  made_after : {R : Type 0} (k : R → Transactions M C) (net : Net M C) (ms : List (Move M C)) (t : Transactions M C) → Plays talk net n t [] ms
+  pub made_after : {R : Type 0} (k : R → Transactions M C) (net : Net M C) (ms : List (Move M C)) (t : Transactions M C) → Plays talk net n t [] ms
       → (a : Answer M P R) → Made talk (after talk net (orders_of talk n ms)) n k a → Made talk net n k a
   made_after k net ms t first (gives os r) second = (ms ++ second.0, plays_then talk net n t (k r) [] (sent_by n os) ms second.0 first second.1)
   made_after k net ms t first (spent j) second = tt
@@ -210,10 +206,11 @@ module _ {M C P : Type 0} (talk : Talk M C P) (n : NodeId) where
     where
       by : (b : Answer M P (CuCpRecord M C)) → Made talk (after talk net (orders_of talk n (moves_of_all talk ue says))) n (kept talk n) b
           → Made talk net n (kept talk n) (with_outputs os b)
-      by (gives more x) second =
-          (moves_of_all talk ue says ++ second.0,
-          subst (λ (out : List (Sent M)). Plays talk net n x.transactions out (moves_of_all talk ue says ++ second.0)) (sym (sent_both n os more))
-          (plays_then talk net n q.transactions x.transactions (sent_by n os) (sent_by n more) (moves_of_all talk ue says) second.0 plays second.1))
+      by (gives more x) second = (
+        moves_of_all talk ue says ++ second.0,
+        subst (λ (out : List (Sent M)). Plays talk net n x.transactions out (moves_of_all talk ue says ++ second.0)) (sym (sent_both n os more))
+            (plays_then talk net n q.transactions x.transactions (sent_by n os) (sent_by n more) (moves_of_all talk ue says) second.0 plays second.1),
+      )
       by (spent k) second = tt
   row_then net ue (row says now) (spent k) f none plays next = tt
   row_then net ue (row_spent j) (gives os q) f none plays next = absurd plays
@@ -240,13 +237,8 @@ module _ {M C P : Type 0} (talk : Talk M C P) (n : NodeId) where
       by true = all.1
       by false = all
 
-  -- the answers of a target's offer may be given
-  abbrev pub Owes : Net M C → CuCpRecord M C → Type 0
-  Owes net r = (ue : UeId) (c : CpContext) (a : Attempt) → (terminal_of r ue).context ≡ Some c → c.attempt ≡ Some a → c.state ≡ states.Offered
-      → MayAnswerLate net (at_of r ue) a
-
   module _ (reads : ReadsWell talk) (net : Net M C) (good : Good talk net) (none : NoneExpired talk net n) (r : CuCpRecord M C) (at : net.nodes n ≡ r.transactions)
-      (owes : Owes net r) (ch : Channel) (i : ℕ) (m : Message C) (put : Put talk net.bag (asked_by n ch) (told i (talk.way.spell m))) where
+      (owes : Owes talk n net r) (ch : Channel) (i : ℕ) (m : Message C) (put : Put talk net.bag (asked_by n ch) (told i (talk.way.spell m))) where
     abbrev owner : UeId
     owner = record { 0 = ch.ue }
 
@@ -275,7 +267,7 @@ module _ {M C P : Type 0} (talk : Talk M C P) (n : NodeId) where
           let t : Transactions M C = (closed_at talk.way ch r).transactions in
           let ws : List (Waiting C) = without_release talk.way (waits_at t ch) in
           let all : AllByRecursion (IsRequest talk ch.ue) ws = kept_requests ch.ue (waits_at t ch)
-              (subst (λ (u : Transactions M C). AllByRecursion (IsRequest talk ch.ue) (waits_at u ch)) closed_at_is (good_closed.waits (asked_by n ch))) in
+          (subst (λ (u : Transactions M C). AllByRecursion (IsRequest talk ch.ue) (waits_at u ch)) closed_at_is (good_closed.waits (asked_by n ch))) in
           let second = plays_one talk closed_net n (waits_as ch ws) all [] (with_waiting t ch ws) (ap (λ (u : Transactions M C). moved talk u (waits_as ch ws)) closed_at_is) in
           made_after (kept talk n) closed_net (waits_as ch ws ∷ []) (with_waiting t ch ws) second
           (put_next talk.way owner ch (with_transactions (closed_at talk.way ch r) (with_waiting t ch ws)))

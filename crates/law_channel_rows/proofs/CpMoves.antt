@@ -1,7 +1,6 @@
 -- What a CU-CP says may be said, and its tokens, orders and ticks are moves.
-use Rattle.std.proofs.Common.{inl, inr, ◌≡◌, ◌⊎◌, ℕ, ◌+◌, Bool, true, false, not, ◌&&◌, List, [], ◌∷◌, ◌++◌, Option, Some, None, refl, sym, ap, ◌∙◌, subst}
+use Rattle.std.proofs.Common.{inl, inr, ◌≡◌, ◌⊎◌, ℕ, ◌+◌, Bool, true, false, not, ◌&&◌, List, [], ◌∷◌, Option, Some, None, ap, ◌∙◌}
 use Rattle.std.specs.Prelude.{if◌then◌else◌, ◌==◌}
-use Rattle.std.specs.List.{AllByRecursion}
 use Rattle.gnb_types.specs.declared.names.NodeId.{NodeId}
 use Rattle.gnb_types.specs.declared.names.UeId.{UeId}
 use Rattle.gnb_types.specs.declared.keys.Channel.{Channel}
@@ -11,23 +10,21 @@ use Rattle.gnb_types.specs.declared.reasons.DropReason.TheVariants.{Unexpected}
 use Rattle.message_types.specs.declared.rrc.Token.{Token}
 use Rattle.message_types.specs.declared.rrc.Token.TheVariants as tokens
 use Rattle.message_types.specs.declared.f1.F1.TheVariants as f1s
-use Rattle.unit_defs.specs.declared.StateName.{StateName}
-use Rattle.unit_defs.specs.declared.StateName.TheVariants as states
-use Rattle.unit_defs.specs.Ways.{Message, f1, Output, Answer, gives, spent, ◌then◌, nothing, drops}
+use Rattle.unit_defs.specs.Ways.{Message, f1, Answer, gives, spent, ◌then◌}
 use Rattle.unit_defs.specs.Messages.{channel}
 use Rattle.unit_defs.specs.Transactions.{Transactions}
 use Rattle.unit_defs.specs.CpRecords.{Attempt, CpContext, CpTerminal, CuCpRecord, terminal_of, same_node, waiting_of, Say, asks as says_ask, cancels as says_cancel, replies as says_reply, replies_late as says_late, sends, fails, ignores, refuses, forgets as says_forget, Row, row, row_spent, carry_out}
-use Rattle.unit_defs.specs.CpRows.{CpAt, own_du, attach, handover, cancel, release, completes, completes_again, returns, arrives, arrives_again, command}
-use Rattle.unit_defs.specs.CuCp.{at_of, by_row, ordered, is_complete, is_reestablish, is_epoch, is_own_command, may_return, is_too_early, is_ready, unexpected_token, token_in_ready, token_of_return, token_of_attempt, token_while_serving, token_by_attempt, token_on, token_row, token_ue, container_row, no_context_first, token_came, transferred, command_by, command_on, command_each}
+use Rattle.unit_defs.specs.CpRows.{CpAt, own_du}
+use Rattle.unit_defs.specs.CuCp.{at_of, ordered, is_complete, is_reestablish, is_epoch, is_own_command, may_return, is_too_early, is_ready, token_in_ready, token_of_return, token_of_attempt, token_by_attempt, token_on, token_row, token_ue, container_row, no_context_first, token_came, transferred}
 use Rattle.law_channel.specs.Replies.{Talk}
-use Rattle.law_channel.specs.Moves.{Move, asks, asks_at_once, transfers, forgets, Net, asked_by, with_route, moved, expired_after, after_answer, after_move, MayAll, after}
+use Rattle.law_channel.specs.Moves.{Move, asks, asks_at_once, Net, asked_by, with_route, moved, expired_after, after_answer, MayAll, after}
 use Rattle.law_channel.proofs.Keys.{route_cases, with_route_here, with_route_other}
-use Rattle.law_channel_rows.specs.Made.{ReadsWell, orders_of, Plays, Made, NoneExpired}
+use Rattle.law_channel_rows.specs.Made.{ReadsWell, orders_of, Made, NoneExpired}
 use Rattle.law_channel_rows.specs.Rows.{moves_of, moves_of_all, IsAllowed, RowPlays, SpeaksOne, Speaks, RowSpeaks}
 use Rattle.law_channel_rows.proofs.Plays.{may_both}
 use Rattle.law_channel_rows.proofs.Requests.{drops_made}
 use Rattle.law_channel_rows.proofs.Says.{kept, row_says}
-use Rattle.law_channel_rows.proofs.CpRows.{attach_fine, handover_fine, cancel_fine, release_fine, completes_fine, completes_again_fine, returns_fine, arrives_fine, arrives_again_fine, accepted_one, command_fine}
+use Rattle.law_channel_rows.proofs.CpRows.{attach_fine, handover_fine, cancel_fine, release_fine, completes_fine, completes_again_fine, returns_fine, arrives_fine, arrives_again_fine, accepted_one}
 
 module _ {M C P : Type 0} (talk : Talk M C P) (n : NodeId) where
   -- ---- no request expires by what is said
@@ -46,13 +43,17 @@ module _ {M C P : Type 0} (talk : Talk M C P) (n : NodeId) where
 
   one_may : (net : Net M C) (ue : UeId) (s : Say C) → NoneExpired talk net n → SpeaksOne talk ue s
       → MayAll talk net (orders_of talk n (moves_of talk ue s)) × NoneExpired talk (after talk net (orders_of talk n (moves_of talk ue s))) n
-  one_may net ue (says_ask to m deadline awaited) none is =
-      (((is, none (channel ue.0 to)), tt), none_after net (asks (channel ue.0 to) (waiting_of talk.way m deadline awaited))
-      (moved talk (net.nodes n) (asks (channel ue.0 to) (waiting_of talk.way m deadline awaited))) none none)
-  one_may net ue (says_cancel to m) none is =
-      ((is, tt), none_after net (asks_at_once (channel ue.0 to) (waiting_of talk.way m None false))
-      (moved talk (net.nodes n) (asks_at_once (channel ue.0 to) (waiting_of talk.way m None false))) none
-      (at_once_stays net (channel ue.0 to) none))
+  one_may net ue (says_ask to m deadline awaited) none is = (
+    ((is, none (channel ue.0 to)), tt),
+    none_after net (asks (channel ue.0 to) (waiting_of talk.way m deadline awaited))
+        (moved talk (net.nodes n) (asks (channel ue.0 to) (waiting_of talk.way m deadline awaited))) none none,
+  )
+  one_may net ue (says_cancel to m) none is = (
+    (is, tt),
+    none_after net (asks_at_once (channel ue.0 to) (waiting_of talk.way m None false))
+        (moved talk (net.nodes n) (asks_at_once (channel ue.0 to) (waiting_of talk.way m None false))) none
+        (at_once_stays net (channel ue.0 to) none),
+  )
   one_may net ue (says_reply to m) none is = absurd is
   one_may net ue (says_late to i m) none is = absurd is
   one_may net ue (sends to m) none is = ((is, tt), none)

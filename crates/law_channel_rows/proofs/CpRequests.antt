@@ -1,7 +1,6 @@
 -- What a CU-CP does on requests of others: each is taken, and answered once at most before what else is asked.
-use Rattle.std.proofs.Common.{◌≡◌, ℕ, ◌+◌, Bool, true, false, not, ◌&&◌, List, [], ◌∷◌, ◌++◌, Option, Some, None, refl, sym, ap, ◌∙◌, subst}
+use Rattle.std.proofs.Common.{◌≡◌, ℕ, Bool, true, false, ◌&&◌, List, [], ◌∷◌, ◌++◌, Option, Some, None, refl, sym, ap, ◌∙◌, subst}
 use Rattle.std.specs.Prelude.{if◌then◌else◌}
-use Rattle.std.specs.List.{AllByRecursion}
 use Rattle.std.proofs.lemmas.List.Elements.{Contains-append_left}
 use Rattle.gnb_types.specs.declared.names.NodeId.{NodeId}
 use Rattle.gnb_types.specs.declared.names.UeId.{UeId}
@@ -11,26 +10,25 @@ use Rattle.gnb_types.specs.declared.reasons.DropReason.TheVariants.{Unexpected, 
 use Rattle.message_types.specs.declared.f1.F1.TheVariants as f1s
 use Rattle.message_types.specs.declared.e1.E1Message.TheVariants as e1s
 use Rattle.message_types.specs.declared.xn.XnMessage.TheVariants as xns
-use Rattle.transaction_defs.specs.Callees.{kept_reply, newest, new, verdict, taken}
+use Rattle.transaction_defs.specs.Callees.{kept_reply, newest}
 use Rattle.unit_defs.specs.declared.StateName.{StateName}
 use Rattle.unit_defs.specs.declared.StateName.TheVariants as states
-use Rattle.unit_defs.specs.Ways.{Message, f1, e1, xn, Output, Answer, gives, spent, ◌then◌, nothing, drops}
+use Rattle.unit_defs.specs.Ways.{Message, f1, e1, xn, Answer, gives, spent, ◌then◌}
 use Rattle.unit_defs.specs.Messages.{channel, cause_busy, cause_unit, are_bearers, statuses_of}
-use Rattle.unit_defs.specs.Transactions.{request, reply, kind_of, Transactions, replied, on_request}
-use Rattle.unit_defs.specs.CpRecords.{Attempt, CpContext, CpTerminal, CuCpRecord, terminal_of, with_transactions, has_unit, bearers_in, Say, replies as says_reply, ignores, forgets as says_forget, Row, row, row_spent, carry_out}
+use Rattle.unit_defs.specs.Transactions.{request, reply, kind_of, Transactions, replied}
+use Rattle.unit_defs.specs.CpRecords.{Attempt, CpContext, CpTerminal, CuCpRecord, terminal_of, has_unit, bearers_in, Say, replies as says_reply, ignores, Row, carry_out}
 use Rattle.unit_defs.specs.CpRows.{CpAt, own_up, own_du, is_between_gnbs, bearer_setup, du_release, up_release, say_status, handed_over, offer_context, refuse_offer, offer_on, offer, takes_status, status_on, status, du_release_if, offer_cancelled, is_cancellable, xn_cancelled_of, xn_cancelled_on, xn_cancelled, xn_released_of, xn_released_on, xn_released}
-use Rattle.unit_defs.specs.CuCp.{at_of, by_row, with_unit, set_up, asked}
+use Rattle.unit_defs.specs.CuCp.{at_of, by_row, set_up, asked}
 use Rattle.law_channel.specs.Replies.{Talk, answers}
-use Rattle.law_channel.specs.Ends.{asked as asked_note, Sent, Put}
-use Rattle.law_channel.specs.Moves.{Move, replies, forgets, Net, answered_by, with_node, sent_by, moved, after_answer, after_move, MayReply, May, MayAll, after}
+use Rattle.law_channel.specs.Moves.{replies, forgets, Net, moved, after_answer, after_move, MayReply, May, MayAll}
 use Rattle.law_channel.proofs.Keys.{with_node_here}
-use Rattle.law_channel_rows.specs.Made.{ReadsWell, orders_of, Plays, Made, NoneExpired}
-use Rattle.law_channel_rows.specs.Rows.{moves_of_all, IsAllowed, RowPlays, Speaks, RowSpeaks}
-use Rattle.law_channel_rows.proofs.Plays.{plays_none, plays_one}
+use Rattle.law_channel_rows.specs.Made.{ReadsWell, orders_of, Made, NoneExpired}
+use Rattle.law_channel_rows.specs.Rows.{moves_of_all, IsAllowed, Speaks}
+use Rattle.law_channel_rows.proofs.Plays.{plays_one}
 use Rattle.law_channel_rows.proofs.Requests.{drops_made}
 use Rattle.law_channel_rows.proofs.Says.{kept, row_says}
 use Rattle.law_channel_rows.proofs.CpRows.{bearer_setup_one, du_release_one, up_release_one, status_one}
-use Rattle.law_channel_rows.proofs.CpMoves.{speaks_may, plays_made, row_made}
+use Rattle.law_channel_rows.proofs.CpMoves.{speaks_may, plays_made}
 
 module _ {M C P : Type 0} (talk : Talk M C P) (n : NodeId) where
   -- the newest request of the channel may be answered, by each message that answers it
@@ -68,9 +66,11 @@ module _ {M C P : Type 0} (talk : Talk M C P) (n : NodeId) where
   -- the channel of the message is that of its terminal
   may_for_in : (net : Net M C) (from : NodeId) (m : Message C) (ue i : ℕ) → MayAnswer net (channel ue from) m i → (owner instance : ℕ) → owner ≡ ue → instance ≡ i
       → (answer : Message C) → kind_of answer ≡ reply owner instance → answers m answer ≡ true → May talk net n (replies (channel owner from) answer)
-  may_for_in net from m ue i may owner instance own same answer kind fits =
-      (i, subst (λ (u : ℕ). MayReply talk net n (channel u from) i (talk.way.spell answer)) (sym own)
-      (may answer (kind ∙ (λ j. reply (own j) (same j))) fits))
+  may_for_in net from m ue i may owner instance own same answer kind fits = (
+    i,
+    subst (λ (u : ℕ). MayReply talk net n (channel u from) i (talk.way.spell answer)) (sym own)
+        (may answer (kind ∙ (λ j. reply (own j) (same j))) fits),
+  )
 
   module _ (reads : ReadsWell talk) (net : Net M C) (none : NoneExpired talk net n) (r : CuCpRecord M C) (at : net.nodes n ≡ r.transactions)
       (from : NodeId) (m : Message C) (ue i : ℕ) (may : MayAnswer net (channel ue from) m i) where
@@ -88,10 +88,11 @@ module _ {M C P : Type 0} (talk : Talk M C P) (n : NodeId) where
     set_up_made : (own : 0 ≡ ue) (instance : ℕ) → instance ≡ i → (answer : Message C) → kind_of answer ≡ reply 0 instance → answers m answer ≡ true
         → Made talk net n (kept talk n) (set_up talk.way from answer r)
     unfolding replied
-    set_up_made own instance same answer kind fits =
-        (replies (channel 0 from) answer ∷ [],
-        plays_one talk net n (replies (channel 0 from) answer) (may_for 0 instance own same answer kind fits) _ _
-        (ap (λ (t : Transactions M C). moved talk t (replies (channel 0 from) answer)) at))
+    set_up_made own instance same answer kind fits = (
+      replies (channel 0 from) answer ∷ [],
+      plays_one talk net n (replies (channel 0 from) answer) (may_for 0 instance own same answer kind fits) _ _
+          (ap (λ (t : Transactions M C). moved talk t (replies (channel 0 from) answer)) at),
+    )
 
     module _ (owner : UeId) (instance : ℕ) (own : owner.0 ≡ ue) (same : instance ≡ i) where
       abbrev place : CpAt

@@ -1,5 +1,5 @@
 -- A CU-UP: contexts are set up, modified and released on requests, each answered once at most; other inputs leave them.
-use Rattle.std.proofs.Common.{inl, ◌≡◌, ℕ, ◌+◌, ◌*◌, Bool, true, false, not, ◌&&◌, ◌||◌, List, [], ◌∷◌, ◌++◌, length, Option, Some, None, refl, sym, ap, ◌∙◌, subst}
+use Rattle.std.proofs.Common.{inl, ◌≡◌, ℕ, ◌+◌, ◌*◌, Bool, true, false, not, ◌&&◌, ◌||◌, List, [], ◌∷◌, ◌++◌, length, Option, Some, None, refl, sym, ◌∙◌, subst}
 use Rattle.std.specs.Prelude.{map, if◌then◌else◌, ◌==◌}
 use Rattle.std.specs.List.{flat_map, list_all}
 use Rattle.std.specs.Ordering.{nat_cmp}
@@ -15,7 +15,7 @@ use Rattle.gnb_types.specs.declared.plans.SnStatus.{SnStatus}
 use Rattle.gnb_types.specs.declared.inputs.Order.TheVariants as orders
 use Rattle.gnb_types.specs.declared.outputs.Tag.TheVariants.{Absent}
 use Rattle.gnb_types.specs.declared.reasons.HeldReason.{HeldReason}
-use Rattle.gnb_types.specs.declared.reasons.DropReason.TheVariants.{Unexpected, NoContext}
+use Rattle.gnb_types.specs.declared.reasons.DropReason.TheVariants.{Unexpected}
 use Rattle.gnb_types.specs.declared.reasons.RefuseReason.TheVariants.{Empty, NoRadio}
 use Rattle.gnb_types.specs.Names.{node_text}
 use Rattle.gnb_types.specs.Orders.{bearer_cmp}
@@ -24,21 +24,21 @@ use Rattle.transaction_defs.specs.Callers.{due, after_tick}
 use Rattle.transaction_defs.specs.Callees.{taken}
 use Rattle.message_types.specs.declared.e1.E1Message.{E1Message}
 use Rattle.message_types.specs.declared.e1.E1Message.TheVariants as e1s
-use Rattle.unit_defs.specs.Ways.{Message, e1, Taken, Output, opened, closed, held, no, Input, control_input, packet_input, radio_input, confirm_input, offer_input, tick_input, order_input, Answer, gives, spent, ◌then◌, nothing, puts, drops, teids_spent}
+use Rattle.unit_defs.specs.Ways.{Message, e1, Taken, opened, closed, no, Input, control_input, packet_input, tick_input, order_input, Answer, gives, spent, ◌then◌, nothing, puts, drops, teids_spent}
 use Rattle.unit_defs.specs.Messages.{cause_busy, cause_quota, mode_uplinks, mode_switch, mode_freeze, mode_status, mode_resume, channel, are_bearers, bearers_of, statuses_of, teid_of}
 use Rattle.unit_defs.specs.Teids.{teids_are_left}
 use Rattle.unit_defs.specs.Transactions.{Kind, request, reply, transfer, kind_of, with_instance, no_instance, Transactions, ask, on_request}
 use Rattle.unit_defs.specs.UpRecords.{UpBearer, UpContext, CuUp, UpTunnel, up_at}
 use Rattle.unit_defs.specs.UpBearers.{teids_of_bearer, with_uplink, switched, frozen_to, with_status, resumed, is_over, open_teids, has_downlink, framed}
 use Rattle.unit_defs.specs.UpItems.{held_reason, took}
-use Rattle.unit_defs.specs.CuUp.{with_context, context_of, with_transactions, up_node, UpStep, steps, stops, step_with, each_bearer, answer_with, closings, ended, ended_if_over, end_where_over, replies, opened_of, entries_of, new_context, with_new, makes, fits, set_up_for, setup_response, setup_on, setup, modified, uplinks_from, teids_from, uplinks_given, add_uplinks, as_switched, switch, as_frozen, peer_node, statuses, freeze, as_known, status_each, take_status, as_resumed, resume, names, uplinks_if, switch_if, freeze_if, status_if, resume_if, modify_on, as_released, released_on, release, asked, start, set_up, control_by, ue_in, is_own_cp, control_came, with_bearer, taken_by, taken_in, taken_of, taken_on, take, poll_bearer, poll_on, poll, due_output, tick, cu_up_acts}
+use Rattle.unit_defs.specs.CuUp.{with_context, context_of, with_transactions, up_node, UpStep, steps, stops, step_with, each_bearer, answer_with, ended, ended_if_over, end_where_over, replies, opened_of, entries_of, new_context, with_new, makes, fits, set_up_for, setup_response, setup_on, setup, modified, uplinks_from, teids_from, uplinks_given, add_uplinks, as_switched, switch, as_frozen, peer_node, statuses, freeze, as_known, status_each, take_status, as_resumed, resume, names, uplinks_if, switch_if, freeze_if, status_if, resume_if, modify_on, as_released, released_on, release, asked, start, set_up, control_by, ue_in, is_own_cp, control_came, with_bearer, taken_by, taken_in, taken_of, taken_on, take, poll_bearer, poll_on, poll, due_output, tick, cu_up_acts}
 use Rattle.law_channel.specs.Replies.{Talk, answers}
 use Rattle.law_channel.specs.Moves.{asks, ages, Net, sent_by}
 use Rattle.law_channel.proofs.Nets.{Good}
 use Rattle.law_channel_rows.specs.Made.{ReadsWell, Made, WasSent, IsPutTo, NoneExpired}
 use Rattle.law_channel_rows.proofs.Requests.{sent_both, Leaves, Replies, leaves_then, leaves_replies, replies_then, replies_here, request_made, leaves_made, drops_made}
 use Rattle.law_channel_rows.proofs.Askers.{one_made, reply_made}
-use Rattle.law_channel_rows.proofs.Ticks.{repeats_of, tick_plays}
+use Rattle.law_channel_rows.proofs.Ticks.{moves_due, tick_plays}
 use Rattle.law_channel_rows.proofs.Bearers.{Quiet, poll_quiet, uplink_quiet, switched_quiet, frozen_quiet, status_quiet, resumed_quiet, took_quiet}
 
 module _ {M C P : Type 0} (talk : Talk M C P) (n : NodeId) where
@@ -411,17 +411,19 @@ module _ {M C P : Type 0} (talk : Talk M C P) (n : NodeId) where
           (one_made talk n kept net (asks (channel 0 (CuCp r.gnb))
           (record { message = e1 (e1s.E1SetupRequest no_instance (node_text (up_node r))); deadline = None; awaited = false }))
           (ask talk.way (net.nodes n) (channel 0 (CuCp r.gnb))
-          (record { message = e1 (e1s.E1SetupRequest no_instance (node_text (up_node r))); deadline = None; awaited = false }))
-          ((λ i. reads.kinds (with_instance i (e1 (e1s.E1SetupRequest no_instance (node_text (up_node r))))) ∙ is_setup_request i (node_text (up_node r))),
-          none (channel 0 (CuCp r.gnb))) refl (λ a. with_transactions r a.transactions) (λ a. refl))
+          (record { message = e1 (e1s.E1SetupRequest no_instance (node_text (up_node r))); deadline = None; awaited = false })) (
+            (λ i. reads.kinds (with_instance i (e1 (e1s.E1SetupRequest no_instance (node_text (up_node r))))) ∙ is_setup_request i (node_text (up_node r))),
+            none (channel 0 (CuCp r.gnb)),
+          ) refl (λ a. with_transactions r a.transactions) (λ a. refl))
 
   tick_made : (net : Net M C) → Good talk net → (r : CuUp M C) → net.nodes n ≡ r.transactions → Made talk net n kept (tick talk.way r)
   unfolding tick
   tick_made net good r at =
       subst (λ (t : Transactions M C). Made talk net n kept (gives (flat_map (due_output talk.way) (due t.caller))
-      (with_transactions r (record t { caller = after_tick t.caller })))) at
-      (ages ∷ repeats_of talk n (due_output talk.way) (λ c x. refl) (λ c. refl) (net.nodes n).caller.opened,
-      tick_plays talk n (due_output talk.way) (λ c x. refl) (λ c. refl) net good)
+      (with_transactions r (record t { caller = after_tick t.caller })))) at (
+        ages ∷ moves_due talk n (due (net.nodes n).caller),
+        tick_plays talk n (due_output talk.way) (λ c x. refl) (λ c. refl) net good,
+      )
 
   pub cu_up_made : ReadsWell talk → (net : Net M C) → Good talk net → NoneExpired talk net n → (r : CuUp M C) → net.nodes n ≡ r.transactions
       → (input : Input C P) → IsPutTo talk net n input → Made talk net n kept (cu_up_acts talk.way r input)

@@ -1,27 +1,22 @@
 -- A DU: contexts are set up, modified and released on requests, each answered once at most; other inputs leave them.
-use Rattle.std.proofs.Common.{inl, inr, ◌≡◌, ℕ, ◌+◌, Bool, true, false, cond, not, ◌||◌, List, [], ◌∷◌, ◌++◌, Option, Some, None, refl, sym, ap, ◌∙◌, subst}
+use Rattle.std.proofs.Common.{inl, ◌≡◌, ℕ, ◌+◌, Bool, true, false, not, ◌||◌, List, [], ◌∷◌, ◌++◌, Option, Some, None, refl, sym, ◌∙◌, subst}
 use Rattle.std.specs.Prelude.{map, if◌then◌else◌, length, ◌==◌}
 use Rattle.std.specs.List.{flat_map}
-use Rattle.gnb_types.specs.declared.names.Gnb.{Gnb}
 use Rattle.gnb_types.specs.declared.names.NodeId.{NodeId}
 use Rattle.gnb_types.specs.declared.names.NodeId.TheVariants.{CuCp, CuUp, Du as du_id, Core, Ue}
 use Rattle.gnb_types.specs.declared.names.UeId.{UeId}
 use Rattle.gnb_types.specs.declared.names.BearerId.{BearerId}
 use Rattle.gnb_types.specs.declared.names.Dir.TheVariants.{Dl, Ul}
 use Rattle.gnb_types.specs.declared.keys.Channel.{Channel}
-use Rattle.gnb_types.specs.declared.plans.Peer.{Peer}
-use Rattle.gnb_types.specs.declared.plans.Tunnel.{Tunnel}
-use Rattle.gnb_types.specs.declared.names.SnBits.{SnBits}
 use Rattle.gnb_types.specs.declared.inputs.Order.TheVariants as orders
-use Rattle.gnb_types.specs.declared.reasons.DropReason.{DropReason}
 use Rattle.gnb_types.specs.declared.reasons.DropReason.TheVariants.{Unexpected, NoContext}
 use Rattle.gnb_types.specs.declared.outputs.Tag.TheVariants.{Absent, Same}
 use Rattle.message_types.specs.declared.f1.F1.TheVariants as f1s
 use Rattle.unit_defs.specs.Ways.{Message, f1, Output, status, uplink, rrc, Taken, frame_item, Input, control_input, packet_input, radio_input, confirm_input, offer_input, tick_input, order_input, Answer, gives, spent, ◌then◌, nothing, puts, drops, closed, opened, packet, end_marker, teids_spent}
 use Rattle.unit_defs.specs.Messages.{channel, is_same_gnb, are_first_bearers, bearers_of}
 use Rattle.unit_defs.specs.Teids.{teids_are_left}
-use Rattle.unit_defs.specs.Transactions.{Kind, request, reply, transfer, kind_of, with_instance, no_instance, Waiting, Transactions, Asked, ask, on_request, on_reply}
-use Rattle.unit_defs.specs.Du.{Du, DuContext, DuBearer, context_of, with_transactions, replies, replaces, closings, openings, old_downlinks, replaced, setup, context_with, modify, modify_on, context_anew, release, released_on, end_markers, downlinks_of, asked, downlink_list, relayed_up, relayed_down, relay_up, relay_down, transferred, of_terminal, token_ue, set_up, of_cp, control_came, told, is_missing, missing, carried, frame_came, with_bearer, gap_after, take, taken_in, taken_of, taken_on, DuTunnel, of_context, of_bearer, confirmed, pass_up, confirm, start, du_node, due_output, tick, du_acts}
+use Rattle.unit_defs.specs.Transactions.{Kind, request, reply, transfer, kind_of, with_instance, no_instance, Transactions, ask, on_request}
+use Rattle.unit_defs.specs.Du.{Du, DuContext, DuBearer, context_of, with_transactions, replies, replaces, closings, openings, old_downlinks, replaced, setup, context_with, modify, modify_on, release, released_on, end_markers, downlinks_of, asked, downlink_list, relayed_up, relayed_down, relay_up, relay_down, transferred, of_terminal, token_ue, set_up, of_cp, control_came, told, is_missing, missing, carried, frame_came, with_bearer, gap_after, take, taken_in, taken_of, taken_on, DuTunnel, of_context, of_bearer, confirmed, pass_up, confirm, start, du_node, due_output, tick, du_acts}
 use Rattle.gnb_types.specs.Names.{node_text}
 use Rattle.gnb_types.specs.Orders.{bearer_cmp}
 use Rattle.std.specs.Ordering.{nat_cmp}
@@ -35,7 +30,7 @@ use Rattle.law_channel.specs.Moves.{asks, ages, Net, sent_by}
 use Rattle.law_channel.proofs.Nets.{Good}
 use Rattle.law_channel_rows.specs.Made.{ReadsWell, Made, WasSent, IsPutTo, NoneExpired}
 use Rattle.law_channel_rows.proofs.Askers.{one_made, reply_made, transfer_made}
-use Rattle.law_channel_rows.proofs.Ticks.{repeats_of, tick_plays}
+use Rattle.law_channel_rows.proofs.Ticks.{moves_due, tick_plays}
 use Rattle.law_channel_rows.proofs.Requests.{sent_both, Leaves, Replies, leaves_then, leaves_replies, replies_then, replies_here, request_made, leaves_made, drops_made}
 
 module _ {M C P : Type 0} (talk : Talk M C P) (n : NodeId) where
@@ -270,17 +265,19 @@ module _ {M C P : Type 0} (talk : Talk M C P) (n : NodeId) where
           (one_made talk n kept net (asks (channel 0 (CuCp r.gnb))
           (record { message = f1 (f1s.F1SetupRequest no_instance (node_text (du_node r))); deadline = None; awaited = false }))
           (ask talk.way (net.nodes n) (channel 0 (CuCp r.gnb))
-          (record { message = f1 (f1s.F1SetupRequest no_instance (node_text (du_node r))); deadline = None; awaited = false }))
-          ((λ i. reads.kinds (with_instance i (f1 (f1s.F1SetupRequest no_instance (node_text (du_node r))))) ∙ is_setup_request i (node_text (du_node r))),
-          none (channel 0 (CuCp r.gnb))) refl (λ a. with_transactions r a.transactions) (λ a. refl))
+          (record { message = f1 (f1s.F1SetupRequest no_instance (node_text (du_node r))); deadline = None; awaited = false })) (
+            (λ i. reads.kinds (with_instance i (f1 (f1s.F1SetupRequest no_instance (node_text (du_node r))))) ∙ is_setup_request i (node_text (du_node r))),
+            none (channel 0 (CuCp r.gnb)),
+          ) refl (λ a. with_transactions r a.transactions) (λ a. refl))
 
   tick_made : (net : Net M C) → Good talk net → (r : Du M C) → net.nodes n ≡ r.transactions → Made talk net n kept (tick talk.way r)
   unfolding tick
   tick_made net good r at =
       subst (λ (t : Transactions M C). Made talk net n kept (gives (flat_map (due_output talk.way) (due t.caller))
-      (with_transactions r (record t { caller = after_tick t.caller })))) at
-      (ages ∷ repeats_of talk n (due_output talk.way) (λ c x. refl) (λ c. refl) (net.nodes n).caller.opened,
-      tick_plays talk n (due_output talk.way) (λ c x. refl) (λ c. refl) net good)
+      (with_transactions r (record t { caller = after_tick t.caller })))) at (
+        ages ∷ moves_due talk n (due (net.nodes n).caller),
+        tick_plays talk n (due_output talk.way) (λ c x. refl) (λ c. refl) net good,
+      )
 
   pub du_made : ReadsWell talk → (net : Net M C) → Good talk net → NoneExpired talk net n → (r : Du M C) → net.nodes n ≡ r.transactions
       → (input : Input C P) → IsPutTo talk net n input → Made talk net n kept (du_acts talk.way r input)

@@ -5,8 +5,10 @@ pub mod CpAnswers
 pub mod CpMoves
 pub mod CpRequests
 pub mod CpRows
+pub mod CpTicks
 pub mod CuUps
 pub mod Dus
+pub mod Goes
 pub mod Plays
 pub mod Requests
 pub mod Says

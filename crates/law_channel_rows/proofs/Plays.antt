@@ -1,12 +1,12 @@
 -- Lists of moves: none, one, and one list after another.
-use Rattle.std.proofs.Common.{◌≡◌, ℕ, Bool, false, cond, List, [], ◌∷◌, ◌++◌, refl, sym, ap, ◌∙◌, subst, append_assoc}
+use Rattle.std.proofs.Common.{◌≡◌, Bool, cond, List, [], ◌∷◌, ◌++◌, refl, sym, ap, ◌∙◌, append_assoc}
 use Rattle.std.proofs.lemmas.List.{append-nil}
 use Rattle.gnb_types.specs.declared.names.NodeId.{NodeId}
-use Rattle.unit_defs.specs.Ways.{Output, Answer, gives, spent}
+use Rattle.unit_defs.specs.Ways.{Output, Answer, gives}
 use Rattle.unit_defs.specs.Transactions.{Transactions}
 use Rattle.law_channel.specs.Replies.{Talk}
-use Rattle.law_channel.specs.Ends.{same_node, Sent}
-use Rattle.law_channel.specs.Moves.{Move, Net, sent_by, moved, after_answer, after_move, May, Order, after, MayAll}
+use Rattle.law_channel.specs.Ends.{Sent}
+use Rattle.law_channel.specs.Moves.{Move, Net, sent_by, moved, after_answer, after_move, May, after, MayAll}
 use Rattle.law_channel.proofs.Keys.{node_same}
 use Rattle.law_channel.proofs.Kept.{good_after}
 use Rattle.law_channel.proofs.Nets.{Good}

@@ -1,18 +1,15 @@
 -- A request that was put is given: it is taken, and then answered or not; or answered again; or dropped.
-use Rattle.std.proofs.Common.{inl, inr, ◌≡◌, ◌⊎◌, ℕ, Bool, true, false, cond, List, [], ◌∷◌, ◌++◌, Option, Some, None, refl, sym, ap, ◌∙◌, subst}
+use Rattle.std.proofs.Common.{inl, inr, ◌≡◌, ◌⊎◌, ℕ, true, List, [], ◌∷◌, ◌++◌, Option, Some, None, refl, sym, ap, ◌∙◌, subst}
 use Rattle.std.specs.Prelude.{if◌then◌else◌}
-use Rattle.std.specs.List.{Contains}
 use Rattle.std.proofs.lemmas.List.Elements.{Contains-append_left}
 use Rattle.gnb_types.specs.declared.names.NodeId.{NodeId}
 use Rattle.gnb_types.specs.declared.keys.Channel.{Channel}
 use Rattle.gnb_types.specs.declared.reasons.DropReason.{DropReason}
-use Rattle.gnb_types.specs.declared.reasons.DropReason.TheVariants.{Stale}
-use Rattle.gnb_types.specs.Orders.{channel_cmp}
 use Rattle.gnb_types.proofs.OrderLemmas.{channel_total}
 use Rattle.tables.proofs.TableLaws.{find-put-same}
-use Rattle.transaction_defs.specs.Callees.{Kept, Callee, Verdict, new, again, stale, verdict, newest, newest_in, kept_at, kept_reply, reply_in, taken, keep}
-use Rattle.unit_defs.specs.Ways.{Message, Output, control, dropped, Answer, gives, spent, with_outputs, ◌then◌, nothing, puts, drops}
-use Rattle.unit_defs.specs.Transactions.{Kind, request, reply, kind_of, Transactions, replied, answered_again, request_by, on_request}
+use Rattle.transaction_defs.specs.Callees.{Verdict, new, again, stale, verdict, newest, newest_in, kept_at, kept_reply, reply_in, taken, keep}
+use Rattle.unit_defs.specs.Ways.{Message, Output, control, Answer, gives, spent, with_outputs, ◌then◌, puts, drops}
+use Rattle.unit_defs.specs.Transactions.{reply, kind_of, Transactions, replied, answered_again, request_by, on_request}
 use Rattle.law_channel.specs.Replies.{Talk, answers}
 use Rattle.law_channel.specs.Ends.{asked, Sent, Put}
 use Rattle.law_channel.specs.Moves.{Move, takes, replies, replies_again, Net, answered_by, sent_by, moved, after, MayReply, May}
@@ -123,38 +120,47 @@ module _ {M C P : Type 0} (talk : Talk M C P) (n : NodeId) where
     abbrev pub taken_net : Net M C
     taken_net = after talk net (orders_of talk n (take_move ∷ []))
 
-    pub may_reply : (is : verdict here.callee c i ≡ new) (answer : Message C) → kind_of answer ≡ reply c.ue i → answers m answer ≡ true
-        → May talk taken_net n (replies c answer)
-    may_reply is answer kind fits =
+    pub may_answer : (is : verdict here.callee c i ≡ new) (answer : Message C) → kind_of answer ≡ reply c.ue i → answers m answer ≡ true
+        → MayReply talk taken_net n c i (talk.way.spell answer)
+    may_answer is answer kind fits =
         let p = takes_plays is in
-        (i, record {
+        record {
           is_newest = ap (λ (t : Transactions M C). newest t.callee c) p.node ∙ newest_after;
           is_unanswered = ap (λ (t : Transactions M C). kept_reply t.callee c) p.node ∙ unanswered_after;
           is_reply = reads.kinds answer ∙ kind;
           request = talk.way.spell m;
-          was_put = (put.0,
-          Contains-append_left net.bag [] (record { from = c.peer; to = n; ue = put.0; message = talk.way.spell m }) put.1,
-          put.2);
+          was_put = (
+            put.0,
+            Contains-append_left net.bag [] (record { from = c.peer; to = n; ue = put.0; message = talk.way.spell m }) put.1,
+            put.2,
+          );
           fits = reads.answers_are m answer ∙ fits;
-        })
+        }
+
+    may_reply : (is : verdict here.callee c i ≡ new) (answer : Message C) → kind_of answer ≡ reply c.ue i → answers m answer ≡ true
+        → May talk taken_net n (replies c answer)
+    may_reply is answer kind fits = (i, may_answer is answer kind fits)
 
     pub row_made : {R : Type 0} (kept : R → Transactions M C) (is : verdict here.callee c i ≡ new) (a : Answer M P R)
         → Replies kept after_take c m i a → Made talk net n kept a
     unfolding replied
-    row_made kept is (gives os r) (inl none) =
-        (take_move ∷ [], subst (λ (t : Transactions M C). Plays talk net n t (sent_by n os) (take_move ∷ [])) (sym none.1)
-        (subst (λ (out : List (Sent M)). Plays talk net n after_take out (take_move ∷ [])) (sym none.0) (takes_plays is)))
+    row_made kept is (gives os r) (inl none) = (
+      take_move ∷ [],
+      subst (λ (t : Transactions M C). Plays talk net n t (sent_by n os) (take_move ∷ [])) (sym none.1)
+          (subst (λ (out : List (Sent M)). Plays talk net n after_take out (take_move ∷ [])) (sym none.0) (takes_plays is)),
+    )
     row_made kept is (gives os r) (inr one) =
-        let p = takes_plays is in
-        (take_move ∷ replies c one.message ∷ [],
-        subst (λ (t : Transactions M C). Plays talk net n t (sent_by n os) (take_move ∷ replies c one.message ∷ [])) (sym one.kept)
-        (subst (λ (out : List (Sent M)). Plays talk net n (record after_take { callee = keep after_take.callee c (talk.way.spell one.message) }) out
-        (take_move ∷ replies c one.message ∷ [])) (sym one.sent)
-        (plays_then talk net n after_take (record after_take { callee = keep after_take.callee c (talk.way.spell one.message) }) []
-        (record { from = n; to = c.peer; ue = c.ue; message = talk.way.spell one.message } ∷ []) (take_move ∷ []) (replies c one.message ∷ []) p
-        (plays_one talk taken_net n (replies c one.message) (may_reply is one.message one.is_reply one.fits)
-        (control c.peer c.ue (talk.way.spell one.message) ∷ []) (record after_take { callee = keep after_take.callee c (talk.way.spell one.message) })
-        (ap (λ (t : Transactions M C). moved talk t (replies c one.message)) p.node)))))
+        let p = takes_plays is in (
+          take_move ∷ replies c one.message ∷ [],
+          subst (λ (t : Transactions M C). Plays talk net n t (sent_by n os) (take_move ∷ replies c one.message ∷ [])) (sym one.kept)
+              (subst (λ (out : List (Sent M)). Plays talk net n (record after_take { callee = keep after_take.callee c (talk.way.spell one.message) }) out
+              (take_move ∷ replies c one.message ∷ [])) (sym one.sent)
+              (plays_then talk net n after_take (record after_take { callee = keep after_take.callee c (talk.way.spell one.message) }) []
+              (record { from = n; to = c.peer; ue = c.ue; message = talk.way.spell one.message } ∷ []) (take_move ∷ []) (replies c one.message ∷ []) p
+              (plays_one talk taken_net n (replies c one.message) (may_reply is one.message one.is_reply one.fits)
+              (control c.peer c.ue (talk.way.spell one.message) ∷ []) (record after_take { callee = keep after_take.callee c (talk.way.spell one.message) })
+              (ap (λ (t : Transactions M C). moved talk t (replies c one.message)) p.node)))),
+        )
     row_made kept is (spent k) made = tt
 
     again_made : {R : Type 0} (kept : R → Transactions M C) (same : R) → here ≡ kept same
@@ -163,9 +169,11 @@ module _ {M C P : Type 0} (talk : Talk M C P) (n : NodeId) where
       where
         by : (k : Option M) → kept_reply here.callee c ≡ k → Made talk net n kept (answered_again talk.way same c k)
         by None is = ([], subst (λ (t : Transactions M C). Plays talk net n t [] []) at (plays_none talk net n))
-        by (Some y) is =
-            (replies_again c ∷ [], subst (λ (t : Transactions M C). Plays talk net n t (record { from = n; to = c.peer; ue = c.ue; message = y } ∷ []) (replies_again c ∷ [])) at
-            (plays_one talk net n (replies_again c) tt (control c.peer c.ue y ∷ []) here (ap (answered_again talk.way here c) is)))
+        by (Some y) is = (
+          replies_again c ∷ [],
+          subst (λ (t : Transactions M C). Plays talk net n t (record { from = n; to = c.peer; ue = c.ue; message = y } ∷ []) (replies_again c ∷ [])) at
+              (plays_one talk net n (replies_again c) tt (control c.peer c.ue y ∷ []) here (ap (answered_again talk.way here c) is)),
+        )
 
     pub request_made : {R : Type 0} (kept : R → Transactions M C) (same : R) (row : Transactions M C → Answer M P R) → here ≡ kept same
         → Replies kept after_take c m i (row after_take) → Made talk net n kept (on_request talk.way same here c i row)
@@ -190,9 +198,11 @@ module _ {M C P : Type 0} (talk : Talk M C P) (n : NodeId) where
 
   -- nothing at all
   pub leaves_made : {R : Type 0} (net : Net M C) (kept : R → Transactions M C) (a : Answer M P R) → Leaves kept (net.nodes n) a → Made talk net n kept a
-  leaves_made net kept (gives os r) none =
-      ([], subst (λ (t : Transactions M C). Plays talk net n t (sent_by n os) []) (sym none.1)
-      (subst (λ (out : List (Sent M)). Plays talk net n (net.nodes n) out []) (sym none.0) (plays_none talk net n)))
+  leaves_made net kept (gives os r) none = (
+    [],
+    subst (λ (t : Transactions M C). Plays talk net n t (sent_by n os) []) (sym none.1)
+        (subst (λ (out : List (Sent M)). Plays talk net n (net.nodes n) out []) (sym none.0) (plays_none talk net n)),
+  )
   leaves_made net kept (spent k) none = tt
 
   pub drops_made : {R : Type 0} (net : Net M C) (kept : R → Transactions M C) (r : R) (reason : DropReason) → net.nodes n ≡ kept r

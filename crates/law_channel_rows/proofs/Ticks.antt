@@ -1,5 +1,5 @@
 -- A tick: what is open is aged, and each open request that didn't expire is put again.
-use Rattle.std.proofs.Common.{◌≡◌, ℕ, Bool, true, false, cond, List, [], ◌∷◌, ◌++◌, Option, Some, None, refl, sym, ap, ◌∙◌, subst, append_assoc, true≢false}
+use Rattle.std.proofs.Common.{◌≡◌, ℕ, Bool, true, false, cond, List, [], ◌∷◌, ◌++◌, Option, Some, None, refl, sym, ap, ◌∙◌, subst}
 use Rattle.std.specs.Prelude.{if◌then◌else◌}
 use Rattle.std.specs.List.{flat_map, AllByRecursion}
 use Rattle.std.specs.Map.{lookup, keys_of}
@@ -8,21 +8,20 @@ use Rattle.std.specs.Ordering.{is_eq, ordering_reverse}
 use Rattle.std.specs.Cmp.{tied_itself}
 use Rattle.std.specs.declared.cmp.Ordering.{Ordering}
 use Rattle.std.specs.declared.cmp.Ordering.TheVariants.{Less, Equal, Greater}
-use Rattle.std.proofs.lemmas.Grind.{flat_map-append}
+use Rattle.std.proofs.lemmas.List.Elements.{Contains-append_left}
 use Rattle.std.proofs.lemmas.Map.Keys.{sorted_head, sorted_tail}
 use Rattle.gnb_types.specs.declared.names.NodeId.{NodeId}
 use Rattle.gnb_types.specs.declared.keys.Channel.{Channel}
 use Rattle.gnb_types.specs.Orders.{channel_cmp}
 use Rattle.gnb_types.proofs.OrderLemmas.{channel_total}
 use Rattle.tables.specs.Tables.{find, IsSorted}
-use Rattle.transaction_defs.specs.Callers.{Opened, Caller, opened_at, after_tick, Due, repeats as due_again, expires, due, due_of, repeated, is_last, one_less}
+use Rattle.transaction_defs.specs.Callers.{Opened, opened_at, after_tick, Due, repeats as due_again, expires, due, due_of, repeated, is_last}
 use Rattle.unit_defs.specs.Ways.{Output, control}
 use Rattle.unit_defs.specs.Transactions.{Transactions}
 use Rattle.law_channel.specs.Replies.{Talk}
-use Rattle.law_channel.specs.Ends.{Sent}
-use Rattle.law_channel.specs.Moves.{Move, ages, repeats, Net, sent_by, after}
+use Rattle.law_channel.specs.Ends.{Sent, asked, Put}
+use Rattle.law_channel.specs.Moves.{Move, ages, repeats, Net, asked_by, sent_by, after}
 use Rattle.law_channel.proofs.Nets.{Good}
-use Rattle.law_channel.proofs.Ticks.{aged_in, opened_after_tick}
 use Rattle.law_channel_rows.specs.Made.{orders_of, Plays}
 use Rattle.law_channel_rows.proofs.Plays.{plays_none, plays_one, plays_then}
 use Rattle.law_channel_rows.proofs.Requests.{sent_both}
@@ -44,83 +43,98 @@ module _ {X : Type 0} where
   found_past : (e : Channel × X) (es fs : List (Channel × X)) → AllByRecursion (λ y. channel_cmp e.0 y ≡ Less) (keys_of fs) → AreFound es fs → AreFound (e ∷ es) fs
   unfolding find
   found_past e es [] below found = tt
-  found_past e es (f ∷ fs) below found =
-      (ap (λ (b : Bool). cond b (Some e.1) (lookup (is_at (channel_cmp f.0)) es)) (not_before e.0 f.0 below.0) ∙ found.0,
-      found_past e es fs below.1 found.1)
+  found_past e es (f ∷ fs) below found = (
+    ap (λ (b : Bool). cond b (Some e.1) (lookup (is_at (channel_cmp f.0)) es)) (not_before e.0 f.0 below.0) ∙ found.0,
+    found_past e es fs below.1 found.1,
+  )
 
   pub all_found : (es : List (Channel × X)) → IsSorted channel_cmp es → AreFound es es
   unfolding find
   all_found [] sorted = tt
-  all_found (e ∷ es) sorted =
-      (ap (λ (r : Ordering). cond (is_eq r) (Some e.1) (lookup (is_at (channel_cmp e.0)) es)) (tied_itself channel_total e.0),
-      found_past e es es (sorted_head channel_cmp e.0 (keys_of es) sorted) (all_found es (sorted_tail channel_cmp e.0 (keys_of es) sorted)))
+  all_found (e ∷ es) sorted = (
+    ap (λ (r : Ordering). cond (is_eq r) (Some e.1) (lookup (is_at (channel_cmp e.0)) es)) (tied_itself channel_total e.0),
+    found_past e es es (sorted_head channel_cmp e.0 (keys_of es) sorted) (all_found es (sorted_tail channel_cmp e.0 (keys_of es) sorted)),
+  )
 
-module _ {M C P : Type 0} (talk : Talk M C P) (n : NodeId) (D : Due M → List (Output M P))
-    (again : (c : Channel) (x : M) → sent_by n (D (due_again c x)) ≡ record { from = n; to = c.peer; ue = c.ue; message = x } ∷ [])
-    (none : (c : Channel) → sent_by n (D (expires c)) ≡ []) where
-  abbrev pub again_of : Channel → Bool → Option M → List (Move M C)
-  again_of c true request = []
-  again_of c false None = []
-  again_of c false (Some x) = repeats c x ∷ []
+module _ {M C P : Type 0} (talk : Talk M C P) (n : NodeId) where
+  -- what is due was put before
+  abbrev pub WasDue : List (Sent M) → Due M → Type 0
+  WasDue bag (due_again c x) = (i : ℕ) × Put talk bag (asked_by n c) (asked i x)
+  WasDue bag (expires c) = Unit {0}
 
-  abbrev pub repeats_of : List (Channel × Opened M) → List (Move M C)
-  repeats_of [] = []
-  repeats_of (e ∷ es) = again_of e.0 (is_last e.1.deadline) e.1.request ++ repeats_of es
+  abbrev pub AllDue : List (Sent M) → List (Due M) → Type 0
+  AllDue bag ds = AllByRecursion (WasDue bag) ds
 
-  -- each entry that didn't expire is open, with its request
-  abbrev pub AreOpen : Caller M → List (Channel × Opened M) → Type 0
-  AreOpen r es = AllByRecursion (λ e. is_last e.1.deadline ≡ false → opened_at r e.0 ≡ Some (record e.1 { deadline = one_less e.1.deadline })) es
+  abbrev pub moves_due : List (Due M) → List (Move M C)
+  moves_due [] = []
+  moves_due (due_again c x ∷ ds) = repeats c x ∷ moves_due ds
+  moves_due (expires c ∷ ds) = moves_due ds
 
-  open_after : (r : Caller M) (es : List (Channel × Opened M)) → IsSorted channel_cmp r.opened → AreFound r.opened es → AreOpen (after_tick r) es
+  one_due : (net : Net M C) → Good talk net → (c : Channel) (o : Opened M) → opened_at (net.nodes n).caller c ≡ Some o → (last : Bool) (q : Option M)
+      → o.request ≡ q → (ds : List (Due M)) → AllDue net.bag ds → AllDue net.bag ((if last then expires c ∷ [] else repeated c q) ++ ds)
+  one_due net good c o is true q asks ds rest = (tt, rest)
+  one_due net good c o is false None asks ds rest = rest
+  one_due net good c o is false (Some x) asks ds rest =
+      let w = (good.channels (asked_by n c)).opened o is in
+      let request_is : o.request ≡ Some w.1.0 = w.1.1 in
+      let same : w.1.0 ≡ x = cc in
+      ((o.instance, subst (λ (y : M). Put talk net.bag (asked_by n c) (asked o.instance y)) same w.1.2), rest)
+
+  due_found : (net : Net M C) → Good talk net → (es : List (Channel × Opened M)) → AreFound (net.nodes n).caller.opened es → AllDue net.bag (flat_map due_of es)
   unfolding opened_at
-  open_after r [] sorted found = tt
-  open_after r (e ∷ es) sorted found =
-      (λ stays. opened_after_tick r e.0 sorted ∙ ap aged_in found.0
-      ∙ ap (λ (b : Bool). cond b None (Some (record e.1 { deadline = one_less e.1.deadline }))) stays,
-      open_after r es sorted found.1)
+  due_found net good [] found = tt
+  due_found net good (e ∷ es) found =
+      one_due net good e.0 e.1 found.0 (is_last e.1.deadline) e.1.request refl (flat_map due_of es) (due_found net good es found.1)
 
-  abbrev sent_due : List (Due M) → List (Sent M)
-  sent_due ds = sent_by n (flat_map D ds)
+  pub all_due : (net : Net M C) → Good talk net → AllDue net.bag (due (net.nodes n).caller)
+  unfolding due
+  all_due net good = due_found net good (net.nodes n).caller.opened (all_found (net.nodes n).caller.opened (good.sorted n))
 
-  one_play : (net : Net M C) (c : Channel) (o : Opened M) → (is_last o.deadline ≡ false → opened_at (net.nodes n).caller c ≡ Some (record o { deadline = one_less o.deadline }))
-      → (last : Bool) → is_last o.deadline ≡ last → (q : Option M) → o.request ≡ q
-      → Plays talk net n (net.nodes n) (sent_due (if last then expires c ∷ [] else repeated c q)) (again_of c last q)
-  one_play net c o stands true is q asks =
-      subst (λ (s : List (Sent M)). Plays talk net n (net.nodes n) s []) (sym (sent_both n (D (expires c)) [] ∙ ap (λ (s : List (Sent M)). s ++ []) (none c)))
-      (plays_none talk net n)
-  one_play net c o stands false is None asks = plays_none talk net n
-  one_play net c o stands false is (Some x) asks =
-      subst (λ (s : List (Sent M)). Plays talk net n (net.nodes n) s (repeats c x ∷ []))
-      (sym (sent_both n (D (due_again c x)) [] ∙ ap (λ (s : List (Sent M)). s ++ []) (again c x)))
-      (plays_one talk net n (repeats c x) (record o { deadline = one_less o.deadline }, stands is, asks) (control c.peer c.ue x ∷ []) (net.nodes n) refl)
+  -- more was put meanwhile
+  pub still_due : (bag out now : List (Sent M)) → now ≡ bag ++ out → (ds : List (Due M)) → AllDue bag ds → AllDue now ds
+  still_due bag out now is [] all = tt
+  still_due bag out now is (due_again c x ∷ ds) all = (
+    (
+      all.0.0,
+      subst (λ (b : List (Sent M)). Put talk b (asked_by n c) (asked all.0.0 x)) (sym is)
+          (all.0.1.0, Contains-append_left bag out (record { from = n; to = c.peer; ue = all.0.1.0; message = x }) all.0.1.1, all.0.1.2),
+    ),
+    still_due bag out now is ds all.1,
+  )
+  still_due bag out now is (expires c ∷ ds) all = (tt, still_due bag out now is ds all.1)
 
-  pub repeats_play : (es : List (Channel × Opened M)) (net : Net M C) → AreOpen (net.nodes n).caller es
-      → Plays talk net n (net.nodes n) (sent_due (flat_map due_of es)) (repeats_of es)
-  repeats_play [] net stands = plays_none talk net n
-  repeats_play (e ∷ es) net stands =
-      let first = one_play net e.0 e.1 stands.0 (is_last e.1.deadline) refl e.1.request refl in
-      let same = first.node in
-      subst (λ (s : List (Sent M)). Plays talk net n (net.nodes n) s (repeats_of (e ∷ es)))
-      (sym (ap (sent_by n) (flat_map-append D (due_of e) (flat_map due_of es)) ∙ sent_both n (flat_map D (due_of e)) (flat_map D (flat_map due_of es))))
-      (plays_then talk net n (net.nodes n) (net.nodes n) (sent_due (due_of e)) (sent_due (flat_map due_of es))
-      (again_of e.0 (is_last e.1.deadline) e.1.request) (repeats_of es) first
-      (subst (λ (t : Transactions M C). Plays talk (after talk net (orders_of talk n (again_of e.0 (is_last e.1.deadline) e.1.request))) n t
-      (sent_due (flat_map due_of es)) (repeats_of es)) same
-      (repeats_play es (after talk net (orders_of talk n (again_of e.0 (is_last e.1.deadline) e.1.request)))
-      (subst (λ (t : Transactions M C). AreOpen t.caller es) (sym same) stands.1))))
-
-  abbrev ticked : Transactions M C → Transactions M C
+  abbrev pub ticked : Transactions M C → Transactions M C
   ticked t = record t { caller = after_tick t.caller }
 
-  pub tick_plays : (net : Net M C) → Good talk net
-      → Plays talk net n (ticked (net.nodes n)) (sent_due (due (net.nodes n).caller)) (ages ∷ repeats_of (net.nodes n).caller.opened)
-  unfolding due
-  tick_plays net good =
-      let aged = plays_one talk net n ages tt [] (ticked (net.nodes n)) refl in
-      plays_then talk net n (ticked (net.nodes n)) (ticked (net.nodes n)) [] (sent_due (flat_map due_of (net.nodes n).caller.opened))
-      (ages ∷ []) (repeats_of (net.nodes n).caller.opened) aged
-      (subst (λ (t : Transactions M C). Plays talk (after talk net (orders_of talk n (ages ∷ []))) n t
-      (sent_due (flat_map due_of (net.nodes n).caller.opened)) (repeats_of (net.nodes n).caller.opened)) aged.node
-      (repeats_play (net.nodes n).caller.opened (after talk net (orders_of talk n (ages ∷ [])))
-      (subst (λ (t : Transactions M C). AreOpen t.caller (net.nodes n).caller.opened) (sym aged.node)
-      (open_after (net.nodes n).caller (net.nodes n).caller.opened (good.sorted n) (all_found (net.nodes n).caller.opened (good.sorted n))))))
+  pub ages_plays : (net : Net M C) → Plays talk net n (ticked (net.nodes n)) [] (ages ∷ [])
+  ages_plays net = plays_one talk net n ages tt [] (ticked (net.nodes n)) refl
+
+  module _ (D : Due M → List (Output M P))
+      (again : (c : Channel) (x : M) → sent_by n (D (due_again c x)) ≡ record { from = n; to = c.peer; ue = c.ue; message = x } ∷ [])
+      (none : (c : Channel) → sent_by n (D (expires c)) ≡ []) where
+    abbrev sent_due : List (Due M) → List (Sent M)
+    sent_due ds = sent_by n (flat_map D ds)
+
+    pub dues_play : (ds : List (Due M)) (net : Net M C) → AllDue net.bag ds → Plays talk net n (net.nodes n) (sent_due ds) (moves_due ds)
+    dues_play [] net all = plays_none talk net n
+    dues_play (due_again c x ∷ ds) net all =
+        let first = plays_one talk net n (repeats c x) all.0 (control c.peer c.ue x ∷ []) (net.nodes n) refl in
+        subst (λ (s : List (Sent M)). Plays talk net n (net.nodes n) s (repeats c x ∷ moves_due ds))
+        (sym (sent_both n (D (due_again c x)) (flat_map D ds) ∙ ap (λ (s : List (Sent M)). s ++ sent_due ds) (again c x)))
+        (plays_then talk net n (net.nodes n) (net.nodes n) (record { from = n; to = c.peer; ue = c.ue; message = x } ∷ []) (sent_due ds) (repeats c x ∷ []) (moves_due ds) first
+        (subst (λ (t : Transactions M C). Plays talk (after talk net (orders_of talk n (repeats c x ∷ []))) n t (sent_due ds) (moves_due ds)) first.node
+        (dues_play ds (after talk net (orders_of talk n (repeats c x ∷ [])))
+        (still_due net.bag (record { from = n; to = c.peer; ue = c.ue; message = x } ∷ []) (after talk net (orders_of talk n (repeats c x ∷ []))).bag first.bag ds all.1))))
+    dues_play (expires c ∷ ds) net all =
+        subst (λ (s : List (Sent M)). Plays talk net n (net.nodes n) s (moves_due ds))
+        (sym (sent_both n (D (expires c)) (flat_map D ds) ∙ ap (λ (s : List (Sent M)). s ++ sent_due ds) (none c))) (dues_play ds net all.1)
+
+    pub tick_plays : (net : Net M C) → Good talk net
+        → Plays talk net n (ticked (net.nodes n)) (sent_due (due (net.nodes n).caller)) (ages ∷ moves_due (due (net.nodes n).caller))
+    tick_plays net good =
+        plays_then talk net n (ticked (net.nodes n)) (ticked (net.nodes n)) [] (sent_due (due (net.nodes n).caller))
+        (ages ∷ []) (moves_due (due (net.nodes n).caller)) (ages_plays net)
+        (subst (λ (t : Transactions M C). Plays talk (after talk net (orders_of talk n (ages ∷ []))) n t (sent_due (due (net.nodes n).caller))
+        (moves_due (due (net.nodes n).caller))) (ages_plays net).node
+        (dues_play (due (net.nodes n).caller) (after talk net (orders_of talk n (ages ∷ [])))
+        (still_due net.bag [] (after talk net (orders_of talk n (ages ∷ []))).bag (ages_plays net).bag (due (net.nodes n).caller) (all_due net good))))

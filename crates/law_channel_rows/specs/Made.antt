@@ -1,6 +1,6 @@
 -- A unit's step as moves on channels: what it puts of control messages, and what it keeps of requests and replies then, are those
 -- of a list of moves, each of which may be made.
-use Rattle.std.specs.Prelude.{◌≡◌, ℕ, Bool, false, List, [], ◌∷◌, ◌++◌, map}
+use Rattle.std.specs.Prelude.{◌≡◌, ℕ, false, List, ◌++◌, map}
 use Rattle.std.specs.List.{Contains}
 use Rattle.gnb_types.specs.declared.names.NodeId.{NodeId}
 use Rattle.gnb_types.specs.declared.keys.Channel.{Channel}
@@ -8,7 +8,7 @@ use Rattle.unit_defs.specs.Ways.{Message, Input, control_input, Answer, gives, s
 use Rattle.unit_defs.specs.Transactions.{transfer, Transactions, kind_of}
 use Rattle.law_channel.specs.Replies.{Talk, answers, overtakes}
 use Rattle.law_channel.specs.Ends.{same_node, Sent}
-use Rattle.law_channel.specs.Moves.{Move, Net, asked_by, sent_by, Order, after, MayAll}
+use Rattle.law_channel.specs.Moves.{Move, Net, new_net, asked_by, sent_by, Order, after, MayAll}
 
 module _ {M C P : Type 0} (talk : Talk M C P) where
   -- what is read of a message that is written is what it says
@@ -45,3 +45,11 @@ module _ {M C P : Type 0} (talk : Talk M C P) where
   -- no request of the node expired without its cancel
   abbrev pub NoneExpired : Net M C → NodeId → Type 0
   NoneExpired net n = (c : Channel) → net.expired (asked_by n c) ≡ false
+
+  -- orders go on by more of them, each made when it may be: then the node keeps t, all others what they kept, and these more were put
+  pub record GoesOn (orders : List (Order talk)) (n : NodeId) (t : Transactions M C) (sent : List (Sent M)) : Type 0 where
+    pub more : List (Order talk)
+    pub may : MayAll talk new_net (orders ++ more)
+    pub node : (after talk new_net (orders ++ more)).nodes n ≡ t
+    pub others : (m : NodeId) → same_node m n ≡ false → (after talk new_net (orders ++ more)).nodes m ≡ (after talk new_net orders).nodes m
+    pub bag : (after talk new_net (orders ++ more)).bag ≡ (after talk new_net orders).bag ++ sent

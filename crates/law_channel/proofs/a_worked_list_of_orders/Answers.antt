@@ -1,4 +1,4 @@
-use Rattle.std.proofs.Common.{arith, Some, refl}
+use Rattle.std.proofs.Common.{arith, refl}
 use Rattle.tables.specs.Tables.{find, put, without, at}
 use Rattle.transaction_defs.specs.Callers.{opened_at, is_open, begin, keep_request, is_awaited, close, after_tick}
 use Rattle.transaction_defs.specs.Callees.{kept_at, newest, verdict, taken, kept_reply, keep, keep_for}
@@ -16,7 +16,7 @@ returns c = record {
       (
         tt,
         (
-          (record { instance = 1; deadline = Some 7; request = Some (preparation 1) }, refl, refl),
+          (1, (1, (0, omega arith, refl), refl)),
           (
             record { is_newest = refl; is_unanswered = refl; is_reply = refl; request = preparation 1; was_put = (1, (0, omega arith, refl), refl); fits = refl },
             (

@@ -1,0 +1,148 @@
+-- A tick of a CU-CP: open requests again, or what expires is cancelled; then the commands. And the whole table of a CU-CP.
+use Rattle.std.proofs.Common.{◌≡◌, Bool, true, false, List, [], ◌∷◌, ◌++◌, Option, Some, None, refl, sym, ap, ◌∙◌, subst}
+use Rattle.std.specs.Prelude.{if◌then◌else◌}
+use Rattle.gnb_types.specs.declared.names.NodeId.{NodeId}
+use Rattle.gnb_types.specs.declared.names.UeId.{UeId}
+use Rattle.gnb_types.specs.declared.reasons.DropReason.TheVariants.{Unexpected}
+use Rattle.transaction_defs.specs.Callers.{Due, repeats as due_again, expires, due, after_tick}
+use Rattle.unit_defs.specs.declared.StateName.{StateName}
+use Rattle.unit_defs.specs.declared.StateName.TheVariants as states
+use Rattle.unit_defs.specs.Ways.{Message, control, Input, control_input, tick_input, order_input, Answer, gives, spent, with_outputs, ◌then◌, nothing, drops}
+use Rattle.unit_defs.specs.Messages.{channel}
+use Rattle.unit_defs.specs.Transactions.{Kind, request, reply, transfer, kind_of, Transactions, on_request}
+use Rattle.unit_defs.specs.CpRecords.{Attempt, CpContext, CuCpRecord, terminal_of, with_transactions, Row, carry_out}
+use Rattle.unit_defs.specs.CpRows.{handover_expires, command}
+use Rattle.unit_defs.specs.CuCp.{is_peer, at_of, asked, control_by, control_came, expired_on, due_one, due_each, command_by, command_on, command_each, ues_of, tick, cu_cp_acts}
+use Rattle.law_channel.specs.Replies.{Talk}
+use Rattle.law_channel.specs.Ends.{Sent}
+use Rattle.law_channel.specs.Moves.{ages, repeats, Net, sent_by, after}
+use Rattle.law_channel.proofs.Nets.{Good}
+use Rattle.law_channel_rows.specs.Made.{ReadsWell, orders_of, Plays, Made, WasSent, IsPutTo, NoneExpired}
+use Rattle.law_channel_rows.specs.Owed.{Owes}
+use Rattle.law_channel_rows.specs.Rows.{IsAllowed}
+use Rattle.law_channel_rows.proofs.Plays.{plays_none, plays_one, plays_then}
+use Rattle.law_channel_rows.proofs.Requests.{sent_both, drops_made, request_taken, takes_plays, taken_net, after_take, may_answer}
+use Rattle.law_channel_rows.proofs.Says.{kept, row_says}
+use Rattle.law_channel_rows.proofs.Ticks.{AllDue, all_due, still_due, ages_plays}
+use Rattle.law_channel_rows.proofs.CpRows.{expires_fine, command_fine}
+use Rattle.law_channel_rows.proofs.CpMoves.{plays_made, ordered_made, transferred_made}
+use Rattle.law_channel_rows.proofs.CpRequests.{asked_made}
+use Rattle.law_channel_rows.proofs.CpAnswers.{reply_made, made_after}
+
+module _ {M C P : Type 0} (talk : Talk M C P) (n : NodeId) where
+  -- moves, and then those of what is done after
+  made_then : (net : Net M C) (a : Answer M P (CuCpRecord M C)) (f : CuCpRecord M C → Answer M P (CuCpRecord M C)) → Made talk net n (kept talk n) a
+      → ((x : Net M C) (q : CuCpRecord M C) (out : List (Sent M)) → x.nodes n ≡ q.transactions → x.bag ≡ net.bag ++ out → Made talk x n (kept talk n) (f q))
+      → Made talk net n (kept talk n) (a then f)
+  made_then net (gives os q) f first next =
+      by (f q) (next (after talk net (orders_of talk n first.0)) q (sent_by n os) first.1.node first.1.bag)
+    where
+      by : (b : Answer M P (CuCpRecord M C)) → Made talk (after talk net (orders_of talk n first.0)) n (kept talk n) b
+          → Made talk net n (kept talk n) (with_outputs os b)
+      by (gives more x) second = (
+        first.0 ++ second.0,
+        subst (λ (out : List (Sent M)). Plays talk net n x.transactions out (first.0 ++ second.0)) (sym (sent_both n os more))
+            (plays_then talk net n q.transactions x.transactions (sent_by n os) (sent_by n more) first.0 second.0 first.1 second.1),
+      )
+      by (spent k) second = tt
+  made_then net (spent k) f first next = tt
+
+  same_made : (net : Net M C) (r : CuCpRecord M C) → net.nodes n ≡ r.transactions → Made talk net n (kept talk n) (nothing r)
+  same_made net r at = ([], subst (λ (t : Transactions M C). Plays talk net n t [] []) at (plays_none talk net n))
+
+  allowed_made : (net : Net M C) (ue : UeId) (r : CuCpRecord M C) → net.nodes n ≡ r.transactions → (what : Row C) → IsAllowed talk net n ue what
+      → Made talk net n (kept talk n) (carry_out talk.way ue r what)
+  allowed_made net ue r at what allowed = plays_made talk n net ue what (carry_out talk.way ue r what) (row_says talk n net ue r at what allowed)
+
+  module _ (reads : ReadsWell talk) where
+    due_made : (d : Due M) (net : Net M C) (r : CuCpRecord M C) → net.nodes n ≡ r.transactions → AllDue talk n net.bag (d ∷ [])
+        → Made talk net n (kept talk n) (due_one talk.way r d)
+    unfolding handover_expires
+    due_made (due_again c x) net r at was = (
+      repeats c x ∷ [],
+      subst (λ (t : Transactions M C). Plays talk net n t (record { from = n; to = c.peer; ue = c.ue; message = x } ∷ []) (repeats c x ∷ [])) at
+          (plays_one talk net n (repeats c x) was.0 (control c.peer c.ue x ∷ []) (net.nodes n) refl),
+    )
+    due_made (expires c) net r at was = allowed_made net (record { 0 = c.ue }) r at _ (by (terminal_of r (record { 0 = c.ue })).context)
+      where
+        by : (q : Option CpContext) → IsAllowed talk net n (record { 0 = c.ue }) (expired_on talk.way (at_of r (record { 0 = c.ue })) (terminal_of r (record { 0 = c.ue })) q)
+        by None = tt
+        by (Some q) = ((expires_fine talk reads (at_of r (record { 0 = c.ue })) (terminal_of r (record { 0 = c.ue })) q).0, tt)
+
+    dues_made : (ds : List (Due M)) (net : Net M C) (r : CuCpRecord M C) → net.nodes n ≡ r.transactions → AllDue talk n net.bag ds
+        → Made talk net n (kept talk n) (due_each talk.way ds r)
+    dues_made [] net r at was = same_made net r at
+    dues_made (d ∷ ds) net r at was =
+        made_then net (due_one talk.way r d) (due_each talk.way ds) (due_made d net r at (was.0, tt))
+        (λ x q out node grew. dues_made ds x q node (still_due talk n net.bag out x.bag grew ds was.1))
+
+    command_made : (ue : UeId) (net : Net M C) (r : CuCpRecord M C) → net.nodes n ≡ r.transactions
+        → Made talk net n (kept talk n) (carry_out talk.way ue r (command_on talk.way (at_of r ue) (terminal_of r ue) (terminal_of r ue).context))
+    unfolding command
+    command_made ue net r at = allowed_made net ue r at _ (by (terminal_of r ue).context)
+      where
+        of : (c : CpContext) (s : StateName) (a : Option Attempt) → IsAllowed talk net n ue (command_by talk.way (at_of r ue) (terminal_of r ue) c s a)
+        of c states.Frozen (Some a) = ((command_fine talk reads (at_of r ue) (terminal_of r ue) c a).0, tt)
+        of c states.Frozen None = tt
+        of c states.Commanded (Some a) = ((command_fine talk reads (at_of r ue) (terminal_of r ue) c a).0, tt)
+        of c states.Commanded None = tt
+        of c s a = tt
+
+        by : (c : Option CpContext) → IsAllowed talk net n ue (command_on talk.way (at_of r ue) (terminal_of r ue) c)
+        by None = tt
+        by (Some c) = of c c.state c.attempt
+
+    commands_made : (ues : List UeId) (net : Net M C) (r : CuCpRecord M C) → net.nodes n ≡ r.transactions
+        → Made talk net n (kept talk n) (command_each talk.way ues r)
+    commands_made [] net r at = same_made net r at
+    commands_made (ue ∷ ues) net r at =
+        made_then net _ (command_each talk.way ues) (command_made ue net r at) (λ x q out node grew. commands_made ues x q node)
+
+    tick_made : (net : Net M C) → Good talk net → (r : CuCpRecord M C) → net.nodes n ≡ r.transactions → Made talk net n (kept talk n) (tick talk.way r)
+    unfolding tick
+    tick_made net good r at =
+        let aged = ages_plays talk n net in
+        let now : CuCpRecord M C = with_transactions r (record r.transactions { caller = after_tick r.transactions.caller }) in
+        let node : (after talk net (orders_of talk n (ages ∷ []))).nodes n ≡ now.transactions =
+        aged.node ∙ ap (λ (t : Transactions M C). record t { caller = after_tick t.caller }) at in
+        made_after talk n (kept talk n) net (ages ∷ []) _ aged (due_each talk.way (due r.transactions.caller) now then (λ s. command_each talk.way (ues_of talk.way s) s))
+        (made_then (after talk net (orders_of talk n (ages ∷ []))) (due_each talk.way (due r.transactions.caller) now) (λ s. command_each talk.way (ues_of talk.way s) s)
+        (dues_made (due r.transactions.caller) (after talk net (orders_of talk n (ages ∷ []))) now node
+        (still_due talk n net.bag [] (after talk net (orders_of talk n (ages ∷ []))).bag aged.bag (due r.transactions.caller)
+        (subst (λ (t : Transactions M C). AllDue talk n net.bag (due t.caller)) at (all_due talk n net good))))
+        (λ x q out place grew. commands_made (ues_of talk.way q) x q place))
+
+    -- ---- control messages, and the table
+
+    module _ (net : Net M C) (good : Good talk net) (none : NoneExpired talk net n) (r : CuCpRecord M C) (at : net.nodes n ≡ r.transactions) (owes : Owes talk n net r) where
+      control_by_made : (from : NodeId) (m : Message C) → WasSent talk net from n m → (k : Kind) → kind_of m ≡ k
+          → Made talk net n (kept talk n) (control_by talk.way from m r k)
+      control_by_made from m sent (request ue i) is =
+          subst (λ (t : Transactions M C). Made talk net n (kept talk n)
+          (on_request talk.way r t (channel ue from) i (λ u. asked talk.way from m (with_transactions r u)))) at
+          (request_taken talk n reads net (channel ue from) m i (sent.0, sent.1, reads.kinds m ∙ is) (kept talk n) r
+          (λ u. asked talk.way from m (with_transactions r u)) at
+          (λ fresh.
+          made_after talk n (kept talk n) net _ _ (takes_plays talk n reads net (channel ue from) m i (sent.0, sent.1, reads.kinds m ∙ is) fresh) _
+          (asked_made talk n reads (taken_net talk n reads net (channel ue from) m i (sent.0, sent.1, reads.kinds m ∙ is)) none
+          (with_transactions r (after_take talk n reads net (channel ue from) m i (sent.0, sent.1, reads.kinds m ∙ is)))
+          (takes_plays talk n reads net (channel ue from) m i (sent.0, sent.1, reads.kinds m ∙ is) fresh).node from m ue i
+          (λ answer kind fits. may_answer talk n reads net (channel ue from) m i (sent.0, sent.1, reads.kinds m ∙ is) fresh answer kind fits) is)))
+      control_by_made from m sent (reply ue i) is =
+          reply_made talk n reads net good none r at owes (channel ue from) i m (sent.0, sent.1, reads.kinds m ∙ is)
+      control_by_made from m sent (transfer ue) is = transferred_made talk n reads net none r at from m
+
+      control_made : (from : NodeId) (m : Message C) → WasSent talk net from n m → Made talk net n (kept talk n) (control_came talk.way from m r)
+      unfolding control_came
+      control_made from m sent = by (is_peer r.gnb from)
+        where
+          by : (b : Bool) → Made talk net n (kept talk n) (if b then control_by talk.way from m r (kind_of m) else drops Unexpected r)
+          by true = control_by_made from m sent (kind_of m) refl
+          by false = drops_made talk n net (kept talk n) r Unexpected at
+
+      pub cu_cp_made : (input : Input C P) → IsPutTo talk net n input → Made talk net n (kept talk n) (cu_cp_acts talk.way r input)
+      unfolding cu_cp_acts
+      cu_cp_made (control_input from m) put = control_made from m put
+      cu_cp_made tick_input put = tick_made net good r at
+      cu_cp_made (order_input order) put = ordered_made talk n reads net none r at order
+      cu_cp_made input put = drops_made talk n net (kept talk n) r Unexpected at
