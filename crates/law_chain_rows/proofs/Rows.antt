@@ -3,7 +3,7 @@ use Rattle.std.proofs.Common.{◌≡◌, ℕ, ◌+◌, Bool, true, false, not, �
 use Rattle.std.proofs.lemmas.List.{append-nil, map-append}
 use Rattle.gnb_types.specs.declared.reasons.DropReason.TheVariants.{Duplicate}
 use Rattle.pdcp.specs.Near.{last_count}
-use Rattle.pdcp_defs.specs.Senders.{Sender, numbered as with_next, has_room, may_restore, restored}
+use Rattle.pdcp_defs.specs.Senders.{Sender, numbered as with_next, has_room, may_restore, restored, confirmed_to, confirmed_by}
 use Rattle.gnb_types.specs.declared.names.SnBits.{SnBits}
 use Rattle.gnb_types.specs.declared.names.NodeId.{NodeId}
 use Rattle.gnb_types.specs.declared.names.Dir.TheVariants.{Dl, Ul}
@@ -12,8 +12,8 @@ use Rattle.gnb_types.specs.declared.outputs.Tag.TheVariants.{Absent, Own, Same}
 use Rattle.unit_defs.specs.Ways.{Pdu, packet_pdu, Load, frame, Output, packet, control, radio, deliver, dropped, held, opened, closed, failed, no, Way, Answer, gives, spent, with_outputs, ◌then◌, nothing, puts, drops, frames_spent, counts_spent}
 use Rattle.unit_defs.specs.Ways as ways
 use Rattle.unit_defs.specs.UpRecords.{UpBearer, SourceHop, Downlink, UpAt}
-use Rattle.unit_defs.specs.UpBearers.{forwarded_down, forwarded_up, forward_numbered, forward_fresh, forward_late, frozen_to, number_waiting, number_each, sent, framed, framed_on, has_downlink, last_frame}
-use Rattle.unit_defs.specs.UpItems.{took_fresh, took_numbered, closed_n3, n3_ended}
+use Rattle.unit_defs.specs.UpBearers.{forwarded_down, forwarded_up, forward_numbered, forward_fresh, forward_late, frozen_to, number_waiting, number_each, sent, sent_again, framed, framed_on, has_downlink, last_frame}
+use Rattle.unit_defs.specs.UpItems.{took_fresh, took_numbered, took_report, took_delivery_status, closed_n3, n3_ended}
 use Rattle.chain_defs.specs.Parts.{Item, numbered, fresh, end_marker}
 use Rattle.chain_defs.specs.Orders.{forwards, frozen, waits, waits_unless, takes_unless, holds}
 use Rattle.law_chain_rows.specs.Shown.{items_of, item_of, pdus_of, pdu_of, plain, without_number, Gives, numbers_all, still_waits, numbered_pdus}
@@ -271,3 +271,38 @@ module _ {M C P : Type 0} (way : Way M C P) (at : UpAt) where
           (sent way at b.sender.next p (Own b.sender.next) now) (λ d. number_each way at ps d)
           (sends_one b.sender.next p (Own b.sender.next) now h) g
       by false l g = (refl, refl, refl)
+
+  -- ---- what is sent
+
+  pub sends_a_numbered_one : (count : ℕ) (p : List ℕ) (b : UpBearer) → has_downlink b.downlink ≡ true → at.flags.frozen ≡ false
+      → at.flags.released ≡ false → may_restore at.sn at.quota b.sender count ≡ true
+      → Gives way at.sn [] (packet_pdu count p ∷ []) (holds b count p) (took_numbered way at (Some count) p b)
+  unfolding took_numbered sent framed
+  sends_a_numbered_one count p b h f r m = rw (r, m, f) (sends_one count p Same (holds b count p) h)
+
+  pub sends_all_again : (es : List (ℕ × List ℕ)) (b : UpBearer) → has_downlink b.downlink ≡ true
+      → Gives way at.sn [] (map (λ e. packet_pdu e.0 e.1) es) b (sent_again way at es b)
+  unfolding sent_again Gives items_of pdus_of
+  sends_all_again [] b h = (refl, refl, refl)
+  sends_all_again (x ∷ es) b h =
+      then_gives [] [] (packet_pdu x.0 x.1 ∷ []) (map (λ e. packet_pdu e.0 e.1) es) b b (sent way at x.0 x.1 (Own x.0) b)
+      (λ d. sent_again way at es d)
+      (sends_one x.0 x.1 (Own x.0) b h)
+      (λ d e. gives_as [] (map (λ (u : ℕ × List ℕ). packet_pdu u.0 u.1) es) d b (sent_again way at es d) e
+      (sends_all_again es d (still_there d.downlink b.downlink (ap (λ u. u.downlink) e) h)))
+
+  -- ---- what is confirmed makes room
+
+  pub reports_make_room : (fmc : ℕ) (bits : List Bool) (b : UpBearer)
+      → took_report way at fmc bits b ≡ number_waiting way at (record b { sender = confirmed_by b.sender fmc bits })
+  unfolding took_report
+  reports_make_room fmc bits b = refl
+
+  pub statuses_make_room : (count : ℕ) (b : UpBearer)
+      → took_delivery_status way at [] (Some count) b ≡ number_waiting way at (record b { sender = confirmed_to b.sender count })
+  unfolding took_delivery_status
+  statuses_make_room count b = nothing_first (number_waiting way at (record b { sender = confirmed_to b.sender count }))
+    where
+      nothing_first : (a : Answer M P UpBearer) → with_outputs [] a ≡ a
+      nothing_first (gives outputs c) = refl
+      nothing_first (spent counter) = refl

@@ -1,12 +1,13 @@
 -- What a row gives to the downlink of its bearer: items for the next context, PDUs for the radio, and the bearer.
-use Rattle.std.specs.Prelude.{◌≡◌, ℕ, if◌then◌else◌, Bool, true, false, List, [], ◌∷◌, ◌++◌, map, Option, Some, None, ⊤}
+use Rattle.std.specs.Prelude.{◌≡◌, ◌≢◌, ◌==◌, ℕ, if◌then◌else◌, Bool, true, false, List, [], ◌∷◌, ◌++◌, map, Option, Some, None, ⊤}
 use Rattle.gnb_types.specs.declared.names.SnBits.{SnBits}
 use Rattle.gnb_types.specs.declared.names.Dir.TheVariants.{Dl, Ul}
 use Rattle.pdcp_defs.specs.Senders.{Sender, numbered as with_next, has_room}
 use Rattle.unit_defs.specs.Ways.{Pdu, packet_pdu, Load, frame, Output, packet, Way, Answer, gives, spent}
 use Rattle.unit_defs.specs.Ways as ways
 use Rattle.unit_defs.specs.UpRecords.{UpBearer, Downlink}
-use Rattle.chain_defs.specs.Parts.{Item, numbered, fresh, end_marker}
+use Rattle.chain_defs.specs.Parts.{Item, numbered, fresh, end_marker, Member, Part}
+use Rattle.chain_defs.specs.Orders.{Order, numbers}
 
 -- what goes to the next context, in order
 abbrev pub item_of : {P : Type 0} → Load P → List Item
@@ -57,3 +58,20 @@ module _ (sn : SnBits) (quota : ℕ) where
   unfoldable pub numbered_pdus : List (List ℕ) → Sender (List ℕ) → List Pdu
   numbered_pdus [] s = []
   numbered_pdus (p ∷ ps) s = if has_room sn quota s then packet_pdu s.next p ∷ numbered_pdus ps (with_next s p) else []
+
+  -- the orders that do so, at this context; and the packets with their COUNTs
+  unfoldable pub number_orders : ℕ → List (List ℕ) → Sender (List ℕ) → List Order
+  number_orders x [] s = []
+  number_orders x (p ∷ ps) s = if has_room sn quota s then numbers x p ps ∷ number_orders x ps (with_next s p) else []
+
+  unfoldable pub numbered_packets : List (List ℕ) → Sender (List ℕ) → List (ℕ × List ℕ)
+  numbered_packets [] s = []
+  numbered_packets (p ∷ ps) s = if has_room sn quota s then (s.next, p) ∷ numbered_packets ps (with_next s p) else []
+
+-- the part after these orders: this context has this bearer, all others are as before, and these went to the radio
+pub record Became (s t : Part) (x : ℕ) (m : Member) (sent : List (ℕ × List ℕ)) : Type 0 where
+  pub here : t.members x ≡ m
+  pub others : (q : ℕ) → q ≢ x → t.members q ≡ s.members q
+  pub air : t.air ≡ (if m.epoch == s.epoch then s.air ++ sent else s.air)
+  pub epoch : t.epoch ≡ s.epoch
+  pub rest : (t.path ≡ s.path) × (t.station ≡ s.station) × (t.offered ≡ s.offered) × (t.terminal ≡ s.terminal) × (t.delivered ≡ s.delivered)
