@@ -1,14 +1,14 @@
--- The guards of the worked run are met.
-use Rattle.std.proofs.Common.{◌≡◌, ◌≢◌, ℕ, ◌==◌, ◌&&◌, Bool, true, false, if◌then◌else◌, [], ◌∷◌, take, refl, arith}
+-- What is asked in the worked runs is met.
+use Rattle.std.proofs.Common.{◌≡◌, ◌≢◌, ℕ, ◌==◌, ◌&&◌, Bool, true, false, if◌then◌else◌, List, [], ◌∷◌, take, refl, arith}
 use Rattle.gnb_types.specs.declared.names.SnBits.TheVariants.{Len12}
 use Rattle.tables.specs.Tables.{find, put}
-use Rattle.pdcp_defs.specs.Senders.{numbered, has_room, first, may_restore, restored, confirmed_to}
+use Rattle.pdcp_defs.specs.Senders.{numbered, has_room, first, may_restore, restored, confirmed_to, confirmed_by}
 use Rattle.pdcp_defs.specs.Receivers.{is_duplicate, stored, deliver}
 use Rattle.unit_defs.specs.UpBearers.{made}
 use Rattle.chain_defs.specs.Parts.{Member, start, is_open}
-use Rattle.chain_defs.specs.Orders.{after, run}
+use Rattle.chain_defs.specs.Orders.{Order, after, run}
 use Rattle.chain_defs.specs.Guards.{Feeds, IsUnfed, IsReady, IsOwed, AreKept}
-use Rattle.law_chain.specs.Relay.{relay, a, b, c, d, e}
+use Rattle.law_chain.specs.Relay.{relay, cancelled, a, b, c, d, e}
 use Rattle.law_chain.proofs.Frames.{same, apart}
 
 record Idle (m : Member) (y : ℕ) : Type 0 where
@@ -34,8 +34,9 @@ idle_if false m n y h k = k
 apart_numbers : (a b : ℕ) → (a == b) ≡ false → a ≢ b
 apart_numbers a b h e = apart (same a b e) h
 
-unfed : (n y : ℕ) → ((x : ℕ) → Idle ((run (start 1 10) (take n relay)).members x) y) → IsUnfed (run (start 1 10) (take n relay)) y
-unfed n y h x f = (h x).no_hop f
+unfed : (orders : List Order) (n y : ℕ) → ((x : ℕ) → Idle ((run (start 1 10) (take n orders)).members x) y)
+    → IsUnfed (run (start 1 10) (take n orders)) y
+unfed orders n y h x f = (h x).no_hop f
 
 pub relay_kept : AreKept Len12 64 (start 1 10) relay
 unfolding relay start run AreKept IsReady IsOwed after made numbered has_room first may_restore restored confirmed_to is_duplicate
@@ -44,11 +45,11 @@ relay_kept =
     -- makes 2 true 20
     (
       refl,
-      unfed 0 2 (λ x. search (idle_if, idle_by) depth 60 fits 2000),
+      unfed relay 0 2 (λ x. search (idle_if, idle_by) depth 60 fits 2000),
       -- makes 3 true 30
       (
         refl,
-        unfed 1 3 (λ x. search (idle_if, idle_by) depth 60 fits 2000),
+        unfed relay 1 3 (λ x. search (idle_if, idle_by) depth 60 fits 2000),
         -- offers a
         (
           tt,
@@ -101,7 +102,7 @@ relay_kept =
                               n3 = refl;
                               forwarded = refl;
                             },
-                            unfed 10 2
+                            unfed relay 10 2
                                 (λ x. search (idle_if, idle_by) depth 60 fits 2000),
                           ),
                           -- offers c
@@ -160,7 +161,7 @@ relay_kept =
                                                   n3 = refl;
                                                   forwarded = refl;
                                                 },
-                                                unfed 20 3
+                                                unfed relay 20 3
                                                     (λ x. search (idle_if, idle_by) depth 60 fits 2000),
                                               ),
                                               -- passes_fresh 2 c []
@@ -316,3 +317,157 @@ relay_kept =
 pub relay_delivers : (run (start 1 10) relay).delivered ≡ (0, a) ∷ (1, b) ∷ (2, c) ∷ (3, d) ∷ (4, e) ∷ []
 unfolding relay start run after made numbered restored confirmed_to is_duplicate stored deliver find put
 relay_delivers = refl
+
+pub cancelled_kept : AreKept Len12 64 (start 1 10) cancelled
+unfolding cancelled start run AreKept IsReady IsOwed after made numbered has_room first may_restore restored confirmed_to confirmed_by
+    is_duplicate stored deliver find put feeds
+cancelled_kept =
+    -- makes 2 true 20
+    (
+      refl,
+      unfed cancelled 0 2 (λ x. search (idle_if, idle_by) depth 60 fits 2000),
+      -- offers a
+      (
+        tt,
+        tt,
+        -- offers b
+        (
+          tt,
+          tt,
+          -- keeps_n3 1 a (fresh b ∷ [])
+          (
+            ((refl, record { there = refl; stands = refl; passes = refl }), refl),
+            tt,
+            -- numbers 1 a []
+            (
+              (refl, refl, refl, refl, refl),
+              tt,
+              -- keeps_n3 1 b []
+              (
+                ((refl, record { there = refl; stands = refl; passes = refl }), refl),
+                tt,
+                -- numbers 1 b []
+                (
+                  (refl, refl, refl, refl, refl),
+                  tt,
+                  -- fails
+                  (
+                    tt,
+                    tt,
+                    -- switches 1 (downlink_to 5) 1
+                    (
+                      refl,
+                      (refl, omega arith),
+                      -- carries 0 a ((1, b) ∷ [])
+                      (
+                        refl,
+                        tt,
+                        -- reports 1 1 []
+                        (
+                          refl,
+                          (omega arith, refl),
+                          -- freezes 1 2 (hop_to 2 22)
+                          (
+                            (refl, refl, refl),
+                            (
+                              refl,
+                              apart_numbers _ _ refl,
+                              apart_numbers _ _ refl,
+                              record {
+                                there = refl;
+                                target = refl;
+                                ended = refl;
+                                status = refl;
+                                frozen = refl;
+                                open_ =
+                                    refl;
+                                unconfirmed = refl;
+                                waiting = refl;
+                                n3 = refl;
+                                forwarded = refl;
+                              },
+                              unfed cancelled 11 2
+                                  (λ x. search (idle_if, idle_by) depth 60 fits 2000),
+                            ),
+                            -- offers c
+                            (
+                              tt,
+                              tt,
+                              -- passes_n3 1 c []
+                              (
+                                ((refl, record { there = refl; stands = refl; passes = refl }), refl),
+                                tt,
+                                -- tells_loss 1
+                                (
+                                  refl,
+                                  tt,
+                                  -- knows 2 (next_is 2)
+                                  (
+                                    (refl, refl),
+                                    refl,
+                                    -- resumes 1
+                                    (
+                                      (refl, refl),
+                                      refl,
+                                      -- numbers 1 c []
+                                      (
+                                        (refl, refl, refl, refl, refl),
+                                        tt,
+                                        -- sends_again 1
+                                        (
+                                          (refl, refl),
+                                          tt,
+                                          -- closes 2
+                                          (
+                                            tt,
+                                            (apart_numbers _ _ refl, apart_numbers _ _ refl),
+                                            -- carries 1 b ((1, b) ∷ (2, c) ∷ (1, b) ∷ (2, c) ∷ [])
+                                            (
+                                              refl,
+                                              tt,
+                                              -- carries 1 b ((2, c) ∷ (1, b) ∷ (2, c) ∷ [])
+                                              (
+                                                refl,
+                                                tt,
+                                                -- carries 2 c ((1, b) ∷ (2, c) ∷ [])
+                                                (
+                                                  refl,
+                                                  tt,
+                                                  -- carries 1 b ((2, c) ∷ [])
+                                                  (
+                                                    refl,
+                                                    tt,
+                                                    -- carries 2 c []
+                                                    (
+                                                      refl,
+                                                      tt,
+                                                      tt,
+                                                    ),
+                                                  ),
+                                                ),
+                                              ),
+                                            ),
+                                          ),
+                                        ),
+                                      ),
+                                    ),
+                                  ),
+                                ),
+                              ),
+                            ),
+                          ),
+                        ),
+                      ),
+                    ),
+                  ),
+                ),
+              ),
+            ),
+          ),
+        ),
+      ),
+    )
+
+pub cancelled_delivers : (run (start 1 10) cancelled).delivered ≡ (0, a) ∷ (1, b) ∷ (2, c) ∷ []
+unfolding cancelled start run after made numbered restored confirmed_to confirmed_by is_duplicate stored deliver find put
+cancelled_delivers = refl

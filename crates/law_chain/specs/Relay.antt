@@ -5,7 +5,7 @@ use Rattle.gnb_types.specs.declared.names.NodeId.TheVariants.{CuUp, Du}
 use Rattle.gnb_types.specs.declared.plans.SnStatus.{SnStatus}
 use Rattle.unit_defs.specs.UpRecords.{Downlink, SourceHop}
 use Rattle.chain_defs.specs.Parts.{fresh, end_marker}
-use Rattle.chain_defs.specs.Orders.{Order, offers, switches_path, makes, freezes, knows, switches, releases, closes, arrives, keeps_n3, keeps_fresh, passes_n3, passes_fresh, sends, ends_n3, ends_hop, numbers, confirms, carries}
+use Rattle.chain_defs.specs.Orders.{Order, offers, switches_path, makes, freezes, knows, switches, releases, closes, arrives, keeps_n3, keeps_fresh, passes_n3, passes_fresh, sends, ends_n3, ends_hop, numbers, confirms, reports, tells_loss, sends_again, resumes, fails, carries}
 
 -- five packets
 abbrev pub a : List ℕ
@@ -52,4 +52,17 @@ relay =
     ∷ sends 3 1 b (fresh c ∷ fresh d ∷ end_marker ∷ []) ∷ keeps_fresh 3 c (fresh d ∷ end_marker ∷ []) ∷ numbers 3 c []
     ∷ keeps_fresh 3 d (end_marker ∷ []) ∷ numbers 3 d [] ∷ ends_hop 3 [] ∷ keeps_n3 3 e [] ∷ numbers 3 e []
     ∷ carries 1 b ((2, c) ∷ (3, d) ∷ (4, e) ∷ []) ∷ carries 2 c ((3, d) ∷ (4, e) ∷ []) ∷ carries 3 d ((4, e) ∷ []) ∷ carries 4 e []
+    ∷ []
+
+-- a radio that fails, and a handover that is cancelled: the source goes on, and sends again what it held
+unfoldable pub cancelled : List Order
+cancelled =
+    makes 2 true 20
+    ∷ offers a ∷ offers b ∷ keeps_n3 1 a (fresh b ∷ []) ∷ numbers 1 a [] ∷ keeps_n3 1 b [] ∷ numbers 1 b []
+    ∷ fails ∷ switches 1 (downlink_to 5) 1 ∷ carries 0 a ((1, b) ∷ []) ∷ reports 1 1 []
+    ∷ freezes 1 2 (hop_to 2 22) ∷ offers c ∷ passes_n3 1 c [] ∷ tells_loss 1 ∷ knows 2 (next_is 2)
+    ∷ resumes 1 ∷ numbers 1 c [] ∷ sends_again 1 ∷ closes 2
+    ∷ carries 1 b ((1, b) ∷ (2, c) ∷ (1, b) ∷ (2, c) ∷ []) ∷ carries 1 b ((2, c) ∷ (1, b) ∷ (2, c) ∷ []) ∷ carries 2 c
+    ((1, b) ∷ (2, c) ∷ [])
+    ∷ carries 1 b ((2, c) ∷ []) ∷ carries 2 c []
     ∷ []

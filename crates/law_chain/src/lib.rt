@@ -8,7 +8,7 @@ ghost use Rattle.gnb_types.specs.declared.names.SnBits.TheVariants.{Len12};
 ghost use Rattle.chain_defs.specs.Parts.{Item, start};
 ghost use Rattle.chain_defs.specs.Orders.{Order, drops, run, offers_in};
 ghost use Rattle.chain_defs.specs.Guards.{IsReady, AreKept};
-ghost use Rattle.law_chain.specs.Relay.{relay, a, b, c, d, e};
+ghost use Rattle.law_chain.specs.Relay.{relay, cancelled, a, b, c, d, e};
 ghost use Rattle.law_chain.specs.Words.{DeliversInOrder, CountsArePlaces, KeepsWindow};
 
 /// What is delivered is a prefix of what was offered, each packet once, with COUNTs 0, 1, 2 and so on.
@@ -46,4 +46,11 @@ pub fn forwards_over_two_hops()
     ensures guards { AreKept Len12 64 (start 1 10) relay }
     ensures delivered { (run (start 1 10) relay).delivered
         ≡ (0, a) ∷ (1, b) ∷ (2, c) ∷ (3, d) ∷ (4, e) ∷ [] }
+{}
+
+/// And with a radio that fails, and a handover that is cancelled after a packet was forwarded.
+pub fn goes_on_after_a_cancel()
+    ensures guards { AreKept Len12 64 (start 1 10) cancelled }
+    ensures delivered { (run (start 1 10) cancelled).delivered
+        ≡ (0, a) ∷ (1, b) ∷ (2, c) ∷ [] }
 {}
