@@ -1,8 +1,15 @@
 -- What slots in a row hold.
-use Rattle.std.proofs.Common.{◌≡◌, ◌≢◌, ℕ, ◌+◌, ◌-◌, ◌<◌, ◌≤◌, Bool, true, false, cond, nat_le, nat_lt, List, [], ◌∷◌, ◌++◌, length, take, drop, replicate, Option, Some, None, refl, sym, ap, ◌∙◌, arith, rules, suc, zero, append_assoc, add-zero}
+use Rattle.std.proofs.Common.{◌≡◌, ◌≢◌, ℕ, ◌+◌, ◌-◌, ◌<◌, ◌≤◌, Bool, true, false, cond, nat_le, nat_lt, List, [], ◌∷◌, ◌++◌, length, take, drop, replicate, Option, Some, None, refl, sym, ap, ◌∙◌, arith, rules, suc, zero, append_assoc, add-zero, map, max, ◌==◌}
 use Rattle.std.proofs.lemmas.Grind.{common_steps}
 use Rattle.std.proofs.lemmas.Bool.Decides.{nat_tests}
-use Rattle.std.specs.Prelude.{find, slice_get, unwrap_or, IsSome}
+use Rattle.std.specs.Prelude.{find, slice_get, slice_set, unwrap_or, IsSome, is_some}
+use Rattle.std.specs.List.{AllByRecursion}
+use Rattle.std.specs.Ordering.{nat_cmp}
+use Rattle.std.specs.BTreeMap.{insert_entry, is_at}
+use Rattle.std.specs.Map.{lookup}
+use Rattle.tables.specs.Tables.{put, find as found}
+use Rattle.pdcp_defs.specs.Senders.{last_of}
+use Rattle.pdcp_defs.specs.Receivers.{bits_from}
 use Rattle.circular_buffer.specs.Buffer.{Buffer, buffer, keep_last}
 use Rattle.pdcp_entities.specs.inside.Rings.{with_slot, held_from, padded, is_empty_slot, IsFirstFull, IsLastFull}
 

@@ -1,1 +1,3 @@
+pub mod Freeing
 pub mod Rings
+pub mod Views

@@ -2,4 +2,15 @@
 //! stored until it is delivered in order. Packets are parked in a pool.
 #![tactic(auto)]
 
+mod bits;
+mod counts;
+mod freeing;
 mod ring;
+pub mod rx;
+pub mod tx;
+
+#[cfg(test)]
+mod tests;
+
+pub use rx::{Ahead, Rx, Taken};
+pub use tx::{NumberError, OutsideWindow, Tx};

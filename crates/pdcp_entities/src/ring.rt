@@ -1,10 +1,15 @@
 //! COUNTs in a row, each with the place of a parked packet, if one is held.
 
-ghost use Rattle.std.specs.Prelude.{◌≡◌, ℕ, ◌+◌, ◌-◌, ◌^◌, ◌<◌, ◌≤◌, ◌==◌, nat_le, List, [], ◌∷◌, ◌++◌, length, find, map, drop, slice_get, slice_set, unwrap_or, IfOk, IfSome, is_some};
+ghost use Rattle.std.specs.Prelude.{◌≡◌, ℕ, ◌+◌, ◌-◌, ◌^◌, ◌<◌, ◌≤◌, ◌==◌, nat_le, List, [], ◌∷◌, ◌++◌, length, find, map, drop, slice_get, slice_set, unwrap_or, max, IfOk, IfSome, is_some, Some, None, if◌then◌else◌, IsTrue, ◌↔◌};
+ghost use Rattle.pdcp_defs.specs.Senders.{is_above, last_of};
+ghost use Rattle.std.specs.Ordering.{nat_cmp};
+ghost use Rattle.tables.specs.Tables.{put};
 ghost use Rattle.circular_buffer.specs.Buffer.{buffer, last_item};
-ghost use Rattle.pdcp_entities.specs.inside.Rings.{held_from, padded, is_empty_slot, IsFirstFull, IsLastFull};
+ghost use Rattle.pdcp_entities.specs.inside.Rings.{held, held_from, padded, is_empty_slot, IsFirstFull, IsLastFull};
 
 use circular_buffer::HeapCircularBuffer;
+use gnb_types::bits::Bits;
+use gnb_types::items::Memory;
 use std::alloc::{AllocError, Global};
 
 /// Slots for COUNTs in a row, the first for `first`. A slot holds the place of a parked packet, or nothing.
@@ -21,6 +26,21 @@ impl Ring {
     {
         let slots = HeapCircularBuffer::with_capacity(alloc, usize::from(capacity))?;
         Ok(Ring { first, slots })
+    }
+
+    pub(crate) fn len(&self) -> usize
+        ensures len { result ≡ length self.now.slots.items }
+        ensures within { result ≤ self.now.slots.capacity }
+    {
+        self.slots.len()
+    }
+
+    /// Whether there is a slot, and the first is for a COUNT not above this one.
+    pub(crate) fn begins_by(&self, count: u32) -> bool
+        ensures { IsTrue result
+            ↔ ((0 < length self.now.slots.items) × (self.now.first ≤ count)) }
+    {
+        !self.slots.is_empty() && self.first <= count
     }
 
     /// Adds empty slots until there are `len`.
@@ -46,6 +66,36 @@ impl Ring {
         self.slots.push_back(Some(place));
     }
 
+    /// Holds a place for a COUNT after all that are held. Where none is, the slots begin with this COUNT.
+    pub(crate) fn append(&mut self, count: u32, place: u32)
+        requires after { 0 < length self.old.slots.items
+            → self.old.first + length self.old.slots.items ≤ count }
+        requires room { 0 < length self.old.slots.items
+            → count < self.old.first + self.old.slots.capacity }
+        requires capacity { 0 < self.old.slots.capacity }
+        ensures held { held self.new ≡ held self.old ++ (count, place) ∷ [] }
+        ensures first_full { IsFirstFull self.old.slots.items → IsFirstFull self.new.slots.items }
+        ensures last_full { IsLastFull self.new.slots.items }
+        ensures end { self.new.first + length self.new.slots.items ≡ count + 1 }
+        ensures first { self.new.first
+            ≡ (if length self.old.slots.items == 0 then count else self.old.first) }
+        ensures capacity { self.new.slots.capacity ≡ self.old.slots.capacity }
+    {
+        if self.slots.is_empty() {
+            self.first = count;
+        }
+        self.push(count, place);
+    }
+
+    /// Whether this COUNT is above all that are held.
+    pub(crate) fn ends_before(&self, count: u32) -> bool
+        requires in_range { self.now.first + length self.now.slots.items < 2 ^ 32 }
+        requires last { IsLastFull self.now.slots.items }
+        ensures { result ≡ is_above count (last_of None (held self.now)) }
+    {
+        self.slots.is_empty() || self.first + self.slots.len() as u32 <= count
+    }
+
     /// Holds a place for a COUNT whose slot is empty.
     pub(crate) fn fill(&mut self, count: u32, place: u32)
         requires from { self.old.first ≤ count }
@@ -56,6 +106,41 @@ impl Ring {
     {
         if let Some(slot) = self.slots.get_mut((count - self.first) as usize) {
             *slot = Some(place);
+        }
+    }
+
+    /// Holds a place for a COUNT that has none.
+    pub(crate) fn place(&mut self, count: u32, place: u32)
+        requires from { self.old.first ≤ count }
+        requires room { count < self.old.first + self.old.slots.capacity }
+        requires empty { unwrap_or (slice_get self.old.slots.items (count - self.old.first)) None ≡ None }
+        requires last { IsLastFull self.old.slots.items }
+        ensures held { held self.new ≡ put nat_cmp (held self.old) count place }
+        ensures more { length (held self.new) ≡ length (held self.old) + 1 }
+        ensures last_full { IsLastFull self.new.slots.items }
+        ensures first { self.new.first ≡ self.old.first }
+        ensures end { self.new.first + length self.new.slots.items
+            ≡ max (self.old.first + length self.old.slots.items) (count + 1) }
+        ensures capacity { self.new.slots.capacity ≡ self.old.slots.capacity }
+    {
+        if ((count - self.first) as usize) < self.slots.len() {
+            self.fill(count, place);
+        } else {
+            self.push(count, place);
+        }
+    }
+
+    /// Empties the slot at an index, and gives what it held.
+    pub(crate) fn empty(&mut self, i: usize) -> Option<u32>
+        requires { i < length self.old.slots.items }
+        ensures value { result ≡ unwrap_or (slice_get self.old.slots.items i) None }
+        ensures first { self.new.first ≡ self.old.first }
+        ensures slots { self.new.slots
+            ≡ buffer (slice_set self.old.slots.items i None) self.old.slots.capacity }
+    {
+        match self.slots.get_mut(i) {
+            Some(slot) => slot.take(),
+            None => None,
         }
     }
 
@@ -125,6 +210,17 @@ impl Ring {
         ensures { result ≡ unwrap_or (slice_get self.now.slots.items (count - self.now.first)) None }
     {
         self.slot((count - self.first) as usize)
+    }
+
+    /// Whether each slot after the first holds a place.
+    pub(crate) fn bits_after_first(&self, alloc: Global) -> Result<Bits, Memory>
+        ensures { IfOk result (λ bits. bits ≡ map is_some (drop 1 self.now.slots.items)) }
+    {
+        let mut bits = Bits::new(alloc);
+        for i in 1..self.slots.len() {
+            bits.push(self.slot(i).is_some())?;
+        }
+        Ok(bits)
     }
 
     /// The least COUNT not below `from` for which a place is held, and that place.

@@ -1,6 +1,8 @@
 -- Internal: COUNTs in a row as slots, each of which holds the place of a packet or nothing.
 use Rattle.std.specs.Prelude.{◌≡◌, ℕ, ◌+◌, ◌-◌, ◌<◌, ◌≤◌, List, [], ◌∷◌, ◌++◌, length, replicate, Option, Some, None, IsSome, Bool, true, false}
 
+use Rattle.pdcp_entities.specs.declared.ring.Ring.{Ring}
+
 module _ {X : Type 0} where
   -- a slot with something in it, before others
   abbrev pub with_slot : ℕ → Option X → List (ℕ × X) → List (ℕ × X)
@@ -32,3 +34,7 @@ module _ {X : Type 0} where
   is_empty_slot None = false
   is_empty_slot (Some None) = true
   is_empty_slot (Some (Some x)) = false
+
+-- what a ring holds
+abbrev pub held : Ring → List (ℕ × ℕ)
+held r = held_from r.first r.slots.items
