@@ -185,10 +185,6 @@ passing_next t c i xs h fails none =
     ∙ (filter-append (λ e. t e.0) (held_from c (take i xs)) (with_slot (c + i) s [])
     ∙ (ap (λ es. es ++ passing t (with_slot (c + i) s [])) none ∙ failing_slot t (c + i) s [] fails))
 
-pub unnamed : (b : Bool) → not b ≡ true → b ≡ false
-unnamed true e = cc
-unnamed false e = refl
-
 pub kept_is : (b : Bool) → b ≡ false → not b ≡ true
 kept_is true e = cc
 kept_is false e = refl
@@ -196,7 +192,3 @@ kept_is false e = refl
 -- none passes before the end
 pub all_taken : (t : ℕ → Bool) (c i : ℕ) (xs : List (Option ℕ)) → length xs ≤ i → passing t (held_from c (take i xs)) ≡ [] → passing t (held_from c xs) ≡ []
 all_taken t c i xs h none = ap (λ ys. passing t (held_from c ys)) (sym (take_all i xs h)) ∙ none
-
-pub named_is : (b : Bool) → not b ≡ false → b ≡ true
-named_is true e = refl
-named_is false e = cc

@@ -1,7 +1,7 @@
 //! The sending entity: the next COUNT, and the packets that nothing confirmed (TS 38.323, 5.2.1, 5.4.2).
 
 ghost use Rattle.std.specs.Prelude.{◌≡◌, ℕ, ◌+◌, ◌≤◌, ◌↔◌, true, false, nat_le, length, find, Some, None, IsSome, IsOk, IsTrue, IfOk, IfErr, OnOk};
-ghost use Rattle.pdcp_defs.specs.Senders.{has_room, window, numbered, may_restore, restored, emptied};
+ghost use Rattle.pdcp_defs.specs.Senders.{first, has_room, window, numbered, may_restore, restored, emptied};
 ghost use Rattle.pdcp_defs.specs.Counts.{count_below};
 ghost use Rattle.pool_defs.specs.Pools.{packet_of};
 ghost use Rattle.pdcp_entities.specs.Packets.{AreParked, OthersStay, Parks, Frees, bytes_of};
@@ -195,16 +195,26 @@ impl Tx {
         (half_space(self.sn) - 1).min(u32::from(self.quota))
     }
 
+    /// The least COUNT that nothing confirmed, or the next one.
+    fn first(&self) -> u32
+        ensures first { result ≡ first self.now.sender }
+        ensures within { result ≤ self.now.sender.next }
+    {
+        if self.unconfirmed.len() == 0 {
+            self.next
+        } else {
+            self.unconfirmed.first
+        }
+    }
+
+    #[tactic(auto, unfolding(pdcp_defs::specs::Senders::has_room))]
     fn has_room(&self) -> bool
         ensures { result ≡ has_room self.now.sn self.now.quota self.now.sender }
     {
-        let under_way = match self.unconfirmed.len() {
-            0 => 0,
-            _ => self.next - self.unconfirmed.first,
-        };
-        under_way < self.window()
+        self.next - self.first() < self.window()
     }
 
+    #[tactic(auto, unfolding(pdcp_defs::specs::Senders::may_restore))]
     fn may_restore(&self, count: u32) -> bool
         ensures { result ≡ may_restore self.now.sn self.now.quota self.now.sender count }
     {

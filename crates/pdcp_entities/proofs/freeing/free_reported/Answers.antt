@@ -11,7 +11,7 @@ use Rattle.pdcp_entities.specs.inside.Freeing.{AreLeft, freed_if}
 use Rattle.pdcp_entities.specs.inside.Rings.{held, held_from, with_slot}
 use Rattle.pdcp_entities.proofs.FreeLemmas.{begins, ends}
 use Rattle.pdcp_entities.proofs.SlotLemmas.{held_from-length}
-use Rattle.pdcp_entities.proofs.TurnLemmas.{passing, turn_left, turn_parked, turn_count, turn_kept, turn_named, turn_there, all_kept, passing_short, held_from-split, held_from-emptied, held_from-before, held_from-next, passing_next, unnamed, all_taken, kept_is, named_is}
+use Rattle.pdcp_entities.proofs.TurnLemmas.{passing, turn_left, turn_parked, turn_count, turn_kept, turn_named, turn_there, all_kept, passing_short, held_from-split, held_from-emptied, held_from-before, held_from-next, passing_next, all_taken, kept_is}
 use Rattle.pdcp_entities.proofs.freeing.free_reported.Goals as goal
 
 pub loop-i-init : goal.loop-i-init
@@ -38,7 +38,7 @@ loop-i-preserved-then-not-is_reported c =
     let t : ℕ → Bool = λ k. is_reported c.args.fmc (bits_of c.args.bits.now) k in
     let inside : c.loop-i.i < length ring.slots.items = omega arith in
     record {
-      none = passing_next t ring.first c.loop-i.i ring.slots.items inside (sym c.is_reported.ensures ∙ unnamed c.is_reported.result c.if-not-is_reported.true) inv.none;
+      none = passing_next t ring.first c.loop-i.i ring.slots.items inside (sym c.is_reported.ensures ∙ c.if-not-is_reported.true) inv.none;
       kept = inv.kept;
       left = inv.left;
       number = inv.number;
@@ -76,7 +76,7 @@ overflow_add-freed c =
     let inside : i < length ring.slots.items = omega arith in
     let split : held ring ≡ xs ++ with_slot (ring.first + i) s ys =
         held_from-split ring.first i ring.slots.items inside ∙ ap (λ o. xs ++ with_slot (ring.first + i) o ys) (sym c.empty.ensures.value) in
-    let is : t (ring.first + i) ≡ true = sym c.is_reported.ensures ∙ named_is c.is_reported.result c.if-not-is_reported.false in
+    let is : t (ring.first + i) ≡ true = sym c.is_reported.ensures ∙ c.if-not-is_reported.false in
     let number = turn_count t (ring.first + i) s xs ys is inv.none in
     let size = ap (λ es. length (passing t es)) split in
     omega (arith, number, size, inv.number, inv.few, c.free_if-freed.ensures.count)
@@ -100,7 +100,7 @@ loop-i-preserved c =
     let after : held new ≡ xs ++ ys =
         ap (λ n. held_from n new.slots.items) c.empty.ensures.first
         ∙ (ap (λ b. held_from ring.first b.items) c.empty.ensures.slots ∙ held_from-emptied ring.first i ring.slots.items inside) in
-    let is : t k ≡ true = sym c.is_reported.ensures ∙ named_is c.is_reported.result c.if-not-is_reported.false in
+    let is : t k ≡ true = sym c.is_reported.ensures ∙ c.if-not-is_reported.false in
     let parked = subst (λ (es : List (ℕ × ℕ)). AreParked pool es) split inv.parked in
     let left = turn_left t k s xs ys BLOCK pool c.args.pool.now all c.free_if-freed.ensures.sound is inv.none parked
         (subst (λ (es : List (ℕ × ℕ)). AreLeft all (passing t es) c.args.pool.now pool) split inv.left) in
