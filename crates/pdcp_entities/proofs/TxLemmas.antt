@@ -1,5 +1,5 @@
 -- The sender over its slots.
-use Rattle.std.proofs.Common.{◌≡◌, ℕ, ◌+◌, ◌-◌, ◌<◌, ◌≤◌, Bool, true, false, ◌&&◌, nat_lt, nat_le, List, [], ◌∷◌, ◌++◌, length, Option, Some, None, refl, sym, ap, ◌∙◌, arith, min, ◌≢◌, ◌==◌, cond, inl, inr, ◌⊎◌, eqb-true}
+use Rattle.std.proofs.Common.{◌≡◌, ℕ, ◌+◌, ◌-◌, ◌<◌, ◌≤◌, Bool, true, false, not, ◌&&◌, nat_lt, nat_le, List, [], ◌∷◌, ◌++◌, length, Option, Some, None, refl, sym, ap, ◌∙◌, arith, min, ◌≢◌, ◌==◌, cond, inl, inr, ◌⊎◌, eqb-true}
 use Rattle.std.proofs.lemmas.Bool.Decides.{nat_tests}
 use Rattle.std.proofs.lemmas.Bool.{eqb-false}
 use borrow.Author.Tests.{ltb-true, leb-true}
@@ -82,3 +82,11 @@ restored_at sn quota next c count xs full may =
         let l : c + length xs - 1 < count = ltb-true (c + length xs - 1) count (ap (is_above count) (sym e) ∙ last) in
         omega arith,
     )
+
+pub not_both : (b : Bool) → b ≡ true → not b ≡ true → ⊥
+not_both true e f = cc
+not_both false e f = cc
+
+pub both_not : (b : Bool) → not b ≡ true → b ≡ true → ⊥
+both_not true e f = cc
+both_not false e f = cc

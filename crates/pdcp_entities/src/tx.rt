@@ -186,6 +186,7 @@ impl Tx {
         ensures freed { Frees self.old.sender.unconfirmed pool.old pool.new }
     {
         free_to(&mut self.unconfirmed, pool, u32::MAX);
+        self.unconfirmed.trim_front();
     }
 
     /// How many COUNTs may be under way.
