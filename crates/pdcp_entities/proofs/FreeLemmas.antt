@@ -11,7 +11,7 @@ use Rattle.pdcp_entities.specs.Packets.{AreParked, HasNone, OthersStay, Frees, f
 use Rattle.pdcp_entities.specs.inside.Freeing.{freed_if, AreLeft}
 
 -- one case or the other
-same_or_other : {P : Type 0} (a b : ℕ) → (a ≡ b → P) → ((a ≡ b → ⊥) → P) → P
+pub same_or_other : {P : Type 0} (a b : ℕ) → (a ≡ b → P) → ((a ≡ b → ⊥) → P) → P
 same_or_other {P} a b same other = by (a == b) refl
   where
     by : (t : Bool) → (a == b) ≡ t → P

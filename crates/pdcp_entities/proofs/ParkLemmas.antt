@@ -1,17 +1,19 @@
 -- The packets of an entity in the pool, over what its calls do.
 use Rattle.std.proofs.Common.{◌≡◌, ◌≢◌, ℕ, ◌+◌, Bool, true, false, cond, not, List, [], ◌∷◌, ◌++◌, filter, Option, Some, None, refl, sym, ap, ◌∙◌, subst}
 use Rattle.std.specs.Prelude.{IsSome, is_some}
-use Rattle.std.specs.Ordering.{nat_cmp, match_ordering}
+use Rattle.std.specs.Ordering.{nat_cmp, match_ordering, is_eq}
+use Rattle.std.specs.Cmp.{tied_itself}
 use Rattle.std.specs.declared.cmp.Ordering.{Ordering}
 use Rattle.std.specs.declared.cmp.Ordering.TheVariants.{Less, Equal, Greater}
 use Rattle.std.specs.List.{AllByRecursion}
 use Rattle.std.specs.BTreeMap.{insert_entry}
+use Rattle.gnb_types.proofs.OrderLemmas.{entity_total}
 use Rattle.tables.specs.Tables.{find, put, map_values}
 use Rattle.tables.proofs.TableLaws.{put-mapped}
-use Rattle.pool_defs.specs.Pools.{Stored, PoolState, packet_of, packet_at, packet_by, with_packet, without_packet, with_place, without_place, AreApart, IsPool}
-use Rattle.pool_defs.proofs.PoolLaws.{packet_of_park_other, packet_at_park, packet_at_park_other}
-use Rattle.pdcp_entities.specs.Packets.{AreParked, HasNone, OthersStay, Parks, Frees, bytes_of, octets_at, octets_in}
-use Rattle.pdcp_entities.proofs.FreeLemmas.{all_append, all_both}
+use Rattle.pool_defs.specs.Pools.{Stored, PoolState, is_parked, used, packet_of, packet_at, packet_by, with_packet, without_packet, with_place, without_place, AreApart, IsPool}
+use Rattle.pool_defs.proofs.PoolLaws.{used_put, packet_of_put, packet_of_put_other, packet_at_put, packet_of_park, packet_of_park_other, packet_at_park, packet_at_park_other, packet_of_unpark, packet_of_unpark_other, packet_at_unpark, packet_at_unpark_other}
+use Rattle.pdcp_entities.specs.Packets.{AreParked, HasNone, OthersStay, Parks, Puts, Unparks, Frees, bytes_of, octets_at, octets_in}
+use Rattle.pdcp_entities.proofs.FreeLemmas.{same_or_other, all_append, all_both}
 use Rattle.pdcp_entities.proofs.TurnLemmas.{passing}
 
 -- ---- a reference is parked
@@ -155,3 +157,115 @@ module _ (named kept : ℕ → Bool) (opposite : (k : ℕ) → named k ≡ true 
   pub frees_octets : (p q : PoolState) (es : List (ℕ × ℕ)) → AreApart es → Frees (passing named es) p q
       → octets_in q (passing kept es) ≡ filter (λ e. kept e.0) (octets_in p es)
   frees_octets p q es apart frees = octets_same p q (passing kept es) (frees_same p q es apart frees) ∙ sym (passing_octets kept p es)
+
+-- ---- an entry is put into its place
+
+module _ (k s : ℕ) where
+  all_insert : (Q : ℕ × ℕ → Type 0) (es : List (ℕ × ℕ)) → ((j : ℕ) (x : ℕ) → Q (j, x) → (i : ℕ) → Q (i, x)) → AllByRecursion Q es → Q (k, s)
+      → AllByRecursion Q (put nat_cmp es k s)
+  unfolding put
+  all_insert Q [] moved all here = (here, tt)
+  all_insert Q (e ∷ es) moved all here = by (nat_cmp k e.0) (all_insert Q es moved all.1 here)
+    where
+      by : (o : Ordering) → AllByRecursion Q (insert_entry nat_cmp es k s)
+          → AllByRecursion Q (match_ordering o ((k, s) ∷ e ∷ es) ((e.0, s) ∷ es) (e ∷ insert_entry nat_cmp es k s))
+      by Less rest = (here, all)
+      by Equal rest = (moved k s here e.0, all.1)
+      by Greater rest = (all.0, rest)
+
+  apart_insert : (es : List (ℕ × ℕ)) → HasNone es s → AreApart es → AreApart (put nat_cmp es k s)
+  unfolding put
+  apart_insert [] none apart = (tt, tt)
+  apart_insert (e ∷ es) none apart =
+      by (nat_cmp k e.0) (apart_insert es none.1 apart.1)
+      (all_insert (λ x. x.1 ≡ e.1 → ⊥) es (λ j x h i. h) apart.0 (λ same. none.0 (sym same)))
+    where
+      by : (o : Ordering) → AreApart (insert_entry nat_cmp es k s) → AllByRecursion (λ x. x.1 ≡ e.1 → ⊥) (insert_entry nat_cmp es k s)
+          → AreApart (match_ordering o ((k, s) ∷ e ∷ es) ((e.0, s) ∷ es) (e ∷ insert_entry nat_cmp es k s))
+      by Less rest all = (none, apart)
+      by Equal rest all = (none.1, apart.1)
+      by Greater rest all = (all, rest)
+
+-- ---- a packet is put and parked
+
+absent : (p : PoolState) (n : ℕ) → find nat_cmp p.refs n ≡ None → packet_of p n ≡ None
+unfolding packet_of
+absent p n none = by (is_parked p n)
+  where
+    by : (b : Bool) → cond b None (find nat_cmp p.refs n) ≡ None
+    by true = refl
+    by false = none
+
+pub puts : (limit : ℕ) (p : PoolState) → IsPool limit p → (r : ℕ) (x : Stored) (e : ℕ × ℕ) → find nat_cmp p.refs r ≡ None → find nat_cmp p.parked e.1 ≡ None
+    → Puts x e p (with_place (with_packet p r x) e.1 r)
+puts limit p sound r x e unused fresh =
+    record {
+      reference = r;
+      unused = unused;
+      free = free_place p e.1 fresh;
+      pool = refl;
+      packet = packet_at_park (with_packet p r x) e.1 r x (packet_of_put limit p sound r x unused);
+      others = record {
+        references = λ n other.
+          same_or_other n r
+          (λ same.
+            subst (λ (m : ℕ). packet_of (with_place (with_packet p r x) e.1 r) m ≡ packet_of p m) (sym same)
+            (packet_of_park (with_packet p r x) e.1 r fresh ∙ sym (absent p r unused)))
+          (λ away. packet_of_park_other (with_packet p r x) e.1 r n away fresh ∙ packet_of_put_other limit p sound r x n away);
+        places = λ q none.
+          packet_at_park_other (with_packet p r x) e.1 r q (λ same. none.0 (sym same)) ∙ packet_at_put limit p sound r x q unused;
+        quotas = refl;
+      };
+    }
+module _ (x : Stored) (e : ℕ × ℕ) (p q : PoolState) (es : List (ℕ × ℕ)) (puts : Puts x e p q) (parked : AreParked p es) where
+  none_put : HasNone es e.1
+  none_put = all_elsewhere p e.1 puts.free es parked.there
+
+  pub puts_parked : AreParked q (put nat_cmp es e.0 e.1)
+  puts_parked =
+      record {
+        there =
+          all_insert e.0 e.1 (λ y. IsSome (packet_at q y.1)) es (λ j y h i. h)
+          (same_there p q es (others_same None e p q puts.others es none_put) parked.there)
+          (subst (λ (o : Option Stored). IsSome o) (sym puts.packet) refl);
+        apart = apart_insert e.0 e.1 es none_put parked.apart;
+      }
+
+  pub puts_octets : octets_in q (put nat_cmp es e.0 e.1) ≡ put nat_cmp (octets_in p es) e.0 x.bytes
+  unfolding octets_in
+  puts_octets =
+      sym (put-mapped nat_cmp (octets_at q) es e.0 e.1)
+      ∙ (ap (λ o. put nat_cmp (map_values (octets_at q) es) e.0 (bytes_of o)) puts.packet
+      ∙ ap (λ m. put nat_cmp m e.0 x.bytes) (octets_same p q es (others_same None e p q puts.others es none_put)))
+
+pub puts_used : (limit : ℕ) (p : PoolState) → IsPool limit p → (r : ℕ) (x : Stored) (place : ℕ) → find nat_cmp p.refs r ≡ None
+    → used (with_place (with_packet p r x) place r) x.key ≡ used p x.key + 1
+unfolding used
+puts_used limit p sound r x place unused =
+    used_put limit p sound r x x.key unused ∙ ap (λ (b : Bool). used p x.key + cond b 1 0) (ap is_eq (tied_itself entity_total x.key))
+
+-- ---- a reference is taken out
+
+pub unparks : (limit : ℕ) (p : PoolState) → IsPool limit p → (r : ℕ) (e : ℕ × ℕ) → find nat_cmp p.parked e.1 ≡ Some r → Unparks r e p (without_place p e.1)
+unparks limit p sound r e there =
+    record {
+      pool = refl;
+      packet = packet_of_unpark p e.1 limit sound r there;
+      gone = packet_at_unpark p e.1;
+      others = record {
+        references = λ n other. packet_of_unpark_other p e.1 limit sound r n (λ same. other (ap (λ k. Some k) (sym same))) there;
+        places = λ q none. packet_at_unpark_other p e.1 q (λ same. none.0 (sym same));
+        quotas = refl;
+      };
+    }
+
+module _ (r : ℕ) (e : ℕ × ℕ) (p q : PoolState) (es : List (ℕ × ℕ)) (unparks : Unparks r e p q) (parked : AreParked p (e ∷ es)) where
+  unparks_same : AllSame p q es
+  unparks_same = others_same (Some r) e p q unparks.others es parked.apart.0
+
+  pub unparks_parked : AreParked q es
+  unparks_parked = record { there = same_there p q es unparks_same parked.there.1; apart = parked.apart.1 }
+
+  pub unparks_octets : octets_in p (e ∷ es) ≡ (e.0, bytes_of (packet_of q r)) ∷ octets_in q es
+  unfolding octets_in map_values
+  unparks_octets = ap (λ o. (e.0, bytes_of o) ∷ octets_in p es) (sym unparks.packet) ∙ ap (λ m. (e.0, bytes_of (packet_of q r)) ∷ m) (sym (octets_same p q es unparks_same))

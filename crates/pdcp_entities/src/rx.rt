@@ -2,6 +2,7 @@
 
 ghost use Rattle.std.specs.Prelude.{◌≡◌, ℕ, ◌+◌, ◌≤◌, true, false, nat_le, length, find, Ok, Some, None, IfOk, IfSome, IfNone, IfErr};
 ghost use Rattle.pdcp_defs.specs.Receivers.{stored, deliver, with_packet, received_bits, is_duplicate, is_ahead};
+ghost use Rattle.pdcp.specs.Near.{last_count};
 ghost use Rattle.packet_pool.specs.declared.region.TheConstants.{BLOCK};
 ghost use Rattle.pool_defs.specs.Pools.{used, quota, packet_of};
 ghost use Rattle.pdcp_entities.specs.Packets.{AreParked, OthersStay, Puts, Unparks, Frees, bytes_of};
@@ -95,16 +96,34 @@ impl Rx {
         if self.is_ahead(count) {
             return Err(Ahead);
         }
+        self.store(pool, key, count, packet);
+        Ok(Taken {
+            count: Some(count),
+            stored: true,
+        })
+    }
+
+    /// Stores a packet under a COUNT that is no duplicate, and not ahead.
+    fn store(&mut self, pool: &mut Pool, key: Key, count: u32, packet: &[u8])
+        requires sized { length packet.now ≤ BLOCK }
+        requires parked { AreParked pool.old self.old.receiver.stored }
+        requires quota { self.old.quota ≤ quota pool.old key }
+        requires used { used pool.old key ≡ length self.old.receiver.stored }
+        requires new { is_duplicate self.old.receiver count ≡ false }
+        requires room { is_ahead self.old.quota self.old.receiver count ≡ false }
+        requires given { count ≤ last_count }
+        ensures stored { (place : ℕ) × (self.new ≡ record self.old { receiver = stored self.old.receiver count place }) × Puts (record { key = key; bytes = packet.now }) (count, place) pool.old pool.new }
+        ensures octets { receiver_in pool.new self.new ≡ stored (receiver_in pool.old self.old) count packet.now }
+        ensures parked { AreParked pool.new self.new.receiver.stored }
+        ensures used { used pool.new key ≡ length self.new.receiver.stored }
+    {
+        let stored = &mut self.stored;
         let place = match pool.put(key, packet) {
             Ok(r) => pool.park(r),
             // The key's quota is not used up, since a COUNT within the entity's quota isn't stored.
             Err(_) => unreachable!(),
         };
-        self.stored.place(count, place);
-        Ok(Taken {
-            count: Some(count),
-            stored: true,
-        })
+        stored.place(count, place);
     }
 
     /// Hands up the awaited packet, and awaits the next one. None where it isn't stored, or the entity is frozen.
@@ -115,11 +134,13 @@ impl Rx {
         ensures none { IfNone result ((handed_up self.old ≡ None) × (self.new ≡ self.old) × (pool.new ≡ pool.old)) }
         ensures parked { AreParked pool.new self.new.receiver.stored }
     {
-        if self.frozen || self.stored.len() == 0 {
+        if self.frozen {
             return None;
         }
         let count = self.stored.first;
-        let place = self.stored.at(count)?;
+        let Some(place) = self.stored.at(count) else {
+            return None;
+        };
         self.stored.pop();
         Some((count, pool.unpark(place)))
     }
@@ -176,7 +197,8 @@ impl Rx {
         count < self.stored.first || self.stored.at(count).is_some()
     }
 
-    /// The COUNT is not below RX_DELIV.
+    /// Whether a COUNT that is not below RX_DELIV has no room.
+    #[tactic(auto, unfolding(pdcp_defs::specs::Receivers::is_ahead))]
     fn is_ahead(&self, count: u32) -> bool
         requires { self.now.receiver.deliv ≤ count }
         ensures { result ≡ is_ahead self.now.quota self.now.receiver count }

@@ -24,5 +24,6 @@ pub record IsTx (sn : SnBits) (quota next : ℕ) (ring : Ring) : Type 0 where
 pub record IsRx (quota : ℕ) (ring : Ring) : Type 0 where
   pub bounds : (4 ≤ quota) × (quota ≤ 4096)
   pub capacity : ring.slots.capacity ≡ quota
+  pub short : length ring.slots.items ≤ quota
   pub last_full : IsLastFull ring.slots.items
   pub in_range : ring.first + length ring.slots.items < 2 ^ 32
