@@ -1,5 +1,5 @@
 -- The receiver over its slots.
-use Rattle.std.proofs.Common.{◌≡◌, ℕ, ◌+◌, ◌-◌, ◌<◌, ◌≤◌, Bool, true, false, cond, ◌||◌, ◌==◌, nat_lt, nat_le, List, [], ◌∷◌, ◌++◌, length, drop, Option, Some, None, refl, sym, ap, ◌∙◌, arith, true≢false}
+use Rattle.std.proofs.Common.{◌≡◌, ℕ, ◌+◌, ◌-◌, ◌<◌, ◌≤◌, Bool, true, false, cond, ◌||◌, ◌==◌, nat_lt, nat_le, List, [], ◌∷◌, ◌++◌, length, drop, Option, Some, None, refl, sym, ap, ◌∙◌, arith, true≢false, Ok, Err}
 use Rattle.std.specs.Prelude.{slice_get, unwrap_or, is_some}
 use Rattle.std.proofs.lemmas.Bool.Decides.{nat_tests}
 use Rattle.std.specs.List.{AllByRecursion}
@@ -7,7 +7,7 @@ use borrow.Author.Tests.{ltb-true}
 use Rattle.std.specs.Ordering.{nat_cmp}
 use Rattle.tables.specs.Tables.{find}
 use Rattle.pdcp_defs.specs.Receivers.{Receiver, Delivery, is_duplicate, is_ahead, deliver, deliver_from, with_packet}
-use Rattle.pdcp_entities.specs.Entities.{first_at}
+use Rattle.pdcp_entities.specs.Entities.{RxState, first_at, taking}
 use Rattle.pdcp_entities.specs.inside.Rings.{held_from}
 use Rattle.pdcp_entities.proofs.SlotLemmas.{found_in, held_from-low, fewer, held_from-length}
 use Rattle.pdcp_entities.proofs.NearLemmas.{near_agrees}
@@ -116,3 +116,37 @@ module _ {X : Type 0} where
   unfolding deliver
   delivers c x es =
       ap (λ b. cond b (with_packet (c, x) (deliver_from (c + 1) es)) (record { packets = []; after = record { deliv = c; stored = (c, x) ∷ es } })) (same_number c)
+
+-- ---- what becomes of a packet
+
+pub taking_duplicate : (rx : RxState) (o : Option ℕ) (count : ℕ) → o ≡ Some count → is_duplicate rx.receiver count ≡ true
+    → Ok (record { count = Some count; stored = false }) ≡ taking rx o
+taking_duplicate rx o count is dup =
+    sym
+    (ap (taking rx) is
+    ∙ ap
+    (λ b. cond b (Ok (record { count = Some count; stored = false }))
+    (cond (is_ahead rx.quota rx.receiver count) (Err (record { })) (Ok (record { count = Some count; stored = true }))))
+    dup)
+
+pub taking_ahead : (rx : RxState) (o : Option ℕ) (count : ℕ) → o ≡ Some count → is_duplicate rx.receiver count ≡ false
+    → is_ahead rx.quota rx.receiver count ≡ true → Err (record { }) ≡ taking rx o
+taking_ahead rx o count is new ahead =
+    sym
+    (ap (taking rx) is
+    ∙ (ap
+    (λ b. cond b (Ok (record { count = Some count; stored = false }))
+    (cond (is_ahead rx.quota rx.receiver count) (Err (record { })) (Ok (record { count = Some count; stored = true }))))
+    new
+    ∙ ap (λ b. cond b (Err (record { })) (Ok (record { count = Some count; stored = true }))) ahead))
+
+pub taking_new : (rx : RxState) (o : Option ℕ) (count : ℕ) → o ≡ Some count → is_duplicate rx.receiver count ≡ false
+    → is_ahead rx.quota rx.receiver count ≡ false → Ok (record { count = Some count; stored = true }) ≡ taking rx o
+taking_new rx o count is new room =
+    sym
+    (ap (taking rx) is
+    ∙ (ap
+    (λ b. cond b (Ok (record { count = Some count; stored = false }))
+    (cond (is_ahead rx.quota rx.receiver count) (Err (record { })) (Ok (record { count = Some count; stored = true }))))
+    new
+    ∙ ap (λ b. cond b (Err (record { })) (Ok (record { count = Some count; stored = true }))) room))

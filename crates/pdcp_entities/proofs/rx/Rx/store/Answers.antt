@@ -106,3 +106,18 @@ returns-clause-used c =
     let size = ap (λ (v : RxState). length v.receiver.stored) c.self.view_is in
     let now = ap (λ (s : PoolState). used s c.args.key) pool in
     now ∙ (more ∙ (ap (λ n. n + 1) (c.requires.used ∙ sym size) ∙ sym c.place.ensures.more))
+
+pub invariant_of-self : goal.invariant_of-self
+invariant_of-self c =
+    let t = c.self.inside in
+    let ring = t.stored in
+    let inv = c.self.invariant in
+    let room = has_place t.quota c.args.count (receiver ring.first (held ring)) (ap (λ (v : RxState). is_ahead v.quota v.receiver c.args.count) c.self.view_is ∙ c.requires.room) in
+    let facts = c.place.ensures in
+    record {
+      bounds = inv.bounds;
+      capacity = facts.capacity ∙ inv.capacity;
+      short = omega (arith, facts.end, facts.first, room, inv.short);
+      last_full = facts.last_full;
+      in_range = omega (arith, facts.end, inv.in_range, c.requires.given);
+    }
