@@ -1,0 +1,4 @@
+mod RegionLemmas
+mod AccountLemmas
+mod EntryLemmas
+mod PoolLemmas

@@ -1,0 +1,2 @@
+//! Definitions alone: the pool of packets, with its references, quotas and parked places.
+#![tactic(auto)]
