@@ -73,16 +73,19 @@ near_found sn deliv number count e = by (nat_lt raised (space sn)) (nat_lt (last
           given = omega (arith, within, sum);
         }
 
+-- a COUNT whose raised one is in the space from low on
+pub found_from : (sn : SnBits) (low number count : ℕ) → low ≤ count + space sn → count + space sn < low + space sn
+    → count % space sn ≡ number % space sn → count ≤ last_count → lowered sn (first_from sn low number) ≡ Some count
+found_from sn low number count from to same given =
+    let is = one_of sn low (first_from sn low number) (count + space sn) (first_low sn low number) (first_high sn low number) from to
+        (first_same sn low number ∙ (sym same ∙ sym (raised_same sn count))) in
+    ap (lowered sn) is ∙ lowered_is sn count given
+
 pub near_is : (sn : SnBits) (deliv number count : ℕ) → IsNear sn deliv number count → near_count sn deliv number ≡ Some count
 unfolding near_count
 near_is sn deliv number count near =
-    let low = first_low sn (deliv + half sn) number in
-    let high = first_high sn (deliv + half sn) number in
     let halves = space_halves sn in
-    let is = one_of sn (deliv + half sn) (first_from sn (deliv + half sn) number) (count + space sn) low high
-        (omega (arith, halves, near.low)) (omega (arith, halves, near.high))
-        (first_same sn (deliv + half sn) number ∙ (sym near.same ∙ sym (raised_same sn count))) in
-    ap (lowered sn) is ∙ lowered_is sn count near.given
+    found_from sn (deliv + half sn) number count (omega (arith, halves, near.low)) (omega (arith, halves, near.high)) near.same near.given
 
 -- what is found by search is what the definition computes
 pub near_agrees : (sn : SnBits) (deliv number : ℕ) (o : Option ℕ) → IfSome o (IsNear sn deliv number)
@@ -94,3 +97,7 @@ near_agrees sn deliv number o found only = by (near_count sn deliv number) refl 
     by (Some c) is o found only = sym (only c (near_found sn deliv number c is))
     by None is None found only = refl
     by None is (Some c) found only = sym is ∙ near_is sn deliv number c found
+
+pub same_remainder : (sn : SnBits) (c : ℕ) → c % space sn ≡ c % space sn % space sn
+same_remainder Len12 c = omega arith
+same_remainder Len18 c = omega arith

@@ -11,7 +11,7 @@ use Rattle.gnb_types.proofs.OrderLemmas.{entity_total}
 use Rattle.tables.specs.Tables.{find, put, map_values}
 use Rattle.tables.proofs.TableLaws.{put-mapped}
 use Rattle.pool_defs.specs.Pools.{Stored, PoolState, is_parked, used, packet_of, packet_at, packet_by, with_packet, without_packet, with_place, without_place, AreApart, IsPool}
-use Rattle.pool_defs.proofs.PoolLaws.{used_put, packet_of_put, packet_of_put_other, packet_at_put, packet_of_park, packet_of_park_other, packet_at_park, packet_at_park_other, packet_of_unpark, packet_of_unpark_other, packet_at_unpark, packet_at_unpark_other}
+use Rattle.pool_defs.proofs.PoolLaws.{used_put, packet_of_put, packet_of_put_other, packet_at_put, packet_at_take, packet_of_park, packet_of_park_other, packet_at_park, packet_at_park_other, packet_of_unpark, packet_of_unpark_other, packet_at_unpark, packet_at_unpark_other}
 use Rattle.pdcp_entities.specs.Packets.{AreParked, HasNone, OthersStay, Parks, Puts, Unparks, Frees, bytes_of, octets_at, octets_in}
 use Rattle.pdcp_entities.proofs.FreeLemmas.{same_or_other, all_append, all_both}
 use Rattle.pdcp_entities.proofs.TurnLemmas.{passing}
@@ -269,3 +269,24 @@ module _ (r : ℕ) (e : ℕ × ℕ) (p q : PoolState) (es : List (ℕ × ℕ)) (
   pub unparks_octets : octets_in p (e ∷ es) ≡ (e.0, bytes_of (packet_of q r)) ∷ octets_in q es
   unfolding octets_in map_values
   unparks_octets = ap (λ o. (e.0, bytes_of o) ∷ octets_in p es) (sym unparks.packet) ∙ ap (λ m. (e.0, bytes_of (packet_of q r)) ∷ m) (sym (octets_same p q es unparks_same))
+
+-- ---- what the pool's own calls leave of an entity's packets
+
+-- another packet is put
+pub parked_put : (limit : ℕ) (p : PoolState) → IsPool limit p → (r : ℕ) (x : Stored) → find nat_cmp p.refs r ≡ None
+    → (es : List (ℕ × ℕ)) → AreParked p es → AreParked (with_packet p r x) es
+parked_put limit p sound r x unused es parked =
+    record { there = same_there p (with_packet p r x) es (all_at es) parked.there; apart = parked.apart }
+  where
+    all_at : (fs : List (ℕ × ℕ)) → AllSame p (with_packet p r x) fs
+    all_at [] = tt
+    all_at (e ∷ fs) = (packet_at_put limit p sound r x e.1 unused, all_at fs)
+
+-- a reference is spent
+pub parked_taken : (p : PoolState) (r : ℕ) → IsSome (packet_of p r) → (es : List (ℕ × ℕ)) → AreParked p es → AreParked (without_packet p r) es
+parked_taken p r given es parked =
+    record { there = same_there p (without_packet p r) es (all_at es) parked.there; apart = parked.apart }
+  where
+    all_at : (fs : List (ℕ × ℕ)) → AllSame p (without_packet p r) fs
+    all_at [] = tt
+    all_at (e ∷ fs) = (packet_at_take p r e.1 given, all_at fs)

@@ -45,7 +45,8 @@ pub(crate) fn free_to(ring: &mut Ring, pool: &mut Pool, count: u32) -> u32
     requires in_range { ring.old.first + length ring.old.slots.items < 2 ^ 32 }
     requires parked { AreParked pool.old (held ring.old) }
     ensures held { held ring.new ≡ filter (λ e. nat_lt count e.0) (held ring.old) }
-    ensures freed { Frees (filter (λ e. not (nat_lt count e.0)) (held ring.old)) pool.old pool.new }
+    ensures freed { Frees (filter (λ e. not (nat_lt count e.0)) (held ring.old))
+        pool.old pool.new }
     ensures count { result ≡ length (filter (λ e. not (nat_lt count e.0)) (held ring.old)) }
     ensures parked { AreParked pool.new (held ring.new) }
     ensures end { ring.new.first + length ring.new.slots.items
@@ -67,7 +68,8 @@ pub(crate) fn free_reported(ring: &mut Ring, pool: &mut Pool, fmc: u32, bits: &[
     requires parked { AreParked pool.old (held ring.old) }
     ensures held { held ring.new
         ≡ filter (λ e. not (is_reported fmc (bits_of bits.now) e.0)) (held ring.old) }
-    ensures freed { Frees (filter (λ e. is_reported fmc (bits_of bits.now) e.0) (held ring.old)) pool.old pool.new }
+    ensures freed { Frees (filter (λ e. is_reported fmc (bits_of bits.now) e.0) (held ring.old))
+        pool.old pool.new }
     ensures count { result
         ≡ length (filter (λ e. is_reported fmc (bits_of bits.now) e.0) (held ring.old)) }
     ensures parked { AreParked pool.new (held ring.new) }

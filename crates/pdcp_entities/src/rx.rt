@@ -73,13 +73,18 @@ impl Rx {
         requires sized { length packet.now ≤ BLOCK }
         requires parked { AreParked pool.old self.old.receiver.stored }
         requires quota { self.old.quota ≤ quota pool.old key }
-        requires used { used pool.old key ≡ length self.old.receiver.stored }
+        requires used { used pool.old key ≤ length self.old.receiver.stored }
         ensures result { result ≡ taken self.old number }
-        ensures stored { IfSome (stored_count result) (λ count. (place : ℕ) × (self.new ≡ record self.old { receiver = stored self.old.receiver count place }) × Puts (record { key = key; bytes = packet.now }) (count, place) pool.old pool.new) }
-        ensures octets { IfSome (stored_count result) (λ count. receiver_in pool.new self.new ≡ stored (receiver_in pool.old self.old) count packet.now) }
-        ensures dropped { IfNone (stored_count result) ((self.new ≡ self.old) × (pool.new ≡ pool.old)) }
+        ensures stored { IfSome (stored_count result) (λ count. (place : ℕ)
+            × (self.new ≡ record self.old { receiver = stored self.old.receiver count place })
+            × Puts (record { key = key; bytes = packet.now }) (count, place) pool.old pool.new) }
+        ensures octets { IfSome (stored_count result) (λ count. receiver_in pool.new self.new
+            ≡ stored (receiver_in pool.old self.old) count packet.now) }
+        ensures dropped { IfNone (stored_count result)
+            ((self.new ≡ self.old) × (pool.new ≡ pool.old)) }
         ensures parked { AreParked pool.new self.new.receiver.stored }
-        ensures used { used pool.new key ≡ length self.new.receiver.stored }
+        ensures used { used pool.new key + length self.old.receiver.stored
+            ≡ used pool.old key + length self.new.receiver.stored }
     {
         let Some(count) = near(self.sn, self.stored.first, number) else {
             return Ok(Taken {
@@ -108,14 +113,18 @@ impl Rx {
         requires sized { length packet.now ≤ BLOCK }
         requires parked { AreParked pool.old self.old.receiver.stored }
         requires quota { self.old.quota ≤ quota pool.old key }
-        requires used { used pool.old key ≡ length self.old.receiver.stored }
+        requires used { used pool.old key ≤ length self.old.receiver.stored }
         requires new { is_duplicate self.old.receiver count ≡ false }
         requires room { is_ahead self.old.quota self.old.receiver count ≡ false }
         requires given { count ≤ last_count }
-        ensures stored { (place : ℕ) × (self.new ≡ record self.old { receiver = stored self.old.receiver count place }) × Puts (record { key = key; bytes = packet.now }) (count, place) pool.old pool.new }
-        ensures octets { receiver_in pool.new self.new ≡ stored (receiver_in pool.old self.old) count packet.now }
+        ensures stored { (place : ℕ)
+            × (self.new ≡ record self.old { receiver = stored self.old.receiver count place })
+            × Puts (record { key = key; bytes = packet.now }) (count, place) pool.old pool.new }
+        ensures octets { receiver_in pool.new self.new
+            ≡ stored (receiver_in pool.old self.old) count packet.now }
         ensures parked { AreParked pool.new self.new.receiver.stored }
-        ensures used { used pool.new key ≡ length self.new.receiver.stored }
+        ensures used { used pool.new key + length self.old.receiver.stored
+            ≡ used pool.old key + length self.new.receiver.stored }
     {
         let stored = &mut self.stored;
         let place = match pool.put(key, packet) {
@@ -129,9 +138,14 @@ impl Rx {
     /// Hands up the awaited packet, and awaits the next one. None where it isn't stored, or the entity is frozen.
     pub fn next(&mut self, pool: &mut Pool) -> Option<(u32, Ref)>
         requires { AreParked pool.old self.old.receiver.stored }
-        ensures some { IfSome result (λ d. (place : ℕ) × (handed_up self.old ≡ Some (d.0, place)) × (self.new ≡ record self.old { receiver = advanced self.old.receiver }) × Unparks d.1 (d.0, place) pool.old pool.new) }
-        ensures octets { IfSome result (λ d. deliver (receiver_in pool.old self.old) ≡ with_packet (d.0, bytes_of (packet_of pool.new d.1)) (deliver (receiver_in pool.new self.new))) }
-        ensures none { IfNone result ((handed_up self.old ≡ None) × (self.new ≡ self.old) × (pool.new ≡ pool.old)) }
+        ensures some { IfSome result (λ d. (place : ℕ) × (handed_up self.old ≡ Some (d.0, place))
+            × (self.new ≡ record self.old { receiver = advanced self.old.receiver })
+            × Unparks d.1 (d.0, place) pool.old pool.new) }
+        ensures octets { IfSome result (λ d. deliver (receiver_in pool.old self.old)
+            ≡ with_packet (d.0, bytes_of (packet_of pool.new d.1))
+                (deliver (receiver_in pool.new self.new))) }
+        ensures none { IfNone result ((handed_up self.old ≡ None)
+            × (self.new ≡ self.old) × (pool.new ≡ pool.old)) }
         ensures parked { AreParked pool.new self.new.receiver.stored }
     {
         if self.frozen {
@@ -154,7 +168,8 @@ impl Rx {
 
     /// The status report of what was received: RX_DELIV, and whether each COUNT after it is stored, up to the last one that is.
     pub fn report(&self, alloc: Global) -> Result<(u32, Bits), Memory>
-        ensures { IfOk result (λ r. (r.0 ≡ self.now.receiver.deliv) × (r.1 ≡ received_bits self.now.receiver)) }
+        ensures { IfOk result (λ r. (r.0 ≡ self.now.receiver.deliv)
+            × (r.1 ≡ received_bits self.now.receiver)) }
     {
         let bits = self.stored.bits_after_first(alloc)?;
         Ok((self.stored.first, bits))

@@ -77,9 +77,13 @@ impl Tx {
         requires given { IsSome (packet_of pool.old r) }
         ensures count { IfOk result (λ count. count ≡ self.old.sender.next) }
         ensures ok { OnOk result (refuses_number self.old ≡ None) }
-        ensures held { OnOk result ((place : ℕ) × (self.new ≡ record self.old { sender = numbered self.old.sender place }) × Parks r (self.old.sender.next, place) pool.old pool.new) }
-        ensures octets { OnOk result (sender_in pool.new self.new ≡ numbered (sender_in pool.old self.old) (bytes_of (packet_of pool.old r))) }
-        ensures err { IfErr result (λ e. (refuses_number self.old ≡ Some e.1) × (e.0 ≡ r) × (self.new ≡ self.old) × (pool.new ≡ pool.old)) }
+        ensures held { OnOk result ((place : ℕ)
+            × (self.new ≡ record self.old { sender = numbered self.old.sender place })
+            × Parks r (self.old.sender.next, place) pool.old pool.new) }
+        ensures octets { OnOk result (sender_in pool.new self.new
+            ≡ numbered (sender_in pool.old self.old) (bytes_of (packet_of pool.old r))) }
+        ensures err { IfErr result (λ e. (refuses_number self.old ≡ Some e.1)
+            × (e.0 ≡ r) × (self.new ≡ self.old) × (pool.new ≡ pool.old)) }
         ensures parked { AreParked pool.new self.new.sender.unconfirmed }
     {
         if self.frozen {
@@ -103,10 +107,15 @@ impl Tx {
     pub fn restore(&mut self, pool: &mut Pool, count: u32, r: Ref) -> Result<(), (Ref, OutsideWindow)>
         requires parked { AreParked pool.old self.old.sender.unconfirmed }
         requires given { IsSome (packet_of pool.old r) }
-        ensures ok { IsOk result ↔ IsTrue (may_restore self.old.sn self.old.quota self.old.sender count) }
-        ensures held { OnOk result ((place : ℕ) × (self.new ≡ record self.old { sender = restored self.old.sender count place }) × Parks r (count, place) pool.old pool.new) }
-        ensures octets { OnOk result (sender_in pool.new self.new ≡ restored (sender_in pool.old self.old) count (bytes_of (packet_of pool.old r))) }
-        ensures err { IfErr result (λ e. (e.0 ≡ r) × (self.new ≡ self.old) × (pool.new ≡ pool.old)) }
+        ensures ok { IsOk result
+            ↔ IsTrue (may_restore self.old.sn self.old.quota self.old.sender count) }
+        ensures held { OnOk result ((place : ℕ)
+            × (self.new ≡ record self.old { sender = restored self.old.sender count place })
+            × Parks r (count, place) pool.old pool.new) }
+        ensures octets { OnOk result (sender_in pool.new self.new
+            ≡ restored (sender_in pool.old self.old) count (bytes_of (packet_of pool.old r))) }
+        ensures err { IfErr result (λ e.
+            (e.0 ≡ r) × (self.new ≡ self.old) × (pool.new ≡ pool.old)) }
         ensures parked { AreParked pool.new self.new.sender.unconfirmed }
     {
         if !self.may_restore(count) {
@@ -121,10 +130,13 @@ impl Tx {
     /// next one, and says how many packets that freed. Where that COUNT would be below 0 it frees none.
     pub fn confirm_to(&mut self, pool: &mut Pool, number: u32) -> u32
         requires { AreParked pool.old self.old.sender.unconfirmed }
-        ensures sender { self.new ≡ record self.old { sender = confirmed_number self.old.sn self.old.sender number } }
+        ensures sender { self.new
+            ≡ record self.old { sender = confirmed_number self.old.sn self.old.sender number } }
         ensures count { result ≡ length (named_by_number self.old.sn self.old.sender number) }
-        ensures freed { Frees (named_by_number self.old.sn self.old.sender number) pool.old pool.new }
-        ensures octets { sender_in pool.new self.new ≡ confirmed_number self.old.sn (sender_in pool.old self.old) number }
+        ensures freed { Frees (named_by_number self.old.sn self.old.sender number)
+            pool.old pool.new }
+        ensures octets { sender_in pool.new self.new
+            ≡ confirmed_number self.old.sn (sender_in pool.old self.old) number }
         ensures parked { AreParked pool.new self.new.sender.unconfirmed }
     {
         match self.count_below(number) {
@@ -140,10 +152,12 @@ impl Tx {
     /// Confirms what a status report does: all COUNTs below the first missing one, and each whose bit is set.
     pub fn confirm_report(&mut self, pool: &mut Pool, fmc: u32, bits: &[u8]) -> u32
         requires { AreParked pool.old self.old.sender.unconfirmed }
-        ensures sender { self.new ≡ record self.old { sender = confirmed_report self.old.sender fmc bits.now } }
+        ensures sender { self.new
+            ≡ record self.old { sender = confirmed_report self.old.sender fmc bits.now } }
         ensures count { result ≡ length (named_by_report self.old.sender fmc bits.now) }
         ensures freed { Frees (named_by_report self.old.sender fmc bits.now) pool.old pool.new }
-        ensures octets { sender_in pool.new self.new ≡ confirmed_report (sender_in pool.old self.old) fmc bits.now }
+        ensures octets { sender_in pool.new self.new
+            ≡ confirmed_report (sender_in pool.old self.old) fmc bits.now }
         ensures parked { AreParked pool.new self.new.sender.unconfirmed }
     {
         let freed = free_reported(&mut self.unconfirmed, pool, fmc, bits);

@@ -105,7 +105,8 @@ returns-clause-used c =
     let more = puts_used BLOCK p c.put.ensures.sound c.in-Ok.r x place c.in-Ok.ensures.fresh in
     let size = ap (λ (v : RxState). length v.receiver.stored) c.self.view_is in
     let now = ap (λ (s : PoolState). used s c.args.key) pool in
-    now ∙ (more ∙ (ap (λ n. n + 1) (c.requires.used ∙ sym size) ∙ sym c.place.ensures.more))
+    let added = c.place.ensures.more in
+    omega (arith, now, more, size, added)
 
 pub invariant_of-self : goal.invariant_of-self
 invariant_of-self c =
