@@ -82,7 +82,7 @@ module _ {X : Type 0} (s : Sender X) where
       ap (λ (es : List (ℕ × X)). record s { unconfirmed = es })
       (same_filter (λ e. not (is_reported fmc bits e.0)) (λ e. nat_le fmc e.0 && not (nat_lt fmc e.0 && is_set bits (e.0 - fmc - 1)))
       (λ e. not_either (nat_lt e.0 fmc) (nat_lt fmc e.0 && is_set bits (e.0 - fmc - 1))
-          ∙ ap (λ b. b && not (nat_lt fmc e.0 && is_set bits (e.0 - fmc - 1))) (not_lt_is_le e.0 fmc)) s.unconfirmed)
+      ∙ ap (λ b. b && not (nat_lt fmc e.0 && is_set bits (e.0 - fmc - 1))) (not_lt_is_le e.0 fmc)) s.unconfirmed)
 
   pub confirmed_together : (a b : Confirmation) → confirmed (confirmed s a) b ≡ confirmed s (together a b)
   unfolding confirmed
@@ -90,9 +90,9 @@ module _ {X : Type 0} (s : Sender X) where
       ap (λ (es : List (ℕ × X)). record s { unconfirmed = es })
       (filter_twice (λ e. nat_le a.below e.0 && not (a.also e.0)) (λ e. nat_le b.below e.0 && not (b.also e.0)) s.unconfirmed
       ∙ same_filter (λ e. (nat_le a.below e.0 && not (a.also e.0)) && (nat_le b.below e.0 && not (b.also e.0)))
-          (λ e. nat_le (max a.below b.below) e.0 && not (a.also e.0 || b.also e.0))
-          (λ e. regrouped (nat_le a.below e.0) (a.also e.0) (nat_le b.below e.0) (b.also e.0)
-              ∙ ap (λ t. t && not (a.also e.0 || b.also e.0)) (both_le a.below b.below e.0)) s.unconfirmed)
+      (λ e. nat_le (max a.below b.below) e.0 && not (a.also e.0 || b.also e.0))
+      (λ e. regrouped (nat_le a.below e.0) (a.also e.0) (nat_le b.below e.0) (b.also e.0)
+      ∙ ap (λ t. t && not (a.also e.0 || b.also e.0)) (both_le a.below b.below e.0)) s.unconfirmed)
 
   pub confirmed_in_any_order : (a b : Confirmation) → confirmed (confirmed s a) b ≡ confirmed (confirmed s b) a
   unfolding confirmed

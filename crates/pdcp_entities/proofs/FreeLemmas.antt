@@ -73,8 +73,7 @@ module _ {X : Type 0} where
 pub apart_without : (xs ys : List (ℕ × ℕ)) (e : ℕ × ℕ) → AreApart (xs ++ e ∷ ys) → AreApart (xs ++ ys)
 apart_without [] ys e apart = apart.1
 apart_without (a ∷ xs) ys e apart =
-    let all = apart.0 in
-    (
+    let all = apart.0 in (
       all_append (λ x. x.1 ≡ a.1 → ⊥) xs ys (all_left (λ x. x.1 ≡ a.1 → ⊥) xs (e ∷ ys) all) (all_right (λ x. x.1 ≡ a.1 → ⊥) xs (e ∷ ys) all).1,
       apart_without xs ys e apart.1,
     )
@@ -92,11 +91,11 @@ parked_without limit p sound xs ys e parked =
     let here = all_right (λ x. IsSome (packet_at p x.1)) xs (e ∷ ys) there in
     record {
       there =
-        all_both (λ x. IsSome (packet_at p x.1)) (λ x. x.1 ≡ e.1 → ⊥) (λ x. IsSome (packet_at (freed p e.1) x.1))
-        (λ x some other. subst (λ (s : Option Stored). IsSome s) (sym (freed_other limit p sound e.1 here.0 x.1 other)) some)
-        (xs ++ ys)
-        (all_append (λ x. IsSome (packet_at p x.1)) xs ys (all_left (λ x. IsSome (packet_at p x.1)) xs (e ∷ ys) there) here.1)
-        (none_without xs ys e parked.apart);
+          all_both (λ x. IsSome (packet_at p x.1)) (λ x. x.1 ≡ e.1 → ⊥) (λ x. IsSome (packet_at (freed p e.1) x.1))
+          (λ x some other. subst (λ (s : Option Stored). IsSome s) (sym (freed_other limit p sound e.1 here.0 x.1 other)) some)
+          (xs ++ ys)
+          (all_append (λ x. IsSome (packet_at p x.1)) xs ys (all_left (λ x. IsSome (packet_at p x.1)) xs (e ∷ ys) there) here.1)
+          (none_without xs ys e parked.apart);
       apart = apart_without xs ys e parked.apart;
     }
 
@@ -118,14 +117,14 @@ goes_on limit p sound all left e first there l =
       others = record {
         references = λ r other. freed_reference limit p sound e.1 there r ∙ l.others.references r other;
         places = λ place none.
-          let none_left = l.rest place none in
-          freed_other limit p sound e.1 there place (λ same. none_left.0 (sym same)) ∙ l.others.places place none;
+            let none_left = l.rest place none in
+            freed_other limit p sound e.1 there place (λ same. none_left.0 (sym same)) ∙ l.others.places place none;
         quotas = freed_quotas limit p sound e.1 there ∙ l.others.quotas;
       };
       rest = λ place none. (l.rest place none).1;
       gone = λ place none some.
-        same_or_other place e.1 (λ same. ap (λ (q : ℕ). packet_at (freed p e.1) q) same ∙ freed_here limit p sound e.1 there)
-        (λ other. freed_other limit p sound e.1 there place other ∙ l.gone place ((λ same. other (sym same)), none) some);
+          same_or_other place e.1 (λ same. ap (λ (q : ℕ). packet_at (freed p e.1) q) same ∙ freed_here limit p sound e.1 there)
+          (λ other. freed_other limit p sound e.1 there place other ∙ l.gone place ((λ same. other (sym same)), none) some);
       freed = l.freed;
     }
 

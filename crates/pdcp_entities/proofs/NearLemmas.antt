@@ -78,7 +78,7 @@ pub found_from : (sn : SnBits) (low number count : ℕ) → low ≤ count + spac
     → count % space sn ≡ number % space sn → count ≤ last_count → lowered sn (first_from sn low number) ≡ Some count
 found_from sn low number count from to same given =
     let is = one_of sn low (first_from sn low number) (count + space sn) (first_low sn low number) (first_high sn low number) from to
-        (first_same sn low number ∙ (sym same ∙ sym (raised_same sn count))) in
+    (first_same sn low number ∙ (sym same ∙ sym (raised_same sn count))) in
     ap (lowered sn) is ∙ lowered_is sn count given
 
 pub near_is : (sn : SnBits) (deliv number count : ℕ) → IsNear sn deliv number count → near_count sn deliv number ≡ Some count

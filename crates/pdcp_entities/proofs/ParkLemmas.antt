@@ -50,9 +50,6 @@ all_elsewhere p place free (e ∷ es) there = ((λ same. away (packet_at p e.1) 
     away None some is = cc
     away (Some x) some is = cc
 
-
-
-
 abbrev pub AllSame : PoolState → PoolState → List (ℕ × ℕ) → Type 0
 AllSame p q es = AllByRecursion (λ e. packet_at q e.1 ≡ packet_at p e.1) es
 
@@ -99,8 +96,8 @@ module _ (r : ℕ) (e : ℕ × ℕ) (p q : PoolState) (es : List (ℕ × ℕ)) (
   parks_parked =
       record {
         there =
-          all_append (λ x. IsSome (packet_at q x.1)) es (e ∷ []) (same_there p q es parks_same parked.there)
-          (subst (λ (o : Option Stored). IsSome o) (sym parks.packet) given, tt);
+            all_append (λ x. IsSome (packet_at q x.1)) es (e ∷ []) (same_there p q es parks_same parked.there)
+            (subst (λ (o : Option Stored). IsSome o) (sym parks.packet) given, tt);
         apart = apart_added es e parked.apart none_there;
       }
 
@@ -207,16 +204,17 @@ puts limit p sound r x e unused fresh =
       packet = packet_at_park (with_packet p r x) e.1 r x (packet_of_put limit p sound r x unused);
       others = record {
         references = λ n other.
-          same_or_other n r
-          (λ same.
+            same_or_other n r
+            (λ same.
             subst (λ (m : ℕ). packet_of (with_place (with_packet p r x) e.1 r) m ≡ packet_of p m) (sym same)
             (packet_of_park (with_packet p r x) e.1 r fresh ∙ sym (absent p r unused)))
-          (λ away. packet_of_park_other (with_packet p r x) e.1 r n away fresh ∙ packet_of_put_other limit p sound r x n away);
+            (λ away. packet_of_park_other (with_packet p r x) e.1 r n away fresh ∙ packet_of_put_other limit p sound r x n away);
         places = λ q none.
-          packet_at_park_other (with_packet p r x) e.1 r q (λ same. none.0 (sym same)) ∙ packet_at_put limit p sound r x q unused;
+            packet_at_park_other (with_packet p r x) e.1 r q (λ same. none.0 (sym same)) ∙ packet_at_put limit p sound r x q unused;
         quotas = refl;
       };
     }
+
 module _ (x : Stored) (e : ℕ × ℕ) (p q : PoolState) (es : List (ℕ × ℕ)) (puts : Puts x e p q) (parked : AreParked p es) where
   none_put : HasNone es e.1
   none_put = all_elsewhere p e.1 puts.free es parked.there
@@ -225,9 +223,9 @@ module _ (x : Stored) (e : ℕ × ℕ) (p q : PoolState) (es : List (ℕ × ℕ)
   puts_parked =
       record {
         there =
-          all_insert e.0 e.1 (λ y. IsSome (packet_at q y.1)) es (λ j y h i. h)
-          (same_there p q es (others_same None e p q puts.others es none_put) parked.there)
-          (subst (λ (o : Option Stored). IsSome o) (sym puts.packet) refl);
+            all_insert e.0 e.1 (λ y. IsSome (packet_at q y.1)) es (λ j y h i. h)
+            (same_there p q es (others_same None e p q puts.others es none_put) parked.there)
+            (subst (λ (o : Option Stored). IsSome o) (sym puts.packet) refl);
         apart = apart_insert e.0 e.1 es none_put parked.apart;
       }
 

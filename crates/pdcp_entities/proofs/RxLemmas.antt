@@ -126,19 +126,19 @@ taking_duplicate rx o count is dup =
     (ap (taking rx) is
     ∙ ap
     (λ b. cond b (Ok (record { count = Some count; stored = false }))
-    (cond (is_ahead rx.quota rx.receiver count) (Err (record { })) (Ok (record { count = Some count; stored = true }))))
+    (cond (is_ahead rx.quota rx.receiver count) (Err (record {})) (Ok (record { count = Some count; stored = true }))))
     dup)
 
 pub taking_ahead : (rx : RxState) (o : Option ℕ) (count : ℕ) → o ≡ Some count → is_duplicate rx.receiver count ≡ false
-    → is_ahead rx.quota rx.receiver count ≡ true → Err (record { }) ≡ taking rx o
+    → is_ahead rx.quota rx.receiver count ≡ true → Err (record {}) ≡ taking rx o
 taking_ahead rx o count is new ahead =
     sym
     (ap (taking rx) is
     ∙ (ap
     (λ b. cond b (Ok (record { count = Some count; stored = false }))
-    (cond (is_ahead rx.quota rx.receiver count) (Err (record { })) (Ok (record { count = Some count; stored = true }))))
+    (cond (is_ahead rx.quota rx.receiver count) (Err (record {})) (Ok (record { count = Some count; stored = true }))))
     new
-    ∙ ap (λ b. cond b (Err (record { })) (Ok (record { count = Some count; stored = true }))) ahead))
+    ∙ ap (λ b. cond b (Err (record {})) (Ok (record { count = Some count; stored = true }))) ahead))
 
 pub taking_new : (rx : RxState) (o : Option ℕ) (count : ℕ) → o ≡ Some count → is_duplicate rx.receiver count ≡ false
     → is_ahead rx.quota rx.receiver count ≡ false → Ok (record { count = Some count; stored = true }) ≡ taking rx o
@@ -147,6 +147,6 @@ taking_new rx o count is new room =
     (ap (taking rx) is
     ∙ (ap
     (λ b. cond b (Ok (record { count = Some count; stored = false }))
-    (cond (is_ahead rx.quota rx.receiver count) (Err (record { })) (Ok (record { count = Some count; stored = true }))))
+    (cond (is_ahead rx.quota rx.receiver count) (Err (record {})) (Ok (record { count = Some count; stored = true }))))
     new
-    ∙ ap (λ b. cond b (Err (record { })) (Ok (record { count = Some count; stored = true }))) room))
+    ∙ ap (λ b. cond b (Err (record {})) (Ok (record { count = Some count; stored = true }))) room))

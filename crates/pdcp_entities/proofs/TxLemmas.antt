@@ -73,14 +73,13 @@ restored_at sn quota next c count xs full may =
     let high = nat_lt count next in
     let above = is_above count (last_of None (held_from c xs)) in
     let first_two = both_left (low && high) above may in
-    let last = both_right (low && high) above may in
-    (
+    let last = both_right (low && high) above may in (
       leb-true (next - window sn quota) count (both_left low high first_two),
       ltb-true count next (both_right low high first_two),
       λ some.
-        let e = last_held None c xs full some in
-        let l : c + length xs - 1 < count = ltb-true (c + length xs - 1) count (ap (is_above count) (sym e) ∙ last) in
-        omega arith,
+          let e = last_held None c xs full some in
+          let l : c + length xs - 1 < count = ltb-true (c + length xs - 1) count (ap (is_above count) (sym e) ∙ last) in
+          omega arith,
     )
 
 pub not_both : (b : Bool) → b ≡ true → not b ≡ true → ⊥

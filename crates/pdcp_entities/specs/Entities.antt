@@ -78,7 +78,7 @@ abbrev pub taking : RxState → Option ℕ → Result Taken Ahead
 taking rx None = Ok (record { count = None; stored = false })
 taking rx (Some count) =
     if is_duplicate rx.receiver count then Ok (record { count = Some count; stored = false }) else
-    (if is_ahead rx.quota rx.receiver count then Err (record { }) else Ok (record { count = Some count; stored = true }))
+    (if is_ahead rx.quota rx.receiver count then Err (record {}) else Ok (record { count = Some count; stored = true }))
 
 unfoldable pub taken : RxState → ℕ → Result Taken Ahead
 taken rx number = taking rx (near_count rx.sn rx.receiver.deliv number)

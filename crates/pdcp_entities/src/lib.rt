@@ -7,10 +7,9 @@ mod counts;
 mod freeing;
 mod ring;
 pub mod rx;
-pub mod tx;
-
 #[cfg(test)]
 mod tests;
+pub mod tx;
 
 pub use rx::{Ahead, Rx, Taken};
 pub use tx::{NumberError, OutsideWindow, Tx};

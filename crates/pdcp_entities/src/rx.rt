@@ -69,7 +69,13 @@ impl Rx {
 
     /// Stores a packet under the COUNT of its number (read modulo the sequence space), unless no COUNT is found, or it is a
     /// duplicate.
-    pub fn take(&mut self, pool: &mut Pool, key: Key, number: u32, packet: &[u8]) -> Result<Taken, Ahead>
+    pub fn take(
+        &mut self,
+        pool: &mut Pool,
+        key: Key,
+        number: u32,
+        packet: &[u8],
+    ) -> Result<Taken, Ahead>
         requires sized { length packet.now ≤ BLOCK }
         requires parked { AreParked pool.old self.old.receiver.stored }
         requires quota { self.old.quota ≤ quota pool.old key }
@@ -143,7 +149,7 @@ impl Rx {
             × Unparks d.1 (d.0, place) pool.old pool.new) }
         ensures octets { IfSome result (λ d. deliver (receiver_in pool.old self.old)
             ≡ with_packet (d.0, bytes_of (packet_of pool.new d.1))
-                (deliver (receiver_in pool.new self.new))) }
+            (deliver (receiver_in pool.new self.new))) }
         ensures none { IfNone result ((handed_up self.old ≡ None)
             × (self.new ≡ self.old) × (pool.new ≡ pool.old)) }
         ensures parked { AreParked pool.new self.new.receiver.stored }

@@ -42,7 +42,12 @@ fn send(tx: &mut Tx, pool: &mut Pool, packet: &[u8]) -> Option<Result<u32, Numbe
 }
 
 /// Puts a packet, and holds it under a COUNT that another entity gave it. None where the quota is used up.
-fn restore(tx: &mut Tx, pool: &mut Pool, count: u32, packet: &[u8]) -> Option<Result<(), OutsideWindow>>
+fn restore(
+    tx: &mut Tx,
+    pool: &mut Pool,
+    count: u32,
+    packet: &[u8],
+) -> Option<Result<(), OutsideWindow>>
     requires sized { length packet.now ≤ BLOCK }
     requires parked { AreParked pool.old tx.old.sender.unconfirmed }
     ensures { AreParked pool.new tx.new.sender.unconfirmed }
@@ -115,7 +120,12 @@ fn rows() -> [Row; 6] {
         row(short, [4_095, 4_096], &[0x8f, 0xff, 7], &[0x80, 0, 7]),
         row(short, [8_191, 8_192], &[0x8f, 0xff, 7], &[0x80, 0, 7]),
         row(short, last, &[0x8f, 0xfd, 7], &[0x8f, 0xfe, 7]),
-        row(long, [262_143, 262_144], &[0x83, 0xff, 0xff, 7], &[0x80, 0, 0, 7]),
+        row(
+            long,
+            [262_143, 262_144],
+            &[0x83, 0xff, 0xff, 7],
+            &[0x80, 0, 0, 7],
+        ),
         row(long, last, &[0x83, 0xff, 0xfd, 7], &[0x83, 0xff, 0xfe, 7]),
     ]
 }
@@ -133,7 +143,10 @@ fn numbers_across_the_wrap(rt: HostRuntime) -> Result<(), Fail> {
         let second = write_pdu(rt.alloc(), row.sn, row.counts[1], &[7])?;
         assert_eq!(rt; second.as_slice(), row.pdus[1]);
         if row.counts[1] == 4_294_967_294 {
-            assert_eq!(rt; send(&mut tx, &mut pool, &[7]), Some(Err(NumberError::CountSpent)));
+            assert_eq!(rt;
+                send(&mut tx, &mut pool, &[7]),
+                Some(Err(NumberError::CountSpent))
+            );
         }
     }
     Ok(())
@@ -151,11 +164,20 @@ fn counts_across_the_wrap(rt: HostRuntime) -> Result<(), Fail> {
             SnBits::Len12 => 4_096,
             SnBits::Len18 => 262_144,
         };
-        assert_eq!(rt; receive(&mut rx, &mut pool, first % space, &[7]), taken(first, true));
+        assert_eq!(rt;
+            receive(&mut rx, &mut pool, first % space, &[7]),
+            taken(first, true)
+        );
         assert_eq!(rt; hand_up(&mut rx, &mut pool, &[7]), Some((first, true)));
-        assert_eq!(rt; receive(&mut rx, &mut pool, second % space, &[8]), taken(second, true));
+        assert_eq!(rt;
+            receive(&mut rx, &mut pool, second % space, &[8]),
+            taken(second, true)
+        );
         assert_eq!(rt; hand_up(&mut rx, &mut pool, &[8]), Some((second, true)));
-        assert_eq!(rt; receive(&mut rx, &mut pool, first, &[7]), taken(first, false));
+        assert_eq!(rt;
+            receive(&mut rx, &mut pool, first, &[7]),
+            taken(first, false)
+        );
     }
     Ok(())
 }
@@ -166,16 +188,25 @@ fn a_sender_from_end_to_end(rt: HostRuntime) -> Result<(), Fail> {
     pool.reserve_quota(DOWN, 8)?;
     let mut tx = Tx::new(rt.alloc(), SnBits::Len12, 4_096, 4)?;
     assert_eq!(rt; restore(&mut tx, &mut pool, 4_094, &[1]), Some(Ok(())));
-    assert_eq!(rt; restore(&mut tx, &mut pool, 4_093, &[1]), Some(Err(OutsideWindow)));
+    assert_eq!(rt;
+        restore(&mut tx, &mut pool, 4_093, &[1]),
+        Some(Err(OutsideWindow))
+    );
     assert_eq!(rt; send(&mut tx, &mut pool, &[2]), Some(Ok(4_096)));
     assert_eq!(rt; tx.unconfirmed(0).map(|e| e.0), Some(4_094));
     assert_eq!(rt; tx.unconfirmed(4_095).map(|e| e.0), Some(4_096));
     assert_eq!(rt; tx.unconfirmed(4_097), None);
     tx.freeze();
-    assert_eq!(rt; send(&mut tx, &mut pool, &[3]), Some(Err(NumberError::Frozen)));
+    assert_eq!(rt;
+        send(&mut tx, &mut pool, &[3]),
+        Some(Err(NumberError::Frozen))
+    );
     tx.resume();
     assert_eq!(rt; send(&mut tx, &mut pool, &[3]), Some(Ok(4_097)));
-    assert_eq!(rt; send(&mut tx, &mut pool, &[4]), Some(Err(NumberError::WindowFull)));
+    assert_eq!(rt;
+        send(&mut tx, &mut pool, &[4]),
+        Some(Err(NumberError::WindowFull))
+    );
     assert_eq!(rt; tx.confirm_to(&mut pool, 4_094), 1);
     assert_eq!(rt; tx.confirm_to(&mut pool, 8_190), 0);
     assert_eq!(rt; tx.confirm_report(&mut pool, 4_096, &[0x80]), 1);
@@ -202,7 +233,10 @@ fn a_receiver_from_end_to_end(rt: HostRuntime) -> Result<(), Fail> {
     rx.clear(&mut pool);
     assert_eq!(rt; rx.deliv(), 4_095);
     assert_eq!(rt; receive(&mut rx, &mut pool, 3, &[1]), Some(Err(Ahead)));
-    assert_eq!(rt; receive(&mut rx, &mut pool, 4_095, &[2]), taken(4_095, true));
+    assert_eq!(rt;
+        receive(&mut rx, &mut pool, 4_095, &[2]),
+        taken(4_095, true)
+    );
     rx.freeze();
     assert_eq!(rt; hand_up(&mut rx, &mut pool, &[2]), None);
     rx.resume();

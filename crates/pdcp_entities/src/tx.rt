@@ -104,7 +104,12 @@ impl Tx {
 
     /// Holds a packet that another entity numbered. It is handed back where its COUNT is not in the window below the next
     /// one, or not above all that are held.
-    pub fn restore(&mut self, pool: &mut Pool, count: u32, r: Ref) -> Result<(), (Ref, OutsideWindow)>
+    pub fn restore(
+        &mut self,
+        pool: &mut Pool,
+        count: u32,
+        r: Ref,
+    ) -> Result<(), (Ref, OutsideWindow)>
         requires parked { AreParked pool.old self.old.sender.unconfirmed }
         requires given { IsSome (packet_of pool.old r) }
         ensures ok { IsOk result

@@ -1,6 +1,5 @@
 -- Internal: COUNTs in a row as slots, each of which holds the place of a packet or nothing.
 use Rattle.std.specs.Prelude.{◌≡◌, ℕ, ◌+◌, ◌-◌, ◌<◌, ◌≤◌, List, [], ◌∷◌, ◌++◌, length, replicate, Option, Some, None, IsSome, Bool, true, false}
-
 use Rattle.pdcp_entities.specs.declared.ring.Ring.{Ring}
 
 module _ {X : Type 0} where

@@ -75,7 +75,7 @@ overflow_add-freed c =
     let ys = held_from (ring.first + i + 1) (drop (i + 1) ring.slots.items) in
     let inside : i < length ring.slots.items = omega arith in
     let split : held ring ≡ xs ++ with_slot (ring.first + i) s ys =
-        held_from-split ring.first i ring.slots.items inside ∙ ap (λ o. xs ++ with_slot (ring.first + i) o ys) (sym c.empty.ensures.value) in
+    held_from-split ring.first i ring.slots.items inside ∙ ap (λ o. xs ++ with_slot (ring.first + i) o ys) (sym c.empty.ensures.value) in
     let is : t (ring.first + i) ≡ true = sym c.is_reported.ensures ∙ c.if-not-is_reported.false in
     let number = turn_count t (ring.first + i) s xs ys is inv.none in
     let size = ap (λ es. length (passing t es)) split in
@@ -96,17 +96,17 @@ loop-i-preserved c =
     let ys = held_from (ring.first + i + 1) (drop (i + 1) ring.slots.items) in
     let inside : i < length ring.slots.items = omega arith in
     let split : held ring ≡ xs ++ with_slot k s ys =
-        held_from-split ring.first i ring.slots.items inside ∙ ap (λ o. xs ++ with_slot k o ys) (sym c.empty.ensures.value) in
+    held_from-split ring.first i ring.slots.items inside ∙ ap (λ o. xs ++ with_slot k o ys) (sym c.empty.ensures.value) in
     let after : held new ≡ xs ++ ys =
-        ap (λ n. held_from n new.slots.items) c.empty.ensures.first
-        ∙ (ap (λ b. held_from ring.first b.items) c.empty.ensures.slots ∙ held_from-emptied ring.first i ring.slots.items inside) in
+    ap (λ n. held_from n new.slots.items) c.empty.ensures.first
+    ∙ (ap (λ b. held_from ring.first b.items) c.empty.ensures.slots ∙ held_from-emptied ring.first i ring.slots.items inside) in
     let is : t k ≡ true = sym c.is_reported.ensures ∙ c.if-not-is_reported.false in
     let parked = subst (λ (es : List (ℕ × ℕ)). AreParked pool es) split inv.parked in
     let left = turn_left t k s xs ys BLOCK pool c.args.pool.now all c.free_if-freed.ensures.sound is inv.none parked
-        (subst (λ (es : List (ℕ × ℕ)). AreLeft all (passing t es) c.args.pool.now pool) split inv.left) in
+    (subst (λ (es : List (ℕ × ℕ)). AreLeft all (passing t es) c.args.pool.now pool) split inv.left) in
     let left_now = subst (λ (es : List (ℕ × ℕ)). AreLeft all (passing t es) c.args.pool.now (freed_if pool s)) (sym after) left in
     let parked_now = subst (λ (es : List (ℕ × ℕ)). AreParked (freed_if pool s) es) (sym after)
-        (turn_parked t k s xs ys BLOCK pool c.free_if-freed.ensures.sound parked) in
+    (turn_parked t k s xs ys BLOCK pool c.free_if-freed.ensures.sound parked) in
     let number = turn_count t k s xs ys is inv.none in
     let size = ap (λ es. length (passing t es)) split in
     let size_now = ap (λ es. length (passing t es)) after in

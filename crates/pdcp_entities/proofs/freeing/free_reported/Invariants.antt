@@ -17,5 +17,5 @@ invariant-loop-i l = record {
   in_range : l.initial.ring.first + length l.initial.ring.slots.items < 2 ^ 32;
   first : l.ring.first ≡ l.initial.ring.first;
   slots : length l.ring.slots.items ≡ length l.initial.ring.slots.items;
-  capacity : l.ring.slots.capacity ≡ l.initial.ring.slots.capacity
+  capacity : l.ring.slots.capacity ≡ l.initial.ring.slots.capacity;
 }

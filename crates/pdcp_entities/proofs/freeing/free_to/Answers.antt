@@ -36,11 +36,11 @@ loop-pool-preserved c =
     let t : ℕ → Bool = λ k. not (nat_lt count k) in
     let within = c.begins_by.ensures.0 c.loop-pool-test.true in
     let split : held ring ≡ with_slot ring.first s (held new) =
-        ap (held_from ring.first) c.pop.ensures.slots ∙ ap (λ n. with_slot ring.first s (held_from n new.slots.items)) (sym c.pop.ensures.first) in
+    ap (held_from ring.first) c.pop.ensures.slots ∙ ap (λ n. with_slot ring.first s (held_from n new.slots.items)) (sym c.pop.ensures.first) in
     let is = to_is count ring.first within.1 in
     let parked = subst (λ (es : List (ℕ × ℕ)). AreParked c.loop-pool.pool es) split inv.parked in
     let left = turn_left t ring.first s [] (held new) BLOCK c.loop-pool.pool c.args.pool.now (passing t (held c.args.ring.now)) c.free_if-freed.ensures.sound is refl parked
-        (subst (λ (es : List (ℕ × ℕ)). AreLeft (passing t (held c.args.ring.now)) (passing t es) c.args.pool.now c.loop-pool.pool) split inv.left) in
+    (subst (λ (es : List (ℕ × ℕ)). AreLeft (passing t (held c.args.ring.now)) (passing t es) c.args.pool.now c.loop-pool.pool) split inv.left) in
     let number = turn_count t ring.first s [] (held new) is refl in
     let size = ap (λ es. length (passing t es)) split in
     let slots = ap length c.pop.ensures.slots in

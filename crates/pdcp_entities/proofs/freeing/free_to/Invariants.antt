@@ -15,7 +15,7 @@ invariant-loop-pool l = record {
   end : l.ring.first + length l.ring.slots.items ≡ l.initial.ring.first + length l.initial.ring.slots.items;
   after : l.initial.ring.first ≤ l.ring.first;
   last : IsLastFull l.initial.ring.slots.items → IsLastFull l.ring.slots.items;
-  capacity : l.ring.slots.capacity ≡ l.initial.ring.slots.capacity
+  capacity : l.ring.slots.capacity ≡ l.initial.ring.slots.capacity;
 }
 
 abbrev pub decreases-loop-pool : goal.decreases-loop-pool

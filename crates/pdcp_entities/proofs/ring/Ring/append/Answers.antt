@@ -13,31 +13,31 @@ returns-clause-held c =
     let old = c.args.self.now in
     let mid = c.if-is_empty.self in
     let same : held_from mid.first old.slots.items ≡ held old =
-        elim c.if-is_empty.branch [
-          then-is_empty w ↦ no_items mid.first old.first old.slots.items (sym c.is_empty.ensures ∙ w.if-is_empty.true)
-        | else-is_empty w ↦ ap (λ (r : Ring). held_from r.first old.slots.items) w.self-is
-        ] in
+    elim c.if-is_empty.branch [
+      | then-is_empty w ↦ no_items mid.first old.first old.slots.items (sym c.is_empty.ensures ∙ w.if-is_empty.true)
+      | else-is_empty w ↦ ap (λ (r : Ring). held_from r.first old.slots.items) w.self-is
+    ] in
     let slots : mid.slots.items ≡ old.slots.items =
-        elim c.if-is_empty.branch [
-          then-is_empty w ↦ ap (λ (r : Ring). r.slots.items) w.self-is
-        | else-is_empty w ↦ ap (λ (r : Ring). r.slots.items) w.self-is
-        ] in
+    elim c.if-is_empty.branch [
+      | then-is_empty w ↦ ap (λ (r : Ring). r.slots.items) w.self-is
+      | else-is_empty w ↦ ap (λ (r : Ring). r.slots.items) w.self-is
+    ] in
     let from : mid.first ≤ c.args.count =
-        elim c.if-is_empty.branch [
-          then-is_empty w ↦ omega (arith, ap (λ (r : Ring). r.first) w.self-is)
-        | else-is_empty w ↦
+    elim c.if-is_empty.branch [
+      | then-is_empty w ↦ omega (arith, ap (λ (r : Ring). r.first) w.self-is)
+      | else-is_empty w ↦
           let some : length old.slots.items ≢ 0 = eqb-false (length old.slots.items) 0 (sym c.is_empty.ensures ∙ w.if-is_empty.false) in
           let after = c.requires.after (omega arith) in
           omega (arith, ap (λ (r : Ring). r.first) w.self-is)
-        ] in
+    ] in
     let within : length old.slots.items ≤ c.args.count - mid.first =
-        elim c.if-is_empty.branch [
-          then-is_empty w ↦ omega (arith, eqb-true (length old.slots.items) 0 (sym c.is_empty.ensures ∙ w.if-is_empty.true))
-        | else-is_empty w ↦
+    elim c.if-is_empty.branch [
+      | then-is_empty w ↦ omega (arith, eqb-true (length old.slots.items) 0 (sym c.is_empty.ensures ∙ w.if-is_empty.true))
+      | else-is_empty w ↦
           let some : length old.slots.items ≢ 0 = eqb-false (length old.slots.items) 0 (sym c.is_empty.ensures ∙ w.if-is_empty.false) in
           let after = c.requires.after (omega arith) in
           omega (arith, ap (λ (r : Ring). r.first) w.self-is)
-        ] in
+    ] in
     ap (λ n. held_from n c.push.new.self.slots.items) c.push.ensures.first
     ∙ (ap (λ b. held_from mid.first b.items) c.push.ensures.slots
     ∙ (ap (λ ss. held_from mid.first (padded ss (c.args.count - mid.first) ++ Some c.args.place ∷ [])) slots

@@ -7,7 +7,7 @@ invariant-loop-self l = record {
   first : l.self.first ≡ l.initial.self.first;
   capacity : l.self.slots.capacity ≡ l.initial.self.slots.capacity;
   room : l.len ≤ l.self.slots.capacity;
-  rest : padded l.self.slots.items l.len ≡ padded l.initial.self.slots.items l.len
+  rest : padded l.self.slots.items l.len ≡ padded l.initial.self.slots.items l.len;
 }
 
 abbrev pub decreases-loop-self : goal.decreases-loop-self

@@ -9,7 +9,7 @@ invariant-loop-self l = record {
   end : l.self.first + length l.self.slots.items ≡ l.initial.self.first + length l.initial.self.slots.items;
   after : l.initial.self.first ≤ l.self.first;
   in_range : l.initial.self.first + length l.initial.self.slots.items < 2 ^ 32;
-  capacity : l.self.slots.capacity ≡ l.initial.self.slots.capacity
+  capacity : l.self.slots.capacity ≡ l.initial.self.slots.capacity;
 }
 
 abbrev pub decreases-loop-self : goal.decreases-loop-self

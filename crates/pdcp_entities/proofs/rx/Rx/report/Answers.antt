@@ -7,9 +7,8 @@ use Rattle.pdcp_entities.proofs.rx.Rx.report.Goals as goal
 pub returns : goal.returns
 unfolding received_bits
 returns c =
-    let ring = c.self.inside.stored in
-    (
+    let ring = c.self.inside.stored in (
       ap (λ (v : RxState). v.receiver.deliv) c.self.view_is,
       c.in_ok-bits.ensures
-      ∙ (sym (bits-after ring.first ring.slots.items c.self.invariant.last_full) ∙ ap (λ (v : RxState). received_bits v.receiver) c.self.view_is),
+          ∙ (sym (bits-after ring.first ring.slots.items c.self.invariant.last_full) ∙ ap (λ (v : RxState). received_bits v.receiver) c.self.view_is),
     )

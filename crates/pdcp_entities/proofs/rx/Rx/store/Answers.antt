@@ -55,14 +55,13 @@ returns-clause-stored c =
     let x : Stored = record { key = c.args.key; bytes = c.args.packet.now } in
     let e : ℕ × ℕ = (c.args.count, place) in
     let pool = c.park-place.ensures.parked ∙ ap (λ (p : PoolState). with_place p place c.in-Ok.r) c.in-Ok.ensures.ok in
-    let fresh = ap (λ (p : PoolState). find nat_cmp p.parked place) (sym c.in-Ok.ensures.ok) ∙ c.park-place.ensures.fresh in
-    (
+    let fresh = ap (λ (p : PoolState). find nat_cmp p.parked place) (sym c.in-Ok.ensures.ok) ∙ c.park-place.ensures.fresh in (
       place,
       ap (λ (n : ℕ). record { sn = t.sn; quota = t.quota; frozen = t.frozen; receiver = record { deliv = n; stored = held c.place.new.self } }) c.place.ensures.first
-      ∙ (ap (λ (es : List (ℕ × ℕ)). record { sn = t.sn; quota = t.quota; frozen = t.frozen; receiver = record { deliv = t.stored.first; stored = es } }) c.place.ensures.held
-      ∙ ap (λ (v : RxState). record { sn = v.sn; quota = v.quota; frozen = v.frozen; receiver = stored v.receiver c.args.count place }) c.self.view_is),
+          ∙ (ap (λ (es : List (ℕ × ℕ)). record { sn = t.sn; quota = t.quota; frozen = t.frozen; receiver = record { deliv = t.stored.first; stored = es } }) c.place.ensures.held
+          ∙ ap (λ (v : RxState). record { sn = v.sn; quota = v.quota; frozen = v.frozen; receiver = stored v.receiver c.args.count place }) c.self.view_is),
       subst (λ (q : PoolState). Puts x e c.args.pool.now q) (sym pool)
-      (puts BLOCK c.args.pool.now c.put.ensures.sound c.in-Ok.r x e c.in-Ok.ensures.fresh fresh),
+          (puts BLOCK c.args.pool.now c.put.ensures.sound c.in-Ok.r x e c.in-Ok.ensures.fresh fresh),
     )
 
 pub returns-clause-octets : goal.returns-clause-octets

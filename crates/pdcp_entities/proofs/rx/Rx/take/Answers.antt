@@ -30,7 +30,7 @@ pub is_ahead-requires : goal.is_ahead-requires
 is_ahead-requires c =
     let ring = c.self.inside.stored in
     let new = new_count ring.first c.in-Some.count ring.slots.items
-        (ap (λ (v : RxState). is_duplicate v.receiver c.in-Some.count) c.self.view_is ∙ (sym c.is_duplicate.ensures ∙ c.if-is_duplicate.false)) in
+    (ap (λ (v : RxState). is_duplicate v.receiver c.in-Some.count) c.self.view_is ∙ (sym c.is_duplicate.ensures ∙ c.if-is_duplicate.false)) in
     let deliv = ap (λ (v : RxState). v.receiver.deliv) c.self.view_is in
     omega (arith, new.0, deliv)
 

@@ -39,6 +39,6 @@ returns-clause-octets c =
     let u : ℕ → Bool = λ k. not (t k) in
     let frees = subst (λ (es : List (ℕ × ℕ)). Frees es c.args.pool.now q) (ap (λ (v : TxState). passing t v.sender.unconfirmed) c.self.view_is) c.free_reported-freed.ensures.freed in
     let held_now = c.trim_front.ensures.held
-        ∙ (c.trim_back.ensures.held ∙ (c.free_reported-freed.ensures.held ∙ ap (λ (v : TxState). passing u v.sender.unconfirmed) c.self.view_is)) in
+    ∙ (c.trim_back.ensures.held ∙ (c.free_reported-freed.ensures.held ∙ ap (λ (v : TxState). passing u v.sender.unconfirmed) c.self.view_is)) in
     senders (ap (λ (v : TxState). v.sender.next) c.self.view_is)
     (ap (octets_in q) held_now ∙ frees_octets t u (λ k n m. not_both (t k) n m) c.args.pool.now q old.sender.unconfirmed c.requires.apart frees)

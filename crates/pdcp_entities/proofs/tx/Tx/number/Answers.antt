@@ -30,9 +30,9 @@ invariant_of-self c =
       below = omega (arith, facts.end);
       in_range = omega arith;
       under_way = λ some.
-        still_under_way (length t.unconfirmed.slots.items) t.unconfirmed.first c.append.new.self.first (t.next + 1) t.next (window t.sn t.quota) facts.first
-        (λ old. let l = room_left t.sn t.quota t.next t.unconfirmed.first t.unconfirmed.slots.items inv.first_full room old in omega (arith, l))
-        (let w = window_some t.sn t.quota inv.bounds.0 in omega (arith, w));
+          still_under_way (length t.unconfirmed.slots.items) t.unconfirmed.first c.append.new.self.first (t.next + 1) t.next (window t.sn t.quota) facts.first
+          (λ old. let l = room_left t.sn t.quota t.next t.unconfirmed.first t.unconfirmed.slots.items inv.first_full room old in omega (arith, l))
+          (let w = window_some t.sn t.quota inv.bounds.0 in omega (arith, w));
     }
 
 pub returns-clause-held : goal.returns-clause-held
@@ -40,13 +40,12 @@ unfolding numbered
 returns-clause-held c =
     let t = c.self.inside in
     let place = c.park-place.result in
-    let e : ℕ × ℕ = (c.args.self.now.sender.next, place) in
-    (
+    let e : ℕ × ℕ = (c.args.self.now.sender.next, place) in (
       place,
       ap (λ (es : List (ℕ × ℕ)). record { sn = t.sn; quota = t.quota; frozen = t.frozen; sender = record { next = t.next + 1; unconfirmed = es } }) c.append.ensures.held
-      ∙ ap (λ (v : TxState). record { sn = v.sn; quota = v.quota; frozen = v.frozen; sender = numbered v.sender place }) c.self.view_is,
+          ∙ ap (λ (v : TxState). record { sn = v.sn; quota = v.quota; frozen = v.frozen; sender = numbered v.sender place }) c.self.view_is,
       subst (λ (q : PoolState). Parks c.args.r e c.args.pool.now q) (sym c.park-place.ensures.parked)
-      (parks c.args.pool.now c.args.r e c.requires.given c.park-place.ensures.fresh),
+          (parks c.args.pool.now c.args.r e c.requires.given c.park-place.ensures.fresh),
     )
 
 pub returns-clause-octets : goal.returns-clause-octets
@@ -58,9 +57,9 @@ returns-clause-octets c =
     let old = c.args.self.now in
     let e : ℕ × ℕ = (old.sender.next, place) in
     let parked_at = subst (λ (s : PoolState). Parks c.args.r e c.args.pool.now s) (sym c.park-place.ensures.parked)
-        (parks c.args.pool.now c.args.r e c.requires.given c.park-place.ensures.fresh) in
+    (parks c.args.pool.now c.args.r e c.requires.given c.park-place.ensures.fresh) in
     let held_now : held c.append.new.self ≡ old.sender.unconfirmed ++ e ∷ [] =
-        c.append.ensures.held ∙ ap (λ (v : TxState). v.sender.unconfirmed ++ (v.sender.next, place) ∷ []) c.self.view_is in
+    c.append.ensures.held ∙ ap (λ (v : TxState). v.sender.unconfirmed ++ (v.sender.next, place) ∷ []) c.self.view_is in
     let octets = ap (octets_in q) held_now ∙ parks_octets c.args.r e c.args.pool.now q old.sender.unconfirmed c.requires.given parked_at c.requires.parked in
     let next = ap (λ (v : TxState). v.sender.next + 1) c.self.view_is in
     senders next octets
@@ -72,8 +71,8 @@ returns-clause-parked c =
     let old = c.args.self.now in
     let e : ℕ × ℕ = (old.sender.next, place) in
     let parked_at = subst (λ (s : PoolState). Parks c.args.r e c.args.pool.now s) (sym c.park-place.ensures.parked)
-        (parks c.args.pool.now c.args.r e c.requires.given c.park-place.ensures.fresh) in
+    (parks c.args.pool.now c.args.r e c.requires.given c.park-place.ensures.fresh) in
     let held_now : held c.append.new.self ≡ old.sender.unconfirmed ++ e ∷ [] =
-        c.append.ensures.held ∙ ap (λ (v : TxState). v.sender.unconfirmed ++ (v.sender.next, place) ∷ []) c.self.view_is in
+    c.append.ensures.held ∙ ap (λ (v : TxState). v.sender.unconfirmed ++ (v.sender.next, place) ∷ []) c.self.view_is in
     subst (λ (es : List (ℕ × ℕ)). AreParked q es) (sym held_now)
     (parks_parked c.args.r e c.args.pool.now q old.sender.unconfirmed c.requires.given parked_at c.requires.parked)

@@ -37,8 +37,8 @@ invariant_of-self c =
       below = omega (arith, facts.end, at.1);
       in_range = inv.in_range;
       under_way = λ some.
-        still_under_way (length t.unconfirmed.slots.items) t.unconfirmed.first c.append.new.self.first t.next c.args.count (window t.sn t.quota) facts.first
-        inv.under_way (omega (arith, at.0));
+          still_under_way (length t.unconfirmed.slots.items) t.unconfirmed.first c.append.new.self.first t.next c.args.count (window t.sn t.quota) facts.first
+          inv.under_way (omega (arith, at.0));
     }
 
 pub returns-clause-held : goal.returns-clause-held
@@ -46,13 +46,12 @@ unfolding restored
 returns-clause-held c =
     let t = c.self.inside in
     let place = c.park-place.result in
-    let e : ℕ × ℕ = (c.args.count, place) in
-    (
+    let e : ℕ × ℕ = (c.args.count, place) in (
       place,
       ap (λ (es : List (ℕ × ℕ)). record { sn = t.sn; quota = t.quota; frozen = t.frozen; sender = record { next = t.next; unconfirmed = es } }) c.append.ensures.held
-      ∙ ap (λ (v : TxState). record { sn = v.sn; quota = v.quota; frozen = v.frozen; sender = restored v.sender c.args.count place }) c.self.view_is,
+          ∙ ap (λ (v : TxState). record { sn = v.sn; quota = v.quota; frozen = v.frozen; sender = restored v.sender c.args.count place }) c.self.view_is,
       subst (λ (q : PoolState). Parks c.args.r e c.args.pool.now q) (sym c.park-place.ensures.parked)
-      (parks c.args.pool.now c.args.r e c.requires.given c.park-place.ensures.fresh),
+          (parks c.args.pool.now c.args.r e c.requires.given c.park-place.ensures.fresh),
     )
 
 pub returns-clause-octets : goal.returns-clause-octets
@@ -64,9 +63,9 @@ returns-clause-octets c =
     let old = c.args.self.now in
     let e : ℕ × ℕ = (c.args.count, place) in
     let parked_at = subst (λ (s : PoolState). Parks c.args.r e c.args.pool.now s) (sym c.park-place.ensures.parked)
-        (parks c.args.pool.now c.args.r e c.requires.given c.park-place.ensures.fresh) in
+    (parks c.args.pool.now c.args.r e c.requires.given c.park-place.ensures.fresh) in
     let held_now : held c.append.new.self ≡ old.sender.unconfirmed ++ e ∷ [] =
-        c.append.ensures.held ∙ ap (λ (v : TxState). v.sender.unconfirmed ++ (c.args.count, place) ∷ []) c.self.view_is in
+    c.append.ensures.held ∙ ap (λ (v : TxState). v.sender.unconfirmed ++ (c.args.count, place) ∷ []) c.self.view_is in
     let octets = ap (octets_in q) held_now ∙ parks_octets c.args.r e c.args.pool.now q old.sender.unconfirmed c.requires.given parked_at c.requires.parked in
     let next = ap (λ (v : TxState). v.sender.next) c.self.view_is in
     senders next octets
@@ -78,8 +77,8 @@ returns-clause-parked c =
     let old = c.args.self.now in
     let e : ℕ × ℕ = (c.args.count, place) in
     let parked_at = subst (λ (s : PoolState). Parks c.args.r e c.args.pool.now s) (sym c.park-place.ensures.parked)
-        (parks c.args.pool.now c.args.r e c.requires.given c.park-place.ensures.fresh) in
+    (parks c.args.pool.now c.args.r e c.requires.given c.park-place.ensures.fresh) in
     let held_now : held c.append.new.self ≡ old.sender.unconfirmed ++ e ∷ [] =
-        c.append.ensures.held ∙ ap (λ (v : TxState). v.sender.unconfirmed ++ (c.args.count, place) ∷ []) c.self.view_is in
+    c.append.ensures.held ∙ ap (λ (v : TxState). v.sender.unconfirmed ++ (c.args.count, place) ∷ []) c.self.view_is in
     subst (λ (es : List (ℕ × ℕ)). AreParked q es) (sym held_now)
     (parks_parked c.args.r e c.args.pool.now q old.sender.unconfirmed c.requires.given parked_at c.requires.parked)
