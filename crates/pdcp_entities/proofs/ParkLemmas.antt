@@ -288,3 +288,8 @@ parked_taken p r given es parked =
     all_at : (fs : List (ℕ × ℕ)) → AllSame p (without_packet p r) fs
     all_at [] = tt
     all_at (e ∷ fs) = (packet_at_take p r e.1 given, all_at fs)
+
+-- a reference that is handed back, by a pool that stayed as it was
+pub still_given : (p q : PoolState) (r s : ℕ) → q ≡ p → s ≡ r → IsSome (packet_of p r) → IsSome (packet_of q s)
+still_given p q r s pool same given =
+    subst (λ (t : PoolState). IsSome (packet_of t s)) (sym pool) (subst (λ (n : ℕ). IsSome (packet_of p n)) (sym same) given)

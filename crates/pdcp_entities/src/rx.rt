@@ -1,6 +1,6 @@
 //! The receiving entity: RX_DELIV, and the packets that are stored until they are delivered in order (TS 38.323, 5.2.2, 5.4.1).
 
-ghost use Rattle.std.specs.Prelude.{◌≡◌, ℕ, ◌+◌, ◌≤◌, true, false, nat_le, length, find, Ok, Some, None, IfOk, IfSome, IfNone, IfErr};
+ghost use Rattle.std.specs.Prelude.{◌≡◌, ℕ, ◌+◌, ◌≤◌, true, false, nat_le, length, find, Ok, Some, None, IsSome, IfOk, IfSome, IfNone, IfErr};
 ghost use Rattle.pdcp_defs.specs.Receivers.{stored, deliver, with_packet, received_bits, is_duplicate, is_ahead};
 ghost use Rattle.pdcp.specs.Near.{last_count};
 ghost use Rattle.packet_pool.specs.declared.region.TheConstants.{BLOCK};
@@ -147,6 +147,7 @@ impl Rx {
         ensures some { IfSome result (λ d. (place : ℕ) × (handed_up self.old ≡ Some (d.0, place))
             × (self.new ≡ record self.old { receiver = advanced self.old.receiver })
             × Unparks d.1 (d.0, place) pool.old pool.new) }
+        ensures given { IfSome result (λ d. IsSome (packet_of pool.new d.1)) }
         ensures octets { IfSome result (λ d. deliver (receiver_in pool.old self.old)
             ≡ with_packet (d.0, bytes_of (packet_of pool.new d.1))
             (deliver (receiver_in pool.new self.new))) }

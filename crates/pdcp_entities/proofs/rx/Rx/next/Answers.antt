@@ -1,7 +1,8 @@
 use Rattle.std.proofs.Common.{◌≡◌, ℕ, ◌+◌, Bool, List, [], ◌∷◌, Option, Some, None, length, drop, cond, sym, ap, ◌∙◌, subst, refl, arith}
+use Rattle.std.specs.Prelude.{IsSome}
 use Rattle.packet_pool.specs.declared.region.TheConstants.{BLOCK}
 use Rattle.pdcp_defs.specs.Receivers.{deliver, with_packet}
-use Rattle.pool_defs.specs.Pools.{PoolState, packet_of, without_place}
+use Rattle.pool_defs.specs.Pools.{Stored, PoolState, packet_of, without_place}
 use Rattle.pdcp_entities.specs.Packets.{AreParked, Unparks, bytes_of, octets_in}
 use Rattle.pdcp_entities.specs.Entities.{RxState, receiver_in, handed_up, first_at, advanced}
 use Rattle.pdcp_entities.specs.inside.Rings.{held, held_from}
@@ -89,3 +90,20 @@ returns-clause-parked c =
     (unparks BLOCK p c.unpark.ensures.sound c.unpark.result e c.unpark.ensures.there) in
     let stored = sym (ap (λ (v : RxState). v.receiver.stored) c.self.view_is) ∙ split in
     unparks_parked c.unpark.result e p q (held new) taken (subst (λ (es : List (ℕ × ℕ)). AreParked p es) stored c.requires)
+
+pub returns-clause-given : goal.returns-clause-given
+returns-clause-given c =
+    let ring = c.self.inside.stored in
+    let new = c.pop.new.self in
+    let place = c.in-Some.place in
+    let p = c.args.pool.now in
+    let q = c.unpark.new.self in
+    let e : ℕ × ℕ = (ring.first, place) in
+    let split : held ring ≡ e ∷ held new =
+    first_slot ring.first ring.first ring.slots.items new.slots.items c.pop.result place c.pop.ensures.slots c.in-Some.ensures
+    ∙ ap (λ n. e ∷ held_from n new.slots.items) (sym c.pop.ensures.first) in
+    let taken = subst (λ (s : PoolState). Unparks c.unpark.result e p s) (sym c.unpark.ensures.unparked)
+    (unparks BLOCK p c.unpark.ensures.sound c.unpark.result e c.unpark.ensures.there) in
+    let stored = sym (ap (λ (v : RxState). v.receiver.stored) c.self.view_is) ∙ split in
+    let parked = subst (λ (es : List (ℕ × ℕ)). AreParked p es) stored c.requires in
+    subst (λ (o : Option Stored). IsSome o) (sym taken.packet) parked.there.0
