@@ -1,0 +1,9 @@
+pub mod BitLemmas
+pub mod FreeLemmas
+pub mod NearLemmas
+pub mod ParkLemmas
+pub mod RingLemmas
+pub mod RxLemmas
+pub mod SlotLemmas
+pub mod TurnLemmas
+pub mod TxLemmas

@@ -1,0 +1,4 @@
+pub mod Bits
+pub mod Entities
+pub mod Packets
+pub mod inside
