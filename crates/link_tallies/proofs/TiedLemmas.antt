@@ -258,6 +258,24 @@ module _ {K V X : Type 0} {R : K → K → Ordering} (o : IsTotalOrder R) (items
         omega arith;
   }
 
+  -- all that stood there goes
+  pub tallies-emptied : (t : Tallies) (v : V) (items : List (Item X)) → IsSorted R links → StandThere items
+      → items_in v ≡ [] → AreTallies items_in t links → AreTallies items_in (all_left t items) (put R links k v)
+  tallies-emptied t v items sorted there is tied = record {
+    numbers = λ key.
+        let now = total-put (is_of_key key) v items sorted there in
+        let none = ap (weight (is_of_key key)) is in
+        let went = number_all_left t items key in
+        let was = tied.numbers key in
+        omega arith;
+    counts = λ key c.
+        let now = total-put (shows key c) v items sorted there in
+        let none = ap (weight (shows key c)) is in
+        let went = times_all_left t items key c in
+        let was = tied.counts key c in
+        omega arith;
+  }
+
   -- the link is closed
   pub tallies-without : (t : Tallies) (items : List (Item X)) → IsSorted R links → StandThere items → AreTallies items_in t links
       → AreTallies items_in (all_left t items) (without R links k)
@@ -280,3 +298,19 @@ unfolding number times at find
 tallies-none {K = K} {V = V} items_in t links no_tally no_link =
     subst (λ (m : Tallies). AreTallies items_in m links) (sym no_tally)
     (subst (λ (m : List (K × V)). AreTallies items_in [] m) (sym no_link) (record { numbers = λ key. refl; counts = λ key c. refl }))
+
+-- an item that came is taken back
+pub tallies-undone : {K V X : Type 0} (items_in : V → List (Item X)) (t : Tallies) (links : List (K × V)) (item : Item X)
+    → AreTallies items_in t links → AreTallies items_in (left (entered t item.key item.count) item.key item.count) links
+tallies-undone items_in t links item tied = record {
+  numbers = λ key.
+      let came = number_entered t item key in
+      let went = number_left (entered t item.key item.count) item key in
+      let was = tied.numbers key in
+      omega arith;
+  counts = λ key c.
+      let came = times_entered t item key c in
+      let went = times_left (entered t item.key item.count) item key c in
+      let was = tied.counts key c in
+      omega arith;
+}
