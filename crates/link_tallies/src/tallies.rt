@@ -9,6 +9,7 @@ ghost use Rattle.link_tallies.specs.Tallies.{entered, left, all_left, number, ti
 use gnb_types::items::Memory;
 use gnb_types::keys::EntityKey;
 use std::alloc::Global;
+use std::collections::VecDeque;
 use std::marker::Model;
 use tables::queue::Queue;
 use tables::table::Table;
@@ -166,6 +167,17 @@ impl Tallies {
     {
         let mut items = items;
         while let Some(item) = items.take() {
+            self.leave(item.key, item.count);
+        }
+    }
+
+    /// These items go.
+    #[tactic(auto, unfolding(crate::specs::Tallies::all_left))]
+    pub fn leave_each<X: Drop>(&mut self, items: VecDeque<Item<X>>)
+        ensures { self.new ≡ all_left self.old items.items }
+    {
+        let mut items = items;
+        while let Some(item) = items.pop_front() {
             self.leave(item.key, item.count);
         }
     }

@@ -1,3 +1,4 @@
 pub mod Answers
+pub mod Radios
 pub mod Tunnels
 pub mod inside

@@ -9,20 +9,16 @@ ghost use Rattle.links.specs.Tunnels.{tunnel_end, entity, no_tunnels, put_item, 
 ghost use Rattle.links.specs.Tunnels.{next_entry, place_in};
 
 use crate::error::LinkError;
+use crate::items::Item;
 use gnb_types::items::Memory;
 use gnb_types::keys::{EntityKey, TunnelEnd};
 use gnb_types::names::{BearerId, Dir, NodeId, UeId};
-use gnb_types::octets::Octets;
 use link_tallies::tallies::Tallies;
 use std::alloc::Global;
 use std::marker::Model;
 use tables::queue::Queue;
 use tables::shelf::Shelf;
 use tables::table::Table;
-use transport_defs::Item as ItemOf;
-
-/// An item of a tunnel or radio: its bearer and direction, the COUNT beside it, if it shows one, and its octets.
-pub type Item = ItemOf<Octets>;
 
 /// The open tunnels. Contracts see them with what stands on each, the oldest item first, and with which of them may lose items.
 #[derive(Drop)]
