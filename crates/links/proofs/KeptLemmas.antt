@@ -75,41 +75,42 @@ module _ {X : Type 0} where
       ∙ keys-again (keys m) k (subst (IsStrictlySortedBy tunnel_cmp) (sym (keys_of_keys m)) sorted)
       (find-keys m k ∙ ap (λ (r : Option X). option_map (λ x. tt {0}) r) found)
 
+module _ {K X : Type 0} (R : K → K → Ordering) (o : IsTotalOrder R) where
   -- what is put where nothing stands, and taken out again
-  keeps : (k : TunnelEnd) (es : List (TunnelEnd × X)) → lookup (is_at (tunnel_cmp k)) es ≡ None → filter (λ f. not (is_at (tunnel_cmp k) f.0)) es ≡ es
+  keeps : (k : K) (es : List (K × X)) → lookup (is_at (R k)) es ≡ None → filter (λ f. not (is_at (R k) f.0)) es ≡ es
   keeps k [] none = refl
-  keeps k (f ∷ fs) none = each (is_at (tunnel_cmp k) f.0) none (keeps k fs)
+  keeps k (f ∷ fs) none = each (is_at (R k) f.0) none (keeps k fs)
     where
-      each : (b : Bool) → cond b (Some f.1) (lookup (is_at (tunnel_cmp k)) fs) ≡ None
-          → (lookup (is_at (tunnel_cmp k)) fs ≡ None → filter (λ f. not (is_at (tunnel_cmp k) f.0)) fs ≡ fs)
-          → cond (not b) (f ∷ filter (λ f. not (is_at (tunnel_cmp k) f.0)) fs) (filter (λ f. not (is_at (tunnel_cmp k) f.0)) fs) ≡ f ∷ fs
+      each : (b : Bool) → cond b (Some f.1) (lookup (is_at (R k)) fs) ≡ None
+          → (lookup (is_at (R k)) fs ≡ None → filter (λ f. not (is_at (R k) f.0)) fs ≡ fs)
+          → cond (not b) (f ∷ filter (λ f. not (is_at (R k) f.0)) fs) (filter (λ f. not (is_at (R k) f.0)) fs) ≡ f ∷ fs
       each true none rest = absurd cc
-      each false none rest = ap (λ (m : List (TunnelEnd × X)). f ∷ m) (rest none)
+      each false none rest = ap (λ (m : List (K × X)). f ∷ m) (rest none)
 
-  without-put : (m : List (TunnelEnd × X)) (k : TunnelEnd) (v : X) → find tunnel_cmp m k ≡ None → without tunnel_cmp (put tunnel_cmp m k v) k ≡ m
+  pub without-put : (m : List (K × X)) (k : K) (v : X) → find R m k ≡ None → without R (put R m k v) k ≡ m
   unfolding find put without
   without-put [] k v none =
-      ap (λ (b : Bool). cond {A = List (TunnelEnd × X)} (not b) ((k, v) ∷ []) []) (ap is_eq (tied_itself tunnel_total k))
-  without-put (e ∷ es) k v none = by (tunnel_cmp k e.0) refl (without-put es k v)
+      ap (λ (b : Bool). cond {A = List (K × X)} (not b) ((k, v) ∷ []) []) (ap is_eq (tied_itself o k))
+  without-put (e ∷ es) k v none = by (R k e.0) refl (without-put es k v)
     where
-      gone : (r : Ordering) → tunnel_cmp k e.0 ≡ r → cond (is_eq r) (Some e.1) (lookup (is_at (tunnel_cmp k)) es) ≡ None
-      gone r is = ap (λ (r : Ordering). cond (is_eq r) (Some e.1) (lookup (is_at (tunnel_cmp k)) es)) (sym is) ∙ none
+      gone : (r : Ordering) → R k e.0 ≡ r → cond (is_eq r) (Some e.1) (lookup (is_at (R k)) es) ≡ None
+      gone r is = ap (λ (r : Ordering). cond (is_eq r) (Some e.1) (lookup (is_at (R k)) es)) (sym is) ∙ none
 
-      stays : (r : Ordering) (m : List (TunnelEnd × X)) → tunnel_cmp k e.0 ≡ r
-          → cond (not (is_at (tunnel_cmp k) e.0)) (e ∷ m) m ≡ cond (not (is_eq r)) (e ∷ m) m
+      stays : (r : Ordering) (m : List (K × X)) → R k e.0 ≡ r
+          → cond (not (is_at (R k) e.0)) (e ∷ m) m ≡ cond (not (is_eq r)) (e ∷ m) m
       stays r m is = ap (λ (r : Ordering). cond (not (is_eq r)) (e ∷ m) m) is
 
-      by : (r : Ordering) → tunnel_cmp k e.0 ≡ r
-          → (lookup (is_at (tunnel_cmp k)) es ≡ None → filter (λ f. not (is_at (tunnel_cmp k) f.0)) (insert_entry tunnel_cmp es k v) ≡ es)
-          → filter (λ f. not (is_at (tunnel_cmp k) f.0)) (match_ordering r ((k, v) ∷ e ∷ es) ((e.0, v) ∷ es) (e ∷ insert_entry tunnel_cmp es k v)) ≡ e ∷ es
+      by : (r : Ordering) → R k e.0 ≡ r
+          → (lookup (is_at (R k)) es ≡ None → filter (λ f. not (is_at (R k) f.0)) (insert_entry R es k v) ≡ es)
+          → filter (λ f. not (is_at (R k) f.0)) (match_ordering r ((k, v) ∷ e ∷ es) ((e.0, v) ∷ es) (e ∷ insert_entry R es k v)) ≡ e ∷ es
       by Less is rest =
-          ap (λ (r : Ordering). cond (not (is_eq r)) ((k, v) ∷ filter (λ f. not (is_at (tunnel_cmp k) f.0)) (e ∷ es)) (filter (λ f. not (is_at (tunnel_cmp k) f.0)) (e ∷ es)))
-          (tied_itself tunnel_total k)
+          ap (λ (r : Ordering). cond (not (is_eq r)) ((k, v) ∷ filter (λ f. not (is_at (R k) f.0)) (e ∷ es)) (filter (λ f. not (is_at (R k) f.0)) (e ∷ es)))
+          (tied_itself o k)
           ∙ keeps k (e ∷ es) none
       by Equal is rest = let found = gone Equal is in absurd cc
       by Greater is rest =
-          stays Greater (filter (λ f. not (is_at (tunnel_cmp k) f.0)) (insert_entry tunnel_cmp es k v)) is
-          ∙ ap (λ (m : List (TunnelEnd × X)). e ∷ m) (rest (gone Greater is))
+          stays Greater (filter (λ f. not (is_at (R k) f.0)) (insert_entry R es k v)) is
+          ∙ ap (λ (m : List (K × X)). e ∷ m) (rest (gone Greater is))
 
 -- where the keys are the same, so are those at which nothing stands
 mapped_none : {Y : Type 0} (r : Option Y) → option_map (λ y. tt {0}) r ≡ None → r ≡ None
@@ -274,7 +275,7 @@ module _ {L : Type 0} {queues : List (TunnelEnd × List (Item L))} {lossy : List
   -- a flag that was put is taken out again
   pub flag-undone : (flag : Bool) (lossy2 : List (TunnelEnd × Bool)) → find tunnel_cmp queues end ≡ None
       → lossy2 ≡ without tunnel_cmp (put tunnel_cmp lossy end flag) end → lossy2 ≡ lossy
-  flag-undone flag lossy2 none is = is ∙ without-put lossy end flag (absent_too queues lossy end kept.same_keys none)
+  flag-undone flag lossy2 none is = is ∙ without-put tunnel_cmp tunnel_total lossy end flag (absent_too queues lossy end kept.same_keys none)
 
 pub kept-none : {L : Type 0} (queues : List (TunnelEnd × List (Item L))) (lossy : List (TunnelEnd × Bool)) (t : Tallies)
     → queues ≡ [] → lossy ≡ [] → t ≡ [] → TunnelsAreKept queues lossy t

@@ -1,3 +1,4 @@
+pub mod BagLemmas
 pub mod EpochLemmas
 pub mod KeptLemmas
 pub mod RadioLemmas

@@ -3,7 +3,6 @@ use Rattle.std.proofs.Common.{◌≡◌, ◌<◌, ◌≤◌, ◌==◌, Bool, fal
 use Rattle.std.specs.Prelude.{Result, Ok, Err, IfOk, OnErr, unwrap_or}
 use Rattle.std.specs.Option.{option_map}
 use Rattle.std.specs.List.{slice_get}
-use Rattle.std.proofs.lemmas.Option.{slice_get_cases}
 use Rattle.std.proofs.lemmas.Bool.Decides.{nat_tests}
 use Rattle.gnb_types.specs.declared.keys.EntityKey.{EntityKey}
 use Rattle.gnb_types.specs.declared.names.UeId.{UeId}
@@ -24,29 +23,16 @@ use Rattle.links.proofs.KeptLemmas.{sorted_none}
 
 -- ---- one radio
 
-nth_next : {X : Type 0} (x : X) (xs : List X) (n : ℕ) → nth (x ∷ xs) (suc n) ≡ nth xs n
+pub nth_next : {X : Type 0} (x : X) (xs : List X) (n : ℕ) → nth (x ∷ xs) (suc n) ≡ nth xs n
 nth_next x xs n =
     let one : suc n - 1 ≡ n = omega arith in
     let more : (suc n == 0) ≡ false = grind (arith, nat_tests) in
     ap (λ (b : Bool). cond b (Some x) (nth xs (suc n - 1))) more ∙ ap (nth xs) one
 
-nth_in : {X : Type 0} (xs : List X) (n : ℕ) (d : X) → n < length xs → nth xs n ≡ Some (get_or xs n d)
-nth_in [] n d h = absurd (omega arith)
-nth_in (x ∷ xs) zero d h = refl
-nth_in (x ∷ xs) (suc n) d h = nth_next x xs n ∙ nth_in xs n d (omega arith)
-
-nth_past : {X : Type 0} (xs : List X) (n : ℕ) → length xs ≤ n → nth xs n ≡ None
-nth_past [] n h = refl
-nth_past (x ∷ xs) zero h = absurd (omega arith)
-nth_past (x ∷ xs) (suc n) h = nth_next x xs n ∙ nth_past xs n (omega arith)
-
 pub nth_is_get : {X : Type 0} (xs : List X) (n : ℕ) → nth xs n ≡ slice_get xs n
-nth_is_get {X = X} xs n = by (slice_get_cases xs n).1
-  where
-    by : ((x : X) × (n < length xs) × (slice_get xs n ≡ Some x) × (get_or xs n x ≡ x)) ⊎ ((length xs ≤ n) × (slice_get xs n ≡ None))
-        → nth xs n ≡ slice_get xs n
-    by (inl p) = nth_in xs n p.0 p.1 ∙ ap Some p.3 ∙ sym p.2
-    by (inr p) = nth_past xs n p.0 ∙ sym p.1
+nth_is_get [] n = refl
+nth_is_get (x ∷ xs) zero = refl
+nth_is_get (x ∷ xs) (suc n) = nth_next x xs n ∙ nth_is_get xs n
 
 -- a radio that carries an item keeps it
 pub carries_same : {P E : Type 0} (old new : Radio P) (r : Result (Option (Item P)) E) → IfOk r (λ item. new ≡ carried_on old item)

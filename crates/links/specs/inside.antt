@@ -1,3 +1,4 @@
 -- Internal: what is true of every value of the links.
 pub mod Epochs
 pub mod Kept
+pub mod Messages
