@@ -18,9 +18,9 @@ use Rattle.gnb_types.specs.Orders.{entity_cmp}
 use Rattle.gnb_types.proofs.Choices.{by_test}
 use Rattle.gnb_types.proofs.OrderLemmas.{entity_total}
 use Rattle.tables.specs.Tables.{find, put, without, at, first_entry, IsSorted}
-use Rattle.tables.proofs.TableLaws.{find-put, find-put-same, find-without, sorted-put, sorted-without}
+use Rattle.tables.proofs.TableLaws.{find-put, find-without, sorted-put, sorted-without}
 use Rattle.link_tallies.specs.declared.tallies.Tally.{Tally}
-use Rattle.link_tallies.specs.Tallies.{Tallies, no_items, shown_more, with_times, shown_less, entered_by, left_by, entered, left, key_in, times, least_shown, IsLeast}
+use Rattle.link_tallies.specs.Tallies.{Tallies, no_items, shown_more, with_times, shown_less, entered_by, left_by, key_in, times, least_shown, IsLeast}
 use Rattle.link_tallies.specs.inside.Sound.{IsSound, AreSound}
 
 abbrev IsPositive : List (ℕ × ℕ) → Type 0

@@ -3,3 +3,5 @@
 #![tactic(auto)]
 
 pub mod tallies;
+#[cfg(test)]
+mod tests;

@@ -23,14 +23,11 @@ use Rattle.transport_defs.specs.declared.Item.{Item}
 use Rattle.link_tallies.specs.Tallies.{Tallies, entered, left, all_left}
 use Rattle.link_tallies.specs.Tied.{AreTallies}
 use Rattle.link_tallies.proofs.TiedLemmas.{StandThere, stand_found, stand_none, tallies-put, tallies-take, tallies-same, tallies-emptied, tallies-without, tallies-none, tallies-undone}
+use Rattle.links_bag.proofs.Entries.{sorted_none, without-put}
 use Rattle.links.specs.Tunnels.{place_in}
 use Rattle.links.specs.inside.Kept.{keys, TunnelsAreKept}
 
 -- ---- tables
-
-pub sorted_none : {K X : Type 0} {R : K → K → Ordering} (o : IsTotalOrder R) (k : K) (m : List (K × X)) → m ≡ [] → IsSorted R m
-sorted_none {K = K} {X = X} {R = R} o k m is =
-    subst (λ (m : List (K × X)). IsSorted R m) (sym is) (sorted_from_all_adjacent o [] k (λ j h. absurd (omega arith)))
 
 -- to put a key that stands there changes nothing
 keys-again : (es : List (TunnelEnd × Unit {0})) (k : TunnelEnd) → IsSorted tunnel_cmp es → find tunnel_cmp es k ≡ Some tt
@@ -74,43 +71,6 @@ module _ {X : Type 0} where
       keys-put m k w
       ∙ keys-again (keys m) k (subst (IsStrictlySortedBy tunnel_cmp) (sym (keys_of_keys m)) sorted)
       (find-keys m k ∙ ap (λ (r : Option X). option_map (λ x. tt {0}) r) found)
-
-module _ {K X : Type 0} (R : K → K → Ordering) (o : IsTotalOrder R) where
-  -- what is put where nothing stands, and taken out again
-  keeps : (k : K) (es : List (K × X)) → lookup (is_at (R k)) es ≡ None → filter (λ f. not (is_at (R k) f.0)) es ≡ es
-  keeps k [] none = refl
-  keeps k (f ∷ fs) none = each (is_at (R k) f.0) none (keeps k fs)
-    where
-      each : (b : Bool) → cond b (Some f.1) (lookup (is_at (R k)) fs) ≡ None
-          → (lookup (is_at (R k)) fs ≡ None → filter (λ f. not (is_at (R k) f.0)) fs ≡ fs)
-          → cond (not b) (f ∷ filter (λ f. not (is_at (R k) f.0)) fs) (filter (λ f. not (is_at (R k) f.0)) fs) ≡ f ∷ fs
-      each true none rest = absurd cc
-      each false none rest = ap (λ (m : List (K × X)). f ∷ m) (rest none)
-
-  pub without-put : (m : List (K × X)) (k : K) (v : X) → find R m k ≡ None → without R (put R m k v) k ≡ m
-  unfolding find put without
-  without-put [] k v none =
-      ap (λ (b : Bool). cond {A = List (K × X)} (not b) ((k, v) ∷ []) []) (ap is_eq (tied_itself o k))
-  without-put (e ∷ es) k v none = by (R k e.0) refl (without-put es k v)
-    where
-      gone : (r : Ordering) → R k e.0 ≡ r → cond (is_eq r) (Some e.1) (lookup (is_at (R k)) es) ≡ None
-      gone r is = ap (λ (r : Ordering). cond (is_eq r) (Some e.1) (lookup (is_at (R k)) es)) (sym is) ∙ none
-
-      stays : (r : Ordering) (m : List (K × X)) → R k e.0 ≡ r
-          → cond (not (is_at (R k) e.0)) (e ∷ m) m ≡ cond (not (is_eq r)) (e ∷ m) m
-      stays r m is = ap (λ (r : Ordering). cond (not (is_eq r)) (e ∷ m) m) is
-
-      by : (r : Ordering) → R k e.0 ≡ r
-          → (lookup (is_at (R k)) es ≡ None → filter (λ f. not (is_at (R k) f.0)) (insert_entry R es k v) ≡ es)
-          → filter (λ f. not (is_at (R k) f.0)) (match_ordering r ((k, v) ∷ e ∷ es) ((e.0, v) ∷ es) (e ∷ insert_entry R es k v)) ≡ e ∷ es
-      by Less is rest =
-          ap (λ (r : Ordering). cond (not (is_eq r)) ((k, v) ∷ filter (λ f. not (is_at (R k) f.0)) (e ∷ es)) (filter (λ f. not (is_at (R k) f.0)) (e ∷ es)))
-          (tied_itself o k)
-          ∙ keeps k (e ∷ es) none
-      by Equal is rest = let found = gone Equal is in absurd cc
-      by Greater is rest =
-          stays Greater (filter (λ f. not (is_at (R k) f.0)) (insert_entry R es k v)) is
-          ∙ ap (λ (m : List (K × X)). e ∷ m) (rest (gone Greater is))
 
 -- where the keys are the same, so are those at which nothing stands
 mapped_none : {Y : Type 0} (r : Option Y) → option_map (λ y. tt {0}) r ≡ None → r ≡ None

@@ -1,4 +1,3 @@
-pub mod BagLemmas
 pub mod EpochLemmas
 pub mod KeptLemmas
 pub mod RadioLemmas

@@ -19,20 +19,9 @@ use Rattle.link_tallies.specs.Tied.{AreTallies, weight}
 use Rattle.link_tallies.proofs.TiedLemmas.{StandThere, stand_found, tallies-put, tallies-take, tallies-same, tallies-without, tallies-none, tallies-undone}
 use Rattle.links.specs.Radios.{with_item, carried_on, Confirms}
 use Rattle.links.specs.inside.Kept.{RadiosAreKept}
-use Rattle.links.proofs.KeptLemmas.{sorted_none}
+use Rattle.links_bag.proofs.Entries.{sorted_none}
 
 -- ---- one radio
-
-pub nth_next : {X : Type 0} (x : X) (xs : List X) (n : ℕ) → nth (x ∷ xs) (suc n) ≡ nth xs n
-nth_next x xs n =
-    let one : suc n - 1 ≡ n = omega arith in
-    let more : (suc n == 0) ≡ false = grind (arith, nat_tests) in
-    ap (λ (b : Bool). cond b (Some x) (nth xs (suc n - 1))) more ∙ ap (nth xs) one
-
-pub nth_is_get : {X : Type 0} (xs : List X) (n : ℕ) → nth xs n ≡ slice_get xs n
-nth_is_get [] n = refl
-nth_is_get (x ∷ xs) zero = refl
-nth_is_get (x ∷ xs) (suc n) = nth_next x xs n ∙ nth_is_get xs n
 
 -- a radio that carries an item keeps it
 pub carries_same : {P E : Type 0} (old new : Radio P) (r : Result (Option (Item P)) E) → IfOk r (λ item. new ≡ carried_on old item)

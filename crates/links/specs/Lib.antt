@@ -1,5 +1,3 @@
-pub mod Answers
-pub mod Bags
 pub mod Radios
 pub mod Tunnels
 pub mod inside

@@ -7,8 +7,8 @@ use Rattle.gnb_types.specs.Orders.{ue_cmp, entity_cmp}
 use Rattle.tables.specs.Tables.{find, put, at}
 use Rattle.transport_defs.specs.declared.Item.{Item}
 use Rattle.transport_defs.specs.Links.{Radio, silent, emptied, is_epoch, connect, nth}
-use Rattle.links.specs.declared.error.LinkError.TheVariants as errors
-use Rattle.links.specs.Answers.{Answer, gives, refuses}
+use Rattle.links_bag.specs.declared.error.LinkError.TheVariants as errors
+use Rattle.links_bag.specs.Answers.{Answer, gives, refuses}
 
 pub record RadioLinks (P : Type 0) : Type 0 where
   pub radios : List (EntityKey × Radio P)

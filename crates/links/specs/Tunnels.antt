@@ -9,8 +9,8 @@ use Rattle.gnb_types.specs.declared.keys.EntityKey.{EntityKey}
 use Rattle.gnb_types.specs.Orders.{tunnel_cmp}
 use Rattle.tables.specs.Tables.{find, put, without, at, first_entry, entry_after}
 use Rattle.transport_defs.specs.declared.Item.{Item}
-use Rattle.links.specs.declared.error.LinkError.TheVariants as errors
-use Rattle.links.specs.Answers.{Answer, gives, refuses}
+use Rattle.links_bag.specs.declared.error.LinkError.TheVariants as errors
+use Rattle.links_bag.specs.Answers.{Answer, gives, refuses}
 
 abbrev pub tunnel_end : NodeId → ℕ → TunnelEnd
 tunnel_end node teid = record { node = node; teid = teid }

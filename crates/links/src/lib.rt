@@ -1,10 +1,12 @@
 //! The links of the whole base station: control messages, tunnels and radios, with what stands on them.
 #![tactic(auto)]
 
-pub mod bag;
+pub use links_bag::{bag, error};
+
 pub mod epochs;
-pub mod error;
 pub mod items;
 pub mod radio;
 pub mod radios;
+#[cfg(test)]
+mod tests;
 pub mod tunnels;
