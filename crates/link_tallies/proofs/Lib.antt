@@ -1,0 +1,3 @@
+pub mod SoundLemmas
+pub mod TiedLemmas
+pub mod Standing

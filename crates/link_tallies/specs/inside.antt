@@ -1,0 +1,2 @@
+-- Internal: what is true of every value of the tallies.
+pub mod Sound

@@ -1,0 +1,3 @@
+pub mod Radios
+pub mod Tunnels
+pub mod inside

@@ -1,0 +1,2 @@
+-- Internal: what is true of every bag.
+pub mod Messages

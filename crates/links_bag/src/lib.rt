@@ -1,0 +1,7 @@
+//! The bag of control messages, and what links refuse.
+#![tactic(auto)]
+
+pub mod bag;
+pub mod error;
+#[cfg(test)]
+mod tests;
