@@ -7,8 +7,6 @@ mod counts;
 mod freeing;
 mod ring;
 pub mod rx;
-#[cfg(test)]
-mod tests;
 pub mod tx;
 
 pub use rx::{Ahead, Rx, Taken};
