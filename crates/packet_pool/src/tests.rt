@@ -21,7 +21,7 @@ const SECOND: Key = Key {
 fn a_pool_from_end_to_end(rt: HostRuntime) -> Result<(), Fail> {
     let mut pool = Pool::new(rt.alloc(), 3)?;
     assert_eq!(rt; pool.quota(FIRST), 0);
-    assert_eq!(rt; pool.reserve_quota(FIRST, 2), Ok(()));
+    pool.reserve_quota(FIRST, 2)?;
     let mut other = Pool::new(rt.alloc(), 1)?;
     assert_eq!(rt; other.reserve_quota(SECOND, 2), Err(QuotaError::NoQuota));
     assert_eq!(rt; pool.quota(FIRST), 2);
@@ -42,10 +42,9 @@ fn a_pool_from_end_to_end(rt: HostRuntime) -> Result<(), Fail> {
 #[test]
 fn a_block_is_used_again(rt: HostRuntime) -> Result<(), Fail> {
     let mut pool = Pool::new(rt.alloc(), 2)?;
-    pool.reserve_quota(FIRST, 1).expect(&rt, "two blocks");
+    pool.reserve_quota(FIRST, 1)?;
     assert_eq!(rt; pool.quota(SECOND), 0);
-    pool.reserve_quota(SECOND, 1)
-        .expect(&rt, "one block is left");
+    pool.reserve_quota(SECOND, 1)?;
     let first = pool.put(FIRST, &[0x01]).expect(&rt, "the quota is 1");
     let refused = pool
         .put(FIRST, &[0x00])

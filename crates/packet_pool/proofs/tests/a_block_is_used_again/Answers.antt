@@ -1,11 +1,10 @@
 use Rattle.std.proofs.Common.{◌≡◌, ◌≢◌, ℕ, None, sym, subst, refl}
-use Rattle.std.specs.Prelude.{IfOk, OnOk, OnErr, IsSome, Result}
+use Rattle.std.specs.Prelude.{IfOk, OnErr, IsSome, Result}
 use Rattle.std.specs.Ordering.{nat_cmp}
 use Rattle.tables.specs.Tables.{find}
-use Rattle.pool_defs.specs.Pools.{PoolState, packet_of, with_quota, with_packet}
+use Rattle.pool_defs.specs.Pools.{PoolState, packet_of, with_packet}
 use Rattle.pool_defs.proofs.PoolLaws.{put_held, new_other}
 use Rattle.packet_pool.specs.declared.accounts.QuotaUsed.{QuotaUsed}
-use Rattle.packet_pool.specs.declared.accounts.QuotaError.{QuotaError}
 use Rattle.packet_pool.proofs.TestLemmas.{no_quota, no_other_quota, beside, spared}
 use Rattle.packet_pool.proofs.tests.a_block_is_used_again.Goals as goal
 
@@ -14,9 +13,7 @@ reserve_quota-requires g c = no_quota _ _ _ c.in_ok-pool.ensures
 
 pub reserve_quota-requires-2 : goal.reserve_quota-requires-2
 reserve_quota-requires-2 g c =
-    no_other_quota _ _ _ _ _ _ c.in_ok-pool.ensures
-    (subst (λ (o : Result (Unit {0}) QuotaError). OnOk o (c.reserve_quota.new.self ≡ with_quota c.in_ok-pool.pool _ 1)) c.expect.ensures c.reserve_quota.ensures.ok)
-    refl
+    no_other_quota _ _ _ _ _ _ c.in_ok-pool.ensures c.in_ok-reserve_quota.ensures.ok refl
 
 pub take-requires : goal.take-requires
 take-requires g c =
