@@ -13,7 +13,10 @@ fn a_bag_from_end_to_end(rt: HostRuntime) -> Result<(), Fail> {
     assert!(rt; bag.least().is_none());
     for (ue, number) in [(1u8, 1u32), (0, 2), (1, 3), (2, 4)] {
         let octets = Octets::one(alloc, ue)?;
-        assert!(rt; bag.put(NodeId::CuCp(Gnb::A), NodeId::Core, ue, octets) == Ok(number));
+        assert_eq!(rt;
+            bag.put(NodeId::CuCp(Gnb::A), NodeId::Core, ue, octets)?,
+            number
+        );
     }
     for (ue, count) in [(None, 4u32), (Some(1u8), 2), (Some(0), 1), (Some(3), 0)] {
         assert_eq!(rt; bag.in_flight(ue), count);
