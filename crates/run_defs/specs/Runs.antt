@@ -22,7 +22,7 @@ use Rattle.scenario_text.specs.declared.event.Event.{Event}
 use Rattle.scenario_text.specs.declared.event.Event.TheVariants as events
 use Rattle.run_defs.specs.Lines.{RunLine}
 use Rattle.run_defs.specs.Units.{Units, cp_of, with_cp, up_of, with_up, du_of, with_du, ue_of, with_ue}
-use Rattle.run_defs.specs.States.{State, new_state, Lengths, Given, letter_for, item_for, carried_for, confirmed_for, offer_for, tick_for, order_for, octets_from, octets_on, Stepped, stepped, step_spent, CoreStepped, core_stepped, World, Stop, goes, stops, Outcome, RunStep, entity}
+use Rattle.run_defs.specs.States.{State, new_state, Lengths, Given, letter_for, item_for, carried_for, confirmed_for, offer_for, tick_for, order_for, octets_from, octets_on, stepped, step_spent, core_stepped, World, Stop, goes, stops, Outcome, RunStep, entity}
 use Rattle.run_defs.specs.Written.{Written, written_put, PlainStepped, WrittenStepped, WrittenCoreStepped, written_step}
 use Rattle.run_defs.specs.Events.{static, start, attach, offer, get, air, ack, give, lose_message, lose_item, pump, tick, poll, fail, arrive, come_back, handover, cancel, release, ask, inject_message, inject_item}
 use Rattle.run_defs.specs.Settling.{settle}

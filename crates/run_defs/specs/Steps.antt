@@ -175,7 +175,7 @@ module _ {M C L P : Type 0} (world : World M C L P) where
   reconnect ue s =
       let now = epoch_now s ue in
       if same_epoch (find ue_cmp s.connected ue) now then goes_on s
-      else lose_radios ue s next (λ t. goes_on (connect_in ue now t))
+      else (lose_radios ue s next (λ t. goes_on (connect_in ue now t)))
 
   abbrev pub reconnect_node : NodeId → State M C L P → Within M C L P
   reconnect_node (Ue ue) s = reconnect (record { 0 = ue }) s
