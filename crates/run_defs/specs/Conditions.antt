@@ -25,7 +25,7 @@ use Rattle.run_defs.specs.Lines.{RunLine, is_quiet, is_busy}
 use Rattle.run_defs.specs.Units.{Units, gnb_nodes, cp_of, with_cp, up_of, with_up, du_of, with_du, ue_of, with_ue, is_serving, has_attempt, requests_rest, ups_rest, epoch_at}
 use Rattle.transport_defs.specs.declared.Item.{Item}
 use Rattle.transport_defs.specs.Links.{in_flight_of, is_of_bearer}
-use Rattle.run_defs.specs.States.{State, ◌next◌, entity, is_attached, is_gone, book_of}
+use Rattle.run_defs.specs.States.{State, entity, is_attached, is_gone, book_of}
 use Rattle.run_defs.specs.Steps.{with_tunnel}
 
 -- ---- who serves a terminal: the CU-CP that took its token of the greatest epoch; where none did, the one of its plan

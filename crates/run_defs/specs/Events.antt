@@ -91,7 +91,7 @@ module _ {M C L P : Type 0} (world : World M C L P) where
 
   abbrev pub taken_off : TunnelEnd → Item L → List (Item L) → State M C L P → Within M C L P
   taken_off end item rest s =
-      goes (got_item (tunnel_link end) (shown item.key item.count (world.show_item (sn_of s item.key.ue) end.teid item.content)) ∷ [])
+      goes (got_item (tunnel_link end) (shown item.key item.count (world.show_item item.content)) ∷ [])
       (record s { tunnels = put tunnel_cmp s.tunnels end rest })
 
   abbrev pub get_done : TunnelEnd → Item L → List (Item L) → State M C L P → Done M C L P
@@ -114,7 +114,7 @@ module _ {M C L P : Type 0} (world : World M C L P) where
 
   abbrev pub carried_off : EntityKey → Item P → State M C L P → Within M C L P
   carried_off key item s =
-      goes (got_item (radio_link key (epoch_of s key.ue)) (shown key item.count (world.show_pdu (sn_of s key.ue) item.content)) ∷ [])
+      goes (got_item (radio_link key (epoch_of s key.ue)) (shown item.key item.count (world.show_pdu item.content)) ∷ [])
       (with_radio key (record (radio_of s key) { carried = (radio_of s key).carried + 1 }) s)
 
   abbrev pub carry_done : EntityKey → NodeId → Item P → State M C L P → Done M C L P
@@ -166,7 +166,7 @@ module _ {M C L P : Type 0} (world : World M C L P) where
       as_step (Some Core) (landed_as number l (record s { core = core }) next put_out_all world Core None outputs next check_spans)
 
   abbrev pub give_to : ℕ → Letter M → NodeId → State M C L P → Outcome M C L P
-  give_to number l Core s = core_put number l s (world.core_answer s.core (letter_for l.from l.message))
+  give_to number l Core s = core_put number l s (world.core_answer (sn_of s) s.core (letter_for l.from l.message))
   give_to number l node s =
       if takes_letters s node
       then ordered_by world s (does world node (letter_for l.from l.message) None (landed_as number l) s)
@@ -299,7 +299,7 @@ module _ {M C L P : Type 0} (world : World M C L P) where
       as_step (Some Core) (put_out_all world Core None outputs (record s { core = core }) next check_spans)
 
   abbrev pub inject_to : NodeId → NodeId → List ℕ → State M C L P → Outcome M C L P
-  inject_to from Core octets s = core_injected s (world.core_answer s.core (octets_from from octets))
+  inject_to from Core octets s = core_injected s (world.core_answer (sn_of s) s.core (octets_from from octets))
   inject_to from to octets s = step world to (octets_from from octets) s
 
   unfoldable pub inject_message : NodeId → NodeId → List ℕ → State M C L P → Outcome M C L P

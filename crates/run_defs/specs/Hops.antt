@@ -19,9 +19,10 @@ use Rattle.scenario_text.specs.declared.line.Link.{Link}
 use Rattle.scenario_text.specs.declared.line.Link.TheVariants.{Tunnel as tunnel}
 use Rattle.scenario_text.specs.declared.line.Item.{Item}
 use Rattle.run_defs.specs.Lines.{RunLine, put_item, got_item, put_message, got_message}
+use Rattle.run_defs.specs.States.{Lengths}
 use Rattle.run_defs.specs.Said.{same_entity, same_link}
 use Rattle.run_defs.specs.Carried.{Carries}
-use Rattle.run_defs.specs.Local.{Act, Lengths, item_key}
+use Rattle.run_defs.specs.Local.{Act, item_key}
 
 -- a context of the bearer at a CU-UP: the TEIDs of its N3 tunnel and, where it came by a handover, of its forwarding tunnel down
 pub record Leg : Type 0 where

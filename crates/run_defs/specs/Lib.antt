@@ -2,6 +2,7 @@ pub mod Lines
 pub mod Printing
 pub mod Units
 pub mod States
+pub mod Written
 pub mod Steps
 pub mod Conditions
 pub mod Events

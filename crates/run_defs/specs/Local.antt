@@ -12,7 +12,7 @@ use Rattle.scenario_text.specs.declared.event.Event.TheVariants as events
 use Rattle.scenario_text.specs.declared.line.Link.{Link}
 use Rattle.scenario_text.specs.declared.line.Item.{Item}
 use Rattle.run_defs.specs.Lines.{RunLine, put_item, got_item, put_message, delivers}
-use Rattle.run_defs.specs.States.{RunStep}
+use Rattle.run_defs.specs.States.{Lengths, RunStep}
 use Rattle.run_defs.specs.Runs.{Happened}
 use Rattle.run_defs.specs.Said.{same_entity, is_refusal, lines_in, offered_by, Offered}
 use Rattle.run_defs.specs.Carried.{Carries, IsLaidOut}
@@ -25,10 +25,6 @@ pub record Act (M : Type 0) : Type 0 where
   pub event : Event
   pub refused : Bool
   pub step : RunStep M
-
--- how long the numbers of each terminal are
-abbrev pub Lengths : Type 0
-Lengths = UeId → SnBits
 
 -- ---- a packet was at a node: it was offered there, or stands in an item that the node got
 

@@ -1,6 +1,6 @@
 -- The run of a script: each event by its name, one after another; and `Run`, in which items carry their COUNTs in full, and control
 -- messages are what they say.
-use Rattle.std.specs.Prelude.{ℕ, Bool, true, false, List, [], ◌∷◌, Option, Some, None}
+use Rattle.std.specs.Prelude.{ℕ, Bool, true, false, List, [], ◌∷◌, map, Option, Some, None}
 use Rattle.std.specs.List.{flat_map}
 use Rattle.gnb_types.specs.declared.names.NodeId.{NodeId}
 use Rattle.gnb_types.specs.declared.names.NodeId.TheVariants.{CuCp, CuUp, Du, Core, Ue}
@@ -11,7 +11,7 @@ use Rattle.gnb_types.specs.declared.reasons.DropReason.TheVariants.{Undecodable}
 use Rattle.message_types.specs.declared.rrc.Token.{Token}
 use Rattle.link_defs.specs.Decoding.{Link}
 use Rattle.unit_defs.specs.Ways.{Message, rrc, Pdu, packet_pdu, report_pdu, Content, packet_content, report_content, Load, fresh, numbered, frame, uplink, status, end_marker, Taken, fresh_item, numbered_item, frame_item, uplink_item, status_item, end_item, Input, control_input, packet_input, radio_input, confirm_input, offer_input, tick_input, order_input, dropped, Way, Answer, gives, spent}
-use Rattle.unit_octet_defs.specs.Writing.{pdu_octets, load_octets, written_load}
+use Rattle.unit_octet_defs.specs.Writing.{load_octets}
 use Rattle.unit_octet_defs.specs.Reading.{up_link, du_link}
 use Rattle.unit_defs.specs.CuCp.{cu_cp_acts}
 use Rattle.unit_defs.specs.CuUp.{cu_up_acts}
@@ -22,7 +22,8 @@ use Rattle.scenario_text.specs.declared.event.Event.{Event}
 use Rattle.scenario_text.specs.declared.event.Event.TheVariants as events
 use Rattle.run_defs.specs.Lines.{RunLine}
 use Rattle.run_defs.specs.Units.{Units, cp_of, with_cp, up_of, with_up, du_of, with_du, ue_of, with_ue}
-use Rattle.run_defs.specs.States.{State, new_state, Given, letter_for, item_for, carried_for, confirmed_for, offer_for, tick_for, order_for, octets_from, octets_on, Stepped, stepped, step_spent, CoreStepped, core_stepped, World, Stop, goes, stops, Outcome, RunStep, entity}
+use Rattle.run_defs.specs.States.{State, new_state, Lengths, Given, letter_for, item_for, carried_for, confirmed_for, offer_for, tick_for, order_for, octets_from, octets_on, stepped, step_spent, core_stepped, World, Stop, goes, stops, Outcome, RunStep, entity}
+use Rattle.run_defs.specs.Written.{Written, written_put, PlainStepped, WrittenStepped, WrittenCoreStepped, written_step}
 use Rattle.run_defs.specs.Events.{static, start, attach, offer, get, air, ack, give, lose_message, lose_item, pump, tick, poll, fail, arrive, come_back, handover, cancel, release, ask, inject_message, inject_item}
 use Rattle.run_defs.specs.Settling.{settle}
 
@@ -130,7 +131,7 @@ taken_of (status lost delivered) = status_item lost delivered
 taken_of end_marker = end_item
 
 abbrev pub PlainGiven : Type 0
-PlainGiven = Given (Message Token) (Load Pdu) Pdu
+PlainGiven = Given (Message Token) (Written (Load Pdu)) (Written Pdu)
 
 -- octets from outside are what a unit ignores, for the reason that they have
 abbrev pub Plain : Type 0 → Type 0
@@ -144,9 +145,9 @@ pub record Reading : Type 0 where
 module _ (reading : Reading) where
   abbrev pub input_of : PlainGiven → Option (Input Token Pdu)
   input_of (letter_for from message) = Some (control_input from message)
-  input_of (item_for teid item) = Some (packet_input teid (taken_of item.content))
-  input_of (carried_for item) = Some (radio_input item.key.ue item.key.bearer item.key.dir item.content (content_of item.content))
-  input_of (confirmed_for item) = Some (confirm_input item.key.ue item.key.bearer item.key.dir item.content (content_of item.content))
+  input_of (item_for teid item) = Some (packet_input teid (taken_of item.content.says))
+  input_of (carried_for item) = Some (radio_input item.key.ue item.key.bearer item.key.dir item.content.says (content_of item.content.says))
+  input_of (confirmed_for item) = Some (confirm_input item.key.ue item.key.bearer item.key.dir item.content.says (content_of item.content.says))
   input_of (offer_for ue bearer packet) = Some (offer_input ue bearer packet)
   input_of tick_for = Some tick_input
   input_of (order_for order) = Some (order_input order)
@@ -161,53 +162,49 @@ module _ (reading : Reading) where
   fault_of node (octets_from from octets) = fault_in (reading.message_fault from node octets)
   fault_of node given = Undecodable
 
-  abbrev pub stepped_with : {R : Type 0} → (R → Units (Message Token) Token) → Plain R → Stepped (Message Token) Token (Load Pdu) Pdu
+  abbrev pub stepped_with : {R : Type 0} → (R → Units (Message Token) Token) → Plain R → PlainStepped
   stepped_with back (gives outputs after) = stepped outputs (back after)
   stepped_with back (spent counter) = step_spent counter
 
-  abbrev pub ue_stepped : Units (Message Token) Token → ℕ → Input Token Pdu → Option UeNode → Stepped (Message Token) Token (Load Pdu) Pdu
+  abbrev pub ue_stepped : Units (Message Token) Token → ℕ → Input Token Pdu → Option UeNode → PlainStepped
   ue_stepped units ue input None = stepped [] units
   ue_stepped units ue input (Some u) = stepped_with (with_ue units (record { 0 = ue })) (ue_acts plain_way u input)
 
-  abbrev pub acts_on : Units (Message Token) Token → NodeId → Input Token Pdu → Stepped (Message Token) Token (Load Pdu) Pdu
+  abbrev pub acts_on : Units (Message Token) Token → NodeId → Input Token Pdu → PlainStepped
   acts_on units (CuCp gnb) input = stepped_with (with_cp units gnb) (cu_cp_acts plain_way (cp_of units gnb) input)
   acts_on units (CuUp gnb number) input = stepped_with (with_up units gnb number) (cu_up_acts plain_way (up_of units gnb number) input)
   acts_on units (Du gnb number) input = stepped_with (with_du units gnb number) (du_acts plain_way (du_of units gnb number) input)
   acts_on units (Ue ue) input = ue_stepped units ue input (ue_of units (record { 0 = ue }))
   acts_on units Core input = stepped [] units
 
-  abbrev pub plain_by : Units (Message Token) Token → NodeId → PlainGiven → Option (Input Token Pdu) → Stepped (Message Token) Token (Load Pdu) Pdu
+  abbrev pub plain_by : Units (Message Token) Token → NodeId → PlainGiven → Option (Input Token Pdu) → PlainStepped
   plain_by units node given None = stepped (dropped (fault_of node given) ∷ []) units
   plain_by units node given (Some input) = acts_on units node input
 
-  abbrev pub plain_answer : Units (Message Token) Token → NodeId → PlainGiven → Stepped (Message Token) Token (Load Pdu) Pdu
-  plain_answer units node given = plain_by units node given (input_of given)
+  abbrev pub plain_answer : Lengths → Units (Message Token) Token → NodeId → PlainGiven → WrittenStepped
+  plain_answer sn units node given = written_step sn (plain_by units node given (input_of given))
 
-  abbrev pub core_done : CoreRecord (Message Token) Token → Plain (CoreRecord (Message Token) Token) → CoreStepped (Message Token) Token (Load Pdu) Pdu
-  core_done r (gives outputs after) = core_stepped outputs after
-  core_done r (spent counter) = core_stepped [] r
+  abbrev pub core_done : Lengths → CoreRecord (Message Token) Token → Plain (CoreRecord (Message Token) Token) → WrittenCoreStepped
+  core_done sn r (gives outputs after) = core_stepped (map (written_put sn) outputs) after
+  core_done sn r (spent counter) = core_stepped [] r
 
-  abbrev pub plain_core : CoreRecord (Message Token) Token → PlainGiven → CoreStepped (Message Token) Token (Load Pdu) Pdu
-  plain_core r (letter_for from message) = core_done r (core_acts plain_way r from message)
-  plain_core r given = core_stepped (dropped (fault_of Core given) ∷ []) r
-
-  -- octets are made for printing alone
-  abbrev pub item_octets : SnBits → ℕ → Load Pdu → List ℕ
-  item_octets sn teid load = load_octets teid (written_load sn load)
+  abbrev pub plain_core : Lengths → CoreRecord (Message Token) Token → PlainGiven → WrittenCoreStepped
+  plain_core sn r (letter_for from message) = core_done sn r (core_acts plain_way r from message)
+  plain_core sn r given = core_stepped (dropped (fault_of Core given) ∷ []) r
 
   abbrev pub is_none_fault : Option DropReason → Bool
   is_none_fault None = true
   is_none_fault (Some reason) = false
 
-  abbrev pub plain_world : World (Message Token) Token (Load Pdu) Pdu
+  abbrev pub plain_world : World (Message Token) Token (Written (Load Pdu)) (Written Pdu)
   plain_world = record {
     answer = plain_answer;
     core_answer = plain_core;
-    lay_n3 = λ teid packet. fresh packet;
+    lay_n3 = λ teid packet. record { says = fresh packet; octets = load_octets teid (fresh packet) };
     is_message = λ from to octets. is_none_fault (reading.message_fault from to octets);
     is_item = λ units end octets. is_item_on (reading.is_item) (link_at units end) octets;
-    show_item = item_octets;
-    show_pdu = pdu_octets;
+    show_item = λ item. item.octets;
+    show_pdu = λ pdu. pdu.octets;
   }
 
   unfoldable pub Run : List Event → Transcript (Message Token)

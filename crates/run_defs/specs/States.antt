@@ -82,16 +82,20 @@ pub data Stepped (M C L P : Type 0) : Type 0 where
 pub data CoreStepped (M C L P : Type 0) : Type 0 where
   core_stepped : (outputs : List (Put M L P)) (core : CoreRecord M C) → CoreStepped M C L P
 
+-- how long the numbers of each terminal are
+abbrev pub Lengths : Type 0
+Lengths = UeId → SnBits
+
 -- What a run is told: how units answer; what the core puts on N3; which octets are those of a message or an item; and what is shown
--- of what stands on a link.
+-- of what stands on a link. An item is shown when it is put and when it is taken, so how it is shown is said by the item alone.
 pub record World (M C L P : Type 0) : Type 0 where
-  pub answer : Units M C → NodeId → Given M L P → Stepped M C L P
-  pub core_answer : CoreRecord M C → Given M L P → CoreStepped M C L P
+  pub answer : Lengths → Units M C → NodeId → Given M L P → Stepped M C L P
+  pub core_answer : Lengths → CoreRecord M C → Given M L P → CoreStepped M C L P
   pub lay_n3 : ℕ → List ℕ → L
   pub is_message : NodeId → NodeId → List ℕ → Bool
   pub is_item : Units M C → TunnelEnd → List ℕ → Bool
-  pub show_item : SnBits → ℕ → L → List ℕ
-  pub show_pdu : SnBits → P → List ℕ
+  pub show_item : L → List ℕ
+  pub show_pdu : P → List ℕ
 
 -- ---- how an event ends: the run goes on, or it stops
 

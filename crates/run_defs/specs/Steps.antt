@@ -25,8 +25,8 @@ use Rattle.unit_defs.specs.Ue.{UeNode}
 use Rattle.run_defs.specs.Lines.{Letter, RunLine, put_item, put_message, delivers, lost_items, drops_input, procedure_failed, tunnel_link, radio_link, shown}
 use Rattle.run_defs.specs.Units.{Units, ue_of}
 use Rattle.transport_defs.specs.declared.Item.{Item}
-use Rattle.transport_defs.specs.Links.{most_letters, put_letter, emptied, is_epoch, connect, tunnel_counts, radio_counts, least}
-use Rattle.run_defs.specs.States.{State, Given, Stepped, stepped, step_spent, World, Stop, outstanding, spent_counter, goes, stops, ◌next◌, goes_on, Within, Outcome, as_step, refused, entity, sn_of, book_of, with_book, radio_of, with_radio}
+use Rattle.transport_defs.specs.Links.{most_letters, put_letter, emptied, is_epoch, connect, tunnel_counts, radio_counts, least, Radio}
+use Rattle.run_defs.specs.States.{State, was_attached, Given, Stepped, stepped, step_spent, World, Stop, outstanding, spent_counter, goes, stops, ◌next◌, goes_on, Within, Outcome, as_step, refused, entity, sn_of, book_of, with_book, radio_of, with_radio}
 
 -- ---- span: how far the COUNTs reach that were given and aren't all delivered, or still stand on a link
 
@@ -92,7 +92,7 @@ module _ {M C L P : Type 0} (world : World M C L P) where
 
   unfoldable pub put_on_tunnel : TunnelEnd → Item L → State M C L P → Within M C L P
   put_on_tunnel end item s =
-      goes (put_item (tunnel_link end) (shown item.key item.count (world.show_item (sn_of s item.key.ue) end.teid item.content)) ∷ []) s
+      goes (put_item (tunnel_link end) (shown item.key item.count (world.show_item item.content)) ∷ []) s
       next (λ t. on_tunnel t end item (find tunnel_cmp t.tunnels end))
 
   abbrev pub put_on_connected : EntityKey → ℕ → Item P → State M C L P → Within M C L P
@@ -103,7 +103,7 @@ module _ {M C L P : Type 0} (world : World M C L P) where
 
   unfoldable pub put_on_radio : ℕ → Item P → State M C L P → Within M C L P
   put_on_radio epoch item s =
-      goes (put_item (radio_link item.key epoch) (shown item.key item.count (world.show_pdu (sn_of s item.key.ue) item.content)) ∷ []) s
+      goes (put_item (radio_link item.key epoch) (shown item.key item.count (world.show_pdu item.content)) ∷ []) s
       next put_on_connected item.key epoch item
 
   -- ---- control messages
@@ -137,13 +137,13 @@ module _ {M C L P : Type 0} (world : World M C L P) where
   lose_each epoch [] s = goes_on s
   lose_each epoch (key ∷ keys) s = goes (radio_lost epoch key (radio_of s key).items) (record s { radios = emptied s.radios key }) next lose_each epoch keys
 
-  abbrev pub plan_entities : UeId → Option Plan → List EntityKey
-  plan_entities ue None = []
-  plan_entities ue (Some plan) = entities_of (ue, plan)
+  -- those on which anything stands, ascending
+  abbrev pub radios_of : UeId → List (EntityKey × Radio P) → List EntityKey
+  radios_of ue radios = flat_map (λ e. if e.0.ue.0 == ue.0 then e.0 ∷ [] else []) radios
 
   abbrev pub lose_radios_of : UeId → Option ℕ → State M C L P → Within M C L P
   lose_radios_of ue None s = goes_on s
-  lose_radios_of ue (Some epoch) s = lose_each epoch (plan_entities ue (find ue_cmp s.plans ue)) s
+  lose_radios_of ue (Some epoch) s = lose_each epoch (radios_of ue s.radios) s
 
   unfoldable pub lose_radios : UeId → State M C L P → Within M C L P
   lose_radios ue s = lose_radios_of ue (find ue_cmp s.connected ue) s
@@ -158,6 +158,10 @@ module _ {M C L P : Type 0} (world : World M C L P) where
   epoch_on_air None = None
   epoch_on_air (Some u) = if is_on_air u.state then Some u.epoch else None
 
+  -- one that was never attached has no radio
+  abbrev pub epoch_now : State M C L P → UeId → Option ℕ
+  epoch_now s ue = if was_attached s ue then epoch_on_air (ue_of s.units ue) else None
+
   abbrev pub same_epoch : Option ℕ → Option ℕ → Bool
   same_epoch None None = true
   same_epoch None (Some b) = false
@@ -169,9 +173,9 @@ module _ {M C L P : Type 0} (world : World M C L P) where
 
   abbrev pub reconnect : UeId → State M C L P → Within M C L P
   reconnect ue s =
-      let now = epoch_on_air (ue_of s.units ue) in
+      let now = epoch_now s ue in
       if same_epoch (find ue_cmp s.connected ue) now then goes_on s
-      else lose_radios ue s next (λ t. goes_on (connect_in ue now t))
+      else (lose_radios ue s next (λ t. goes_on (connect_in ue now t)))
 
   abbrev pub reconnect_node : NodeId → State M C L P → Within M C L P
   reconnect_node (Ue ue) s = reconnect (record { 0 = ue }) s
@@ -227,7 +231,7 @@ module _ {M C L P : Type 0} (world : World M C L P) where
   done_with node taken first s (step_spent counter) = is_done (stops [] (spent_counter counter))
 
   unfoldable pub does : NodeId → Given M L P → Option ℕ → (State M C L P → Within M C L P) → State M C L P → Done M C L P
-  does node given taken first s = done_with node taken first s (world.answer s.units node given)
+  does node given taken first s = done_with node taken first s (world.answer (sn_of s) s.units node given)
 
   -- a step that takes no item, of an event: a refusal is printed
   abbrev pub ordered_by : State M C L P → Done M C L P → Outcome M C L P

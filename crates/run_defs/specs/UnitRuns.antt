@@ -108,13 +108,13 @@ module _ (codec : Codec) where
 
   abbrev pub unit_world : Meaning → World (List ℕ) (List ℕ) (List ℕ) (List ℕ)
   unit_world answer = record {
-    answer = λ records node given. stepped_by (answer records node (input_of given));
-    core_answer = core_answer;
+    answer = λ lengths records node given. stepped_by (answer records node (input_of given));
+    core_answer = λ lengths r given. core_answer r given;
     lay_n3 = forwarded_fresh;
     is_message = λ from to octets. is_read (codec.read from to octets);
     is_item = λ records end octets. is_item_on (λ link sn o. is_some (codec.read_item link sn o)) (link_at records end) octets;
-    show_item = λ sn teid octets. octets;
-    show_pdu = λ sn octets. octets;
+    show_item = λ octets. octets;
+    show_pdu = λ octets. octets;
   }
 
   unfoldable pub UnitRun : Meaning → List Event → Transcript (List ℕ)

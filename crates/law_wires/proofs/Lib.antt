@@ -1,0 +1,11 @@
+pub mod Links
+pub mod Endings
+pub mod Tunnels
+pub mod Radios
+pub mod Bags
+pub mod Kept
+pub mod Lost
+pub mod Steps
+pub mod Events
+pub mod Settling
+pub mod Runs
