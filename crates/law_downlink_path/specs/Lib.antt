@@ -1,0 +1,4 @@
+pub mod Paths
+pub mod Steps
+pub mod Words
+pub mod Lossy
