@@ -1,15 +1,15 @@
 -- The terminal takes the next packet of its radio: a duplicate, or the next one, which is handed up at once.
-use Rattle.std.proofs.Common.{◌≡◌, ℕ, zero, suc, ◌+◌, ◌<◌, ◌≤◌, max, Bool, true, false, ◌==◌, nat_lt, List, [], ◌∷◌, ◌++◌, refl, sym, ap, subst, ◌∙◌, arith}
+use Rattle.std.proofs.Common.{◌≡◌, ℕ, ◌+◌, ◌<◌, ◌≤◌, max, Bool, true, false, ◌==◌, nat_lt, List, [], ◌∷◌, ◌++◌, refl, sym, ap, subst, ◌∙◌, arith}
 use Rattle.std.specs.List.{AllByRecursion}
 use Rattle.tables.specs.Tables.{find, put}
-use Rattle.law_intervals.specs.Intervals.{upto, HasNoGap, reach}
+use Rattle.law_intervals.specs.Intervals.{HasNoGap, reach}
 use Rattle.law_intervals.proofs.Intervals.{upto-snoc}
 use Rattle.pdcp_defs.specs.Receivers.{Receiver, is_duplicate, stored, deliver}
 use Rattle.law_chain.proofs.Facts.{pairs}
 use Rattle.law_chain.proofs.Frames.{same}
 use Rattle.law_downlink_path.specs.Paths.{Path}
 use Rattle.law_downlink_path.specs.Steps.{carries, handed, after}
-use Rattle.law_downlink_path.proofs.Facts.{View, view, Speaks, Holds, Radio, Kept}
+use Rattle.law_downlink_path.proofs.Facts.{view, Radio, Kept}
 use Rattle.law_downlink_path.proofs.Senders.{RadioOf, speaks_later}
 
 taken_late : (r : Receiver (List ℕ)) (count : ℕ) → r.stored ≡ [] → count < r.deliv → is_duplicate r count ≡ true

@@ -1,19 +1,17 @@
 -- A freeze, a resume and a new tunnel keep all.
-use Rattle.std.proofs.Common.{◌≡◌, ℕ, ◌+◌, ◌<◌, ◌≤◌, max, Bool, true, false, ◌||◌, if◌then◌else◌, List, [], ◌∷◌, ◌++◌, filter, Option, Some, None, refl, sym, ap, subst, ◌∙◌, true≢false, arith}
+use Rattle.std.proofs.Common.{◌≡◌, ℕ, ◌≤◌, max, Bool, true, false, ◌||◌, if◌then◌else◌, List, [], filter, Some, refl, sym, ap, subst, ◌∙◌, true≢false, arith}
 use Rattle.law_intervals.specs.Intervals.{upto, HasNoGap, reach}
 use Rattle.law_intervals.proofs.Intervals.{upto-nil, reach-le}
 use Rattle.pdcp_defs.specs.Senders.{Sender}
-use Rattle.unit_defs.specs.Ways.{Pdu, report_pdu}
+use Rattle.unit_defs.specs.Ways.{report_pdu}
 use Rattle.unit_defs.specs.UpRecords.{Downlink, SourceHop, UpBearer}
-use Rattle.unit_defs.specs.UpBearers.{is_one_of, owed, thawed}
-use Rattle.chain_defs.specs.Orders.{frozen}
+use Rattle.unit_defs.specs.UpBearers.{is_one_of, thawed}
 use Rattle.law_chain.proofs.Facts.{pairs}
-use Rattle.law_chain.proofs.Frames.{apart}
-use Rattle.law_downlink_path.specs.Paths.{Frame, Path, Sending, frame_on, packets_sent}
-use Rattle.law_downlink_path.specs.Steps.{freezes, resumes, begins_anew, put, anew, sent_anew, after}
-use Rattle.law_downlink_path.proofs.Facts.{View, view, Stands, Line, Marked, Speaks, Holds, Radio, Kept}
-use Rattle.law_downlink_path.proofs.Puts.{Alike, Puts, IsQuiet, puts_upto, puts_quiet}
-use Rattle.law_downlink_path.proofs.Senders.{RadioOf, kept_sent, taken_of_all}
+use Rattle.law_downlink_path.specs.Paths.{Path, frame_on, packets_sent}
+use Rattle.law_downlink_path.specs.Steps.{freezes, resumes, fails, begins_anew, put, anew, sent_anew, after}
+use Rattle.law_downlink_path.proofs.Facts.{View, view, Stands, Marked, Speaks, Kept}
+use Rattle.law_downlink_path.proofs.Puts.{Puts, IsQuiet, puts_upto, puts_quiet}
+use Rattle.law_downlink_path.proofs.Senders.{kept_sent, taken_of_all}
 
 no_more : (b : Bool) → (b || true) ≡ true
 no_more true = refl
@@ -109,10 +107,34 @@ module _ (p : ℕ → List ℕ) (s : Path) (k : Kept p s) where
   unfolding after
   kept_resumes is_frozen = resumes_by s.bearer.loss_while_frozen refl is_frozen
 
-  -- ---- a new tunnel to a new radio
+  -- ---- the radio fails, and there is a new one
+
+  pub kept_fails : Kept p (after s fails)
+  unfolding after HasNoGap reach
+  kept_fails =
+      let h = k.speaks in
+      record {
+        low = k.low;
+        sent = k.sent;
+        holds = k.holds;
+        speaks = record {
+          need = h.need;
+          downlink = h.downlink;
+          there = h.there;
+          line = record { stands = h.line.stands; taken = λ w. absurd (true≢false (sym w)) };
+          marked = h.marked;
+        };
+        radio = record {
+          no_gap = tt;
+          packets = tt;
+          reached_comes = (let a = k.radio.reached_comes in let c = reach-le s.terminal.deliv s.air in omega arith);
+          delivered_are = k.radio.delivered_are;
+          none_stored = k.radio.none_stored;
+        };
+      }
 
   abbrev fresh : View
-  fresh = record { deliv = s.terminal.deliv; comes = s.comes; awaited = 0; gap = false; reached = s.terminal.deliv }
+  fresh = record { deliv = s.terminal.deliv; comes = s.comes; listens = true; awaited = 0; gap = false; reached = s.terminal.deliv }
 
   begins : (d : Downlink) → Speaks p fresh [] (anew s.bearer d) k.low
   unfolding Stands
@@ -120,7 +142,7 @@ module _ (p : ℕ → List ℕ) (s : Path) (k : Kept p s) where
     need = λ _. s.terminal.deliv;
     downlink = record d { next = 0 };
     there = refl;
-    line = record { stands = none; taken = λ _. same };
+    line = record { stands = none; taken = λ _ _. same };
     marked = λ _. marked_low false k.low s.terminal.deliv s.terminal.deliv k.holds.low_deliv;
   }
     where

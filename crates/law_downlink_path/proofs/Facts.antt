@@ -12,7 +12,8 @@ use Rattle.law_downlink_path.specs.Paths.{Frame, Path}
 pub record View : Type 0 where
   pub deliv : ℕ
   pub comes : ℕ
-  -- of the DU; and the place that was reached at the end of the radio
+  -- whether the terminal listens; of the DU; and the place that was reached at the end of the radio
+  pub listens : Bool
   pub awaited : ℕ
   pub gap : Bool
   pub reached : ℕ
@@ -21,6 +22,7 @@ abbrev pub view : Path → View
 view s = record {
   deliv = s.terminal.deliv;
   comes = s.comes;
+  listens = s.listens;
   awaited = s.du.awaited;
   gap = s.du.gap;
   reached = reach s.terminal.deliv s.air;
@@ -47,7 +49,7 @@ module _ (p : ℕ → List ℕ) (need : ℕ → ℕ) (deliv comes : ℕ) where
 
 pub record Line (p : ℕ → List ℕ) (v : View) (need : ℕ → ℕ) (next : ℕ) (tunnel : List Frame) : Type 0 where
   pub stands : Stands p need v.deliv v.comes v.awaited tunnel next
-  pub taken : v.gap ≡ false → need v.awaited ≤ v.reached
+  pub taken : v.listens ≡ true → v.gap ≡ false → need v.awaited ≤ v.reached
 
 -- the next packet that is put, with or without the restart mark
 unfoldable pub Marked : Bool → ℕ → ℕ → ℕ → Type 0

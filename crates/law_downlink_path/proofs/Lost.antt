@@ -1,5 +1,5 @@
 -- What is asked in the worked run is met.
-use Rattle.std.proofs.Common.{◌≡◌, ℕ, ◌<◌, ◌≤◌, List, [], ◌∷◌, refl, arith}
+use Rattle.std.proofs.Common.{◌≡◌, [], ◌∷◌, refl, arith}
 use Rattle.tables.specs.Tables.{find, put}
 use Rattle.pdcp_defs.specs.Senders.{numbered, restored, confirmed_to, confirmed_by}
 use Rattle.pdcp_defs.specs.Receivers.{is_duplicate, stored, deliver}
@@ -70,8 +70,8 @@ lossy_kept =
     (refl, tt,
     -- takes (data_frame true 9 2 c) []
     (refl, tt,
-    -- carries 2 c []
-    (refl, tt,
+    -- fails
+    (tt, tt,
     -- begins_anew (downlink_to 7) 0 []
     (tt, tt,
     -- takes (report_frame 0) (data_frame false 1 2 c ∷ data_frame false 2 3 d ∷ [])

@@ -1,11 +1,11 @@
 -- Frames on the tunnel: more are put, any is lost, the first is taken.
-use Rattle.std.proofs.Common.{◌≡◌, ℕ, zero, suc, ◌+◌, ◌-◌, ◌<◌, ◌≤◌, max, Bool, true, false, not, ◌&&◌, ◌==◌, if◌then◌else◌, List, [], ◌∷◌, ◌++◌, Option, Some, None, refl, sym, ap, subst, ◌∙◌, arith}
+use Rattle.std.proofs.Common.{◌≡◌, ℕ, zero, suc, ◌+◌, ◌-◌, ◌<◌, ◌≤◌, Bool, true, false, not, ◌&&◌, ◌==◌, if◌then◌else◌, List, [], ◌∷◌, ◌++◌, Option, Some, None, refl, sym, subst, ◌∙◌, arith}
 use Rattle.std.proofs.lemmas.List.{append_assoc, append-nil}
 use Rattle.law_intervals.specs.Intervals.{segment, upto}
 use Rattle.unit_defs.specs.Ways.{Pdu, packet_pdu, report_pdu}
-use Rattle.unit_defs.specs.UpRecords.{Downlink, UpBearer}
+use Rattle.unit_defs.specs.UpRecords.{UpBearer}
 use Rattle.law_chain.proofs.Facts.{pairs}
-use Rattle.law_downlink_path.specs.Paths.{Frame, Path, Sending, frame_on, packets_sent}
+use Rattle.law_downlink_path.specs.Paths.{Frame, Sending, frame_on, packets_sent}
 use Rattle.law_downlink_path.proofs.Facts.{View, FitsPacket, Quiet, Fits, Stands, Line, Marked, Speaks}
 
 -- ---- facts stay as more is received, and as more packets come
@@ -87,7 +87,7 @@ line_then p v need next n tunnel f e h fits =
     record {
       stands = stands_more p (then_needs need next n) v.deliv v.comes v.awaited tunnel next f e
           (stands_then p need v.deliv v.comes next n v.awaited tunnel h.stands) (rw e fits);
-      taken = λ u. rw (needs_before p need v.deliv v.comes next n v.awaited low) (h.taken u);
+      taken = λ w u. rw (needs_before p need v.deliv v.comes next n v.awaited low) (h.taken w u);
     }
 
 -- ---- the CU-UP puts

@@ -1,5 +1,5 @@
 -- What holds at the start and is kept by each step holds after every list of steps.
-use Rattle.std.proofs.Common.{◌≡◌, ℕ, zero, suc, ◌+◌, ◌≤◌, Bool, true, false, List, [], ◌∷◌, ◌++◌, length, refl, sym, ap, subst, ◌∙◌, true≢false, arith}
+use Rattle.std.proofs.Common.{◌≡◌, ℕ, suc, ◌+◌, ◌≤◌, Bool, true, false, List, [], ◌∷◌, length, refl, sym, ap, subst, ◌∙◌, arith}
 use Rattle.std.specs.Prelude.{⊤}
 use Rattle.law_intervals.specs.Intervals.{segment, upto, HasNoGap, reach}
 use Rattle.pdcp_defs.specs.Receivers.{Delivery, is_duplicate, stored, deliver}
@@ -8,10 +8,10 @@ use Rattle.unit_defs.specs.UpBearers.{made}
 use Rattle.unit_defs.specs.Du.{DuBearer}
 use Rattle.law_chain.proofs.Runs.{stream}
 use Rattle.law_downlink_path.specs.Paths.{Path, start}
-use Rattle.law_downlink_path.specs.Steps.{Step, numbers, sends, keeps, polls, reports, status, confirms, freezes, resumes, begins_anew, loses, takes, carries, handed, after, run, packets_in, IsReady, IsOwed, AreKept}
+use Rattle.law_downlink_path.specs.Steps.{Step, numbers, sends, keeps, polls, reports, status, confirms, freezes, resumes, fails, begins_anew, loses, takes, carries, handed, after, run, packets_in, IsReady, IsOwed, AreKept}
 use Rattle.law_downlink_path.proofs.Facts.{Stands, Marked, Kept}
 use Rattle.law_downlink_path.proofs.Senders.{kept_numbers, kept_sends, kept_keeps, kept_polls, kept_reports, kept_status, kept_confirms}
-use Rattle.law_downlink_path.proofs.Control.{kept_freezes, kept_resumes, kept_begins_anew}
+use Rattle.law_downlink_path.proofs.Control.{kept_freezes, kept_resumes, kept_fails, kept_begins_anew}
 use Rattle.law_downlink_path.proofs.Takes.{kept_loses, kept_takes}
 use Rattle.law_downlink_path.proofs.Carries.{kept_carries}
 
@@ -43,6 +43,7 @@ kept_step p s k (status lost delivered) r d is = kept_status p s k lost delivere
 kept_step p s k (confirms fmc bits) r d is = kept_confirms p s k fmc bits d.0 d.1
 kept_step p s k (freezes hop) r d is = kept_freezes p s k hop r
 kept_step p s k resumes r d is = kept_resumes p s k r
+kept_step p s k fails r d is = kept_fails p s k
 kept_step p s k (begins_anew downlink fmc bits) r d is = kept_begins_anew p s k downlink fmc bits
 kept_step p s k (loses before frame rest) r d is = kept_loses p s k before frame rest r
 kept_step p s k (takes frame rest) r d is = kept_takes p s k frame rest r
@@ -106,7 +107,7 @@ kept_start p first d du = record {
     need = λ _. 0;
     downlink = record d { next = 0 };
     there = refl;
-    line = record { stands = none; taken = λ _. none };
+    line = record { stands = none; taken = λ _ _. none };
     marked = λ _. none;
   };
   radio = record { no_gap = tt; packets = tt; reached_comes = none; delivered_are = refl; none_stored = refl };

@@ -1,19 +1,19 @@
 -- What the CU-UP does keeps all.
-use Rattle.std.proofs.Common.{◌≡◌, ℕ, zero, suc, ◌+◌, ◌-◌, ◌<◌, ◌≤◌, min, max, Bool, true, false, not, ◌&&◌, ◌||◌, ◌==◌, nat_lt, nat_le, if◌then◌else◌, List, [], ◌∷◌, ◌++◌, filter, Option, Some, None, refl, sym, ap, subst, ◌∙◌, true≢false, arith}
+use Rattle.std.proofs.Common.{◌≡◌, ℕ, zero, suc, ◌+◌, ◌-◌, ◌<◌, ◌≤◌, min, max, Bool, true, false, not, ◌&&◌, ◌==◌, nat_lt, nat_le, List, [], ◌∷◌, ◌++◌, filter, Option, Some, None, refl, sym, ap, subst, ◌∙◌, arith}
 use Rattle.std.proofs.lemmas.List.{append-nil}
 use Rattle.std.specs.List.{list_any}
-use Rattle.law_intervals.specs.Intervals.{segment, upto, HasNoGap, reach}
-use Rattle.law_intervals.proofs.Intervals.{upto-nil, upto-snoc, upto-filter, reach-le}
+use Rattle.law_intervals.specs.Intervals.{segment, upto}
+use Rattle.law_intervals.proofs.Intervals.{upto-nil, upto-snoc, upto-filter}
 use Rattle.pdcp_defs.specs.Senders.{Sender, numbered as with_next, restored, confirmed_to, confirmed_by, is_reported}
-use Rattle.unit_defs.specs.Ways.{Pdu, report_pdu}
-use Rattle.unit_defs.specs.UpRecords.{Downlink, SourceHop, UpBearer}
-use Rattle.unit_defs.specs.UpBearers.{is_one_of, owed, thawed}
-use Rattle.chain_defs.specs.Orders.{holds, takes_unless, frozen}
+use Rattle.unit_defs.specs.Ways.{report_pdu}
+use Rattle.unit_defs.specs.UpRecords.{UpBearer}
+use Rattle.unit_defs.specs.UpBearers.{is_one_of}
+use Rattle.chain_defs.specs.Orders.{holds}
 use Rattle.law_chain.proofs.Facts.{pairs}
 use Rattle.law_chain.proofs.Frames.{apart}
 use Rattle.law_downlink_path.specs.Paths.{Frame, Path, Sending, frame_on, packets_sent}
-use Rattle.law_downlink_path.specs.Steps.{numbers, sends, keeps, polls, reports, status, confirms, freezes, resumes, begins_anew, put, confirmed_if, sent_again, anew, is_received, after}
-use Rattle.law_downlink_path.proofs.Facts.{View, view, Stands, Line, Marked, Speaks, Holds, Radio, Kept}
+use Rattle.law_downlink_path.specs.Steps.{numbers, sends, keeps, polls, reports, status, confirms, put, confirmed_if, sent_again, is_received, after}
+use Rattle.law_downlink_path.proofs.Facts.{View, view, Marked, Speaks, Holds, Radio, Kept}
 use Rattle.law_downlink_path.proofs.Puts.{stands_later, Alike, Puts, IsQuiet, puts_upto, puts_quiet}
 
 -- ---- facts stay as more is received, and as more packets come
@@ -32,7 +32,7 @@ speaks_later p v tunnel b cursor later more reached l m n h = record {
   there = h.there;
   line = record {
     stands = stands_later p h.need v.deliv v.comes later more l m v.awaited tunnel (h.downlink.next) h.line.stands;
-    taken = λ u. (let a = h.line.taken u in omega arith);
+    taken = λ w u. (let a = h.line.taken w u in omega arith);
   };
   marked = λ u. marked_later b.restart cursor v.deliv later (h.need (h.downlink.next)) l (h.marked u);
 }

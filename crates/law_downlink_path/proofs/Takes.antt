@@ -1,16 +1,15 @@
 -- A frame is lost, the DU takes one, the terminal takes a packet: all is kept.
-use Rattle.std.proofs.Common.{◌≡◌, ℕ, ◌+◌, ◌<◌, ◌≤◌, max, Bool, true, false, not, ◌&&◌, ◌||◌, ◌==◌, nat_lt, List, [], ◌∷◌, ◌++◌, Option, Some, None, refl, sym, ap, subst, ◌∙◌, true≢false, arith}
+use Rattle.std.proofs.Common.{◌≡◌, ℕ, ◌+◌, ◌<◌, ◌≤◌, max, Bool, true, false, not, ◌&&◌, ◌||◌, nat_lt, List, [], ◌∷◌, ◌++◌, Option, Some, None, refl, sym, subst, ◌∙◌, true≢false, arith}
 use Rattle.std.proofs.lemmas.List.{append-nil}
 use Rattle.std.specs.List.{AllByRecursion}
-use Rattle.law_intervals.specs.Intervals.{upto, HasNoGap, reach}
-use Rattle.law_intervals.proofs.Intervals.{upto-snoc, reach-le, reach-append, HasNoGap-append}
+use Rattle.law_intervals.specs.Intervals.{HasNoGap, reach}
+use Rattle.law_intervals.proofs.Intervals.{reach-le, reach-append, HasNoGap-append}
 use Rattle.unit_defs.specs.Ways.{Pdu, packet_pdu, report_pdu}
-use Rattle.law_chain.proofs.Facts.{pairs}
-use Rattle.law_downlink_path.specs.Paths.{Frame, Path, carried_by, gap_after}
+use Rattle.law_chain.proofs.Frames.{apart}
+use Rattle.law_downlink_path.specs.Paths.{Frame, Path, carried_by, gap_after, taken_by}
 use Rattle.law_downlink_path.specs.Steps.{loses, takes, after}
-use Rattle.law_downlink_path.proofs.Facts.{View, view, FitsPacket, Quiet, Fits, Stands, Line, Radio, Kept}
+use Rattle.law_downlink_path.proofs.Facts.{View, view, FitsPacket, Quiet, Fits, Stands, Radio, Kept}
 use Rattle.law_downlink_path.proofs.Puts.{stands_without}
-use Rattle.law_downlink_path.proofs.Senders.{RadioOf}
 
 all_append : {X : Type 0} (P : X → Type 0) (xs ys : List X) → AllByRecursion P xs → AllByRecursion P ys → AllByRecursion P (xs ++ ys)
 all_append P [] ys h k = k
@@ -122,13 +121,15 @@ module _ (p : ℕ → List ℕ) (s : Path) (k : Kept p s) where
       let j = goes_on count packet (let d = fits.0 in omega arith) fits.2 fits.3 in
       (j.0, λ u. (let d = fits.1 in let i = j.1 in omega arith))
 
-  pub kept_takes : (f : Frame) (rest : List Frame) → s.tunnel ≡ f ∷ rest → Kept p (after s (takes f rest))
-  unfolding after Stands
-  kept_takes f rest is =
+  takes_by : (f : Frame) (rest : List Frame)
+      → Stands p k.speaks.need v.deliv v.comes (f.number + 1) rest (k.speaks.downlink.next)
+      → (s.listens ≡ true → Took (k.speaks.need (f.number + 1)) f.number (gap_after s.du f f.pdu) f.pdu)
+      → (t : Bool) → s.listens ≡ t
+      → Kept p (record s
+      { tunnel = rest; du = taken_by s.du f; air = s.air ++ carried_by (not t || gap_after s.du f f.pdu) f.pdu })
+  takes_by f rest stands took_it true is =
       let h = k.speaks in
-      let st : Stands p h.need v.deliv v.comes v.awaited (f ∷ rest) (h.downlink.next) =
-      subst (λ fs. Stands p h.need v.deliv v.comes v.awaited fs (h.downlink.next)) is h.line.stands in
-      let j = took h.need f.number f.restart f.pdu h.line.taken st.0 st.1 f.poll (gap_after s.du f f.pdu) refl in
+      let j = took_it is in
       record {
         low = k.low;
         sent = k.sent;
@@ -137,8 +138,32 @@ module _ (p : ℕ → List ℕ) (s : Path) (k : Kept p s) where
           need = h.need;
           downlink = h.downlink;
           there = h.there;
-          line = record { stands = st.2; taken = j.1 };
+          line = record { stands = stands; taken = λ _. j.1 };
           marked = h.marked;
         };
         radio = j.0;
       }
+  takes_by f rest stands took_it false is =
+      let h = k.speaks in
+      rw (append-nil s.air) (record {
+        low = k.low;
+        sent = k.sent;
+        holds = k.holds;
+        speaks = record {
+          need = h.need;
+          downlink = h.downlink;
+          there = h.there;
+          line = record { stands = stands; taken = λ w. apart w is };
+          marked = h.marked;
+        };
+        radio = k.radio;
+      })
+
+  pub kept_takes : (f : Frame) (rest : List Frame) → s.tunnel ≡ f ∷ rest → Kept p (after s (takes f rest))
+  unfolding after Stands
+  kept_takes f rest is =
+      let h = k.speaks in
+      let st : Stands p h.need v.deliv v.comes v.awaited (f ∷ rest) (h.downlink.next) =
+      subst (λ fs. Stands p h.need v.deliv v.comes v.awaited fs (h.downlink.next)) is h.line.stands in
+      takes_by f rest st.2
+      (λ w. took h.need f.number f.restart f.pdu (h.line.taken w) st.0 st.1 f.poll (gap_after s.du f f.pdu) refl) s.listens refl

@@ -6,7 +6,7 @@ use Rattle.unit_defs.specs.Ways.{packet_pdu, report_pdu}
 use Rattle.unit_defs.specs.UpRecords.{Downlink, SourceHop}
 use Rattle.unit_defs.specs.Du.{DuBearer}
 use Rattle.law_downlink_path.specs.Paths.{Frame}
-use Rattle.law_downlink_path.specs.Steps.{Step, numbers, sends, keeps, polls, reports, status, confirms, freezes, resumes, begins_anew, loses, takes, carries}
+use Rattle.law_downlink_path.specs.Steps.{Step, numbers, keeps, polls, status, confirms, freezes, resumes, fails, begins_anew, loses, takes, carries}
 
 abbrev pub a : List ℕ
 a = 97 ∷ []
@@ -56,9 +56,9 @@ lossy =
     -- a loss while frozen: what came meanwhile is sent after the resume, after what was sent before
     ∷ freezes hop ∷ keeps 3 d ∷ status ((9, 9) ∷ []) None ∷ resumes
     ∷ loses (data_frame true 9 2 c ∷ []) (data_frame false 10 3 d) []
-    ∷ takes (data_frame true 9 2 c) [] ∷ carries 2 c []
-    -- a new tunnel to a new radio
-    ∷ begins_anew (downlink_to 7) 0 []
+    ∷ takes (data_frame true 9 2 c) []
+    -- the radio fails while a packet stands there and on the tunnel: it is gone, and all goes to a new tunnel and a new radio
+    ∷ fails ∷ begins_anew (downlink_to 7) 0 []
     ∷ takes (report_frame 0) (data_frame false 1 2 c ∷ data_frame false 2 3 d ∷ [])
     ∷ takes (data_frame false 1 2 c) (data_frame false 2 3 d ∷ []) ∷ takes (data_frame false 2 3 d) []
     ∷ carries 2 c ((3, d) ∷ []) ∷ carries 3 d []

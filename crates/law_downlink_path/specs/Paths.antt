@@ -20,7 +20,8 @@ pub record Path : Type 0 where
   pub bearer : UpBearer
   pub tunnel : List Frame
   pub du : DuBearer
-  -- the packets on the radio; status reports say nothing here
+  -- whether the terminal is on the radio to which the DU sends; the packets there (status reports say nothing here)
+  pub listens : Bool
   pub air : List (ℕ × List ℕ)
   pub terminal : Receiver (List ℕ)
   pub delivered : List (ℕ × List ℕ)
@@ -79,6 +80,7 @@ start first downlink du = record {
   bearer = record (made false first) { downlink = Some (record downlink { next = 0 }) };
   tunnel = [];
   du = record du { awaited = 0; gap = false };
+  listens = true;
   air = [];
   terminal = new_receiver 0;
   delivered = [];

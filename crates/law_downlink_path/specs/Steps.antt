@@ -1,9 +1,9 @@
 -- What happens on the way, in small orders, and what each asks for. `IsReady` is what the units test themselves, and what stands
 -- where they take from; `IsOwed` is what the rest of the station owes.
-use Rattle.std.specs.Prelude.{◌≡◌, ℕ, ◌+◌, ◌<◌, ◌≤◌, Bool, true, false, ◌||◌, if◌then◌else◌, List, [], ◌∷◌, ◌++◌, Option, Some, None, ⊤}
-use Rattle.pdcp_defs.specs.Senders.{numbered as with_next, restored, confirmed_to, confirmed_by}
+use Rattle.std.specs.Prelude.{◌≡◌, ℕ, ◌+◌, ◌<◌, ◌≤◌, Bool, true, false, not, ◌||◌, if◌then◌else◌, List, [], ◌∷◌, ◌++◌, Option, Some, None, ⊤}
+use Rattle.pdcp_defs.specs.Senders.{numbered as with_next, confirmed_to, confirmed_by}
 use Rattle.pdcp_defs.specs.Receivers.{Delivery, is_duplicate, stored, deliver}
-use Rattle.unit_defs.specs.Ways.{Pdu, report_pdu}
+use Rattle.unit_defs.specs.Ways.{report_pdu}
 use Rattle.unit_defs.specs.UpRecords.{Downlink, SourceHop, UpBearer}
 use Rattle.unit_defs.specs.UpBearers.{has_downlink, owed, thawed}
 use Rattle.chain_defs.specs.Orders.{holds, takes_unless, frozen}
@@ -23,7 +23,9 @@ pub data Step : Type 0 where
   -- control
   freezes : (hop : SourceHop) → Step
   resumes : Step
-  -- a new tunnel to a new radio: what stood on the old ones is gone, and all that nothing confirmed is sent again
+  -- the radio fails, and what stands there is gone; a new tunnel to a new radio: what stood on the old one is gone, and all
+  -- that nothing confirmed is sent again
+  fails : Step
   begins_anew : (downlink : Downlink) (fmc : ℕ) (bits : List Bool) → Step
   -- a frame is lost; the DU takes the first frame; the terminal takes the next packet of its radio
   loses : (before : List Frame) (frame : Frame) (rest : List Frame) → Step
@@ -73,6 +75,7 @@ after s (freezes hop) = record s { frozen = true; bearer = frozen s.bearer hop }
 after s resumes =
     record (put s (packets_sent (owed s.bearer) (record (thawed s.bearer) { restart = s.bearer.restart || s.bearer.loss_while_frozen })))
     { frozen = false }
+after s fails = record s { listens = false; air = [] }
 after s (begins_anew downlink fmc bits) =
     let sent = sent_anew fmc bits (anew s.bearer downlink) in
     record s {
@@ -80,11 +83,16 @@ after s (begins_anew downlink fmc bits) =
       bearer = sent.bearer;
       tunnel = sent.frames;
       du = record s.du { downlink = downlink.teid; awaited = 0; gap = false };
+      listens = true;
       air = [];
     }
 after s (loses before frame rest) = record s { tunnel = before ++ rest }
 after s (takes frame rest) =
-    record s { tunnel = rest; du = taken_by s.du frame; air = s.air ++ carried_by (gap_after s.du frame frame.pdu) frame.pdu }
+    record s {
+      tunnel = rest;
+      du = taken_by s.du frame;
+      air = s.air ++ carried_by (not s.listens || gap_after s.du frame frame.pdu) frame.pdu;
+    }
 after s (carries count packet rest) =
     handed (record s { air = rest }) (is_duplicate s.terminal count) (deliver (stored s.terminal count packet))
 
@@ -112,6 +120,7 @@ IsReady s (status lost delivered) = ⊤
 IsReady s (confirms fmc bits) = ⊤
 IsReady s (freezes hop) = s.frozen ≡ false
 IsReady s resumes = s.frozen ≡ true
+IsReady s fails = ⊤
 IsReady s (begins_anew downlink fmc bits) = ⊤
 IsReady s (loses before frame rest) = s.tunnel ≡ before ++ frame ∷ rest
 IsReady s (takes frame rest) = s.tunnel ≡ frame ∷ rest

@@ -1,7 +1,7 @@
 -- What the laws say of the way down, after some steps by which the CU-UP came to hold these packets.
-use Rattle.std.specs.Prelude.{◌≡◌, ℕ, ◌+◌, ◌<◌, ◌≤◌, true, false, List, [], ◌∷◌, ◌++◌, length, take, Option, Some, None, ⊤}
+use Rattle.std.specs.Prelude.{◌≡◌, ℕ, ◌+◌, ◌<◌, ◌≤◌, true, false, List, [], ◌∷◌, ◌++◌, length, take, ⊤}
 use Rattle.std.specs.List.{AllByRecursion, enumerate_from}
-use Rattle.law_intervals.specs.Intervals.{HasNoGap, reach}
+use Rattle.law_intervals.specs.Intervals.{HasNoGap}
 use Rattle.pdcp_defs.specs.Receivers.{is_ahead}
 use Rattle.law_downlink_path.specs.Paths.{Frame, Path, packet_of}
 
@@ -35,7 +35,7 @@ RunsHaveNoGap s =
 unfoldable pub WayHasNoGap : Path → Type 0
 WayHasNoGap s =
     HasNoGap s.terminal.deliv s.air
-    × ((run rest : List Frame) → s.tunnel ≡ run ++ rest → s.du.gap ≡ false → Follow s.du.awaited run
+    × ((run rest : List Frame) → s.tunnel ≡ run ++ rest → s.listens ≡ true → s.du.gap ≡ false → Follow s.du.awaited run
         → HasNoGap s.terminal.deliv (s.air ++ packets_of run))
 
 -- a frame with the restart mark has a packet that was received, or that is the next to be
