@@ -152,8 +152,8 @@ module _ (first : ℕ) (d : Downlink) (du : DuBearer) (os : List Step) (kept : A
         let k = good.speaks in
         let st = subst (λ fs. Stands p k.need s.terminal.deliv s.comes s.du.awaited fs (k.downlink.next)) is k.line.stands in
         HasNoGap-append s.terminal.deliv s.air (packets_of run_) good.radio.no_gap
-            (follows p k.need s.terminal.deliv s.comes s.du.awaited (reach s.terminal.deliv s.air) run_ rest (k.downlink.next) s.du.awaited
-            (reach-le s.terminal.deliv s.air) (k.line.taken hears closed) st follow),
+        (follows p k.need s.terminal.deliv s.comes s.du.awaited (reach s.terminal.deliv s.air) run_ rest (k.downlink.next) s.du.awaited
+        (reach-le s.terminal.deliv s.air) (k.line.taken hears closed) st follow),
   )
 
   pub restarts_at_received : RestartsAtReceived (run (start first d du) os)

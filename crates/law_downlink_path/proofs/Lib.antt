@@ -7,3 +7,4 @@ pub mod Carries
 pub mod Runs
 pub mod Laws
 pub mod Lost
+pub mod Rows

@@ -17,71 +17,173 @@ unfolding lossy start run AreKept IsReady IsOwed after made packets_sent numbere
     deliver find put
 lossy_kept =
     -- numbers a
-    ((refl, refl), refl,
-    -- numbers b
-    ((refl, refl), refl,
-    -- numbers c
-    ((refl, refl), refl,
-    -- loses [] (data_frame false 0 0 a) (data_frame false 1 1 b ∷ data_frame false 2 2 c ∷ [])
-    (refl, tt,
-    -- takes (data_frame false 1 1 b) (data_frame false 2 2 c ∷ [])
-    (refl, tt,
-    -- status ((0, 0) ∷ []) None
-    (tt, tt,
-    -- takes (data_frame false 2 2 c) (data_frame true 3 0 a ∷ data_frame false 4 1 b ∷ data_frame false 5 2 c ∷ [])
-    (refl, tt,
-    -- takes (data_frame true 3 0 a) (data_frame false 4 1 b ∷ data_frame false 5 2 c ∷ [])
-    (refl, tt,
-    -- takes (data_frame false 4 1 b) (data_frame false 5 2 c ∷ [])
-    (refl, tt,
-    -- carries 0 a ((1, b) ∷ [])
-    (refl, tt,
-    -- carries 1 b []
-    (refl, tt,
-    -- status [] (Some 0)
-    (tt, omega arith,
-    -- loses [] (data_frame false 5 2 c) []
-    (refl, tt,
-    -- polls
-    (tt, tt,
-    -- takes (poll_frame 6) []
-    (refl, tt,
-    -- status ((5, 5) ∷ []) None
-    (tt, tt,
-    -- takes (data_frame true 7 1 b) (data_frame false 8 2 c ∷ [])
-    (refl, tt,
-    -- takes (data_frame false 8 2 c) []
-    (refl, tt,
-    -- carries 1 b ((2, c) ∷ [])
-    (refl, tt,
-    -- carries 2 c []
-    (refl, tt,
-    -- confirms 2 []
-    (tt, (omega arith, refl),
-    -- freezes hop
-    (refl, tt,
-    -- keeps 3 d
-    (refl, refl,
-    -- status ((9, 9) ∷ []) None
-    (tt, tt,
-    -- resumes
-    (refl, tt,
-    -- loses (data_frame true 9 2 c ∷ []) (data_frame false 10 3 d) []
-    (refl, tt,
-    -- takes (data_frame true 9 2 c) []
-    (refl, tt,
-    -- fails
-    (tt, tt,
-    -- begins_anew (downlink_to 7) 0 []
-    (tt, tt,
-    -- takes (report_frame 0) (data_frame false 1 2 c ∷ data_frame false 2 3 d ∷ [])
-    (refl, tt,
-    -- takes (data_frame false 1 2 c) (data_frame false 2 3 d ∷ [])
-    (refl, tt,
-    -- takes (data_frame false 2 3 d) []
-    (refl, tt,
-    -- carries 2 c ((3, d) ∷ [])
-    (refl, tt,
-    -- carries 3 d []
-    (refl, tt,
-    tt))))))))))))))))))))))))))))))))))
+    (
+      (refl, refl),
+      refl,
+      -- numbers b
+      (
+        (refl, refl),
+        refl,
+        -- numbers c
+        (
+          (refl, refl),
+          refl,
+          -- loses [] (data_frame false 0 0 a) (data_frame false 1 1 b ∷ data_frame false 2 2 c ∷ [])
+          (
+            refl,
+            tt,
+            -- takes (data_frame false 1 1 b) (data_frame false 2 2 c ∷ [])
+            (
+              refl,
+              tt,
+              -- status ((0, 0) ∷ []) None
+              (
+                tt,
+                tt,
+                -- takes (data_frame false 2 2 c) (data_frame true 3 0 a ∷ data_frame false 4 1 b ∷ data_frame false 5 2 c ∷ [])
+                (
+                  refl,
+                  tt,
+                  -- takes (data_frame true 3 0 a) (data_frame false 4 1 b ∷ data_frame false 5 2 c ∷ [])
+                  (
+                    refl,
+                    tt,
+                    -- takes (data_frame false 4 1 b) (data_frame false 5 2 c ∷ [])
+                    (
+                      refl,
+                      tt,
+                      -- carries 0 a ((1, b) ∷ [])
+                      (
+                        refl,
+                        tt,
+                        -- carries 1 b []
+                        (
+                          refl,
+                          tt,
+                          -- status [] (Some 0)
+                          (
+                            tt,
+                            omega arith,
+                            -- loses [] (data_frame false 5 2 c) []
+                            (
+                              refl,
+                              tt,
+                              -- polls
+                              (
+                                tt,
+                                tt,
+                                -- takes (poll_frame 6) []
+                                (
+                                  refl,
+                                  tt,
+                                  -- status ((5, 5) ∷ []) None
+                                  (
+                                    tt,
+                                    tt,
+                                    -- takes (data_frame true 7 1 b) (data_frame false 8 2 c ∷ [])
+                                    (
+                                      refl,
+                                      tt,
+                                      -- takes (data_frame false 8 2 c) []
+                                      (
+                                        refl,
+                                        tt,
+                                        -- carries 1 b ((2, c) ∷ [])
+                                        (
+                                          refl,
+                                          tt,
+                                          -- carries 2 c []
+                                          (
+                                            refl,
+                                            tt,
+                                            -- confirms 2 []
+                                            (
+                                              tt,
+                                              (omega arith, refl),
+                                              -- freezes hop
+                                              (
+                                                refl,
+                                                tt,
+                                                -- keeps 3 d
+                                                (
+                                                  refl,
+                                                  refl,
+                                                  -- status ((9, 9) ∷ []) None
+                                                  (
+                                                    tt,
+                                                    tt,
+                                                    -- resumes
+                                                    (
+                                                      refl,
+                                                      tt,
+                                                      -- loses (data_frame true 9 2 c ∷ []) (data_frame false 10 3 d) []
+                                                      (
+                                                        refl,
+                                                        tt,
+                                                        -- takes (data_frame true 9 2 c) []
+                                                        (
+                                                          refl,
+                                                          tt,
+                                                          -- fails
+                                                          (
+                                                            tt,
+                                                            tt,
+                                                            -- begins_anew (downlink_to 7) 0 []
+                                                            (
+                                                              tt,
+                                                              tt,
+                                                              -- takes (report_frame 0) (data_frame false 1 2 c ∷ data_frame false 2 3 d ∷ [])
+                                                              (
+                                                                refl,
+                                                                tt,
+                                                                -- takes (data_frame false 1 2 c) (data_frame false 2 3 d ∷ [])
+                                                                (
+                                                                  refl,
+                                                                  tt,
+                                                                  -- takes (data_frame false 2 3 d) []
+                                                                  (
+                                                                    refl,
+                                                                    tt,
+                                                                    -- carries 2 c ((3, d) ∷ [])
+                                                                    (
+                                                                      refl,
+                                                                      tt,
+                                                                      -- carries 3 d []
+                                                                      (
+                                                                        refl,
+                                                                        tt,
+                                                                        tt,
+                                                                      ),
+                                                                    ),
+                                                                  ),
+                                                                ),
+                                                              ),
+                                                            ),
+                                                          ),
+                                                        ),
+                                                      ),
+                                                    ),
+                                                  ),
+                                                ),
+                                              ),
+                                            ),
+                                          ),
+                                        ),
+                                      ),
+                                    ),
+                                  ),
+                                ),
+                              ),
+                            ),
+                          ),
+                        ),
+                      ),
+                    ),
+                  ),
+                ),
+              ),
+            ),
+          ),
+        ),
+      ),
+    )

@@ -14,7 +14,7 @@ unfoldable pub TakesAtOnce : Path → Type 0
 TakesAtOnce s =
     (s.terminal.stored ≡ [])
     × ((count quota : ℕ) (packet : List ℕ) (rest : List (ℕ × List ℕ)) → s.air ≡ (count, packet) ∷ rest → 0 < quota
-        → is_ahead quota s.terminal count ≡ false)
+    → is_ahead quota s.terminal count ≡ false)
 
 -- frames that nothing is missing between, from this number on
 unfoldable pub Follow : ℕ → List Frame → Type 0
@@ -36,10 +36,10 @@ unfoldable pub WayHasNoGap : Path → Type 0
 WayHasNoGap s =
     HasNoGap s.terminal.deliv s.air
     × ((run rest : List Frame) → s.tunnel ≡ run ++ rest → s.listens ≡ true → s.du.gap ≡ false → Follow s.du.awaited run
-        → HasNoGap s.terminal.deliv (s.air ++ packets_of run))
+    → HasNoGap s.terminal.deliv (s.air ++ packets_of run))
 
 -- a frame with the restart mark has a packet that was received, or that is the next to be
 unfoldable pub RestartsAtReceived : Path → Type 0
 RestartsAtReceived s =
     AllByRecursion (λ (f : Frame). f.restart ≡ true → (count : ℕ) (packet : List ℕ) → packet_of f.pdu ≡ (count, packet) ∷ []
-        → count ≤ s.terminal.deliv) s.tunnel
+    → count ≤ s.terminal.deliv) s.tunnel

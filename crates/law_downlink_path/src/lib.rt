@@ -3,10 +3,19 @@
 #![tactic(auto)]
 
 ghost use Rattle.std.specs.Prelude.{◌≡◌, ℕ, List, [], ◌∷◌};
-ghost use Rattle.unit_defs.specs.UpRecords.{Downlink};
-ghost use Rattle.unit_defs.specs.Du.{DuBearer};
-ghost use Rattle.law_downlink_path.specs.Paths.{start};
-ghost use Rattle.law_downlink_path.specs.Steps.{Step, run, packets_in, AreKept};
+ghost use Rattle.std.specs.Prelude.{Bool, Option};
+ghost use Rattle.gnb_types.specs.declared.names.UeId.{UeId};
+ghost use Rattle.gnb_types.specs.declared.names.BearerId.{BearerId};
+ghost use Rattle.gnb_types.specs.declared.outputs.Tag.{Tag};
+ghost use Rattle.message_types.specs.declared.rrc.Token.{Token};
+ghost use Rattle.unit_defs.specs.Ways.{Message, Pdu, frame_item, Way};
+ghost use Rattle.unit_defs.specs.UpRecords.{Downlink, UpBearer, UpAt};
+ghost use Rattle.unit_defs.specs.UpBearers.{framed, sent_again as row_sends};
+ghost use Rattle.unit_defs.specs.UpItems.{lost_frames};
+ghost use Rattle.unit_defs.specs.Du.{Du, DuBearer, DuContext, frame_came, with_bearer};
+ghost use Rattle.law_downlink_path.specs.Paths.{Frame, start, frame_on, packets_sent, gap_after, taken_by};
+ghost use Rattle.law_downlink_path.specs.Shown.{pdu_written, PutsFrames, goes_on, Carries};
+ghost use Rattle.law_downlink_path.specs.Steps.{Step, sent_again, run, packets_in, AreKept};
 ghost use Rattle.law_downlink_path.specs.Words.{DeliversInOrder, TakesAtOnce, RunsHaveNoGap, WayHasNoGap, RestartsAtReceived};
 ghost use Rattle.law_downlink_path.specs.Lossy.{lossy, downlink_to, du_bearer, a, b, c, d};
 
@@ -51,4 +60,28 @@ pub fn goes_on_after_losses()
     ensures guards { AreKept (start 1 (downlink_to 1) du_bearer) lossy }
     ensures delivered { (run (start 1 (downlink_to 1) du_bearer) lossy).delivered
         ≡ (0, a) ∷ (1, b) ∷ (2, c) ∷ (3, d) ∷ [] }
+{}
+
+/// A CU-UP's rows put the frames that the steps put: a frame of any kind, packets in their order, and after a delivery
+/// status all that nothing confirmed, or nothing while frozen.
+pub fn a_cu_up_puts_these_frames()
+    ensures one { (way : Way (Message Token) Token Pdu) (at : UpAt) (poll restart : Bool)
+        (pdu : Option Pdu) (tag : Tag) (b : UpBearer)
+        → PutsFrames way at.sn (frame_on poll restart pdu b b.downlink)
+        (framed way at poll restart (pdu_written way at.sn pdu) tag b) }
+    ensures packets { (way : Way (Message Token) Token Pdu) (at : UpAt) (packets : List (ℕ × List ℕ))
+        (b : UpBearer) → PutsFrames way at.sn (packets_sent packets b) (row_sends way at packets b) }
+    ensures after_a_loss { (way : Way (Message Token) Token Pdu) (at : UpAt) (lost : List (ℕ × ℕ))
+        (b : UpBearer)
+        → PutsFrames way at.sn (sent_again at.flags.frozen lost b) (lost_frames way at lost b) }
+{}
+
+/// A DU's row for a frame keeps what the step keeps, and what the frame carries goes to the radio unless it is in a gap.
+pub fn a_du_takes_a_frame()
+    ensures takes { (way : Way (Message Token) Token Pdu) (ue : UeId) (bearer : BearerId)
+        (c : DuContext) (b : DuBearer) (r : Du (Message Token) Token) (f : Frame)
+        → Carries (goes_on (gap_after b f f.pdu) (pdu_written way c.sn f.pdu))
+        (with_bearer way ue bearer c (taken_by b f) r)
+        (frame_came way ue bearer c b
+        (frame_item f.poll f.restart f.number (pdu_written way c.sn f.pdu)) r) }
 {}
