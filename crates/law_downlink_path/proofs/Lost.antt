@@ -18,15 +18,15 @@ unfolding lossy start run AreKept IsReady IsOwed after made packets_sent numbere
 lossy_kept =
     -- numbers a
     (
-      (refl, refl),
+      refl,
       refl,
       -- numbers b
       (
-        (refl, refl),
+        refl,
         refl,
         -- numbers c
         (
-          (refl, refl),
+          refl,
           refl,
           -- loses [] (data_frame false 0 0 a) (data_frame false 1 1 b ∷ data_frame false 2 2 c ∷ [])
           (

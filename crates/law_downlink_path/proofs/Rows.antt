@@ -7,13 +7,13 @@ use Rattle.gnb_types.specs.declared.names.Dir.TheVariants.{Dl}
 use Rattle.gnb_types.specs.declared.outputs.Tag.{Tag}
 use Rattle.gnb_types.specs.declared.outputs.Tag.TheVariants.{Own, Absent, Same}
 use Rattle.gnb_types.specs.declared.reasons.DropReason.TheVariants.{Gap}
-use Rattle.unit_defs.specs.Ways.{Pdu, packet_pdu, frame, Output, packet, radio, dropped, frame_item, status, Way, Answer, gives, spent, with_outputs, ◌then◌}
+use Rattle.unit_defs.specs.Ways.{Pdu, packet_pdu, report_pdu, frame, Output, packet, radio, dropped, frame_item, status, Way, Answer, gives, spent, with_outputs, ◌then◌}
 use Rattle.unit_defs.specs.UpRecords.{UpBearer, UpAt, Downlink}
 use Rattle.unit_defs.specs.UpBearers.{framed, framed_on, sent, sent_again as row_sends, last_frame}
 use Rattle.unit_defs.specs.UpItems.{lost_frames}
 use Rattle.unit_defs.specs.Du.{Du, DuBearer, DuContext, frame_came, with_bearer, told, missing, is_missing}
 use Rattle.law_downlink_path.specs.Paths.{Frame, Sending, frame_on, packets_sent, gap_after, taken_by}
-use Rattle.law_downlink_path.specs.Steps.{sent_again}
+use Rattle.law_downlink_path.specs.Steps.{sent_again, sent_anew}
 use Rattle.law_downlink_path.specs.Shown.{pdu_written, written, loads_of, PutsFrames, radio_of, goes_on, Carries}
 
 loads-append : {M P : Type 0} (xs ys : List (Output M P)) → loads_of (xs ++ ys) ≡ loads_of xs ++ loads_of ys
@@ -69,6 +69,14 @@ module _ {M C P : Type 0} (way : Way M C P) (at : UpAt) where
       (framed way at false b.restart (Some (way.write at.sn (packet_pdu e.0 e.1))) (Own e.0) b) (λ c. packets_sent es c)
       (λ c. row_sends way at es c)
       (puts_a_frame false b.restart (Some (packet_pdu e.0 e.1)) (Own e.0) b) (λ c. sends_packets es c)
+
+  pub sends_anew : (fmc : ℕ) (bits : List Bool) (b : UpBearer)
+      → PutsFrames way at.sn (sent_anew fmc bits b)
+      (framed way at false false (Some (way.write at.sn (report_pdu fmc bits))) Absent b then (λ c. row_sends way at c.sender.unconfirmed c))
+  sends_anew fmc bits b = and_then (frame_on false false (Some (report_pdu fmc bits)) b b.downlink)
+      (framed way at false false (Some (way.write at.sn (report_pdu fmc bits))) Absent b) (λ c. packets_sent c.sender.unconfirmed c)
+      (λ c. row_sends way at c.sender.unconfirmed c) (puts_a_frame false false (Some (report_pdu fmc bits)) Absent b)
+      (λ c. sends_packets c.sender.unconfirmed c)
 
   pub sends_after_a_loss : (lost : List (ℕ × ℕ)) (b : UpBearer)
       → PutsFrames way at.sn (sent_again at.flags.frozen lost b) (lost_frames way at lost b)

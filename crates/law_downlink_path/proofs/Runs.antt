@@ -34,7 +34,7 @@ Comes p s o = ⊤
 
 kept_step : (p : ℕ → List ℕ) (s : Path) (k : Kept p s) (o : Step) → IsReady s o → IsOwed s o → Comes p s o → Kept p (after s o)
 unfolding IsReady IsOwed Comes
-kept_step p s k (numbers packet) r d is = kept_numbers p s k packet r.0 d is
+kept_step p s k (numbers packet) r d is = kept_numbers p s k packet r d is
 kept_step p s k (sends count packet) r d is = kept_sends p s k count packet r d is
 kept_step p s k (keeps count packet) r d is = kept_keeps p s k count packet r d is
 kept_step p s k polls r d is = kept_polls p s k

@@ -5,7 +5,7 @@ use Rattle.pdcp_defs.specs.Senders.{numbered as with_next, confirmed_to, confirm
 use Rattle.pdcp_defs.specs.Receivers.{Delivery, is_duplicate, stored, deliver}
 use Rattle.unit_defs.specs.Ways.{report_pdu}
 use Rattle.unit_defs.specs.UpRecords.{Downlink, SourceHop, UpBearer}
-use Rattle.unit_defs.specs.UpBearers.{has_downlink, owed, thawed}
+use Rattle.unit_defs.specs.UpBearers.{owed, thawed}
 use Rattle.chain_defs.specs.Orders.{holds, takes_unless, frozen}
 use Rattle.law_downlink_path.specs.Paths.{Frame, Path, Sending, frame_on, packets_sent, taken_by, gap_after, carried_by}
 
@@ -111,7 +111,7 @@ packets_in (o ∷ os) = packets_in os
 -- ---- and asks for
 
 unfoldable pub IsReady : Path → Step → Type 0
-IsReady s (numbers packet) = (s.frozen ≡ false) × (has_downlink s.bearer.downlink ≡ true)
+IsReady s (numbers packet) = s.frozen ≡ false
 IsReady s (sends count packet) = s.frozen ≡ false
 IsReady s (keeps count packet) = s.frozen ≡ true
 IsReady s polls = ⊤

@@ -2,21 +2,22 @@
 //! frames of F1-U are lost, and whenever all is sent again. Each function does nothing: its contract is the law.
 #![tactic(auto)]
 
-ghost use Rattle.std.specs.Prelude.{◌≡◌, ℕ, List, [], ◌∷◌};
-ghost use Rattle.std.specs.Prelude.{Bool, Option};
+ghost use Rattle.std.specs.Prelude.{◌≡◌, ℕ, Bool, false, List, [], ◌∷◌, Option, Some};
 ghost use Rattle.gnb_types.specs.declared.names.UeId.{UeId};
 ghost use Rattle.gnb_types.specs.declared.names.BearerId.{BearerId};
 ghost use Rattle.gnb_types.specs.declared.outputs.Tag.{Tag};
+ghost use Rattle.gnb_types.specs.declared.outputs.Tag.TheVariants.{Absent};
 ghost use Rattle.message_types.specs.declared.rrc.Token.{Token};
-ghost use Rattle.unit_defs.specs.Ways.{Message, Pdu, frame_item, Way};
+ghost use Rattle.unit_defs.specs.Ways.{Message, Pdu, report_pdu, frame_item, Way, ◌then◌};
 ghost use Rattle.unit_defs.specs.UpRecords.{Downlink, UpBearer, UpAt};
 ghost use Rattle.unit_defs.specs.UpBearers.{framed, sent_again as row_sends};
 ghost use Rattle.unit_defs.specs.UpItems.{lost_frames};
 ghost use Rattle.unit_defs.specs.Du.{Du, DuBearer, DuContext, frame_came, with_bearer};
 ghost use Rattle.law_downlink_path.specs.Paths.{Frame, start, frame_on, packets_sent, gap_after, taken_by};
 ghost use Rattle.law_downlink_path.specs.Shown.{pdu_written, PutsFrames, goes_on, Carries};
-ghost use Rattle.law_downlink_path.specs.Steps.{Step, sent_again, run, packets_in, AreKept};
-ghost use Rattle.law_downlink_path.specs.Words.{DeliversInOrder, TakesAtOnce, RunsHaveNoGap, WayHasNoGap, RestartsAtReceived};
+ghost use Rattle.law_downlink_path.specs.Steps.{Step, sent_again, sent_anew, run, packets_in, AreKept};
+ghost use Rattle.law_downlink_path.specs.Words.{DeliversInOrder, TakesAtOnce, RunsHaveNoGap};
+ghost use Rattle.law_downlink_path.specs.Words.{WayHasNoGap, RestartsAtReceived};
 ghost use Rattle.law_downlink_path.specs.Lossy.{lossy, downlink_to, du_bearer, a, b, c, d};
 
 /// The terminal stores no packet, and finds none for which it has no room.
@@ -62,8 +63,8 @@ pub fn goes_on_after_losses()
         ≡ (0, a) ∷ (1, b) ∷ (2, c) ∷ (3, d) ∷ [] }
 {}
 
-/// A CU-UP's rows put the frames that the steps put: a frame of any kind, packets in their order, and after a delivery
-/// status all that nothing confirmed, or nothing while frozen.
+/// A CU-UP's rows put the frames that the steps put: a frame of any kind, packets in their order, a report and all that
+/// nothing confirmed on a new tunnel, and after a delivery status all that nothing confirmed, or nothing while frozen.
 pub fn a_cu_up_puts_these_frames()
     ensures one { (way : Way (Message Token) Token Pdu) (at : UpAt) (poll restart : Bool)
         (pdu : Option Pdu) (tag : Tag) (b : UpBearer)
@@ -71,6 +72,10 @@ pub fn a_cu_up_puts_these_frames()
         (framed way at poll restart (pdu_written way at.sn pdu) tag b) }
     ensures packets { (way : Way (Message Token) Token Pdu) (at : UpAt) (packets : List (ℕ × List ℕ))
         (b : UpBearer) → PutsFrames way at.sn (packets_sent packets b) (row_sends way at packets b) }
+    ensures anew { (way : Way (Message Token) Token Pdu) (at : UpAt) (fmc : ℕ) (bits : List Bool)
+        (b : UpBearer) → PutsFrames way at.sn (sent_anew fmc bits b)
+        (framed way at false false (Some (way.write at.sn (report_pdu fmc bits))) Absent b
+        then (λ c. row_sends way at c.sender.unconfirmed c)) }
     ensures after_a_loss { (way : Way (Message Token) Token Pdu) (at : UpAt) (lost : List (ℕ × ℕ))
         (b : UpBearer)
         → PutsFrames way at.sn (sent_again at.flags.frozen lost b) (lost_frames way at lost b) }
