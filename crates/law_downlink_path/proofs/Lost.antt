@@ -40,7 +40,7 @@ lossy_kept =
               (
                 tt,
                 tt,
-                -- takes (data_frame false 2 2 c) (data_frame true 3 0 a ∷ data_frame false 4 1 b ∷ data_frame false 5 2 c ∷ [])
+                -- takes (data_frame false 2 2 c) and the rest
                 (
                   refl,
                   tt,
@@ -132,11 +132,11 @@ lossy_kept =
                                                             (
                                                               tt,
                                                               tt,
-                                                              -- takes (report_frame 0) (data_frame false 1 2 c ∷ data_frame false 2 3 d ∷ [])
+                                                              -- takes (report_frame 0) and the rest
                                                               (
                                                                 refl,
                                                                 tt,
-                                                                -- takes (data_frame false 1 2 c) (data_frame false 2 3 d ∷ [])
+                                                                -- takes (data_frame false 1 2 c) and the rest
                                                                 (
                                                                   refl,
                                                                   tt,

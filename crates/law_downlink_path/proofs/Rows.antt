@@ -108,7 +108,8 @@ module _ {M C P : Type 0} (way : Way M C P) (ue : UeId) (bearer : BearerId) (c :
   none_told poll number = no_radio (is_missing way b number || poll)
       (packet b.up b.uplink ue bearer Dl Absent (status (missing way b number) None)) refl
 
-  after_told : (poll : Bool) (number : ℕ) (outputs : List (Output M P)) → radio_of (told way ue bearer b poll number ++ outputs) ≡ radio_of outputs
+  after_told : (poll : Bool) (number : ℕ) (outputs : List (Output M P))
+      → radio_of (told way ue bearer b poll number ++ outputs) ≡ radio_of outputs
   after_told poll number outputs =
       radio-append (told way ue bearer b poll number) outputs ∙ ap (λ xs. xs ++ radio_of outputs) (none_told poll number)
 
