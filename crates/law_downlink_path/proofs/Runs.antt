@@ -1,0 +1,117 @@
+-- What holds at the start and is kept by each step holds after every list of steps.
+use Rattle.std.proofs.Common.{◌≡◌, ℕ, suc, ◌+◌, ◌≤◌, Bool, true, false, List, [], ◌∷◌, length, refl, sym, ap, subst, ◌∙◌, arith}
+use Rattle.std.specs.Prelude.{⊤}
+use Rattle.law_intervals.specs.Intervals.{segment, upto, HasNoGap, reach}
+use Rattle.pdcp_defs.specs.Receivers.{Delivery, is_duplicate, stored, deliver}
+use Rattle.unit_defs.specs.UpRecords.{Downlink}
+use Rattle.unit_defs.specs.UpBearers.{made}
+use Rattle.unit_defs.specs.Du.{DuBearer}
+use Rattle.law_chain.proofs.Runs.{stream}
+use Rattle.law_downlink_path.specs.Paths.{Path, start}
+use Rattle.law_downlink_path.specs.Steps.{Step, numbers, sends, keeps, polls, reports, status, confirms, freezes, resumes, fails, begins_anew, loses, takes, carries, handed, after, run, packets_in, IsReady, IsOwed, AreKept}
+use Rattle.law_downlink_path.proofs.Facts.{Stands, Marked, Kept}
+use Rattle.law_downlink_path.proofs.Senders.{kept_numbers, kept_sends, kept_keeps, kept_polls, kept_reports, kept_status, kept_confirms}
+use Rattle.law_downlink_path.proofs.Control.{kept_freezes, kept_resumes, kept_fails, kept_begins_anew}
+use Rattle.law_downlink_path.proofs.Takes.{kept_loses, kept_takes}
+use Rattle.law_downlink_path.proofs.Carries.{kept_carries}
+
+-- the packets from a place on are those of p
+abbrev pub Agrees : (ℕ → List ℕ) → ℕ → List (List ℕ) → Type 0
+Agrees p n xs = (i : ℕ) → p (n + i) ≡ stream xs i
+
+agrees_first : (p : ℕ → List ℕ) (n : ℕ) (x : List ℕ) (xs : List (List ℕ)) → Agrees p n (x ∷ xs) → (x ≡ p n) × Agrees p (n + 1) xs
+unfolding stream
+agrees_first p n x xs h =
+    let e : n + 0 ≡ n = omega arith in
+    (sym (h 0) ∙ ap p e, λ i. (let f : n + 1 + i ≡ n + suc i = omega arith in ap p f ∙ h (suc i)))
+
+-- the packets that a step brings are those of p
+Comes : (ℕ → List ℕ) → Path → Step → Type 0
+Comes p s (numbers packet) = packet ≡ p s.comes
+Comes p s (sends count packet) = packet ≡ p s.comes
+Comes p s (keeps count packet) = packet ≡ p s.comes
+Comes p s o = ⊤
+
+kept_step : (p : ℕ → List ℕ) (s : Path) (k : Kept p s) (o : Step) → IsReady s o → IsOwed s o → Comes p s o → Kept p (after s o)
+unfolding IsReady IsOwed Comes
+kept_step p s k (numbers packet) r d is = kept_numbers p s k packet r d is
+kept_step p s k (sends count packet) r d is = kept_sends p s k count packet r d is
+kept_step p s k (keeps count packet) r d is = kept_keeps p s k count packet r d is
+kept_step p s k polls r d is = kept_polls p s k
+kept_step p s k (reports fmc bits) r d is = kept_reports p s k fmc bits
+kept_step p s k (status lost delivered) r d is = kept_status p s k lost delivered d
+kept_step p s k (confirms fmc bits) r d is = kept_confirms p s k fmc bits d.0 d.1
+kept_step p s k (freezes hop) r d is = kept_freezes p s k hop r
+kept_step p s k resumes r d is = kept_resumes p s k r
+kept_step p s k fails r d is = kept_fails p s k
+kept_step p s k (begins_anew downlink fmc bits) r d is = kept_begins_anew p s k downlink fmc bits
+kept_step p s k (loses before frame rest) r d is = kept_loses p s k before frame rest r
+kept_step p s k (takes frame rest) r d is = kept_takes p s k frame rest r
+kept_step p s k (carries count packet rest) r d is = kept_carries p s k count packet rest r
+
+heard : (s : Path) (rest : List (ℕ × List ℕ)) (b : Bool) (d : Delivery (List ℕ)) → (handed (record s { air = rest }) b d).comes ≡ s.comes
+heard s rest true d = refl
+heard s rest false d = refl
+
+-- what a step brings, and what is left to come
+comes_after : (p : ℕ → List ℕ) (s : Path) (o : Step) (os : List Step) → Agrees p s.comes (packets_in (o ∷ os))
+    → Comes p s o × Agrees p (after s o).comes (packets_in os)
+unfolding after packets_in Comes
+comes_after p s (numbers packet) os h = agrees_first p s.comes packet (packets_in os) h
+comes_after p s (sends count packet) os h = agrees_first p s.comes packet (packets_in os) h
+comes_after p s (keeps count packet) os h = agrees_first p s.comes packet (packets_in os) h
+comes_after p s (carries count packet rest) os h = (
+  tt,
+  subst (λ n. Agrees p n (packets_in os))
+      (sym (heard s rest (is_duplicate s.terminal count) (deliver (stored s.terminal count packet)))) h,
+)
+comes_after p s _ os h = (tt, h)
+
+counts_after : (s : Path) (o : Step) (os : List Step) → (after s o).comes + length (packets_in os) ≡ s.comes + length
+    (packets_in (o ∷ os))
+unfolding after packets_in
+counts_after s (numbers packet) os = omega arith
+counts_after s (sends count packet) os = omega arith
+counts_after s (keeps count packet) os = omega arith
+counts_after s (carries count packet rest) os = ap (λ n. n + length (packets_in os))
+    (heard s rest (is_duplicate s.terminal count) (deliver (stored s.terminal count packet)))
+counts_after s _ os = refl
+
+pub all_come : (s : Path) (os : List Step) → (run s os).comes ≡ s.comes + length (packets_in os)
+unfolding run packets_in
+all_come s [] = omega arith
+all_come s (o ∷ os) = all_come (after s o) os ∙ counts_after s o os
+
+pub kept_run : (p : ℕ → List ℕ) (s : Path) (os : List Step) → Kept p s → AreKept s os → Agrees p s.comes (packets_in os)
+    → Kept p (run s os)
+unfolding run AreKept
+kept_run p s [] k a h = k
+kept_run p s (o ∷ os) k a h =
+    let e = comes_after p s o os h in
+    kept_run p (after s o) os (kept_step p s k o a.0 a.1 e.0) a.2 e.1
+
+pub kept_start : (p : ℕ → List ℕ) (first : ℕ) (d : Downlink) (du : DuBearer) → Kept p (start first d du)
+unfolding start made reach HasNoGap upto segment Stands Marked
+kept_start p first d du = record {
+  low = 0;
+  sent = 0;
+  holds = record {
+    unconfirmed_are = refl;
+    low_comes = none;
+    low_deliv = none;
+    sent_comes = none;
+    all_sent = λ _. (refl, refl);
+    taken_are = λ _. refl;
+  };
+  speaks = record {
+    need = λ _. 0;
+    downlink = record d { next = 0 };
+    there = refl;
+    line = record { stands = none; taken = λ _ _. none };
+    marked = λ _. none;
+  };
+  radio = record { no_gap = tt; packets = tt; reached_comes = none; delivered_are = refl; none_stored = refl };
+}
+  where
+    none : 0 ≤ 0
+    none = omega arith
