@@ -5,3 +5,4 @@ pub mod FoundIndices
 pub mod FoundBits
 pub mod FoundStrings
 pub mod FoundOpen
+pub mod FoundElements
