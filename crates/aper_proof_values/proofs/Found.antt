@@ -112,6 +112,16 @@ taken_size c width e =
     go true false false f g = not_below (8 * length c.octets) (c.place + width) f
     go false b d f g = cc
 
+-- so many bits don't pass the limit
+pub taken_limit : (c : Cursor) (width : ℕ) → passes c width ≡ None → c.place + width ≤ bit_limit
+taken_limit c width e = go (is_within (c.place + width) c.opens) (nat_lt bit_limit (c.place + width)) (nat_lt (8 * length c.octets) (c.place + width)) refl e
+  where
+    go : (a b d : Bool) → nat_lt bit_limit (c.place + width) ≡ b
+        → cond a (cond b (Some reasons.TooLong) (cond d (Some reasons.Truncated) None)) (Some reasons.Overrun) ≡ None → c.place + width ≤ bit_limit
+    go true true d f g = cc
+    go true false d f g = not_below bit_limit (c.place + width) f
+    go false b d f g = cc
+
 taken_small : (bits : List Bool) (n : ℕ) → number_of (first n bits) < 2 ^ n
 taken_small bits n =
     let short : length (first n bits) ≤ n = omega (arith, length-take n bits) in

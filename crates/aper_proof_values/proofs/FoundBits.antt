@@ -33,7 +33,7 @@ told_right c bounds m n e room right is =
     subst (Right w m) is (extent_right bounds w m t right)
 
 -- the width and the number of an answer are those that it is written with
-written : (question : Ask) (c : Cursor) (n : ℕ) → Answered question c n → (asked_width question c ≡ width_at c.place question n) × (number_of (first (asked_width question c) (bits_at c)) ≡ spelled question n)
+pub written : (question : Ask) (c : Cursor) (n : ℕ) → Answered question c n → (asked_width question c ≡ width_at c.place question n) × (number_of (first (asked_width question c) (bits_at c)) ≡ spelled question n)
 written flag c n a = (refl, sym a.bits ∙ a.same)
 written (constrained role width most) c n a = (refl, sym a.bits ∙ a.same)
 written (digits count most) c n a = (refl, sym a.bits ∙ a.same)

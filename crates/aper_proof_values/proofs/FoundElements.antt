@@ -263,7 +263,7 @@ found_past p f P K c y bit e =
     (λ v h. refl)
 
 found_root : (p : Path) (f : ℕ → ℕ → Value → List Field) (P : ℕ → ℕ → Value → Type 0) (ask_body : ℕ → ℕ → (Value → Prog) → Prog) (K : Parts4 → Prog) (c : Cursor) (y : Value × Cursor)
-    → ((i j : ℕ) (L : Value → Prog) (d : Cursor) → i < 3 → Ends (ask_body i j L) d y → Found (P i j) (f i j) L d y)
+    → ((i j : ℕ) (L : Value → Prog) (d : Cursor) → Ends (ask_body i j L) d y → Found (P i j) (f i j) L d y)
     → read flag c ≡ Ok 0
     → Ends (ask p (constrained fields.index 2 2) (λ i. ask_aligned p (constrained fields.index 8 255) (λ j. ask p (constrained fields.index 2 2)
     (λ k. ask_body i j (λ v. K (record { index = i; code = j; criticality = k; body = v })))))) (answered_at flag 0 c) y
@@ -287,13 +287,13 @@ found_root p f P ask_body K c y one bit e =
     let root : nat_lt i 3 ≡ true = is_below i 3 (omega (arith, low)) in
     found_after (message_head p i j k) (P i j) (IsMessage P) (f i j) (message_fields p f) (on i j k) K c y
     (λ v. record { index = i; code = j; criticality = k; body = v }) (bit, (a.is, (g.stand.0, (g.stand.1.0, (h.is, tt)))))
-    (one i j (on i j k) (answered_at two k d3) (omega (arith, low)) h.rest)
+    (one i j (on i j k) (answered_at two k d3) h.rest)
     (λ v q s. either_yes (nat_lt i 3) _ _ root (omega (arith, code), crit, q))
     (λ v q s. sym (ap (λ b. cond b (message_head p i j k ++ f i j v) (asked p flag 1 ∷ asked p (small fields.index) (i - 3) ∷ raw_fields p p v)) root))
     (λ v q. refl)
 
 pub found_message : (p : Path) (f : ℕ → ℕ → Value → List Field) (P : ℕ → ℕ → Value → Type 0) (ask_body : ℕ → ℕ → (Value → Prog) → Prog) (K : Value → Prog) (c : Cursor) (y : Value × Cursor)
-    → ((i j : ℕ) (L : Value → Prog) (d : Cursor) → i < 3 → Ends (ask_body i j L) d y → Found (P i j) (f i j) L d y)
+    → ((i j : ℕ) (L : Value → Prog) (d : Cursor) → Ends (ask_body i j L) d y → Found (P i j) (f i j) L d y)
     → Ends (ask_message p ask_body K) c y
     → Found (IsMessage P) (message_fields p f) (λ x. K (message x.index x.code x.criticality x.body)) c y
 found_message p f P ask_body K c y one e =

@@ -6,3 +6,5 @@ pub mod FoundBits
 pub mod FoundStrings
 pub mod FoundOpen
 pub mod FoundElements
+pub mod FoundValues
+pub mod FoundWhole
