@@ -1,9 +1,7 @@
 -- What was read at a place: something of a kind, whose fields stand there, and after which the reading went on.
-use Rattle.std.proofs.Common.{◌≡◌, ℕ, zero, suc, ◌+◌, ◌-◌, ◌*◌, ◌^◌, ◌<◌, ◌≤◌, ◌==◌, nat_lt, cond, ◌&&◌, Bool, true, false, List, [], ◌∷◌, ◌++◌, length, take as first, None, Some, Option, Result, Ok, Err, refl, sym, ap, subst, ◌∙◌, arith}
-use Rattle.std.specs.Prelude.{nat_le}
+use Rattle.std.proofs.Common.{◌≡◌, ℕ, ◌+◌, ◌*◌, ◌^◌, ◌<◌, ◌≤◌, nat_lt, cond, Bool, true, false, List, [], ◌∷◌, ◌++◌, length, take as first, None, Some, Option, Result, Ok, Err, refl, ap, subst, ◌∙◌, arith}
 use Rattle.std.proofs.lemmas.List.{length-take, length-drop}
 use Rattle.std.proofs.Math.Nat.{pow-le-pow_right}
-use Rattle.std.proofs.lemmas.Bool.Decides.{nat_tests}
 use Rattle.bits_core.specs.Bits.{number_of, octet_bits}
 use Rattle.bits_core.proofs.BitLemmas.{number_small, length-octet_bits}
 use Rattle.aper_defs.specs.declared.reason.Reason.{Reason}
@@ -11,7 +9,7 @@ use Rattle.aper_defs.specs.declared.reason.Reason.TheVariants as reasons
 use Rattle.aper_defs.specs.Values.{Value}
 use Rattle.aper_defs.specs.Fields.{Path, Ask, Field, asked}
 use Rattle.aper_defs.specs.Questions.{Prog, ask}
-use Rattle.aper_defs.specs.Reading.{Cursor, Fault, bits_at, is_within, bit_limit, passes, asked_width, judged, answered, answer_of, read, read_within, run, goes_on, answered_at, unless}
+use Rattle.aper_defs.specs.Reading.{Cursor, bits_at, is_within, bit_limit, passes, asked_width, judged, answered, answer_of, read, read_within, run, goes_on, answered_at, unless}
 use Rattle.aper_proof_answers.proofs.Standing.{StandAll, after_all, after_all-append}
 use Rattle.aper_proof_answers.proofs.NumberFacts.{not_below}
 use Rattle.aper_proof_places.proofs.Placed.{stand_both}
@@ -102,7 +100,7 @@ pub record Answered (question : Ask) (c : Cursor) (n : ℕ) : Type 0 where
 pub taken_size : (c : Cursor) (width : ℕ) → passes c width ≡ None → width ≤ length (bits_at c)
 taken_size c width e =
     let there : c.place + width ≤ 8 * length c.octets = go (is_within (c.place + width) c.opens) (nat_lt bit_limit (c.place + width))
-        (nat_lt (8 * length c.octets) (c.place + width)) refl e in
+    (nat_lt (8 * length c.octets) (c.place + width)) refl e in
     omega (arith, length-drop c.place (octet_bits c.octets), length-octet_bits c.octets)
   where
     go : (a b d : Bool) → nat_lt (8 * length c.octets) (c.place + width) ≡ d
@@ -133,12 +131,14 @@ answer_read question c n e = go (passes c (asked_width question c)) refl e
   where
     m : ℕ
     m = number_of (first (asked_width question c) (bits_at c))
+
     judge : passes c (asked_width question c) ≡ None → (j : Option Reason) → judged question c m ≡ j → answered question c m j ≡ Ok n → Answered question c n
     judge room None is h = record { m = m; bits = refl; small = taken_small (bits_at c) (asked_width question c); right = is; same = inner h; room = room }
       where
         inner : answered question c m None ≡ Ok n → answer_of question c m ≡ n
         inner g = cc
     judge room (Some reason) is h = cc
+
     go : (r : Option Reason) → passes c (asked_width question c) ≡ r → read_within question c r ≡ Ok n → Answered question c n
     go None is h = judge is (judged question c m) refl h
     go (Some reason) is h = cc

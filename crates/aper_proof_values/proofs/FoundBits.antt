@@ -1,14 +1,14 @@
 -- The bits of fields that stand at a place are those of the fields.
-use Rattle.std.proofs.Common.{◌≡◌, ℕ, zero, suc, ◌+◌, ◌-◌, ◌*◌, ◌^◌, ◌<◌, ◌≤◌, ◌==◌, nat_lt, cond, ◌&&◌, Bool, true, false, List, [], ◌∷◌, ◌++◌, length, take as first, drop, replicate, None, Some, Option, Result, Ok, Err, refl, sym, ap, subst, ◌∙◌, arith, append_assoc}
+use Rattle.std.proofs.Common.{◌≡◌, ℕ, zero, suc, ◌+◌, ◌*◌, ◌^◌, ◌<◌, ◌≤◌, ◌==◌, cond, Bool, true, false, List, [], ◌∷◌, ◌++◌, length, take as first, drop, replicate, None, Some, Option, Ok, refl, sym, ap, subst, ◌∙◌, arith, append_assoc}
 use Rattle.std.specs.List.{flat_map}
 use Rattle.std.proofs.lemmas.List.{length-take, length-drop, take-append-drop, drop-drop}
 use Rattle.bits_core.specs.Bits.{bits_of, number_of, numbers_at, octet_bits, pad_of}
 use Rattle.bits_core.proofs.BitLemmas.{bits_of-number_of, number_small}
 use Rattle.aper_defs.specs.declared.reason.Reason.{Reason}
 use Rattle.aper_defs.specs.declared.reason.Reason.TheVariants as reasons
-use Rattle.aper_defs.specs.Fields.{Path, Ask, Extent, RunUnit, Field, flag, constrained, digits, signed, small, extent, addition_bits, character, ie_count, ie_id, pad, opening, closing, end, whole, asked, run as run_field}
+use Rattle.aper_defs.specs.Fields.{Ask, Extent, RunUnit, Field, flag, constrained, digits, signed, small, extent, addition_bits, character, ie_count, ie_id, pad, opening, closing, end, whole, asked, run as run_field}
 use Rattle.aper_defs.specs.Bits.{width_at, spelled, unit_width, field_bits}
-use Rattle.aper_defs.specs.Reading.{Cursor, bits_at, told_width, form_of, told, start_of, passes, asked_width, judged_extent, moved_by, after_field, read, read_units, units_within}
+use Rattle.aper_defs.specs.Reading.{Cursor, bits_at, told_width, form_of, told, start_of, passes, asked_width, judged_extent, moved_by, after_field, read_units, units_within}
 use Rattle.aper_proof_answers.proofs.Standing.{Stands, StandAll, after_all}
 use Rattle.aper_proof_answers.proofs.NumberFacts.{same}
 use Rattle.aper_proof_places.proofs.Bits.{all_bits}
@@ -46,11 +46,10 @@ written (ie_count least) c n a = (refl, sym a.bits ∙ a.same)
 written (ie_id known left after) c n a = (refl, sym a.bits ∙ a.same)
 written pad c n a = (refl, sym a.bits ∙ a.same)
 written opening c n a = let r = told_right c (whole 1 16383 None) a.m n a.bits a.room a.right a.same in (r.wide, sym a.bits ∙ r.number)
-written closing c n a =
-    (
-      swapped (c.place == start_of c.opens) (pad_of c.place) ∙ ap (λ (k : ℕ). cond (k == 0) (pad_of c.place) 8) a.same,
-      sym a.bits ∙ same a.m 0 (not_wrong (a.m == 0) reasons.Padding a.right),
-    )
+written closing c n a = (
+  swapped (c.place == start_of c.opens) (pad_of c.place) ∙ ap (λ (k : ℕ). cond (k == 0) (pad_of c.place) 8) a.same,
+  sym a.bits ∙ same a.m 0 (not_wrong (a.m == 0) reasons.Padding a.right),
+)
   where
     swapped : (b : Bool) (w : ℕ) → cond b 8 w ≡ cond (cond b 1 0 == 0) w 8
     swapped true w = refl

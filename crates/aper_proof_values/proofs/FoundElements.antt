@@ -1,5 +1,5 @@
 -- What is read as marks of components, as lists, information elements and messages is such.
-use Rattle.std.proofs.Common.{◌≡◌, ℕ, zero, suc, ◌+◌, ◌-◌, ◌*◌, ◌^◌, ◌<◌, ◌≤◌, ◌==◌, nat_lt, cond, ◌&&◌, Bool, true, false, List, [], ◌∷◌, ◌++◌, length, None, Some, Ok, refl, sym, ap, subst, ◌∙◌, arith}
+use Rattle.std.proofs.Common.{◌≡◌, ℕ, zero, suc, ◌+◌, ◌-◌, ◌^◌, ◌<◌, ◌≤◌, ◌==◌, nat_lt, cond, ◌&&◌, Bool, true, false, List, [], ◌∷◌, ◌++◌, length, None, Some, Ok, refl, sym, ap, subst, ◌∙◌, arith}
 use Rattle.std.specs.Prelude.{nat_le}
 use Rattle.bits_core.specs.Bits.{bits_of, number_of}
 use Rattle.bits_core.proofs.BitLemmas.{length-bits_of, number_is}
@@ -15,7 +15,7 @@ use Rattle.aper_defs.specs.Asking.{ask_marks}
 use Rattle.aper_defs.specs.Reading.{Cursor, read, unless, answered_at}
 use Rattle.aper_proof_answers.proofs.Standing.{StandAll, after_all}
 use Rattle.aper_proof_answers.proofs.Forth.{ask_message}
-use Rattle.aper_proof_answers.proofs.NumberFacts.{by_cases, below, is_below, is_not_below, same, at_most, first_of_both, second_of_both}
+use Rattle.aper_proof_answers.proofs.NumberFacts.{below, is_below, is_not_below, same, at_most}
 use Rattle.aper_proof_values.proofs.Found.{Ends, Found, found_after, found_ask, Answered, answer_read, not_wrong}
 use Rattle.aper_proof_values.proofs.FoundNumbers.{flag_read, constrained_read, small_read, found_aligned}
 use Rattle.aper_proof_values.proofs.FoundIndices.{extensible_is}
@@ -259,7 +259,7 @@ found_past p f P K c y bit e =
     (found_raw p p (on n) (answered_at (small fields.index) n d) y a.rest)
     (λ v h s. either_no (nat_lt (3 + n) 3) _ _ past (omega (arith, few), refl, refl, h))
     (λ v h s. ap (λ (k : ℕ). asked p flag 1 ∷ asked p (small fields.index) k ∷ raw_fields p p v) again
-        ∙ sym (ap (λ b. cond b (message_head p (3 + n) 0 0 ++ f (3 + n) 0 v) (asked p flag 1 ∷ asked p (small fields.index) (3 + n - 3) ∷ raw_fields p p v)) past))
+    ∙ sym (ap (λ b. cond b (message_head p (3 + n) 0 0 ++ f (3 + n) 0 v) (asked p flag 1 ∷ asked p (small fields.index) (3 + n - 3) ∷ raw_fields p p v)) past))
     (λ v h. refl)
 
 found_root : (p : Path) (f : ℕ → ℕ → Value → List Field) (P : ℕ → ℕ → Value → Type 0) (ask_body : ℕ → ℕ → (Value → Prog) → Prog) (K : Parts4 → Prog) (c : Cursor) (y : Value × Cursor)

@@ -1,17 +1,15 @@
 -- What is read as a length is one.
-use Rattle.std.proofs.Common.{◌≡◌, ℕ, zero, suc, ◌+◌, ◌-◌, ◌*◌, ◌/◌, ◌^◌, ◌<◌, ◌≤◌, ◌==◌, nat_lt, cond, ◌&&◌, ◌||◌, Bool, true, false, List, [], ◌∷◌, ◌++◌, length, take as first, None, Some, Option, Ok, refl, sym, ap, subst, ◌∙◌, arith}
+use Rattle.std.proofs.Common.{◌≡◌, ℕ, suc, ◌+◌, ◌-◌, ◌*◌, ◌/◌, ◌^◌, ◌<◌, ◌≤◌, nat_lt, cond, ◌&&◌, Bool, true, false, List, [], ◌∷◌, length, take as first, None, Option, Ok, refl, sym, ap, subst, ◌∙◌, arith}
 use Rattle.std.specs.Prelude.{nat_le}
-use Rattle.std.proofs.lemmas.Bool.Decides.{nat_tests}
 use Rattle.std.proofs.lemmas.List.{length-take}
 use Rattle.bits_core.specs.Bits.{bit_value, number_of}
 use Rattle.bits_core.proofs.BitLemmas.{number_small}
 use Rattle.asn1_types.specs.declared.definition.Size.{Size}
-use Rattle.aper_defs.specs.declared.reason.Reason.{Reason}
 use Rattle.aper_defs.specs.declared.reason.Reason.TheVariants as reasons
-use Rattle.aper_defs.specs.Fields.{Ask, Extent, extent, opening, whole, part}
+use Rattle.aper_defs.specs.Fields.{Extent, extent, opening, whole, part}
 use Rattle.aper_defs.specs.Bits.{part_units, extent_width, extent_number}
-use Rattle.aper_defs.specs.Reading.{Cursor, bits_at, told_width, passes, read, unless, Form, octet_form, two_octets, units_form, form_of, told, is_inside, judged_length, judged_extent}
-use Rattle.aper_proof_answers.proofs.NumberFacts.{by_cases, below, not_below, is_below, is_not_below, at_most, first_of_both, second_of_both}
+use Rattle.aper_defs.specs.Reading.{Cursor, bits_at, told_width, read, Form, octet_form, two_octets, units_form, form_of, told, is_inside, judged_length, judged_extent}
+use Rattle.aper_proof_answers.proofs.NumberFacts.{is_below, is_not_below, at_most, first_of_both, second_of_both}
 use Rattle.aper_proof_values.proofs.Found.{Answered, answer_read, not_wrong, taken_size}
 
 -- a length that was judged, and isn't in the root

@@ -1,9 +1,9 @@
 -- What is read as an INTEGER or an index is one.
-use Rattle.std.proofs.Common.{◌≡◌, ℕ, zero, suc, ◌+◌, ◌-◌, ◌*◌, ◌^◌, ◌<◌, ◌≤◌, ◌==◌, nat_lt, cond, ◌&&◌, ◌||◌, Bool, true, false, List, [], ◌∷◌, ◌++◌, None, Some, Option, Ok, refl, sym, ap, subst, ◌∙◌, arith}
+use Rattle.std.proofs.Common.{◌≡◌, ℕ, ◌+◌, ◌-◌, ◌*◌, ◌^◌, ◌<◌, ◌≤◌, nat_lt, cond, ◌&&◌, ◌||◌, Bool, true, false, [], ◌∷◌, ◌++◌, None, Ok, refl, sym, ap, subst, ◌∙◌, arith}
 use Rattle.std.specs.Prelude.{ℤ, pos, negsuc, ◌+ℤ◌, nat_le}
 use Rattle.std.specs.Int.Signed.{le_z}
 use Rattle.std.proofs.lemmas.Int.{ints}
-use Rattle.std.proofs.lemmas.Nat.{pow-add, pow_pos}
+use Rattle.std.proofs.lemmas.Nat.{pow-add}
 use Rattle.std.proofs.Math.Nat.{pow-le-pow_right}
 use Rattle.std.proofs.lemmas.Bool.Decides.{nat_tests}
 use Rattle.aper_defs.specs.declared.reason.Reason.TheVariants as reasons
@@ -13,12 +13,12 @@ use Rattle.aper_defs.specs.Fields.{Path, Ask, Field, signed, small, extent, pad,
 use Rattle.aper_defs.specs.Fields as fields
 use Rattle.aper_defs.specs.Parts.{number_fields, extension_fields, integer_fields, index_fields}
 use Rattle.aper_defs.specs.Membership.{is_number_of, is_index_of}
-use Rattle.aper_defs.specs.Questions.{Prog, ask, ask_aligned, ask_number, ask_extension, ask_integer, ask_integer_by, ask_index, ask_index_by}
+use Rattle.aper_defs.specs.Questions.{Prog, ask, ask_integer, ask_integer_by, ask_index, ask_index_by}
 use Rattle.aper_defs.specs.Reading.{Cursor, read, answered_at}
 use Rattle.aper_proof_answers.proofs.Standing.{StandAll, after_all}
 use Rattle.aper_proof_answers.proofs.NumberFacts.{by_cases, below, not_below, is_below, is_not_below, at_most, first_of_both, second_of_both}
 use Rattle.aper_proof_values.proofs.Found.{Ends, Found, found_after, found_ask, Answered, answer_read, not_wrong}
-use Rattle.aper_proof_values.proofs.FoundNumbers.{Any, small_read, octets_few, found_aligned, found_number, found_extension}
+use Rattle.aper_proof_values.proofs.FoundNumbers.{small_read, octets_few, found_aligned, found_number, found_extension}
 use Rattle.aper_proof_values.proofs.FoundExtents.{IsLength, whole_read}
 
 -- ---- numbers with signs
@@ -32,8 +32,8 @@ record IsOctets (k n : ℕ) (z : ℤ) : Type 0 where
 octets_again : (k n : ℕ) → 1 ≤ k → n < 2 ^ (8 * k) → IsOctets k n (signed_number k n)
 octets_again k n some h =
     by_cases (nat_lt n (2 ^ (8 * k - 1))) (λ b. IsOctets k n (cond b (pos n) (negsuc (2 ^ (8 * k) - 1 - n))))
-        (λ e. record { small_part = below n (2 ^ (8 * k - 1)) e; back = refl })
-        (λ e. record { small_part = omega (arith, half k some, not_below n (2 ^ (8 * k - 1)) e); back = let g : 2 ^ (8 * k) - 1 - (2 ^ (8 * k) - 1 - n) ≡ n = omega arith in g })
+    (λ e. record { small_part = below n (2 ^ (8 * k - 1)) e; back = refl })
+    (λ e. record { small_part = omega (arith, half k some, not_below n (2 ^ (8 * k - 1)) e); back = let g : 2 ^ (8 * k) - 1 - (2 ^ (8 * k) - 1 - n) ≡ n = omega arith in g })
 
 -- octets of a number outside its range
 record IsOutside (count : ℕ) (low high : ℤ) (n : ℕ) : Type 0 where
@@ -145,7 +145,7 @@ found_integer p low high extensible K c y ordered bound e =
         (λ x. asked p pad 0 ∷ asked p (extent (whole 1 8 None)) x.0 ∷ asked p (signed x.0 low high) x.1 ∷ []) _ (λ x. K (signed_number x.0 x.1)) K c y
         (λ x. signed_number x.0 x.1) s (found_outside p low high K d y e2)
         (λ x k g. ap (λ b. b || (extensible && is_signed (signed_number x.0 x.1))) k.out
-            ∙ ap (λ b. b && is_signed (signed_number x.0 x.1)) (extensible_is extensible h) ∙ k.signed_so)
+        ∙ ap (λ b. b && is_signed (signed_number x.0 x.1)) (extensible_is extensible h) ∙ k.signed_so)
         (λ x k g. integer_fields_out p low high extensible (signed_number x.0 x.1) x.0 x.1 k)
         (λ x k. refl)
 
@@ -178,9 +178,9 @@ found_index p count extensible K c y some few e =
         found_after (extension_fields p extensible true) (λ n. read (small fields.index) d ≡ Ok n) _ (λ n. asked p (small fields.index) n ∷ []) _ (λ n. K (count + n)) K c y
         (λ n. count + n) s (found_ask p (small fields.index) (λ n. K (count + n)) d y e2)
         (λ n k g. ap (λ b. b || (extensible && nat_lt (count + n) (count + 64))) (is_not_below (count + n) count (omega arith))
-            ∙ ap (λ b. b && nat_lt (count + n) (count + 64)) (extensible_is extensible h)
-            ∙ is_below (count + n) (count + 64) (omega (arith, small_read fields.index d n k)))
+        ∙ ap (λ b. b && nat_lt (count + n) (count + 64)) (extensible_is extensible h)
+        ∙ is_below (count + n) (count + 64) (omega (arith, small_read fields.index d n k)))
         (λ n k g. ap (λ (m : ℕ). extension_fields p extensible true ++ asked p (small fields.index) m ∷ []) (let u : n ≡ count + n - count = omega arith in u)
-            ∙ index_fields_are p count extensible (count + n) true false (let u : nat_le count (count + n) ≡ true = grind (arith, nat_tests) in u)
-            (is_not_below (count + n) count (omega arith)))
+        ∙ index_fields_are p count extensible (count + n) true false (let u : nat_le count (count + n) ≡ true = grind (arith, nat_tests) in u)
+        (is_not_below (count + n) count (omega arith)))
         (λ n k. refl)

@@ -1,22 +1,18 @@
 -- What is read as a number is one, in its own fields.
-use Rattle.std.proofs.Common.{◌≡◌, ℕ, zero, suc, ◌+◌, ◌-◌, ◌*◌, ◌^◌, ◌<◌, ◌≤◌, ◌==◌, nat_lt, cond, ◌&&◌, ◌||◌, Bool, true, false, List, [], ◌∷◌, ◌++◌, None, Some, Option, Ok, refl, sym, ap, subst, ◌∙◌, arith}
-use Rattle.std.specs.Prelude.{ℤ, pos, negsuc, ◌+ℤ◌, nat_le}
-use Rattle.std.specs.Int.Signed.{le_z}
-use Rattle.std.proofs.lemmas.Int.{ints}
-use Rattle.std.proofs.lemmas.Bool.Decides.{nat_tests}
+use Rattle.std.proofs.Common.{◌≡◌, ℕ, zero, suc, ◌+◌, ◌-◌, ◌*◌, ◌^◌, ◌<◌, ◌≤◌, ◌==◌, nat_lt, cond, ◌&&◌, Bool, true, false, List, [], ◌∷◌, None, Some, Ok, refl, sym, ap, subst, ◌∙◌, arith}
+use Rattle.std.specs.Prelude.{nat_le}
 use Rattle.std.proofs.Math.Nat.{pow-le-pow_right}
 use Rattle.aper_defs.specs.declared.reason.Reason.TheVariants as reasons
 use Rattle.aper_defs.specs.Values.{Value}
-use Rattle.aper_defs.specs.Numbers.{least_count, bits_for, octets_for, unsigned_part, signed_octets_for, twos_complement, signed_number, is_signed, in_range, above}
+use Rattle.aper_defs.specs.Numbers.{least_count, bits_for, octets_for}
 use Rattle.aper_defs.specs.Fields.{Path, Role, Ask, Field, flag, constrained, digits, signed, small, extent, pad, whole, asked}
 use Rattle.aper_defs.specs.Fields as fields
-use Rattle.aper_defs.specs.Parts.{large_fields, number_fields, extension_fields, integer_fields, index_fields}
-use Rattle.aper_defs.specs.Membership.{is_number_of, is_index_of}
-use Rattle.aper_defs.specs.Questions.{Prog, ask, ask_aligned, ask_large, ask_number, ask_extension, ask_integer, ask_integer_by, ask_index, ask_index_by}
+use Rattle.aper_defs.specs.Parts.{large_fields, number_fields, extension_fields}
+use Rattle.aper_defs.specs.Questions.{Prog, ask, ask_aligned, ask_large, ask_number, ask_extension}
 use Rattle.aper_defs.specs.Reading.{Cursor, read, unless, too_great, answered_at}
 use Rattle.aper_proof_answers.proofs.Standing.{StandAll, after_all}
-use Rattle.aper_proof_answers.proofs.NumberFacts.{by_cases, below, not_below, is_below, is_not_below, at_most, is_at_most, same, first_of_both, second_of_both, least_from, octets_positive, octets_fit, octets_at_most}
-use Rattle.aper_proof_values.proofs.Found.{Ends, Found, found_none, found_as, found_then, found_ask, Answered, answer_read, not_wrong}
+use Rattle.aper_proof_answers.proofs.NumberFacts.{by_cases, below, not_below, at_most, same, octets_positive, octets_fit, octets_at_most}
+use Rattle.aper_proof_values.proofs.Found.{Ends, Found, found_none, found_as, found_ask, Answered, answer_read, not_wrong}
 
 -- ---- answers that were read
 pub flag_read : (c : Cursor) (n : ℕ) → read flag c ≡ Ok n → n < 2
@@ -40,8 +36,8 @@ least_at_most : (unit tries count n k : ℕ) → count ≤ k → n < 2 ^ (unit *
 least_at_most unit zero count n k from fits most = omega arith
 least_at_most unit (suc tries) count n k from fits most =
     by_cases (nat_lt n (2 ^ (unit * count))) (λ b. cond b count (least_count unit tries (count + 1) n) ≤ k)
-        (λ e. from)
-        (λ e. least_at_most unit tries (count + 1) n k (further (not_below n (2 ^ (unit * count)) e)) fits (omega arith))
+    (λ e. from)
+    (λ e. least_at_most unit tries (count + 1) n k (further (not_below n (2 ^ (unit * count)) e)) fits (omega arith))
   where
     further : 2 ^ (unit * count) ≤ n → count + 1 ≤ k
     further above_it = by_cases (nat_lt count k) (λ b. count + 1 ≤ k) (λ g. omega (arith, below count k g))
@@ -59,10 +55,10 @@ octets_unique n k some few fits least =
     let up : 2 ^ (8 * k) ≤ 2 ^ 64 = powers (8 * k) 64 (omega arith) in
     let limit : n < 2 ^ 64 = omega (arith, up) in
     by_cases (nat_lt (octets_for n) k) (λ b. octets_for n ≡ k)
-        (λ e. let h : octets_for n < k = below (octets_for n) k e in
-            let low : 2 ^ (8 * octets_for n) ≤ 2 ^ (8 * (k - 1)) = powers (8 * octets_for n) (8 * (k - 1)) (omega arith) in
-            absurd (omega (arith, least (omega (arith, octets_positive n)), octets_fit n limit, low)))
-        (λ e. omega (arith, not_below (octets_for n) k e))
+    (λ e. let h : octets_for n < k = below (octets_for n) k e in
+    let low : 2 ^ (8 * octets_for n) ≤ 2 ^ (8 * (k - 1)) = powers (8 * octets_for n) (8 * (k - 1)) (omega arith) in
+    absurd (omega (arith, least (omega (arith, octets_positive n)), octets_fit n limit, low)))
+    (λ e. omega (arith, not_below (octets_for n) k e))
 
 pub record IsDigits (count most n : ℕ) : Type 0 where
   pub most-is : n ≤ most
@@ -96,13 +92,13 @@ found_constrained : (p : Path) (role : Role) (width most : ℕ) (K : ℕ → Pro
     → Found (λ n. n ≤ most) (λ n. asked p (constrained role width most) n ∷ []) K c y
 found_constrained p role width most K c y e =
     found_as (λ n. read (constrained role width most) c ≡ Ok n) (λ n. n ≤ most) (λ n. asked p (constrained role width most) n ∷ []) _ K K c y (λ n. n)
-        (λ n h s. constrained_read role width most c n h) (λ n h. refl) (λ n h. refl) (found_ask p (constrained role width most) K c y e)
+    (λ n h s. constrained_read role width most c n h) (λ n h. refl) (λ n h. refl) (found_ask p (constrained role width most) K c y e)
 
 found_padded : (p : Path) (role : Role) (width most : ℕ) (K : ℕ → Prog) (c : Cursor) (y : Value × Cursor) → Ends (ask_aligned p (constrained role width most) K) c y
     → Found (λ n. n ≤ most) (λ n. asked p pad 0 ∷ asked p (constrained role width most) n ∷ []) K c y
 found_padded p role width most K c y e =
     found_as Any (λ n. n ≤ most) (λ n. asked p pad 0 ∷ asked p (constrained role width most) n ∷ []) _ K K c y (λ n. n)
-        (λ n h s. constrained_read role width most (answered_at pad 0 c) n s.1.0) (λ n h. refl) (λ n h. refl) (found_aligned p (constrained role width most) K c y e)
+    (λ n h s. constrained_read role width most (answered_at pad 0 c) n s.1.0) (λ n h. refl) (λ n h. refl) (found_aligned p (constrained role width most) K c y e)
 
 found_large : (p : Path) (span : ℕ) (K : ℕ → Prog) (c : Cursor) (y : Value × Cursor) → span < 2 ^ 64 → Ends (ask_large p span K) c y
     → Found (λ n. n ≤ span) (λ n. large_fields p span n) K c y
@@ -140,9 +136,9 @@ pub found_number : (p : Path) (role : Role) (span : ℕ) (K : ℕ → Prog) (c :
 unfolding ask_number number_fields
 found_number p role span K c y bound =
     found_by (λ n. n ≤ span) (span == 0) _ _ _ _ K c y (λ e. found_none (λ n. n ≤ span) K c y 0 (omega arith) e)
-        (found_by (λ n. n ≤ span) (nat_lt span 255) _ _ _ _ K c y (found_constrained p role (bits_for span) span K c y)
-            (found_by (λ n. n ≤ span) (span == 255) _ _ _ _ K c y (found_padded p role 8 span K c y)
-                (found_by (λ n. n ≤ span) (nat_lt span 65536) _ _ _ _ K c y (found_padded p role 16 span K c y) (found_large p span K c y bound))))
+    (found_by (λ n. n ≤ span) (nat_lt span 255) _ _ _ _ K c y (found_constrained p role (bits_for span) span K c y)
+    (found_by (λ n. n ≤ span) (span == 255) _ _ _ _ K c y (found_padded p role 8 span K c y)
+    (found_by (λ n. n ≤ span) (nat_lt span 65536) _ _ _ _ K c y (found_padded p role 16 span K c y) (found_large p span K c y bound))))
 
 -- an extension bit
 pub found_extension : (p : Path) (extensible : Bool) (K : Bool → Prog) (c : Cursor) (y : Value × Cursor) → Ends (ask_extension p extensible K) c y
@@ -150,7 +146,7 @@ pub found_extension : (p : Path) (extensible : Bool) (K : Bool → Prog) (c : Cu
 found_extension p false K c y e = found_none (λ b. false ≡ false → b ≡ false) K c y false (λ h. refl) e
 found_extension p true K c y e =
     found_as (λ n. read flag c ≡ Ok n) (λ b. true ≡ false → b ≡ false) (λ n. asked p flag n ∷ []) (λ b. extension_fields p true b) (λ b. K (b == 1)) K c y (λ n. n == 1)
-        (λ n h s. λ g. cc) (λ n h. bit_is n (flag_read c n h)) (λ n h. refl) (found_ask p flag (λ b. K (b == 1)) c y e)
+    (λ n h s. λ g. cc) (λ n h. bit_is n (flag_read c n h)) (λ n h. refl) (found_ask p flag (λ b. K (b == 1)) c y e)
   where
     bit_is : (n : ℕ) → n < 2 → asked p flag n ∷ [] ≡ asked p flag (cond (n == 1) 1 0) ∷ []
     bit_is zero h = refl

@@ -1,11 +1,11 @@
 -- What is read as an open type is one: its contents end where its length says.
-use Rattle.std.proofs.Common.{◌≡◌, ℕ, zero, suc, ◌+◌, ◌*◌, ◌%◌, ◌^◌, ◌<◌, ◌≤◌, ◌==◌, nat_lt, cond, ◌&&◌, Bool, true, false, List, [], ◌∷◌, ◌++◌, length, None, Ok, refl, sym, ap, subst, ◌∙◌, arith, append_assoc}
+use Rattle.std.proofs.Common.{◌≡◌, ℕ, ◌+◌, ◌*◌, ◌%◌, ◌≤◌, ◌==◌, nat_lt, cond, ◌&&◌, true, List, [], ◌∷◌, ◌++◌, length, None, Ok, refl, sym, ap, subst, ◌∙◌, arith, append_assoc}
 use Rattle.std.proofs.lemmas.Bool.Decides.{nat_tests}
 use Rattle.bits_core.specs.Bits.{pad_of}
 use Rattle.aper_defs.specs.declared.reason.Reason.TheVariants as reasons
 use Rattle.aper_defs.specs.Values.{Value, raw}
 use Rattle.aper_defs.specs.Fields.{Path, Ask, Field, extent, pad, opening, closing, end, whole, octet, asked, run as run_field}
-use Rattle.aper_defs.specs.Bits.{width_at, extent_width, put_all, closed, octet_count, open_fields}
+use Rattle.aper_defs.specs.Bits.{extent_width, put_all, closed, octet_count, open_fields}
 use Rattle.aper_defs.specs.Layouts.{raw_fields}
 use Rattle.aper_defs.specs.Membership.{are_octets, IsRaw, FitsOpen}
 use Rattle.aper_defs.specs.Questions.{Prog, ask, take, ask_open, ask_raw}
@@ -14,7 +14,7 @@ use Rattle.aper_proof_answers.proofs.Standing.{StandAll, after_all, after_all-ap
 use Rattle.aper_proof_answers.proofs.NumberFacts.{by_cases, same, is_below}
 use Rattle.aper_proof_places.proofs.Bits.{total, total-aligned}
 use Rattle.aper_proof_places.proofs.Placed.{Placed, AreBelow, stand_both}
-use Rattle.aper_proof_places.proofs.Opened.{empty_mark, size_is, closing_width, closing_is, octets_are}
+use Rattle.aper_proof_places.proofs.Opened.{empty_mark, size_is, closing_is, octets_are}
 use Rattle.aper_proof_values.proofs.Found.{Ends, Found, found_after, found_ask, Answered, answer_read, not_wrong}
 use Rattle.aper_proof_values.proofs.FoundNumbers.{found_aligned}
 use Rattle.aper_proof_values.proofs.FoundExtents.{IsLength, whole_read, opening_read}

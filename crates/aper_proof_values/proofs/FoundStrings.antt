@@ -1,9 +1,8 @@
 -- What is read as a string or a count is one.
-use Rattle.std.proofs.Common.{◌≡◌, ℕ, zero, suc, ◌+◌, ◌-◌, ◌*◌, ◌/◌, ◌^◌, ◌<◌, ◌≤◌, ◌==◌, nat_lt, cond, ◌&&◌, ◌||◌, min, Bool, true, false, List, [], ◌∷◌, ◌++◌, length, map, take as first, drop, None, Some, Option, Result, Ok, Err, refl, sym, ap, subst, ◌∙◌, arith}
+use Rattle.std.proofs.Common.{◌≡◌, ℕ, zero, suc, ◌+◌, ◌-◌, ◌*◌, ◌/◌, ◌^◌, ◌<◌, ◌≤◌, ◌==◌, nat_lt, cond, ◌&&◌, ◌||◌, Bool, true, false, List, [], ◌∷◌, ◌++◌, length, map, take as first, drop, None, Some, Option, Result, Ok, Err, refl, sym, ap, subst, ◌∙◌, arith}
 use Rattle.std.specs.Prelude.{nat_le}
 use Rattle.std.specs.List.{list_all}
 use Rattle.std.proofs.lemmas.List.{length-append, length-drop, take_at, drop_at}
-use Rattle.std.proofs.lemmas.Bool.Decides.{nat_tests}
 use Rattle.asn1_types.specs.declared.definition.Size.{Size}
 use Rattle.aper_defs.specs.declared.reason.Reason.{Reason}
 use Rattle.aper_defs.specs.declared.reason.Reason.TheVariants as reasons
@@ -14,17 +13,17 @@ use Rattle.aper_defs.specs.Bits.{part_units, unit_width}
 use Rattle.aper_defs.specs.Parts.{Content, of_bits, of_octets, of_characters, unit_fields, pad_limit, in_size, part_of_fields, next_part, part_fields, all_part_fields, sized_fields, string_fields, count_fields, extension_fields, number_fields}
 use Rattle.aper_defs.specs.Membership.{is_count_of, is_printable}
 use Rattle.aper_defs.specs.Bounds.{IsSizeBounded}
-use Rattle.aper_defs.specs.Questions.{Prog, ask, take, never, ask_aligned, ask_units, ask_characters, ask_parts, ask_all_parts, turn_limit, ask_sized, ask_string, ask_string_by, ask_count, ask_count_by, ask_extension, ask_number}
+use Rattle.aper_defs.specs.Questions.{Prog, ask, take, ask_units, ask_characters, ask_parts, ask_all_parts, turn_limit, ask_sized, ask_string, ask_string_by, ask_count, ask_count_by, ask_number}
 use Rattle.aper_defs.specs.Reading.{Cursor, read, read_units, goes_on, moved_by, answered_at, is_inside, run}
 use Rattle.aper_proof_answers.proofs.Standing.{StandAll, after_all}
-use Rattle.aper_proof_answers.proofs.NumberFacts.{by_cases, below, not_below, is_below, is_not_below, same, at_most, is_at_most, first_of_both, second_of_both}
+use Rattle.aper_proof_answers.proofs.NumberFacts.{by_cases, below, not_below, is_below, is_not_below, is_at_most, first_of_both, second_of_both}
 use Rattle.aper_proof_places.proofs.Placed.{AreBelow}
 use Rattle.aper_proof_places.proofs.PlacedStrings.{AreUnits}
-use Rattle.aper_proof_values.proofs.Found.{Ends, Found, found_none, found_after, found_ask, Answered, answer_read, not_wrong}
+use Rattle.aper_proof_values.proofs.Found.{Ends, Found, found_after, found_ask, Answered, answer_read, not_wrong}
 use Rattle.aper_proof_values.proofs.FoundNumbers.{Any, pad_read, found_aligned, found_by, found_number, found_extension}
 use Rattle.aper_proof_values.proofs.FoundExtents.{IsLength, whole_read, PartLength, last, more, part_read}
 use Rattle.aper_proof_values.proofs.FoundIndices.{extensible_is}
-use Rattle.aper_proof_values.proofs.FoundBits.{AreRun, units_are}
+use Rattle.aper_proof_values.proofs.FoundBits.{units_are}
 
 -- ---- units
 pub found_take : (p : Path) (unit : RunUnit) (count : ℕ) (K : List ℕ → Prog) (c : Cursor) (y : Value × Cursor) → Ends (take p unit count K) c y
@@ -121,14 +120,14 @@ turns_same p content outside (suc a) zero before previous us h k =
 turns_same p content outside (suc a) (suc b) before previous us h k =
     by_cases (nat_lt (length us) part_units) (λ x. part_fields p content outside (suc a) before previous us ≡ part_fields p content outside (suc b) before previous us)
     (λ e. let short = below (length us) part_units e in
-        last_fields p content outside (suc a) before previous us short ∙ sym (last_fields p content outside (suc b) before previous us short))
+    last_fields p content outside (suc a) before previous us short ∙ sym (last_fields p content outside (suc b) before previous us short))
     (λ e. let long = not_below (length us) part_units e in
-        let count = next_part (length us) in
-        let bounds = next_some (length us) long in
-        long_fields p content outside a before previous us long
-        ∙ ap (λ fs. part_of_fields p content outside before previous (first count us) ++ fs)
-        (turns_same p content outside a b (before + count) count (drop count us) (omega (arith, length-drop count us, bounds.0, bounds.1)) (omega (arith, length-drop count us, bounds.0, bounds.1)))
-        ∙ sym (long_fields p content outside b before previous us long))
+    let count = next_part (length us) in
+    let bounds = next_some (length us) long in
+    long_fields p content outside a before previous us long
+    ∙ ap (λ fs. part_of_fields p content outside before previous (first count us) ++ fs)
+    (turns_same p content outside a b (before + count) count (drop count us) (omega (arith, length-drop count us, bounds.0, bounds.1)) (omega (arith, length-drop count us, bounds.0, bounds.1)))
+    ∙ sym (long_fields p content outside b before previous us long))
 
 next_is : (n l count : ℕ) → n ≡ part_units * count → 1 ≤ count → count ≤ 4 → (part_units ≤ l → 65536 ≤ n) → next_part (n + l) ≡ n
 next_is n l count size some few full = by_cases (nat_lt l part_units) (λ b. next_part (n + l) ≡ n)
@@ -323,7 +322,7 @@ found_count p (Some size) K c y bound e =
         (found_number p fields.length span (λ n. K (size.low + n)) (after_all (extension_fields p size.extensible false) c) y (omega (arith, bound.1)) e2)
         (λ n k g. ap (λ b. b || (size.extensible && nat_le (size.low + n) 16383)) (root n k))
         (λ n k g. ap (λ (m : ℕ). extension_fields p size.extensible false ++ number_fields p fields.length span m) (let u : n ≡ size.low + n - size.low = omega arith in u)
-            ∙ count_fields_are p size (size.low + n) true (root n k))
+        ∙ count_fields_are p size (size.low + n) true (root n k))
         (λ n k. refl)
     go true h s e2 =
         let d = after_all (extension_fields p size.extensible true) c in
@@ -331,6 +330,6 @@ found_count p (Some size) K c y bound e =
         found_after (extension_fields p size.extensible true) Any _ (λ n. asked p pad 0 ∷ asked p (extent (whole 0 16383 (Some size))) n ∷ []) _ K K c y (λ n. n) s
         (found_aligned p (extent (whole 0 16383 (Some size))) K d y e2)
         (λ n k g. let l : IsLength 0 16383 (Some size) n = length_so n g.1.0 in
-            ap (λ b. b || (size.extensible && nat_le n 16383)) l.past ∙ ap (λ b. b && nat_le n 16383) (extensible_is size.extensible h) ∙ is_at_most n 16383 l.high)
+        ap (λ b. b || (size.extensible && nat_le n 16383)) l.past ∙ ap (λ b. b && nat_le n 16383) (extensible_is size.extensible h) ∙ is_at_most n 16383 l.high)
         (λ n k g. let l : IsLength 0 16383 (Some size) n = length_so n g.1.0 in count_fields_are p size n false l.past)
         (λ n k. refl)

@@ -1,5 +1,5 @@
 -- What answers the questions of a type is the layout of a value of it.
-use Rattle.std.proofs.Common.{◌≡◌, ℕ, zero, suc, ◌+◌, ◌-◌, ◌*◌, ◌^◌, ◌<◌, ◌≤◌, ◌==◌, nat_lt, cond, Bool, true, false, List, [], ◌∷◌, ◌++◌, length, map, None, Some, Ok, refl, sym, ap, subst, ◌∙◌, arith, append_assoc}
+use Rattle.std.proofs.Common.{◌≡◌, ℕ, zero, suc, ◌-◌, ◌<◌, ◌==◌, nat_lt, cond, Bool, true, false, List, [], ◌∷◌, ◌++◌, length, map, None, Some, Ok, refl, sym, ap, subst, ◌∙◌, arith, append_assoc}
 use Rattle.bits_core.specs.Bits.{bit_value}
 use Rattle.aper_defs.specs.Trees.{Tree, Parts, Rows, Procedures, Outcome, slots, mandatory_count, part_count}
 use Rattle.aper_defs.specs.Trees.{boolean, integer, enumerated, bit_string, octet_string, printable_string, sequence, choice, sequence_of, container, pdu, no_parts, part, no_rows, row, no_procedures, procedure, no_outcome, outcome}
@@ -9,21 +9,21 @@ use Rattle.aper_defs.specs.Fields.{Path, Ask, Field, flag, pad, asked}
 use Rattle.aper_defs.specs.Fields as fields
 use Rattle.aper_defs.specs.Bits.{open_fields}
 use Rattle.aper_defs.specs.Parts.{of_bits, of_octets, of_characters, extension_fields, index_fields, string_fields, count_fields}
-use Rattle.aper_defs.specs.Layouts.{flag_fields, mark_fields, raw_additions, ie_fields, layout, component_fields, addition_fields, alternative_fields, added_fields, row_fields, body_fields, outcome_fields}
-use Rattle.aper_defs.specs.Membership.{Either, is_count_of, EachFrom, AreAdditions, AreElements, Has, HasComponents, HasAdditions, HasAlternative, HasAdded, HasRow, HasBody, HasOutcome}
+use Rattle.aper_defs.specs.Layouts.{flag_fields, mark_fields, ie_fields, layout, component_fields, addition_fields, alternative_fields, added_fields, row_fields, body_fields, outcome_fields}
+use Rattle.aper_defs.specs.Membership.{Either, is_count_of, EachFrom, AreElements, Has, HasComponents, HasAdditions, HasAlternative, HasAdded, HasRow, HasBody, HasOutcome}
 use Rattle.aper_defs.specs.Bounds.{IsBounded, ArePartsBounded, AreRowsBounded, AreProceduresBounded, IsOutcomeBounded}
-use Rattle.aper_defs.specs.Questions.{Prog, ask, never, ask_aligned, ask_flags, ask_members, ask_ies}
+use Rattle.aper_defs.specs.Questions.{Prog, never, ask_flags, ask_members, ask_ies}
 use Rattle.aper_defs.specs.Asking.{ask_marks, asks, ask_components, ask_additions, ask_alternative, ask_added, ask_row, ask_body, ask_outcome}
 use Rattle.aper_defs.specs.Reading.{Cursor, read, run, answered_at}
-use Rattle.aper_proof_answers.proofs.Standing.{StandAll, after_all, after_all-append}
+use Rattle.aper_proof_answers.proofs.Standing.{after_all, after_all-append}
 use Rattle.aper_proof_places.proofs.Placed.{AreBelow, stand_both}
 use Rattle.aper_proof_places.proofs.PlacedAll.{placed}
 use Rattle.aper_proof_values.proofs.Found.{Ends, Found, found_after, found_ask}
-use Rattle.aper_proof_values.proofs.FoundNumbers.{Any, flag_read, found_aligned, found_extension}
+use Rattle.aper_proof_values.proofs.FoundNumbers.{flag_read, found_aligned, found_extension}
 use Rattle.aper_proof_values.proofs.FoundIndices.{found_integer, found_index}
 use Rattle.aper_proof_values.proofs.FoundStrings.{IsString, found_string, found_count}
 use Rattle.aper_proof_values.proofs.FoundOpen.{octets_so, found_open, found_raw}
-use Rattle.aper_proof_values.proofs.FoundElements.{found_either, flags_of, AreThere, flags_are, found_flags, marks_of, AreMarks, marks_are, found_marks, additions_so, found_raw_additions, found_members, count_read, found_ies, Parts4, IsMessage, message_fields, found_message}
+use Rattle.aper_proof_values.proofs.FoundElements.{found_either, flags_of, AreThere, flags_are, found_flags, marks_of, AreMarks, marks_are, found_marks, additions_so, found_raw_additions, found_members, count_read, found_ies, IsMessage, message_fields, found_message}
 
 never_ends : (c : Cursor) (y : Value × Cursor) → Ends never c y → ⊥
 unfolding run

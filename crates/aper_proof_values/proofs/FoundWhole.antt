@@ -1,5 +1,5 @@
 -- Octets that are read as a value spell it.
-use Rattle.std.proofs.Common.{◌≡◌, ℕ, zero, suc, ◌+◌, ◌-◌, ◌*◌, ◌<◌, ◌≤◌, ◌==◌, cond, Bool, true, false, List, [], ◌∷◌, ◌++◌, length, drop, Result, Ok, Err, refl, sym, ap, subst, ◌∙◌, arith, append-nil}
+use Rattle.std.proofs.Common.{◌≡◌, ℕ, ◌+◌, ◌*◌, ◌≤◌, ◌==◌, cond, Bool, true, false, List, [], ◌∷◌, ◌++◌, length, drop, Result, Ok, Err, refl, sym, ap, subst, ◌∙◌, arith, append-nil}
 use Rattle.std.proofs.lemmas.List.{length-drop}
 use Rattle.bits_core.specs.Bits.{octet_bits}
 use Rattle.bits_core.proofs.BitLemmas.{length-octet_bits}
@@ -9,9 +9,8 @@ use Rattle.aper_defs.specs.Values.{Value}
 use Rattle.aper_defs.specs.Fields.{Field, closing, asked}
 use Rattle.aper_defs.specs.Bits.{width_at, put_all, closed}
 use Rattle.aper_defs.specs.Layouts.{layout}
-use Rattle.aper_defs.specs.Membership.{Has}
 use Rattle.aper_defs.specs.Bounds.{IsBounded}
-use Rattle.aper_defs.specs.Spelling.{Spells, whole_layout}
+use Rattle.aper_defs.specs.Spelling.{Spells}
 use Rattle.aper_defs.specs.Questions.{ask, done}
 use Rattle.aper_defs.specs.Asking.{asks_whole}
 use Rattle.aper_defs.specs.Reading.{Cursor, Fault, at_first, bits_at, bit_limit, moved_by, asked_width, answered_at, read, run, only, decoded}
@@ -21,7 +20,7 @@ use Rattle.aper_proof_places.proofs.Bits.{all_bits, total, put_all-nil}
 use Rattle.aper_proof_places.proofs.Placed.{Placed, stand_both}
 use Rattle.aper_proof_places.proofs.PlacedAll.{placed}
 use Rattle.aper_proof_places.proofs.Opened.{empty_mark}
-use Rattle.aper_proof_values.proofs.Found.{Ends, Found, found_ask, Answered, answer_read, taken_limit}
+use Rattle.aper_proof_values.proofs.Found.{Ends, found_ask, Answered, answer_read, taken_limit}
 use Rattle.aper_proof_values.proofs.FoundBits.{written, stand_there}
 use Rattle.aper_proof_values.proofs.FoundOpen.{closing_mark}
 use Rattle.aper_proof_values.proofs.FoundValues.{found}
@@ -76,6 +75,7 @@ decoded_spells t v octets b e = go (run (asks_whole t) (at_first octets)) refl e
         → cond x (Ok w) (Err (record { bit = d.place; reason = reasons.Tail; path = [] })) ≡ (let r : Result Value Fault = Ok v in r) → (d.place ≡ 8 * length d.octets) × (w ≡ v)
     ended w d true f g = (same d.place (8 * length d.octets) f, cc)
     ended w d false f g = cc
+
     go : (r : Result (Value × Cursor) Fault) → run (asks_whole t) (at_first octets) ≡ r → only r ≡ Ok v → Spells t v octets
     go (Ok (w, d)) is h =
         let f = ended w d (d.place == 8 * length d.octets) refl h in
