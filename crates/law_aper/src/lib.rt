@@ -33,3 +33,9 @@ pub fn a_spelling_is_read_as_its_value()
     ensures { (t : Tree) (v : Value) (octets : List ℕ) → IsBounded t
         → Spells t v octets → decoded t octets ≡ Ok v }
 {}
+
+/// Octets in which the questions of a type find a value, and after which nothing is left, spell that value.
+pub fn what_is_read_is_spelled()
+    ensures { (t : Tree) (v : Value) (octets : List ℕ) → IsBounded t
+        → decoded t octets ≡ Ok v → Spells t v octets }
+{}
