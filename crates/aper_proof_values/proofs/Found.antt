@@ -44,7 +44,8 @@ found_as P Q f g K L c y h is fields on found =
     }
 
 -- after fields that stand
-pub found_after : {X Z : Type 0} (a : List Field) (P : X → Type 0) (Q : Z → Type 0) (f : X → List Field) (g : Z → List Field) (K : X → Prog) (L : Z → Prog)
+pub found_after : {X Z : Type 0} (a : List Field) (P : X → Type 0) (Q : Z → Type 0) (f : X → List Field) (g : Z → List Field) (K : X
+    → Prog) (L : Z → Prog)
     (c : Cursor) (y : Value × Cursor) (h : X → Z)
     → StandAll a c → Found P f K (after_all a c) y
     → ((x : X) → P x → StandAll (f x) (after_all a c) → Q (h x)) → ((x : X) → P x → StandAll (f x) (after_all a c) → a ++ f x ≡ g (h x))
@@ -61,7 +62,8 @@ found_after a P Q f g K L c y h s found is fields on =
     }
 
 -- one after another
-pub found_then : {X Z : Type 0} (P : X → Type 0) (Q : X → Z → Type 0) (f : X → List Field) (g : X → Z → List Field) (K : X → Prog) (L : X → Z → Prog)
+pub found_then : {X Z : Type 0} (P : X → Type 0) (Q : X → Z → Type 0) (f : X → List Field) (g : X → Z → List Field) (K : X
+    → Prog) (L : X → Z → Prog)
     (c : Cursor) (y : Value × Cursor)
     → Found P f K c y
     → ((x : X) → P x → StandAll (f x) c → Ends (K x) (after_all (f x) c) y → Found (Q x) (g x) (L x) (after_all (f x) c) y)
@@ -104,7 +106,8 @@ taken_size c width e =
     omega (arith, length-drop c.place (octet_bits c.octets), length-octet_bits c.octets)
   where
     go : (a b d : Bool) → nat_lt (8 * length c.octets) (c.place + width) ≡ d
-        → cond a (cond b (Some reasons.TooLong) (cond d (Some reasons.Truncated) None)) (Some reasons.Overrun) ≡ None → c.place + width ≤ 8 * length c.octets
+        → cond a (cond b (Some reasons.TooLong) (cond d (Some reasons.Truncated) None)) (Some reasons.Overrun) ≡ None
+        → c.place + width ≤ 8 * length c.octets
     go true true d f g = cc
     go true false true f g = cc
     go true false false f g = not_below (8 * length c.octets) (c.place + width) f
@@ -112,10 +115,12 @@ taken_size c width e =
 
 -- so many bits don't pass the limit
 pub taken_limit : (c : Cursor) (width : ℕ) → passes c width ≡ None → c.place + width ≤ bit_limit
-taken_limit c width e = go (is_within (c.place + width) c.opens) (nat_lt bit_limit (c.place + width)) (nat_lt (8 * length c.octets) (c.place + width)) refl e
+taken_limit c width e = go (is_within (c.place + width) c.opens) (nat_lt bit_limit (c.place + width)) (nat_lt (8 * length c.octets)
+    (c.place + width)) refl e
   where
     go : (a b d : Bool) → nat_lt bit_limit (c.place + width) ≡ b
-        → cond a (cond b (Some reasons.TooLong) (cond d (Some reasons.Truncated) None)) (Some reasons.Overrun) ≡ None → c.place + width ≤ bit_limit
+        → cond a (cond b (Some reasons.TooLong) (cond d (Some reasons.Truncated) None)) (Some reasons.Overrun) ≡ None
+        → c.place + width ≤ bit_limit
     go true true d f g = cc
     go true false d f g = not_below bit_limit (c.place + width) f
     go false b d f g = cc
@@ -132,8 +137,17 @@ answer_read question c n e = go (passes c (asked_width question c)) refl e
     m : ℕ
     m = number_of (first (asked_width question c) (bits_at c))
 
-    judge : passes c (asked_width question c) ≡ None → (j : Option Reason) → judged question c m ≡ j → answered question c m j ≡ Ok n → Answered question c n
-    judge room None is h = record { m = m; bits = refl; small = taken_small (bits_at c) (asked_width question c); right = is; same = inner h; room = room }
+    judge : passes c (asked_width question c) ≡ None → (j : Option Reason) → judged question c m ≡ j → answered question c m j ≡ Ok n
+        → Answered question c n
+    judge room None is h = record {
+      m = m;
+      bits = refl;
+      small = taken_small (bits_at c)
+          (asked_width question c);
+      right = is;
+      same = inner h;
+      room = room;
+    }
       where
         inner : answered question c m None ≡ Ok n → answer_of question c m ≡ n
         inner g = cc

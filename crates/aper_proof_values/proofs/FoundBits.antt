@@ -25,7 +25,8 @@ bits_there c w room =
     sym (take-append-drop w (bits_at c)) ∙ ap (λ (xs : List Bool). xs ++ drop w (bits_at c)) (sym front)
     ∙ ap (λ (xs : List Bool). bits_of w (number_of (first w (bits_at c))) ++ xs) (drop-drop w c.place (octet_bits c.octets))
 
-told_right : (c : Cursor) (bounds : Extent) (m n : ℕ) → m ≡ number_of (first (told_width (bits_at c)) (bits_at c)) → passes c (told_width (bits_at c)) ≡ None
+told_right : (c : Cursor) (bounds : Extent) (m n : ℕ) → m ≡ number_of (first (told_width (bits_at c)) (bits_at c))
+    → passes c (told_width (bits_at c)) ≡ None
     → judged_extent bounds (form_of m) ≡ None → told (form_of m) ≡ n → Right (told_width (bits_at c)) m n
 told_right c bounds m n e room right is =
     let w = told_width (bits_at c) in
@@ -33,7 +34,8 @@ told_right c bounds m n e room right is =
     subst (Right w m) is (extent_right bounds w m t right)
 
 -- the width and the number of an answer are those that it is written with
-pub written : (question : Ask) (c : Cursor) (n : ℕ) → Answered question c n → (asked_width question c ≡ width_at c.place question n) × (number_of (first (asked_width question c) (bits_at c)) ≡ spelled question n)
+pub written : (question : Ask) (c : Cursor) (n : ℕ) → Answered question c n
+    → (asked_width question c ≡ width_at c.place question n) × (number_of (first (asked_width question c) (bits_at c)) ≡ spelled question n)
 written flag c n a = (refl, sym a.bits ∙ a.same)
 written (constrained role width most) c n a = (refl, sym a.bits ∙ a.same)
 written (digits count most) c n a = (refl, sym a.bits ∙ a.same)
@@ -62,7 +64,8 @@ pub record AreRun (width count : ℕ) (bits : List Bool) (units : List ℕ) : Ty
   pub below : AreBelow (2 ^ width) units
   pub bits-are : bits ≡ flat_map (bits_of width) units ++ drop (width * count) bits
 
-numbers_are : (width count : ℕ) (bits : List Bool) → width * count ≤ length bits → AreRun width count bits (numbers_at (replicate count width) bits)
+numbers_are : (width count : ℕ) (bits : List Bool) → width * count ≤ length bits
+    → AreRun width count bits (numbers_at (replicate count width) bits)
 numbers_are width zero bits h =
     let e : width * 0 ≡ 0 = omega arith in record { count-is = refl; below = tt; bits-are = ap (λ (n : ℕ). drop n bits) (sym e) }
 numbers_are width (suc count) bits h =
@@ -70,22 +73,27 @@ numbers_are width (suc count) bits h =
     let size : length (first width bits) ≡ width = omega (arith, length-take width bits, e, h) in
     let x = number_of (first width bits) in
     let rest = drop width bits in
-    let others : AreRun width count rest (numbers_at (replicate count width) rest) = numbers_are width count rest (omega (arith, length-drop width bits, e, h)) in
+    let others : AreRun width count rest (numbers_at (replicate count width) rest) = numbers_are width count rest (omega
+    (arith, length-drop width bits, e, h)) in
     let units = numbers_at (replicate count width) rest in
-    let front : bits_of width x ≡ first width bits = ap (λ (n : ℕ). bits_of n x) (sym size) ∙ bits_of-number_of (first width bits) in record {
+    let front : bits_of width x ≡ first width bits = ap (λ (n : ℕ). bits_of n x) (sym size) ∙ bits_of-number_of
+    (first width bits) in record {
       count-is = ap suc others.count-is;
       below = (subst (λ (n : ℕ). x < 2 ^ n) size (number_small (first width bits)), others.below);
       bits-are = sym (take-append-drop width bits) ∙ ap (λ (xs : List Bool). xs ++ rest) (sym front)
           ∙ ap (λ (xs : List Bool). bits_of width x ++ xs) others.bits-are
-          ∙ ap (λ (xs : List Bool). bits_of width x ++ (flat_map (bits_of width) units ++ xs)) (drop-drop (width * count) width bits ∙ ap (λ (n : ℕ). drop n bits) (sym e))
+          ∙ ap (λ (xs : List Bool). bits_of width x ++ (flat_map (bits_of width) units ++ xs)) (drop-drop (width * count) width bits ∙ ap
+          (λ (n : ℕ). drop n bits) (sym e))
           ∙ sym (append_assoc (bits_of width x) (flat_map (bits_of width) units) (drop (width * suc count) bits));
     }
 
-pub units_are : (unit : RunUnit) (count : ℕ) (c : Cursor) (units : List ℕ) → read_units unit count c ≡ Ok units → AreRun (unit_width unit) count (bits_at c) units
+pub units_are : (unit : RunUnit) (count : ℕ) (c : Cursor) (units : List ℕ) → read_units unit count c ≡ Ok units
+    → AreRun (unit_width unit) count (bits_at c) units
 unfolding read_units
 units_are unit count c units e = go (passes c (unit_width unit * count)) refl e
   where
-    go : (r : Option Reason) → passes c (unit_width unit * count) ≡ r → units_within unit count c r ≡ Ok units → AreRun (unit_width unit) count (bits_at c) units
+    go : (r : Option Reason) → passes c (unit_width unit * count) ≡ r → units_within unit count c r ≡ Ok units
+        → AreRun (unit_width unit) count (bits_at c) units
     go None is h =
         let g : numbers_at (replicate count (unit_width unit)) (bits_at c) ≡ units = cc in
         subst (AreRun (unit_width unit) count (bits_at c)) g
@@ -102,7 +110,8 @@ field_there (asked path question n) c s =
     ∙ ap (λ (x : ℕ). bits_of (width_at c.place question n) x ++ bits_at (moved_by (width_at c.place question n) c)) r.1
 field_there (run_field path unit units) c s =
     let r = units_are unit (length units) c units s in
-    r.bits-are ∙ ap (λ (xs : List Bool). flat_map (bits_of (unit_width unit)) units ++ xs) (drop-drop (unit_width unit * length units) c.place (octet_bits c.octets))
+    r.bits-are ∙ ap (λ (xs : List Bool). flat_map (bits_of (unit_width unit)) units ++ xs) (drop-drop
+    (unit_width unit * length units) c.place (octet_bits c.octets))
 
 -- what stands at a place is there
 pub stand_there : (fs : List Field) (c : Cursor) → StandAll fs c → bits_at c ≡ all_bits c.place fs ++ bits_at (after_all fs c)

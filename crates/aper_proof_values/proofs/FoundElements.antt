@@ -22,7 +22,8 @@ use Rattle.aper_proof_values.proofs.FoundIndices.{extensible_is}
 use Rattle.aper_proof_values.proofs.FoundOpen.{found_raw}
 
 -- what a test takes, where what is known depends on it
-pub found_either : {X : Type 0} (b : Bool) (A B : X → Type 0) (f g : X → List Field) (P Q : Prog) (K : X → Prog) (c : Cursor) (y : Value × Cursor)
+pub found_either : {X : Type 0} (b : Bool) (A B : X → Type 0) (f g : X → List Field) (P Q : Prog) (K : X
+    → Prog) (c : Cursor) (y : Value × Cursor)
     → (Ends P c y → Found A f K c y) → (Ends Q c y → Found B g K c y) → Ends (cond b P Q) c y
     → Found (λ x. Either b (A x) (B x)) (λ x. cond b (f x) (g x)) K c y
 found_either true A B f g P Q K c y one other e = one e
@@ -40,7 +41,8 @@ either_no false A B e h = h
 abbrev pub flags_of : Path → Parts → List Bool → List Field
 flags_of p no_parts marks = []
 flags_of p (part name optional t others) [] = []
-flags_of p (part name optional t others) (b ∷ marks) = cond optional (asked p flag (cond b 1 0) ∷ flags_of p others marks) (flags_of p others marks)
+flags_of p (part name optional t others) (b ∷ marks) = cond optional (asked p flag (cond b 1 0) ∷ flags_of p others marks)
+    (flags_of p others marks)
 
 abbrev pub AreThere : Parts → List Bool → Type 0
 AreThere no_parts [] = Unit {0}
@@ -65,19 +67,23 @@ found_flags p (part name true t others) K c y e =
     let a = found_ask p flag (λ b. ask_flags p others (λ marks. K ((b == 1) ∷ marks))) c y e in
     let n = a.made in
     let L = λ (marks : List Bool). K ((n == 1) ∷ marks) in
-    found_after (asked p flag n ∷ []) (AreThere others) (AreThere (part name true t others)) (flags_of p others) (flags_of p (part name true t others)) L K c y
+    found_after (asked p flag n ∷ []) (AreThere others) (AreThere (part name true t others)) (flags_of p others) (flags_of p
+    (part name true t others)) L K c y
     (λ marks. (n == 1) ∷ marks) a.stand (found_flags p others L (answered_at flag n c) y a.rest)
-    (λ marks h s. ((λ g. refl), h)) (λ marks h s. ap (λ m. asked p flag m ∷ flags_of p others marks) (bit_again n (flag_read c n a.is))) (λ marks h. refl)
+    (λ marks h s. ((λ g. refl), h)) (λ marks h s. ap (λ m. asked p flag m ∷ flags_of p others marks) (bit_again n (flag_read c n a.is)))
+    (λ marks h. refl)
 found_flags p (part name false t others) K c y e =
     let L = λ (marks : List Bool). K (true ∷ marks) in
-    found_after [] (AreThere others) (AreThere (part name false t others)) (flags_of p others) (flags_of p (part name false t others)) L K c y
+    found_after [] (AreThere others) (AreThere (part name false t others)) (flags_of p others) (flags_of p
+    (part name false t others)) L K c y
     (λ marks. true ∷ marks) tt (found_flags p others L c y e)
     (λ marks h s. ((λ g. cc), h)) (λ marks h s. refl) (λ marks h. refl)
 
 -- ---- which additions are there
 abbrev pub marks_of : Path → List Bool → List Field
 marks_of p [] = []
-marks_of p (b ∷ bs) = asked p (small fields.length) (length (b ∷ bs) - 1) ∷ asked p (addition_bits (length (b ∷ bs))) (number_of (b ∷ bs)) ∷ []
+marks_of p (b ∷ bs) = asked p (small fields.length) (length (b ∷ bs) - 1) ∷ asked p (addition_bits (length (b ∷ bs))) (number_of
+    (b ∷ bs)) ∷ []
 
 pub marks_are : (p : Path) (more : Options) → mark_fields p more ≡ marks_of p (presence more)
 marks_are p no_options = refl
@@ -100,9 +106,17 @@ record SomeBits (count n : ℕ) : Type 0 where
 bits_read : (count : ℕ) (c : Cursor) (n : ℕ) → read (addition_bits count) c ≡ Ok n → SomeBits count n
 bits_read count c n e =
     let a : Answered (addition_bits count) c n = answer_read (addition_bits count) c n e in
-    subst (SomeBits count) a.same (record { some = omega (arith, below 0 a.m (not_wrong (nat_lt 0 a.m) reasons.EmptyAdditions a.right)); fits = a.small })
+    subst (SomeBits count) a.same (record {
+      some = omega (
+        arith,
+        below 0 a.m (not_wrong
+            (nat_lt 0 a.m) reasons.EmptyAdditions a.right),
+      );
+      fits = a.small;
+    })
 
-pub found_marks : (p : Path) (b : Bool) (K : List Bool → Prog) (c : Cursor) (y : Value × Cursor) → Ends (ask_marks p b K) c y → Found (AreMarks b) (marks_of p) K c y
+pub found_marks : (p : Path) (b : Bool) (K : List Bool → Prog) (c : Cursor) (y : Value × Cursor) → Ends (ask_marks p b K) c y
+    → Found (AreMarks b) (marks_of p) K c y
 found_marks p false K c y e = record { made = []; is = refl; stand = tt; rest = e }
 found_marks p true K c y e =
     let a = found_ask p (small fields.length) (λ n. ask p (addition_bits (n + 1)) (λ m. K (bits_of (n + 1) m))) c y e in
@@ -118,7 +132,8 @@ found_marks p true K c y e =
     let fs = λ (k j x : ℕ). asked p (small fields.length) k ∷ asked p (addition_bits j) x ∷ [] in
     let low : n ≡ length bs - 1 = omega (arith, size) in
     let so : fs n (n + 1) m ≡ marks_of p bs =
-    ap (λ (k : ℕ). fs k (n + 1) m) low ∙ ap (λ (j : ℕ). fs (length bs - 1) j m) (sym size) ∙ ap (λ (x : ℕ). fs (length bs - 1) (length bs) x) (sym again)
+    ap (λ (k : ℕ). fs k (n + 1) m) low ∙ ap (λ (j : ℕ). fs (length bs - 1) j m) (sym size) ∙ ap (λ (x : ℕ). fs (length bs - 1)
+    (length bs) x) (sym again)
     ∙ marks_some p bs (omega (arith, size)) in record {
       made = bs;
       is = (omega (arith, size), omega (arith, size, few), omega (arith, again, s.some));
@@ -140,17 +155,20 @@ additions_so extensible true no_options h m = absurd (omega (arith, m.0))
 additions_so extensible true (absent more) h m = ((extensible_is extensible h, m.1, some_there (absent more) m.2), refl)
 additions_so extensible true (present v more) h m = ((extensible_is extensible h, m.1, refl), refl)
 
-pub found_raw_additions : (p : Path) (marks : List Bool) (K : Options → Prog) (c : Cursor) (y : Value × Cursor) → Ends (ask_raw_additions p marks K) c y
+pub found_raw_additions : (p : Path) (marks : List Bool) (K : Options → Prog) (c : Cursor) (y : Value × Cursor)
+    → Ends (ask_raw_additions p marks K) c y
     → Found (λ more. (presence more ≡ marks) × AreRaw more) (raw_additions p) K c y
 found_raw_additions p [] K c y e = record { made = no_options; is = (refl, tt); stand = tt; rest = e }
 found_raw_additions p (false ∷ marks) K c y e =
-    found_after [] (λ more. (presence more ≡ marks) × AreRaw more) _ (raw_additions p) _ (λ more. K (absent more)) K c y (λ more. absent more) tt
+    found_after [] (λ more. (presence more ≡ marks) × AreRaw more) _ (raw_additions p) _ (λ more. K (absent more)) K c y
+    (λ more. absent more) tt
     (found_raw_additions p marks (λ more. K (absent more)) c y e)
     (λ more h s. (ap (λ (bs : List Bool). false ∷ bs) h.0, h.1)) (λ more h s. refl) (λ more h. refl)
 found_raw_additions p (true ∷ marks) K c y e =
     let a = found_raw p p (λ v. ask_raw_additions p marks (λ more. K (present v more))) c y e in
     let v = a.made in
-    found_after (raw_fields p p v) (λ more. (presence more ≡ marks) × AreRaw more) _ (raw_additions p) _ (λ more. K (present v more)) K c y (λ more. present v more) a.stand
+    found_after (raw_fields p p v) (λ more. (presence more ≡ marks) × AreRaw more) _ (raw_additions p) _ (λ more. K
+    (present v more)) K c y (λ more. present v more) a.stand
     (found_raw_additions p marks (λ more. K (present v more)) (after_all (raw_fields p p v) c) y a.rest)
     (λ more h s. (ap (λ (bs : List Bool). true ∷ bs) h.0, (a.is, h.1))) (λ more h s. refl) (λ more h. refl)
 
@@ -163,7 +181,8 @@ found_members f each_one P y one i zero K c e = record { made = no_values; is = 
 found_members f each_one P y one i (suc count) K c e =
     let a = one i (λ v. ask_members each_one (suc i) count (λ vs. K (value v vs))) c e in
     let v = a.made in
-    found_after (f i v) (λ vs. (value_count vs ≡ count) × EachFrom P (suc i) vs) _ (λ vs. each_from f (suc i) vs) _ (λ vs. K (value v vs)) K c y (λ vs. value v vs) a.stand
+    found_after (f i v) (λ vs. (value_count vs ≡ count) × EachFrom P (suc i) vs) _ (λ vs. each_from f (suc i) vs) _ (λ vs. K
+    (value v vs)) K c y (λ vs. value v vs) a.stand
     (found_members f each_one P y one (suc i) count (λ vs. K (value v vs)) (after_all (f i v) c) a.rest)
     (λ vs h s. (ap suc h.0, (a.is, h.1))) (λ vs h s. refl) (λ vs h. refl)
 
@@ -194,16 +213,23 @@ id_read known left after c id e =
     let least = mandatory_count (slots_before m left) in
     let rest = mandatory_count (slots_left known m left) in
     let r = id_judged known left m (has_slot m known) (has_slot m left) (least == 0) (nat_le rest after) a.right in
-    subst (IsNext known left after) a.same (record { order = in_order (has_slot m known) (has_slot m left) least r.0; enough = at_most rest after r.1; fits = a.small })
+    subst (IsNext known left after) a.same (record {
+      order = in_order (has_slot m known)
+          (has_slot m left) least r.0;
+      enough = at_most rest after r.1;
+      fits = a.small;
+    })
 
 pub count_read : (least : ℕ) (c : Cursor) (n : ℕ) → read (fields.ie_count least) c ≡ Ok n → (least ≤ n) × (n < 65536)
 count_read least c n e =
     let a : Answered (fields.ie_count least) c n = answer_read (fields.ie_count least) c n e in
     (omega (arith, at_most least a.m (not_wrong (nat_le least a.m) reasons.Required a.right), a.same), omega (arith, a.small, a.same))
 
-pub found_ies : (p : Path) (known : List Slot) (f : ℕ → Value → List Field) (body : ℕ → (Value → Prog) → Prog) (P : ℕ → Value → Type 0) (y : Value × Cursor)
+pub found_ies : (p : Path) (known : List Slot) (f : ℕ → Value → List Field) (body : ℕ → (Value → Prog) → Prog) (P : ℕ → Value
+    → Type 0) (y : Value × Cursor)
     → ((id : ℕ) (K : Value → Prog) (c : Cursor) → Ends (body id K) c y → Found (P id) (f id) K c y)
-    → (count : ℕ) (left : List Slot) (K : Ies → Prog) (c : Cursor) → mandatory_count left ≤ count → Ends (ask_ies p known body count left K) c y
+    → (count : ℕ) (left : List Slot) (K : Ies → Prog) (c : Cursor) → mandatory_count left ≤ count
+    → Ends (ask_ies p known body count left K) c y
     → Found (λ ies. (ie_count ies ≡ count) × AreElements known P left ies) (λ ies. ie_fields p known f left ies) K c y
 found_ies p known f body P y one zero left K c enough e = record { made = no_ies; is = (refl, omega (arith, enough)); stand = tt; rest = e }
 found_ies p known f body P y one (suc count) left K c enough e =
@@ -220,11 +246,13 @@ found_ies p known f body P y one (suc count) left K c enough e =
     let v = b.made in
     let after = slots_left known id left in
     let L = λ (os : Ies). K (ie id criticality v os) in
-    found_after (asked p pad 0 ∷ asked p question id ∷ asked p crit criticality ∷ f id v) (λ os. (ie_count os ≡ count) × AreElements known P after os) _
+    found_after (asked p pad 0 ∷ asked p question id ∷ asked p crit criticality ∷ f id v) (λ os.
+    (ie_count os ≡ count) × AreElements known P after os) _
     (λ os. ie_fields p known f after os) _ L K c y (λ os. ie id criticality v os) (a.stand.0, (a.stand.1.0, (g.is, b.stand)))
     (found_ies p known f body P y one count after L (after_all (f id v) (answered_at crit criticality d)) next.enough b.rest)
     (λ os h s. (ap suc h.0, (next.fits, constrained_read fields.index 2 2 d criticality g.is, b.is, next.order, h.1)))
-    (λ os h s. ap (λ (n : ℕ). asked p pad 0 ∷ asked p (ie_id known left n) id ∷ asked p crit criticality ∷ (f id v ++ ie_fields p known f after os)) (sym h.0))
+    (λ os h s. ap (λ (n : ℕ). asked p pad 0 ∷ asked p (ie_id known left n) id ∷ asked p crit criticality ∷ (f id v
+    ++ ie_fields p known f after os)) (sym h.0))
     (λ os h. refl)
 
 -- ---- messages
@@ -244,7 +272,8 @@ message_fields p f x = cond (nat_lt x.index 3) (message_head p x.index x.code x.
 
 found_past : (p : Path) (f : ℕ → ℕ → Value → List Field) (P : ℕ → ℕ → Value → Type 0) (K : Parts4 → Prog) (c : Cursor) (y : Value × Cursor)
     → read flag c ≡ Ok 1
-    → Ends (ask p (small fields.index) (λ n. ask_raw p p (λ v. K (record { index = 3 + n; code = 0; criticality = 0; body = v })))) (answered_at flag 1 c) y
+    → Ends (ask p (small fields.index) (λ n. ask_raw p p (λ v. K (record { index = 3 + n; code = 0; criticality = 0; body = v }))))
+    (answered_at flag 1 c) y
     → Found (IsMessage P) (message_fields p f) K c y
 found_past p f P K c y bit e =
     let on = λ (n : ℕ) (v : Value). K (record { index = 3 + n; code = 0; criticality = 0; body = v }) in
@@ -254,18 +283,22 @@ found_past p f P K c y bit e =
     let few : n < 64 = small_read fields.index d n a.is in
     let past : nat_lt (3 + n) 3 ≡ false = is_not_below (3 + n) 3 (omega arith) in
     let again : n ≡ 3 + n - 3 = omega arith in
-    found_after (asked p flag 1 ∷ asked p (small fields.index) n ∷ []) IsRaw (IsMessage P) (λ v. raw_fields p p v) (message_fields p f) (on n) K c y
+    found_after (asked p flag 1 ∷ asked p (small fields.index) n ∷ []) IsRaw (IsMessage P) (λ v. raw_fields p p v) (message_fields p f)
+    (on n) K c y
     (λ v. record { index = 3 + n; code = 0; criticality = 0; body = v }) (bit, (a.is, tt))
     (found_raw p p (on n) (answered_at (small fields.index) n d) y a.rest)
     (λ v h s. either_no (nat_lt (3 + n) 3) _ _ past (omega (arith, few), refl, refl, h))
     (λ v h s. ap (λ (k : ℕ). asked p flag 1 ∷ asked p (small fields.index) k ∷ raw_fields p p v) again
-    ∙ sym (ap (λ b. cond b (message_head p (3 + n) 0 0 ++ f (3 + n) 0 v) (asked p flag 1 ∷ asked p (small fields.index) (3 + n - 3) ∷ raw_fields p p v)) past))
+    ∙ sym (ap (λ b. cond b (message_head p (3 + n) 0 0 ++ f (3 + n) 0 v) (asked p flag 1 ∷ asked p (small fields.index)
+    (3 + n - 3) ∷ raw_fields p p v)) past))
     (λ v h. refl)
 
-found_root : (p : Path) (f : ℕ → ℕ → Value → List Field) (P : ℕ → ℕ → Value → Type 0) (ask_body : ℕ → ℕ → (Value → Prog) → Prog) (K : Parts4 → Prog) (c : Cursor) (y : Value × Cursor)
+found_root : (p : Path) (f : ℕ → ℕ → Value → List Field) (P : ℕ → ℕ → Value → Type 0) (ask_body : ℕ → ℕ → (Value → Prog)
+    → Prog) (K : Parts4 → Prog) (c : Cursor) (y : Value × Cursor)
     → ((i j : ℕ) (L : Value → Prog) (d : Cursor) → Ends (ask_body i j L) d y → Found (P i j) (f i j) L d y)
     → read flag c ≡ Ok 0
-    → Ends (ask p (constrained fields.index 2 2) (λ i. ask_aligned p (constrained fields.index 8 255) (λ j. ask p (constrained fields.index 2 2)
+    → Ends (ask p (constrained fields.index 2 2) (λ i. ask_aligned p (constrained fields.index 8 255) (λ j. ask p
+    (constrained fields.index 2 2)
     (λ k. ask_body i j (λ v. K (record { index = i; code = j; criticality = k; body = v })))))) (answered_at flag 0 c) y
     → Found (IsMessage P) (message_fields p f) K c y
 found_root p f P ask_body K c y one bit e =
@@ -289,22 +322,26 @@ found_root p f P ask_body K c y one bit e =
     (λ v. record { index = i; code = j; criticality = k; body = v }) (bit, (a.is, (g.stand.0, (g.stand.1.0, (h.is, tt)))))
     (one i j (on i j k) (answered_at two k d3) h.rest)
     (λ v q s. either_yes (nat_lt i 3) _ _ root (omega (arith, code), crit, q))
-    (λ v q s. sym (ap (λ b. cond b (message_head p i j k ++ f i j v) (asked p flag 1 ∷ asked p (small fields.index) (i - 3) ∷ raw_fields p p v)) root))
+    (λ v q s. sym (ap (λ b. cond b (message_head p i j k ++ f i j v) (asked p flag 1 ∷ asked p (small fields.index)
+    (i - 3) ∷ raw_fields p p v)) root))
     (λ v q. refl)
 
-pub found_message : (p : Path) (f : ℕ → ℕ → Value → List Field) (P : ℕ → ℕ → Value → Type 0) (ask_body : ℕ → ℕ → (Value → Prog) → Prog) (K : Value → Prog) (c : Cursor) (y : Value × Cursor)
+pub found_message : (p : Path) (f : ℕ → ℕ → Value → List Field) (P : ℕ → ℕ → Value → Type 0) (ask_body : ℕ → ℕ → (Value → Prog)
+    → Prog) (K : Value → Prog) (c : Cursor) (y : Value × Cursor)
     → ((i j : ℕ) (L : Value → Prog) (d : Cursor) → Ends (ask_body i j L) d y → Found (P i j) (f i j) L d y)
     → Ends (ask_message p ask_body K) c y
     → Found (IsMessage P) (message_fields p f) (λ x. K (message x.index x.code x.criticality x.body)) c y
 found_message p f P ask_body K c y one e =
     let L = λ (x : Parts4). K (message x.index x.code x.criticality x.body) in
     let past = ask p (small fields.index) (λ n. ask_raw p p (λ v. K (message (3 + n) 0 0 v))) in
-    let root = ask p (constrained fields.index 2 2) (λ i. ask_aligned p (constrained fields.index 8 255) (λ j. ask p (constrained fields.index 2 2)
+    let root = ask p (constrained fields.index 2 2) (λ i. ask_aligned p (constrained fields.index 8 255) (λ j. ask p
+    (constrained fields.index 2 2)
     (λ k. ask_body i j (λ v. K (message i j k v))))) in
     let a = found_ask p flag (λ b. cond (b == 1) past root) c y e in
     go L past root a.made a.is (flag_read c a.made a.is) a.rest (found_past p f P L c y) (found_root p f P ask_body L c y one)
   where
-    go : (L : Parts4 → Prog) (past root : Prog) (n : ℕ) → read flag c ≡ Ok n → n < 2 → Ends (cond (n == 1) past root) (answered_at flag n c) y
+    go : (L : Parts4 → Prog) (past root : Prog) (n : ℕ) → read flag c ≡ Ok n → n < 2
+        → Ends (cond (n == 1) past root) (answered_at flag n c) y
         → (read flag c ≡ Ok 1 → Ends past (answered_at flag 1 c) y → Found (IsMessage P) (message_fields p f) L c y)
         → (read flag c ≡ Ok 0 → Ends root (answered_at flag 0 c) y → Found (IsMessage P) (message_fields p f) L c y)
         → Found (IsMessage P) (message_fields p f) L c y

@@ -24,19 +24,35 @@ outside_of false e = refl
 
 length_right : (b : Bool) (least most n : ℕ) → judged_length b least most n ≡ None → (b ≡ true) × (least ≤ n) × (n ≤ most)
 length_right true least most n e =
-    let h = not_wrong (nat_le least n && nat_le n most) reasons.Length e in
-    (refl, at_most least n (first_of_both (nat_le least n) (nat_le n most) h), at_most n most (second_of_both (nat_le least n) (nat_le n most) h))
+    let h = not_wrong (nat_le least n && nat_le n most) reasons.Length e in (
+      refl,
+      at_most least n (first_of_both (nat_le least n) (nat_le n most) h),
+      at_most n most (second_of_both (nat_le least n)
+          (nat_le n most) h),
+    )
 length_right false least most n e = cc
 
-whole_judged : (least most : ℕ) (outside : Option Size) (f : Form) → judged_extent (whole least most outside) f ≡ None → IsLength least most outside (told f)
+whole_judged : (least most : ℕ) (outside : Option Size) (f : Form) → judged_extent (whole least most outside) f ≡ None
+    → IsLength least most outside (told f)
 whole_judged least most outside (octet_form n) e =
-    let h = length_right (cond (is_inside outside n) false true) least most n e in record { low = h.1; high = h.2; past = outside_of (is_inside outside n) h.0 }
+    let h = length_right (cond (is_inside outside n) false true) least most n e in record {
+      low = h.1;
+      high = h.2;
+      past = outside_of
+          (is_inside outside n) h.0;
+    }
 whole_judged least most outside (two_octets n) e =
     let h = length_right (nat_le 128 n && cond (is_inside outside n) false true) least most n e in
-    record { low = h.1; high = h.2; past = outside_of (is_inside outside n) (second_of_both (nat_le 128 n) (cond (is_inside outside n) false true) h.0) }
+    record {
+      low = h.1;
+      high = h.2;
+      past = outside_of (is_inside outside n) (second_of_both (nat_le 128 n) (cond
+          (is_inside outside n) false true) h.0);
+    }
 whole_judged least most outside (units_form count) e = cc
 
-pub whole_read : (least most : ℕ) (outside : Option Size) (c : Cursor) (n : ℕ) → read (extent (whole least most outside)) c ≡ Ok n → IsLength least most outside n
+pub whole_read : (least most : ℕ) (outside : Option Size) (c : Cursor) (n : ℕ) → read (extent (whole least most outside)) c ≡ Ok n
+    → IsLength least most outside n
 whole_read least most outside c n e =
     let a : Answered (extent (whole least most outside)) c n = answer_read (extent (whole least most outside)) c n e in
     subst (IsLength least most outside) a.same (whole_judged least most outside (form_of a.m) a.right)
@@ -44,7 +60,8 @@ whole_read least most outside c n e =
 pub opening_read : (c : Cursor) (n : ℕ) → read opening c ≡ Ok n → (1 ≤ n) × (n ≤ 16383)
 opening_read c n e =
     let a : Answered opening c n = answer_read opening c n e in
-    let h : IsLength 1 16383 None n = subst (IsLength 1 16383 None) a.same (whole_judged 1 16383 None (form_of a.m) a.right) in (h.low, h.high)
+    let h : IsLength 1 16383 None n = subst (IsLength 1 16383 None) a.same (whole_judged 1 16383 None (form_of a.m) a.right) in
+    (h.low, h.high)
 
 -- a length of a string in parts: the last one, or that of a part
 pub data PartLength (before previous : ℕ) (outside : Option Size) (n : ℕ) : Type 0 where
@@ -58,10 +75,12 @@ pub data Told (w m : ℕ) : Type 0 where
   units : w ≡ 8 → 192 ≤ m → m < 256 → Told w m
 
 long_at : (s x : ℕ) → s ≡ 14 → x < 2 ^ s → Told 16 (1 * 2 ^ suc s + (0 * 2 ^ s + x))
-long_at s x e h = subst (λ (n : ℕ). x < 2 ^ n → Told 16 (1 * 2 ^ suc n + (0 * 2 ^ n + x))) (sym e) (λ k. long refl (omega arith) (omega arith)) h
+long_at s x e h = subst (λ (n : ℕ). x < 2 ^ n → Told 16 (1 * 2 ^ suc n + (0 * 2 ^ n + x))) (sym e) (λ k. long refl (omega arith)
+    (omega arith)) h
 
 units_at : (s x : ℕ) → s ≡ 6 → x < 2 ^ s → Told 8 (1 * 2 ^ suc s + (1 * 2 ^ s + x))
-units_at s x e h = subst (λ (n : ℕ). x < 2 ^ n → Told 8 (1 * 2 ^ suc n + (1 * 2 ^ n + x))) (sym e) (λ k. units refl (omega arith) (omega arith)) h
+units_at s x e h = subst (λ (n : ℕ). x < 2 ^ n → Told 8 (1 * 2 ^ suc n + (1 * 2 ^ n + x))) (sym e) (λ k. units refl (omega arith)
+    (omega arith)) h
 
 short_at : (b s x : ℕ) → b ≤ 1 → s ≡ 6 → x < 2 ^ s → Told 8 (0 * 2 ^ suc s + (b * 2 ^ s + x))
 short_at b s x f e h = subst (λ (n : ℕ). x < 2 ^ n → Told 8 (0 * 2 ^ suc n + (b * 2 ^ n + x))) (sym e) (λ k. short refl (omega arith)) h
@@ -77,20 +96,25 @@ pub told_is : (bits : List Bool) → told_width bits ≤ length bits → Told (t
 told_is [] h = absurd (omega (arith, h))
 told_is (true ∷ []) h = absurd (omega (arith, h))
 told_is (false ∷ []) h = absurd (omega (arith, h))
-told_is (true ∷ false ∷ bits) h = long_at (length (first 14 bits)) (number_of (first 14 bits)) (front_size 14 bits (omega (arith, h))) (number_small (first 14 bits))
-told_is (true ∷ true ∷ bits) h = units_at (length (first 6 bits)) (number_of (first 6 bits)) (front_size 6 bits (omega (arith, h))) (number_small (first 6 bits))
+told_is (true ∷ false ∷ bits) h = long_at (length (first 14 bits)) (number_of (first 14 bits)) (front_size 14 bits (omega (arith, h)))
+    (number_small (first 14 bits))
+told_is (true ∷ true ∷ bits) h = units_at (length (first 6 bits)) (number_of (first 6 bits)) (front_size 6 bits (omega (arith, h)))
+    (number_small (first 6 bits))
 told_is (false ∷ b ∷ bits) h =
-    short_at (bit_value b) (length (first 6 bits)) (number_of (first 6 bits)) (bit_small b) (front_size 6 bits (omega (arith, h))) (number_small (first 6 bits))
+    short_at (bit_value b) (length (first 6 bits)) (number_of (first 6 bits)) (bit_small b) (front_size 6 bits (omega (arith, h)))
+    (number_small (first 6 bits))
 
 form_short : (m : ℕ) → m < 128 → form_of m ≡ octet_form m
 form_short m h = ap (λ b. cond b (octet_form m) (cond (nat_lt m 256) (units_form (m - 192)) (two_octets (m - 32768)))) (is_below m 128 h)
 
 form_units : (m : ℕ) → 192 ≤ m → m < 256 → form_of m ≡ units_form (m - 192)
-form_units m h k = ap (λ b. cond b (octet_form m) (cond (nat_lt m 256) (units_form (m - 192)) (two_octets (m - 32768)))) (is_not_below m 128 (omega arith))
+form_units m h k = ap (λ b. cond b (octet_form m) (cond (nat_lt m 256) (units_form (m - 192)) (two_octets (m - 32768))))
+    (is_not_below m 128 (omega arith))
     ∙ ap (λ b. cond b (units_form (m - 192)) (two_octets (m - 32768))) (is_below m 256 k)
 
 form_long : (m : ℕ) → 32768 ≤ m → form_of m ≡ two_octets (m - 32768)
-form_long m h = ap (λ b. cond b (octet_form m) (cond (nat_lt m 256) (units_form (m - 192)) (two_octets (m - 32768)))) (is_not_below m 128 (omega arith))
+form_long m h = ap (λ b. cond b (octet_form m) (cond (nat_lt m 256) (units_form (m - 192)) (two_octets (m - 32768)))) (is_not_below m 128
+    (omega arith))
     ∙ ap (λ b. cond b (units_form (m - 192)) (two_octets (m - 32768))) (is_not_below m 256 (omega arith))
 
 -- the width and the number are those of the length
@@ -106,14 +130,16 @@ right_short n h = record {
 
 right_long : (n : ℕ) → 128 ≤ n → n < 16384 → Right 16 (32768 + n) n
 right_long n h k = record {
-  wide = sym (ap (λ b. cond b 8 (cond (nat_lt n part_units) 16 8)) (is_not_below n 128 h) ∙ ap (λ b. cond b 16 8) (is_below n part_units k));
+  wide = sym (ap (λ b. cond b 8 (cond (nat_lt n part_units) 16 8)) (is_not_below n 128 h) ∙ ap (λ b. cond b 16 8)
+      (is_below n part_units k));
   number = sym (ap (λ b. cond b n (cond (nat_lt n part_units) (32768 + n) (192 + n / part_units))) (is_not_below n 128 h)
       ∙ ap (λ b. cond b (32768 + n) (192 + n / part_units)) (is_below n part_units k));
 }
 
 right_units : (count n : ℕ) → 1 ≤ count → n ≡ part_units * count → Right 8 (192 + count) n
 right_units count n h e = record {
-  wide = sym (ap (λ b. cond b 8 (cond (nat_lt n part_units) 16 8)) (is_not_below n 128 (omega arith)) ∙ ap (λ b. cond b 16 8) (is_not_below n part_units (omega arith)));
+  wide = sym (ap (λ b. cond b 8 (cond (nat_lt n part_units) 16 8)) (is_not_below n 128 (omega arith)) ∙ ap (λ b. cond b 16 8)
+      (is_not_below n part_units (omega arith)));
   number = let g : 192 + count ≡ 192 + n / part_units = omega arith in
       g ∙ sym (ap (λ b. cond b n (cond (nat_lt n part_units) (32768 + n) (192 + n / part_units))) (is_not_below n 128 (omega arith))
       ∙ ap (λ b. cond b (32768 + n) (192 + n / part_units)) (is_not_below n part_units (omega arith)));
@@ -148,21 +174,25 @@ extent_right bounds w m (units e h k) j =
     (subst (λ (x : ℕ). Right x m (part_units * count)) (sym e)
     (subst (λ (x : ℕ). Right 8 x (part_units * count)) again (right_units count (part_units * count) some refl)))
 
-part_judged : (before previous : ℕ) (outside : Option Size) (w m : ℕ) → Told w m → judged_extent (part before previous outside) (form_of m) ≡ None
+part_judged : (before previous : ℕ) (outside : Option Size) (w m : ℕ) → Told w m
+    → judged_extent (part before previous outside) (form_of m) ≡ None
     → PartLength before previous outside (told (form_of m))
 part_judged before previous outside w m (short e h) j =
     let g = subst (λ f. judged_extent (part before previous outside) f ≡ None) (form_short m h) j in
     subst (λ f. PartLength before previous outside (told f)) (sym (form_short m h))
-    (last (omega arith) (outside_of (is_inside outside (before + m)) (not_wrong (cond (is_inside outside (before + m)) false true) reasons.NotMinimal g)))
+    (last (omega arith) (outside_of (is_inside outside (before + m)) (not_wrong (cond (is_inside outside
+    (before + m)) false true) reasons.NotMinimal g)))
 part_judged before previous outside w m (long e h k) j =
     let n = m - 32768 in
     let g = subst (λ f. judged_extent (part before previous outside) f ≡ None) (form_long m h) j in
     subst (λ f. PartLength before previous outside (told f)) (sym (form_long m h))
-    (last (omega arith) (outside_of (is_inside outside (before + n)) (second_of_both (nat_le 128 n) (cond (is_inside outside (before + n)) false true)
+    (last (omega arith) (outside_of (is_inside outside (before + n)) (second_of_both (nat_le 128 n) (cond (is_inside outside
+    (before + n)) false true)
     (not_wrong (nat_le 128 n && cond (is_inside outside (before + n)) false true) reasons.NotMinimal g))))
 part_judged before previous outside w m (units e h k) j =
     let count = m - 192 in
-    let g = length_right (nat_le (4 * part_units) previous) 1 4 count (subst (λ f. judged_extent (part before previous outside) f ≡ None) (form_units m h k) j) in
+    let g = length_right (nat_le (4 * part_units) previous) 1 4 count (subst (λ f. judged_extent (part before previous outside) f ≡ None)
+    (form_units m h k) j) in
     subst (λ f. PartLength before previous outside (told f)) (sym (form_units m h k))
     (more count refl g.1 g.2 (at_most (4 * part_units) previous g.0))
 

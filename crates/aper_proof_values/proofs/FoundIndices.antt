@@ -33,7 +33,11 @@ octets_again : (k n : ℕ) → 1 ≤ k → n < 2 ^ (8 * k) → IsOctets k n (sig
 octets_again k n some h =
     by_cases (nat_lt n (2 ^ (8 * k - 1))) (λ b. IsOctets k n (cond b (pos n) (negsuc (2 ^ (8 * k) - 1 - n))))
     (λ e. record { small_part = below n (2 ^ (8 * k - 1)) e; back = refl })
-    (λ e. record { small_part = omega (arith, half k some, not_below n (2 ^ (8 * k - 1)) e); back = let g : 2 ^ (8 * k) - 1 - (2 ^ (8 * k) - 1 - n) ≡ n = omega arith in g })
+    (λ e. record {
+      small_part = omega (arith, half k some, not_below n (2 ^ (8 * k - 1)) e);
+      back = let g : 2 ^ (8 * k) - 1 - (2 ^
+          (8 * k) - 1 - n) ≡ n = omega arith in g;
+    })
 
 -- octets of a number outside its range
 record IsOutside (count : ℕ) (low high : ℤ) (n : ℕ) : Type 0 where
@@ -93,22 +97,31 @@ integer_fields_out p low high extensible z count n s =
     sym (ap (λ b. extension_fields p extensible (cond b false true) ++ cond b (number_fields p fields.value (above low high) (above low z))
     (octets (signed_octets_for z) (twos_complement (signed_octets_for z) z))) s.out ∙ ap (λ fs. extension_fields p extensible true ++ fs) g)
 
-integer_fields_in : (p : Path) (low high : ℤ) (extensible : Bool) (n : ℕ) → in_range low high (low +ℤ pos n) ≡ true → above low (low +ℤ pos n) ≡ n
-    → extension_fields p extensible false ++ number_fields p fields.value (above low high) n ≡ integer_fields p low high extensible (low +ℤ pos n)
+integer_fields_in : (p : Path) (low high : ℤ) (extensible : Bool) (n : ℕ) → in_range low high (low +ℤ pos n) ≡ true
+    → above low (low +ℤ pos n) ≡ n
+    → extension_fields p extensible false ++ number_fields p fields.value (above low high) n ≡ integer_fields p low high extensible
+    (low +ℤ pos n)
 unfolding integer_fields
 integer_fields_in p low high extensible n h e =
     let z = low +ℤ pos n in
     sym (ap (λ b. extension_fields p extensible (cond b false true) ++ cond b (number_fields p fields.value (above low high) (above low z))
     (asked p pad 0 ∷ asked p (extent (whole 1 8 None)) (signed_octets_for z) ∷ asked p (signed (signed_octets_for z) low high)
-    (twos_complement (signed_octets_for z) z) ∷ [])) h ∙ ap (λ m. extension_fields p extensible false ++ number_fields p fields.value (above low high) m) e)
+    (twos_complement (signed_octets_for z) z) ∷ [])) h ∙ ap (λ m. extension_fields p extensible false ++ number_fields p fields.value
+    (above low high) m) e)
 
-in_its_range : (low high : ℤ) (n : ℕ) → le_z low high ≡ true → n ≤ above low high → (in_range low high (low +ℤ pos n) ≡ true) × (above low (low +ℤ pos n) ≡ n)
-in_its_range low high n b h = (let g : in_range low high (low +ℤ pos n) ≡ true = grind (arith, ints) in g, let g : above low (low +ℤ pos n) ≡ n = grind (arith, ints) in g)
+in_its_range : (low high : ℤ) (n : ℕ) → le_z low high ≡ true → n ≤ above low high
+    → (in_range low high (low +ℤ pos n) ≡ true) × (above low (low +ℤ pos n) ≡ n)
+in_its_range low high n b h = (
+  let g : in_range low high (low +ℤ pos n) ≡ true = grind (arith, ints) in g,
+  let g : above low
+      (low +ℤ pos n) ≡ n = grind (arith, ints) in g,
+)
 
 -- octets of a number outside its range, and what is asked for them
 found_outside : (p : Path) (low high : ℤ) (K : ℤ → Prog) (c : Cursor) (y : Value × Cursor) → Ends (ask_integer_by p low high K true) c y
     → Found (λ (x : ℕ × ℕ). IsSpelledOut x.0 low high x.1 (signed_number x.0 x.1))
-    (λ x. asked p pad 0 ∷ asked p (extent (whole 1 8 None)) x.0 ∷ asked p (signed x.0 low high) x.1 ∷ []) (λ x. K (signed_number x.0 x.1)) c y
+    (λ x. asked p pad 0 ∷ asked p (extent (whole 1 8 None)) x.0 ∷ asked p (signed x.0 low high) x.1 ∷ []) (λ x. K
+    (signed_number x.0 x.1)) c y
 found_outside p low high K c y e =
     let K1 = λ (count : ℕ). ask p (signed count low high) (λ n. K (signed_number count n)) in
     let a = found_aligned p (extent (whole 1 8 None)) K1 c y e in
@@ -134,7 +147,8 @@ found_integer p low high extensible K c y ordered bound e =
         → Found (λ z. is_number_of low high extensible z ≡ true) (λ z. integer_fields p low high extensible z) K c y
     go false h s e2 =
         let d = after_all (extension_fields p extensible false) c in
-        found_after (extension_fields p extensible false) (λ n. n ≤ above low high) _ (λ n. number_fields p fields.value (above low high) n) _ (λ n. K (low +ℤ pos n)) K c y
+        found_after (extension_fields p extensible false) (λ n. n ≤ above low high) _ (λ n. number_fields p fields.value
+        (above low high) n) _ (λ n. K (low +ℤ pos n)) K c y
         (λ n. low +ℤ pos n) s (found_number p fields.value (above low high) (λ n. K (low +ℤ pos n)) d y bound e2)
         (λ n k g. ap (λ b. b || (extensible && is_signed (low +ℤ pos n))) (in_its_range low high n ordered k).0)
         (λ n k g. integer_fields_in p low high extensible n (in_its_range low high n ordered k).0 (in_its_range low high n ordered k).1)
@@ -142,7 +156,8 @@ found_integer p low high extensible K c y ordered bound e =
     go true h s e2 =
         let d = after_all (extension_fields p extensible true) c in
         found_after (extension_fields p extensible true) (λ (x : ℕ × ℕ). IsSpelledOut x.0 low high x.1 (signed_number x.0 x.1)) _
-        (λ x. asked p pad 0 ∷ asked p (extent (whole 1 8 None)) x.0 ∷ asked p (signed x.0 low high) x.1 ∷ []) _ (λ x. K (signed_number x.0 x.1)) K c y
+        (λ x. asked p pad 0 ∷ asked p (extent (whole 1 8 None)) x.0 ∷ asked p (signed x.0 low high) x.1 ∷ []) _ (λ x. K
+        (signed_number x.0 x.1)) K c y
         (λ x. signed_number x.0 x.1) s (found_outside p low high K d y e2)
         (λ x k g. ap (λ b. b || (extensible && is_signed (signed_number x.0 x.1))) k.out
         ∙ ap (λ b. b && is_signed (signed_number x.0 x.1)) (extensible_is extensible h) ∙ k.signed_so)
@@ -154,8 +169,10 @@ index_fields_are : (p : Path) (count : ℕ) (extensible : Bool) (i : ℕ) (b d :
     ≡ index_fields p count extensible i
 unfolding index_fields
 index_fields_are p count extensible i b d e f =
-    sym (ap (λ x. extension_fields p extensible x ++ cond (nat_lt i count) (number_fields p fields.index (count - 1) i) (asked p (small fields.index) (i - count) ∷ [])) e
-    ∙ ap (λ x. extension_fields p extensible b ++ cond x (number_fields p fields.index (count - 1) i) (asked p (small fields.index) (i - count) ∷ [])) f)
+    sym (ap (λ x. extension_fields p extensible x ++ cond (nat_lt i count) (number_fields p fields.index (count - 1) i) (asked p
+    (small fields.index) (i - count) ∷ [])) e
+    ∙ ap (λ x. extension_fields p extensible b ++ cond x (number_fields p fields.index (count - 1) i) (asked p (small fields.index)
+    (i - count) ∷ [])) f)
 
 pub found_index : (p : Path) (count : ℕ) (extensible : Bool) (K : ℕ → Prog) (c : Cursor) (y : Value × Cursor) → 1 ≤ count → count ≤ 256
     → Ends (ask_index p count extensible K) c y
@@ -171,16 +188,20 @@ found_index p count extensible K c y some few e =
         found_after (extension_fields p extensible false) (λ i. i ≤ count - 1) _ (λ i. number_fields p fields.index (count - 1) i) _ K K c y
         (λ i. i) s (found_number p fields.index (count - 1) K (after_all (extension_fields p extensible false) c) y (omega arith) e2)
         (λ i k g. ap (λ b. b || (extensible && nat_lt i (count + 64))) (is_below i count (omega arith)))
-        (λ i k g. index_fields_are p count extensible i false true (let u : nat_le count i ≡ false = grind (arith, nat_tests) in u) (is_below i count (omega arith)))
+        (λ i k g. index_fields_are p count extensible i false true (let u : nat_le count i ≡ false = grind (arith, nat_tests) in u)
+        (is_below i count (omega arith)))
         (λ i k. refl)
     go true h s e2 =
         let d = after_all (extension_fields p extensible true) c in
-        found_after (extension_fields p extensible true) (λ n. read (small fields.index) d ≡ Ok n) _ (λ n. asked p (small fields.index) n ∷ []) _ (λ n. K (count + n)) K c y
+        found_after (extension_fields p extensible true) (λ n. read (small fields.index) d ≡ Ok n) _ (λ n. asked p
+        (small fields.index) n ∷ []) _ (λ n. K (count + n)) K c y
         (λ n. count + n) s (found_ask p (small fields.index) (λ n. K (count + n)) d y e2)
         (λ n k g. ap (λ b. b || (extensible && nat_lt (count + n) (count + 64))) (is_not_below (count + n) count (omega arith))
         ∙ ap (λ b. b && nat_lt (count + n) (count + 64)) (extensible_is extensible h)
         ∙ is_below (count + n) (count + 64) (omega (arith, small_read fields.index d n k)))
-        (λ n k g. ap (λ (m : ℕ). extension_fields p extensible true ++ asked p (small fields.index) m ∷ []) (let u : n ≡ count + n - count = omega arith in u)
-        ∙ index_fields_are p count extensible (count + n) true false (let u : nat_le count (count + n) ≡ true = grind (arith, nat_tests) in u)
+        (λ n k g. ap (λ (m : ℕ). extension_fields p extensible true ++ asked p (small fields.index) m ∷ [])
+        (let u : n ≡ count + n - count = omega arith in u)
+        ∙ index_fields_are p count extensible (count + n) true false (let u : nat_le count (count + n) ≡ true = grind
+        (arith, nat_tests) in u)
         (is_not_below (count + n) count (omega arith)))
         (λ n k. refl)

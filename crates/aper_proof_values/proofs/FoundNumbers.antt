@@ -71,10 +71,21 @@ digits_read count most c n e =
     subst (IsDigits count most) a.same (go (nat_lt 1 count) (nat_lt a.m (2 ^ (8 * (count - 1)))) a.m refl refl a.right a.small)
   where
     go : (b d : Bool) (m : ℕ) → nat_lt 1 count ≡ b → nat_lt m (2 ^ (8 * (count - 1))) ≡ d
-        → cond (b && d) (Some reasons.NotMinimal) (unless (nat_le m most) reasons.Range) ≡ None → m < 2 ^ (8 * count) → IsDigits count most m
+        → cond (b && d) (Some reasons.NotMinimal) (unless (nat_le m most) reasons.Range) ≡ None → m < 2 ^ (8 * count)
+        → IsDigits count most m
     go true true m f g r s = cc
-    go true false m f g r s = record { most-is = at_most m most (not_wrong (nat_le m most) reasons.Range r); fits = s; least = λ h. not_below m (2 ^ (8 * (count - 1))) g }
-    go false d m f g r s = record { most-is = at_most m most (not_wrong (nat_le m most) reasons.Range r); fits = s; least = λ h. absurd (omega (arith, not_below 1 count f)) }
+    go true false m f g r s = record {
+      most-is = at_most m most (not_wrong
+          (nat_le m most) reasons.Range r);
+      fits = s;
+      least = λ h. not_below m (2 ^ (8 * (count - 1))) g;
+    }
+    go false d m f g r s = record {
+      most-is = at_most m most (not_wrong (nat_le m most) reasons.Range r);
+      fits = s;
+      least = λ h. absurd
+          (omega (arith, not_below 1 count f));
+    }
 
 -- ---- numbers
 -- nothing more is known of what was read than that it stands there
@@ -88,17 +99,21 @@ found_aligned p question K c y e =
     let b = found_ask p question K (answered_at pad 0 c) y a.rest in
     record { made = b.made; is = tt; stand = (subst (λ n. read pad c ≡ Ok n) (pad_read c a.made a.is) a.is, (b.is, tt)); rest = b.rest }
 
-found_constrained : (p : Path) (role : Role) (width most : ℕ) (K : ℕ → Prog) (c : Cursor) (y : Value × Cursor) → Ends (ask p (constrained role width most) K) c y
+found_constrained : (p : Path) (role : Role) (width most : ℕ) (K : ℕ → Prog) (c : Cursor) (y : Value × Cursor)
+    → Ends (ask p (constrained role width most) K) c y
     → Found (λ n. n ≤ most) (λ n. asked p (constrained role width most) n ∷ []) K c y
 found_constrained p role width most K c y e =
-    found_as (λ n. read (constrained role width most) c ≡ Ok n) (λ n. n ≤ most) (λ n. asked p (constrained role width most) n ∷ []) _ K K c y (λ n. n)
+    found_as (λ n. read (constrained role width most) c ≡ Ok n) (λ n. n ≤ most) (λ n. asked p
+    (constrained role width most) n ∷ []) _ K K c y (λ n. n)
     (λ n h s. constrained_read role width most c n h) (λ n h. refl) (λ n h. refl) (found_ask p (constrained role width most) K c y e)
 
-found_padded : (p : Path) (role : Role) (width most : ℕ) (K : ℕ → Prog) (c : Cursor) (y : Value × Cursor) → Ends (ask_aligned p (constrained role width most) K) c y
+found_padded : (p : Path) (role : Role) (width most : ℕ) (K : ℕ → Prog) (c : Cursor) (y : Value × Cursor)
+    → Ends (ask_aligned p (constrained role width most) K) c y
     → Found (λ n. n ≤ most) (λ n. asked p pad 0 ∷ asked p (constrained role width most) n ∷ []) K c y
 found_padded p role width most K c y e =
     found_as Any (λ n. n ≤ most) (λ n. asked p pad 0 ∷ asked p (constrained role width most) n ∷ []) _ K K c y (λ n. n)
-    (λ n h s. constrained_read role width most (answered_at pad 0 c) n s.1.0) (λ n h. refl) (λ n h. refl) (found_aligned p (constrained role width most) K c y e)
+    (λ n h s. constrained_read role width most (answered_at pad 0 c) n s.1.0) (λ n h. refl) (λ n h. refl) (found_aligned p
+    (constrained role width most) K c y e)
 
 found_large : (p : Path) (span : ℕ) (K : ℕ → Prog) (c : Cursor) (y : Value × Cursor) → span < 2 ^ 64 → Ends (ask_large p span K) c y
     → Found (λ n. n ≤ span) (λ n. large_fields p span n) K c y
@@ -131,7 +146,8 @@ pub found_by : {X : Type 0} (P : X → Type 0) (b : Bool) (f g : X → List Fiel
 found_by P true f g A B K c y first second e = first e
 found_by P false f g A B K c y first second e = second e
 
-pub found_number : (p : Path) (role : Role) (span : ℕ) (K : ℕ → Prog) (c : Cursor) (y : Value × Cursor) → span < 2 ^ 64 → Ends (ask_number p role span K) c y
+pub found_number : (p : Path) (role : Role) (span : ℕ) (K : ℕ → Prog) (c : Cursor) (y : Value × Cursor) → span < 2 ^ 64
+    → Ends (ask_number p role span K) c y
     → Found (λ n. n ≤ span) (λ n. number_fields p role span n) K c y
 unfolding ask_number number_fields
 found_number p role span K c y bound =
@@ -141,11 +157,13 @@ found_number p role span K c y bound =
     (found_by (λ n. n ≤ span) (nat_lt span 65536) _ _ _ _ K c y (found_padded p role 16 span K c y) (found_large p span K c y bound))))
 
 -- an extension bit
-pub found_extension : (p : Path) (extensible : Bool) (K : Bool → Prog) (c : Cursor) (y : Value × Cursor) → Ends (ask_extension p extensible K) c y
+pub found_extension : (p : Path) (extensible : Bool) (K : Bool → Prog) (c : Cursor) (y : Value × Cursor)
+    → Ends (ask_extension p extensible K) c y
     → Found (λ b. extensible ≡ false → b ≡ false) (λ b. extension_fields p extensible b) K c y
 found_extension p false K c y e = found_none (λ b. false ≡ false → b ≡ false) K c y false (λ h. refl) e
 found_extension p true K c y e =
-    found_as (λ n. read flag c ≡ Ok n) (λ b. true ≡ false → b ≡ false) (λ n. asked p flag n ∷ []) (λ b. extension_fields p true b) (λ b. K (b == 1)) K c y (λ n. n == 1)
+    found_as (λ n. read flag c ≡ Ok n) (λ b. true ≡ false → b ≡ false) (λ n. asked p flag n ∷ []) (λ b. extension_fields p true b)
+    (λ b. K (b == 1)) K c y (λ n. n == 1)
     (λ n h s. λ g. cc) (λ n h. bit_is n (flag_read c n h)) (λ n h. refl) (found_ask p flag (λ b. K (b == 1)) c y e)
   where
     bit_is : (n : ℕ) → n < 2 → asked p flag n ∷ [] ≡ asked p flag (cond (n == 1) 1 0) ∷ []

@@ -25,7 +25,8 @@ width_whole n = by_cases (nat_lt n 128) (λ b. cond b 8 (cond (nat_lt n 16384) 1
     (λ e. by_cases (nat_lt n 16384) (λ b. cond b 16 8 % 8 ≡ 0) (λ f. refl) (λ f. refl))
 
 -- the mark that closes fields which began at the start of the innermost encoding
-pub closing_mark : (fs : List Field) (c : Cursor) (m : ℕ) → start_of c.opens % 8 ≡ 0 → c.place ≡ start_of c.opens + total (start_of c.opens) fs
+pub closing_mark : (fs : List Field) (c : Cursor) (m : ℕ) → start_of c.opens % 8 ≡ 0
+    → c.place ≡ start_of c.opens + total (start_of c.opens) fs
     → read closing c ≡ Ok m → m ≡ empty_mark fs
 closing_mark fs c m aligned at e =
     let a : Answered closing c m = answer_read closing c m e in
@@ -42,7 +43,8 @@ end_read c n e =
 told_fields : Path → Path → ℕ → List Field → List Field
 told_fields p inside n fs = asked p pad 0 ∷ asked p opening n ∷ (closed inside fs ++ asked inside end 0 ∷ [])
 
-pub found_open : (p inside : Path) (contents : (Value → Prog) → Prog) (P : Value → Type 0) (f : Value → List Field) (K : Value → Prog) (c : Cursor) (y : Value × Cursor)
+pub found_open : (p inside : Path) (contents : (Value → Prog) → Prog) (P : Value → Type 0) (f : Value → List Field) (K : Value
+    → Prog) (c : Cursor) (y : Value × Cursor)
     → ((v : Value) → P v → Placed (f v))
     → ((L : Value → Prog) (d : Cursor) → Ends (contents L) d y → Found P f L d y)
     → Ends (ask_open p inside contents K) c y
@@ -66,7 +68,8 @@ found_open p inside contents P f K c y placed inner e =
     let mark : g.made ≡ empty_mark fs = closing_mark fs d2 g.made aligned refl g.is in
     let closes : read closing d2 ≡ Ok (empty_mark fs) = subst (λ m. read closing d2 ≡ Ok m) mark g.is in
     let d3 : Cursor = answered_at closing (empty_mark fs) d2 in
-    let rest3 : Ends (ask inside end (λ z. K v)) d3 y = subst (λ m. Ends (ask inside end (λ z. K v)) (answered_at closing m d2) y) mark g.rest in
+    let rest3 : Ends (ask inside end (λ z. K v)) d3 y = subst (λ m. Ends (ask inside end (λ z. K v))
+    (answered_at closing m d2) y) mark g.rest in
     let h = found_ask inside end (λ z. K v) d3 y rest3 in
     let ends = end_read d3 h.made h.is in
     let ended : read end d3 ≡ Ok 0 = subst (λ m. read end d3 ≡ Ok m) ends.0 h.is in
@@ -75,14 +78,23 @@ found_open p inside contents P f K c y placed inner e =
     let count : n ≡ octet_count (closed inside fs) =
     omega (arith, reached, closing_is fs d.place aligned, octets_are inside fs, total-aligned d.place fs aligned) in
     let tail : List Field = asked inside closing (empty_mark fs) ∷ asked inside end 0 ∷ [] in
-    let grouped : fs ++ tail ≡ closed inside fs ++ asked inside end 0 ∷ [] = sym (append_assoc fs (asked inside closing (empty_mark fs) ∷ []) (asked inside end 0 ∷ [])) in
+    let grouped : fs ++ tail ≡ closed inside fs ++ asked inside end 0 ∷ [] = sym (append_assoc fs (asked inside closing
+    (empty_mark fs) ∷ []) (asked inside end 0 ∷ [])) in
     let stand : StandAll (fs ++ tail) d = stand_both fs tail d b.stand (subst (StandAll tail) (sym moves) (closes, (ended, tt))) in
     let on : Ends (K v) (after_all (fs ++ tail) d) y =
     subst (λ x. Ends (K v) x y) (sym (after_all-append fs tail d ∙ ap (after_all tail) moves)) rest4 in record {
       made = v;
       is = (b.is, subst (λ (m : ℕ). m ≤ 16383) count (opening_read (answered_at pad 0 c) n a.stand.1.0).1);
-      stand = subst (λ (m : ℕ). StandAll (told_fields p inside m fs) c) count (a.stand.0, (a.stand.1.0, subst (λ gs. StandAll gs d) grouped stand));
-      rest = subst (λ (m : ℕ). Ends (K v) (after_all (told_fields p inside m fs) c) y) count (subst (λ gs. Ends (K v) (after_all gs d) y) grouped on);
+      stand = subst (λ (m : ℕ). StandAll (told_fields p inside m fs) c) count (
+        a.stand.0,
+        (
+          a.stand.1.0,
+          subst
+              (λ gs. StandAll gs d) grouped stand,
+        ),
+      );
+      rest = subst (λ (m : ℕ). Ends (K v) (after_all (told_fields p inside m fs) c) y) count (subst (λ gs. Ends (K v)
+          (after_all gs d) y) grouped on);
     }
 
 -- ---- octets of what isn't known
@@ -97,7 +109,8 @@ found_raw p inside K c y e =
     let a = found_aligned p question (λ n. take inside octet n (λ os. K (raw os))) c y e in
     let n = a.made in
     let l : IsLength 1 16383 None n = whole_read 1 16383 None (answered_at pad 0 c) n a.stand.1.0 in
-    found_after (asked p pad 0 ∷ asked p question n ∷ []) (λ os. (length os ≡ n) × AreBelow 256 os) IsRaw (λ os. run_field inside octet os ∷ []) (λ v. raw_fields p inside v)
+    found_after (asked p pad 0 ∷ asked p question n ∷ []) (λ os. (length os ≡ n) × AreBelow 256 os) IsRaw
+    (λ os. run_field inside octet os ∷ []) (λ v. raw_fields p inside v)
     (λ os. K (raw os)) K c y (λ os. raw os) a.stand
     (found_take inside octet n (λ os. K (raw os)) (answered_at question n (answered_at pad 0 c)) y a.rest)
     (λ os h s. (omega (arith, h.0, l.low), omega (arith, h.0, l.high), octets_so os h.1))

@@ -26,12 +26,14 @@ use Rattle.aper_proof_values.proofs.FoundIndices.{extensible_is}
 use Rattle.aper_proof_values.proofs.FoundBits.{units_are}
 
 -- ---- units
-pub found_take : (p : Path) (unit : RunUnit) (count : ℕ) (K : List ℕ → Prog) (c : Cursor) (y : Value × Cursor) → Ends (take p unit count K) c y
+pub found_take : (p : Path) (unit : RunUnit) (count : ℕ) (K : List ℕ → Prog) (c : Cursor) (y : Value × Cursor)
+    → Ends (take p unit count K) c y
     → Found (λ us. (length us ≡ count) × AreBelow (2 ^ unit_width unit) us) (λ us. run_field p unit us ∷ []) K c y
 unfolding run
 found_take p unit count K c y e = go (read_units unit count c) refl e
   where
-    go : (r : Result (List ℕ) Reason) → read_units unit count c ≡ r → goes_on p c r (λ us. run (K us) (moved_by (unit_width unit * count) c)) ≡ Ok y
+    go : (r : Result (List ℕ) Reason) → read_units unit count c ≡ r
+        → goes_on p c r (λ us. run (K us) (moved_by (unit_width unit * count) c)) ≡ Ok y
         → Found (λ us. (length us ≡ count) × AreBelow (2 ^ unit_width unit) us) (λ us. run_field p unit us ∷ []) K c y
     go (Ok us) is h =
         let r = units_are unit count c us is in record {
@@ -44,7 +46,8 @@ found_take p unit count K c y e = go (read_units unit count c) refl e
 
 character_read : (c : Cursor) (n : ℕ) → read character c ≡ Ok n → is_printable n ≡ true
 character_read c n e =
-    let a : Answered character c n = answer_read character c n e in subst (λ m. is_printable m ≡ true) a.same (not_wrong (is_printable a.m) reasons.Character a.right)
+    let a : Answered character c n = answer_read character c n e in subst (λ m. is_printable m ≡ true) a.same (not_wrong
+    (is_printable a.m) reasons.Character a.right)
 
 found_characters : (p : Path) (count : ℕ) (K : List ℕ → Prog) (c : Cursor) (y : Value × Cursor) → Ends (ask_characters p count K) c y
     → Found (λ us. (length us ≡ count) × (list_all is_printable us ≡ true)) (λ us. map (λ x. asked p character x) us) K c y
@@ -52,14 +55,16 @@ found_characters p zero K c y e = record { made = []; is = (refl, refl); stand =
 found_characters p (suc count) K c y e =
     let a = found_ask p character (λ x. ask_characters p count (λ xs. K (x ∷ xs))) c y e in
     let x = a.made in
-    found_after (asked p character x ∷ []) (λ us. (length us ≡ count) × (list_all is_printable us ≡ true)) _ (λ us. map (λ z. asked p character z) us) _
+    found_after (asked p character x ∷ []) (λ us. (length us ≡ count) × (list_all is_printable us ≡ true)) _ (λ us. map
+    (λ z. asked p character z) us) _
     (λ xs. K (x ∷ xs)) K c y (λ xs. x ∷ xs) a.stand (found_characters p count (λ xs. K (x ∷ xs)) (answered_at character x c) y a.rest)
     (λ us h s. (ap suc h.0, ap (λ b. b && list_all is_printable us) (character_read c x a.is) ∙ h.1)) (λ us h s. refl) (λ us h. refl)
 
 abbrev pub AreSo : Content → ℕ → List ℕ → Type 0
 AreSo content count us = (length us ≡ count) × AreUnits content us
 
-pub found_units : (p : Path) (content : Content) (count : ℕ) (K : List ℕ → Prog) (c : Cursor) (y : Value × Cursor) → Ends (ask_units p content count K) c y
+pub found_units : (p : Path) (content : Content) (count : ℕ) (K : List ℕ → Prog) (c : Cursor) (y : Value × Cursor)
+    → Ends (ask_units p content count K) c y
     → Found (AreSo content count) (λ us. unit_fields p content us) K c y
 found_units p of_bits count K c y e = found_take p bit count K c y e
 found_units p of_octets count K c y e = found_take p octet count K c y e
@@ -70,7 +75,8 @@ below_joined : (n : ℕ) (xs ys : List ℕ) → AreBelow n xs → AreBelow n ys 
 below_joined n [] ys h k = k
 below_joined n (x ∷ xs) ys h k = (h.0, below_joined n xs ys h.1 k)
 
-printable_joined : (xs ys : List ℕ) → list_all is_printable xs ≡ true → list_all is_printable ys ≡ true → list_all is_printable (xs ++ ys) ≡ true
+printable_joined : (xs ys : List ℕ) → list_all is_printable xs ≡ true → list_all is_printable ys ≡ true
+    → list_all is_printable (xs ++ ys) ≡ true
 printable_joined [] ys h k = k
 printable_joined (x ∷ xs) ys h k =
     ap (λ b. b && list_all is_printable (xs ++ ys)) (first_of_both (is_printable x) (list_all is_printable xs) h)
@@ -96,29 +102,38 @@ last_fields : (p : Path) (content : Content) (outside : Option Size) (turns befo
 unfolding part_fields
 last_fields p content outside zero before previous us h = refl
 last_fields p content outside (suc turns) before previous us h =
-    ap (λ b. cond b (part_of_fields p content outside before previous us) (part_of_fields p content outside before previous (first (next_part (length us)) us)
-    ++ part_fields p content outside turns (before + next_part (length us)) (next_part (length us)) (drop (next_part (length us)) us))) (is_below (length us) part_units h)
+    ap (λ b. cond b (part_of_fields p content outside before previous us) (part_of_fields p content outside before previous (first
+    (next_part (length us)) us)
+    ++ part_fields p content outside turns (before + next_part (length us)) (next_part (length us)) (drop (next_part (length us)) us)))
+    (is_below (length us) part_units h)
 
 long_fields : (p : Path) (content : Content) (outside : Option Size) (turns before previous : ℕ) (us : List ℕ) → part_units ≤ length us
-    → part_fields p content outside (suc turns) before previous us ≡ part_of_fields p content outside before previous (first (next_part (length us)) us)
+    → part_fields p content outside (suc turns) before previous us ≡ part_of_fields p content outside before previous (first (next_part
+    (length us)) us)
     ++ part_fields p content outside turns (before + next_part (length us)) (next_part (length us)) (drop (next_part (length us)) us)
 unfolding part_fields
 long_fields p content outside turns before previous us h =
-    ap (λ b. cond b (part_of_fields p content outside before previous us) (part_of_fields p content outside before previous (first (next_part (length us)) us)
-    ++ part_fields p content outside turns (before + next_part (length us)) (next_part (length us)) (drop (next_part (length us)) us))) (is_not_below (length us) part_units h)
+    ap (λ b. cond b (part_of_fields p content outside before previous us) (part_of_fields p content outside before previous (first
+    (next_part (length us)) us)
+    ++ part_fields p content outside turns (before + next_part (length us)) (next_part (length us)) (drop (next_part (length us)) us)))
+    (is_not_below (length us) part_units h)
 
 next_some : (n : ℕ) → part_units ≤ n → (part_units ≤ next_part n) × (next_part n ≤ n)
 next_some n h = (omega arith, omega arith)
 
 -- as many turns as there are units are enough
-turns_same : (p : Path) (content : Content) (outside : Option Size) (a b before previous : ℕ) (us : List ℕ) → length us < part_units * (a + 1) → length us < part_units * (b + 1)
+turns_same : (p : Path) (content : Content) (outside : Option Size) (a b before previous : ℕ) (us : List ℕ)
+    → length us < part_units * (a + 1) → length us < part_units * (b + 1)
     → part_fields p content outside a before previous us ≡ part_fields p content outside b before previous us
 turns_same p content outside zero b before previous us h k =
-    last_fields p content outside zero before previous us (omega arith) ∙ sym (last_fields p content outside b before previous us (omega arith))
+    last_fields p content outside zero before previous us (omega arith) ∙ sym (last_fields p content outside b before previous us
+    (omega arith))
 turns_same p content outside (suc a) zero before previous us h k =
-    last_fields p content outside (suc a) before previous us (omega arith) ∙ sym (last_fields p content outside zero before previous us (omega arith))
+    last_fields p content outside (suc a) before previous us (omega arith) ∙ sym (last_fields p content outside zero before previous us
+    (omega arith))
 turns_same p content outside (suc a) (suc b) before previous us h k =
-    by_cases (nat_lt (length us) part_units) (λ x. part_fields p content outside (suc a) before previous us ≡ part_fields p content outside (suc b) before previous us)
+    by_cases (nat_lt (length us) part_units) (λ x. part_fields p content outside
+    (suc a) before previous us ≡ part_fields p content outside (suc b) before previous us)
     (λ e. let short = below (length us) part_units e in
     last_fields p content outside (suc a) before previous us short ∙ sym (last_fields p content outside (suc b) before previous us short))
     (λ e. let long = not_below (length us) part_units e in
@@ -126,7 +141,8 @@ turns_same p content outside (suc a) (suc b) before previous us h k =
     let bounds = next_some (length us) long in
     long_fields p content outside a before previous us long
     ∙ ap (λ fs. part_of_fields p content outside before previous (first count us) ++ fs)
-    (turns_same p content outside a b (before + count) count (drop count us) (omega (arith, length-drop count us, bounds.0, bounds.1)) (omega (arith, length-drop count us, bounds.0, bounds.1)))
+    (turns_same p content outside a b (before + count) count (drop count us) (omega (arith, length-drop count us, bounds.0, bounds.1))
+    (omega (arith, length-drop count us, bounds.0, bounds.1)))
     ∙ sym (long_fields p content outside b before previous us long))
 
 next_is : (n l count : ℕ) → n ≡ part_units * count → 1 ≤ count → count ≤ 4 → (part_units ≤ l → 65536 ≤ n) → next_part (n + l) ≡ n
@@ -147,7 +163,8 @@ further_fields p content outside before previous count us others size some few f
     let t = count - 1 + l / part_units in
     let turns : length all / part_units ≡ suc t = omega (arith, sum, size, some) in
     let next : next_part (length all) ≡ n = ap next_part sum ∙ next_is n l count size some few full in
-    let tail = λ (k : ℕ). λ (xs ys : List ℕ). part_of_fields p content outside before previous xs ++ part_fields p content outside t (before + k) k ys in
+    let tail = λ (k : ℕ). λ (xs ys : List ℕ). part_of_fields p content outside before previous xs ++ part_fields p content outside t
+    (before + k) k ys in
     sym (ap (λ (k : ℕ). part_fields p content outside k before previous all) turns
     ∙ long_fields p content outside t before previous all (omega (arith, sum, size, some))
     ∙ ap (λ (k : ℕ). tail k (first k all) (drop k all)) next
@@ -161,16 +178,20 @@ part_next : Path → Content → Option Size → ℕ → ℕ → (List ℕ → P
 part_next p content outside tries before K n us =
     cond (nat_lt n part_units) (K us) (ask_parts p content outside tries (before + n) n (λ others. K (us ++ others)))
 
-part_found : (p : Path) (content : Content) (outside : Option Size) (tries before previous : ℕ) (K : List ℕ → Prog) (c : Cursor) (y : Value × Cursor) (us : List ℕ)
-    → ((b q : ℕ) (L : List ℕ → Prog) (d : Cursor) → Ends (ask_parts p content outside tries b q L) d y → Found (AreParts content outside b q) (whole_parts p content outside b q) L d y)
-    → AreUnits content us → PartLength before previous outside (length us) → StandAll (part_of_fields p content outside before previous us) c
+part_found : (p : Path) (content : Content) (outside : Option Size) (tries before previous : ℕ) (K : List ℕ
+    → Prog) (c : Cursor) (y : Value × Cursor) (us : List ℕ)
+    → ((b q : ℕ) (L : List ℕ → Prog) (d : Cursor) → Ends (ask_parts p content outside tries b q L) d y
+    → Found (AreParts content outside b q) (whole_parts p content outside b q) L d y)
+    → AreUnits content us → PartLength before previous outside (length us)
+    → StandAll (part_of_fields p content outside before previous us) c
     → Ends (part_next p content outside tries before K (length us) us) (after_all (part_of_fields p content outside before previous us) c) y
     → Found (AreParts content outside before previous) (whole_parts p content outside before previous) K c y
 unfolding part_next whole_parts
 part_found p content outside tries before previous K c y us others_found are (last short past) stand e =
     let d = after_all (part_of_fields p content outside before previous us) c in
     let go_on : Ends (K us) d y =
-    subst (λ b. Ends (cond b (K us) (ask_parts p content outside tries (before + length us) (length us) (λ others. K (us ++ others)))) d y) (is_below (length us) part_units short) e in
+    subst (λ b. Ends (cond b (K us) (ask_parts p content outside tries (before + length us) (length us) (λ others. K (us
+    ++ others)))) d y) (is_below (length us) part_units short) e in
     let same_fields = last_fields p content outside (length us / part_units) before previous us short in record {
       made = us;
       is = record { units = are; past = past; full = λ h. absurd (omega arith) };
@@ -181,19 +202,24 @@ part_found p content outside tries before previous K c y us others_found are (mo
     let n = length us in
     let d = after_all (part_of_fields p content outside before previous us) c in
     let go_on : Ends (ask_parts p content outside tries (before + n) n (λ others. K (us ++ others))) d y =
-    subst (λ b. Ends (cond b (K us) (ask_parts p content outside tries (before + n) n (λ others. K (us ++ others)))) d y) (is_not_below n part_units (omega (arith, size, some))) e in
-    found_after (part_of_fields p content outside before previous us) (AreParts content outside (before + n) n) (AreParts content outside before previous)
-    (whole_parts p content outside (before + n) n) (whole_parts p content outside before previous) (λ others. K (us ++ others)) K c y (λ others. us ++ others)
+    subst (λ b. Ends (cond b (K us) (ask_parts p content outside tries (before + n) n (λ others. K (us ++ others)))) d y)
+    (is_not_below n part_units (omega (arith, size, some))) e in
+    found_after (part_of_fields p content outside before previous us) (AreParts content outside (before + n) n)
+    (AreParts content outside before previous)
+    (whole_parts p content outside (before + n) n) (whole_parts p content outside before previous) (λ others. K (us ++ others)) K c y
+    (λ others. us ++ others)
     stand (others_found (before + n) n (λ others. K (us ++ others)) d go_on)
     (λ others h s. record {
       units = units_joined content us others are h.units;
-      past = ap (is_inside outside) (let g : before + length (us ++ others) ≡ before + n + length others = omega (arith, length-append us others) in g) ∙ h.past;
+      past = ap (is_inside outside) (let g : before + length (us ++ others) ≡ before + n + length others = omega
+          (arith, length-append us others) in g) ∙ h.past;
       full = λ long. full;
     })
     (λ others h s. further_fields p content outside before previous count us others size some few h.full)
     (λ others h. refl)
 
-found_parts : (p : Path) (content : Content) (outside : Option Size) (tries before previous : ℕ) (K : List ℕ → Prog) (c : Cursor) (y : Value × Cursor)
+found_parts : (p : Path) (content : Content) (outside : Option Size) (tries before previous : ℕ) (K : List ℕ
+    → Prog) (c : Cursor) (y : Value × Cursor)
     → Ends (ask_parts p content outside tries before previous K) c y
     → Found (AreParts content outside before previous) (whole_parts p content outside before previous) K c y
 unfolding ask_parts part_next run
@@ -208,11 +234,16 @@ found_parts p content outside (suc tries) before previous K c y e =
     let l : PartLength before previous outside n = part_read before previous outside (answered_at pad 0 c) n a.stand.1.0 in
     part_found p content outside tries before previous K c y us (λ x q L d2 e2. found_parts p content outside tries x q L d2 y e2) b.is.1
     (subst (PartLength before previous outside) (sym b.is.0) l)
-    (subst (λ (m : ℕ). StandAll (asked p pad 0 ∷ asked p question m ∷ unit_fields p content us) c) (sym b.is.0) (a.stand.0, (a.stand.1.0, b.stand)))
-    (subst (λ (m : ℕ). Ends (part_next p content outside tries before K m us) (after_all (asked p pad 0 ∷ asked p question m ∷ unit_fields p content us) c) y) (sym b.is.0) b.rest)
+    (subst (λ (m : ℕ). StandAll (asked p pad 0 ∷ asked p question m ∷ unit_fields p content us) c) (sym b.is.0) (
+      a.stand.0,
+      (a.stand.1.0, b.stand),
+    ))
+    (subst (λ (m : ℕ). Ends (part_next p content outside tries before K m us) (after_all
+    (asked p pad 0 ∷ asked p question m ∷ unit_fields p content us) c) y) (sym b.is.0) b.rest)
 
 -- ---- strings of a size
-found_padded_units : (p : Path) (content : Content) (count : ℕ) (K : List ℕ → Prog) (c : Cursor) (y : Value × Cursor) → Ends (ask p pad (λ z. ask_units p content count K)) c y
+found_padded_units : (p : Path) (content : Content) (count : ℕ) (K : List ℕ → Prog) (c : Cursor) (y : Value × Cursor)
+    → Ends (ask p pad (λ z. ask_units p content count K)) c y
     → Found (AreSo content count) (λ us. asked p pad 0 ∷ unit_fields p content us) K c y
 found_padded_units p content count K c y e =
     let a = found_ask p pad (λ z. ask_units p content count K) c y e in
@@ -227,56 +258,72 @@ in_the_root size n h k = ap (λ b. b && nat_le n size.high) (is_at_most size.low
 abbrev InRoot : Content → Size → List ℕ → Type 0
 InRoot content size us = (in_size size (length us) ≡ true) × AreUnits content us
 
-found_told : (p : Path) (content : Content) (size : Size) (K : List ℕ → Prog) (c : Cursor) (y : Value × Cursor) → size.low ≤ size.high → size.high < 65536
+found_told : (p : Path) (content : Content) (size : Size) (K : List ℕ → Prog) (c : Cursor) (y : Value × Cursor) → size.low ≤ size.high
+    → size.high < 65536
     → Ends (ask_number p fields.length (size.high - size.low) (λ n. ask p pad (λ z. ask_units p content (size.low + n) K))) c y
-    → Found (InRoot content size) (λ us. number_fields p fields.length (size.high - size.low) (length us - size.low) ++ asked p pad 0 ∷ unit_fields p content us) K c y
+    → Found (InRoot content size) (λ us. number_fields p fields.length (size.high - size.low) (length us - size.low)
+    ++ asked p pad 0 ∷ unit_fields p content us) K c y
 found_told p content size K c y ordered few e =
     let span = size.high - size.low in
     let a = found_number p fields.length span (λ n. ask p pad (λ z. ask_units p content (size.low + n) K)) c y (omega arith) e in
     let n = a.made in
-    found_after (number_fields p fields.length span n) (AreSo content (size.low + n)) (InRoot content size) (λ us. asked p pad 0 ∷ unit_fields p content us) _ K K c y (λ us. us)
+    found_after (number_fields p fields.length span n) (AreSo content (size.low + n)) (InRoot content size)
+    (λ us. asked p pad 0 ∷ unit_fields p content us) _ K K c y (λ us. us)
     a.stand (found_padded_units p content (size.low + n) K (after_all (number_fields p fields.length span n) c) y a.rest)
     (λ us h s. (in_the_root size (length us) (omega (arith, h.0)) (omega (arith, h.0, a.is)), h.1))
-    (λ us h s. ap (λ (m : ℕ). number_fields p fields.length span m ++ asked p pad 0 ∷ unit_fields p content us) (let g : n ≡ length us - size.low = omega (arith, h.0) in g))
+    (λ us h s. ap (λ (m : ℕ). number_fields p fields.length span m ++ asked p pad 0 ∷ unit_fields p content us)
+    (let g : n ≡ length us - size.low = omega (arith, h.0) in g))
     (λ us h. refl)
 
 found_fixed : (p : Path) (content : Content) (size : Size) (K : List ℕ → Prog) (c : Cursor) (y : Value × Cursor) → size.low ≤ size.high
-    → Ends (cond (nat_lt (pad_limit content) size.low) (ask p pad (λ z. ask_units p content size.low K)) (ask_units p content size.low K)) c y
-    → Found (InRoot content size) (λ us. cond (nat_lt (pad_limit content) size.low) (asked p pad 0 ∷ unit_fields p content us) (unit_fields p content us)) K c y
+    → Ends (cond (nat_lt (pad_limit content) size.low) (ask p pad (λ z. ask_units p content size.low K))
+    (ask_units p content size.low K)) c y
+    → Found (InRoot content size) (λ us. cond (nat_lt (pad_limit content) size.low) (asked p pad 0 ∷ unit_fields p content us)
+    (unit_fields p content us)) K c y
 found_fixed p content size K c y ordered e =
-    found_after [] (AreSo content size.low) (InRoot content size) (λ us. cond (nat_lt (pad_limit content) size.low) (asked p pad 0 ∷ unit_fields p content us) (unit_fields p content us)) _ K K c y (λ us. us)
-    tt (found_by (AreSo content size.low) (nat_lt (pad_limit content) size.low) _ _ _ _ K c y (found_padded_units p content size.low K c y) (found_units p content size.low K c y) e)
+    found_after [] (AreSo content size.low) (InRoot content size) (λ us. cond (nat_lt (pad_limit content) size.low)
+    (asked p pad 0 ∷ unit_fields p content us) (unit_fields p content us)) _ K K c y (λ us. us)
+    tt (found_by (AreSo content size.low) (nat_lt (pad_limit content) size.low) _ _ _ _ K c y
+    (found_padded_units p content size.low K c y) (found_units p content size.low K c y) e)
     (λ us h s. (in_the_root size (length us) (omega (arith, h.0)) (omega (arith, h.0)), h.1)) (λ us h s. refl) (λ us h. refl)
 
-found_sized : (p : Path) (content : Content) (size : Size) (K : List ℕ → Prog) (c : Cursor) (y : Value × Cursor) → size.low ≤ size.high → size.high < 65536
+found_sized : (p : Path) (content : Content) (size : Size) (K : List ℕ → Prog) (c : Cursor) (y : Value × Cursor) → size.low ≤ size.high
+    → size.high < 65536
     → Ends (ask_sized p content size K) c y
     → Found (InRoot content size) (λ us. sized_fields p content size us) K c y
 found_sized p content size K c y ordered few =
-    found_by (InRoot content size) (size.low == size.high) _ _ _ _ K c y (found_fixed p content size K c y ordered) (found_told p content size K c y ordered few)
+    found_by (InRoot content size) (size.low == size.high) _ _ _ _ K c y (found_fixed p content size K c y ordered)
+    (found_told p content size K c y ordered few)
 
-found_all_parts : (p : Path) (content : Content) (outside : Option Size) (K : List ℕ → Prog) (c : Cursor) (y : Value × Cursor) → Ends (ask_all_parts p content outside K) c y
+found_all_parts : (p : Path) (content : Content) (outside : Option Size) (K : List ℕ → Prog) (c : Cursor) (y : Value × Cursor)
+    → Ends (ask_all_parts p content outside K) c y
     → Found (λ us. (is_inside outside (length us) ≡ false) × AreUnits content us) (λ us. all_part_fields p content outside us) K c y
 unfolding whole_parts
 found_all_parts p content outside K c y e =
     found_after [] (AreParts content outside 0 (4 * part_units)) _ (λ us. all_part_fields p content outside us) _ K K c y (λ us. us) tt
     (found_parts p content outside turn_limit 0 (4 * part_units) K c y e)
-    (λ us h s. (ap (is_inside outside) (let g : length us ≡ 0 + length us = omega arith in g) ∙ h.past, h.units)) (λ us h s. refl) (λ us h. refl)
+    (λ us h s. (ap (is_inside outside) (let g : length us ≡ 0 + length us = omega arith in g) ∙ h.past, h.units)) (λ us h s. refl)
+    (λ us h. refl)
 
 string_fields_are : (p : Path) (content : Content) (size : Size) (us : List ℕ) (b : Bool) → in_size size (length us) ≡ b
-    → extension_fields p size.extensible (cond b false true) ++ cond b (sized_fields p content size us) (all_part_fields p content (Some size) us)
+    → extension_fields p size.extensible (cond b false true) ++ cond b (sized_fields p content size us) (all_part_fields p content
+    (Some size) us)
     ≡ string_fields p content (Some size) us
 unfolding string_fields
 string_fields_are p content size us b e =
-    ap (λ x. extension_fields p size.extensible (cond x false true) ++ cond x (sized_fields p content size us) (all_part_fields p content (Some size) us)) (sym e)
+    ap (λ x. extension_fields p size.extensible (cond x false true) ++ cond x (sized_fields p content size us) (all_part_fields p content
+    (Some size) us)) (sym e)
 
 abbrev pub IsString : Content → Option Size → List ℕ → Type 0
 IsString content size us = (is_count_of None size (length us) ≡ true) × AreUnits content us
 
-pub found_string : (p : Path) (content : Content) (size : Option Size) (K : List ℕ → Prog) (c : Cursor) (y : Value × Cursor) → IsSizeBounded size
+pub found_string : (p : Path) (content : Content) (size : Option Size) (K : List ℕ → Prog) (c : Cursor) (y : Value × Cursor)
+    → IsSizeBounded size
     → Ends (ask_string p content size K) c y → Found (IsString content size) (λ us. string_fields p content size us) K c y
 unfolding ask_string string_fields
 found_string p content None K c y bound e =
-    found_after [] (λ us. (is_inside None (length us) ≡ false) × AreUnits content us) (IsString content None) (λ us. all_part_fields p content None us) _ K K c y (λ us. us) tt
+    found_after [] (λ us. (is_inside None (length us) ≡ false) × AreUnits content us) (IsString content None)
+    (λ us. all_part_fields p content None us) _ K K c y (λ us. us) tt
     (found_all_parts p content None K c y e) (λ us h s. (refl, h.1)) (λ us h s. refl) (λ us h. refl)
 found_string p content (Some size) K c y bound e =
     let a = found_extension p size.extensible (ask_string_by p content size K) c y e in go a.made a.is a.stand a.rest
@@ -285,24 +332,30 @@ found_string p content (Some size) K c y bound e =
         → Ends (ask_string_by p content size K b) (after_all (extension_fields p size.extensible b) c) y
         → Found (IsString content (Some size)) (λ us. string_fields p content (Some size) us) K c y
     go false h s e2 =
-        found_after (extension_fields p size.extensible false) (InRoot content size) (IsString content (Some size)) (λ us. sized_fields p content size us) _ K K c y (λ us. us) s
+        found_after (extension_fields p size.extensible false) (InRoot content size) (IsString content (Some size))
+        (λ us. sized_fields p content size us) _ K K c y (λ us. us) s
         (found_sized p content size K (after_all (extension_fields p size.extensible false) c) y bound.0 bound.1 e2)
         (λ us k g. (ap (λ b. b || size.extensible) k.0, k.1)) (λ us k g. string_fields_are p content size us true k.0) (λ us k. refl)
     go true h s e2 =
-        found_after (extension_fields p size.extensible true) (λ us. (in_size size (length us) ≡ false) × AreUnits content us) (IsString content (Some size))
+        found_after (extension_fields p size.extensible true) (λ us. (in_size size (length us) ≡ false) × AreUnits content us)
+        (IsString content (Some size))
         (λ us. all_part_fields p content (Some size) us) _ K K c y (λ us. us) s
         (found_all_parts p content (Some size) K (after_all (extension_fields p size.extensible true) c) y e2)
-        (λ us k g. (ap (λ b. b || size.extensible) k.0 ∙ extensible_is size.extensible h, k.1)) (λ us k g. string_fields_are p content size us false k.0) (λ us k. refl)
+        (λ us k g. (ap (λ b. b || size.extensible) k.0 ∙ extensible_is size.extensible h, k.1))
+        (λ us k g. string_fields_are p content size us false k.0) (λ us k. refl)
 
 -- ---- counts
 count_fields_are : (p : Path) (size : Size) (n : ℕ) (b : Bool) → in_size size n ≡ b
-    → extension_fields p size.extensible (cond b false true) ++ cond b (number_fields p fields.length (size.high - size.low) (n - size.low)) (asked p pad 0 ∷ asked p (extent (whole 0 16383 (Some size))) n ∷ [])
+    → extension_fields p size.extensible (cond b false true) ++ cond b (number_fields p fields.length (size.high - size.low)
+    (n - size.low)) (asked p pad 0 ∷ asked p (extent (whole 0 16383 (Some size))) n ∷ [])
     ≡ count_fields p (Some size) n
 unfolding count_fields
 count_fields_are p size n b e =
-    ap (λ x. extension_fields p size.extensible (cond x false true) ++ cond x (number_fields p fields.length (size.high - size.low) (n - size.low)) (asked p pad 0 ∷ asked p (extent (whole 0 16383 (Some size))) n ∷ [])) (sym e)
+    ap (λ x. extension_fields p size.extensible (cond x false true) ++ cond x (number_fields p fields.length (size.high - size.low)
+    (n - size.low)) (asked p pad 0 ∷ asked p (extent (whole 0 16383 (Some size))) n ∷ [])) (sym e)
 
-pub found_count : (p : Path) (size : Option Size) (K : ℕ → Prog) (c : Cursor) (y : Value × Cursor) → IsSizeBounded size → Ends (ask_count p size K) c y
+pub found_count : (p : Path) (size : Option Size) (K : ℕ → Prog) (c : Cursor) (y : Value × Cursor) → IsSizeBounded size
+    → Ends (ask_count p size K) c y
     → Found (λ n. is_count_of (Some 16383) size n ≡ true) (λ n. count_fields p size n) K c y
 unfolding ask_count count_fields
 found_count p None K c y bound e =
@@ -318,18 +371,24 @@ found_count p (Some size) K c y bound e =
     go false h s e2 =
         let span = size.high - size.low in
         let root = λ (n : ℕ). λ (k : n ≤ span). in_the_root size (size.low + n) (omega arith) (omega (arith, bound.0)) in
-        found_after (extension_fields p size.extensible false) (λ n. n ≤ span) _ (λ n. number_fields p fields.length span n) _ (λ n. K (size.low + n)) K c y (λ n. size.low + n) s
-        (found_number p fields.length span (λ n. K (size.low + n)) (after_all (extension_fields p size.extensible false) c) y (omega (arith, bound.1)) e2)
+        found_after (extension_fields p size.extensible false) (λ n. n ≤ span) _ (λ n. number_fields p fields.length span n) _ (λ n. K
+        (size.low + n)) K c y (λ n. size.low + n) s
+        (found_number p fields.length span (λ n. K (size.low + n)) (after_all (extension_fields p size.extensible false) c) y (omega
+        (arith, bound.1)) e2)
         (λ n k g. ap (λ b. b || (size.extensible && nat_le (size.low + n) 16383)) (root n k))
-        (λ n k g. ap (λ (m : ℕ). extension_fields p size.extensible false ++ number_fields p fields.length span m) (let u : n ≡ size.low + n - size.low = omega arith in u)
+        (λ n k g. ap (λ (m : ℕ). extension_fields p size.extensible false ++ number_fields p fields.length span m)
+        (let u : n ≡ size.low + n - size.low = omega arith in u)
         ∙ count_fields_are p size (size.low + n) true (root n k))
         (λ n k. refl)
     go true h s e2 =
         let d = after_all (extension_fields p size.extensible true) c in
-        let length_so = λ (n : ℕ). λ (r : read (extent (whole 0 16383 (Some size))) (answered_at pad 0 d) ≡ Ok n). whole_read 0 16383 (Some size) (answered_at pad 0 d) n r in
-        found_after (extension_fields p size.extensible true) Any _ (λ n. asked p pad 0 ∷ asked p (extent (whole 0 16383 (Some size))) n ∷ []) _ K K c y (λ n. n) s
+        let length_so = λ (n : ℕ). λ (r : read (extent (whole 0 16383 (Some size))) (answered_at pad 0 d) ≡ Ok n). whole_read 0 16383
+        (Some size) (answered_at pad 0 d) n r in
+        found_after (extension_fields p size.extensible true) Any _ (λ n. asked p pad 0 ∷ asked p (extent (whole 0 16383
+        (Some size))) n ∷ []) _ K K c y (λ n. n) s
         (found_aligned p (extent (whole 0 16383 (Some size))) K d y e2)
         (λ n k g. let l : IsLength 0 16383 (Some size) n = length_so n g.1.0 in
-        ap (λ b. b || (size.extensible && nat_le n 16383)) l.past ∙ ap (λ b. b && nat_le n 16383) (extensible_is size.extensible h) ∙ is_at_most n 16383 l.high)
+        ap (λ b. b || (size.extensible && nat_le n 16383)) l.past ∙ ap (λ b. b && nat_le n 16383) (extensible_is size.extensible h)
+        ∙ is_at_most n 16383 l.high)
         (λ n k g. let l : IsLength 0 16383 (Some size) n = length_so n g.1.0 in count_fields_are p size n false l.past)
         (λ n k. refl)

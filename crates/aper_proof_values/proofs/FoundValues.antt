@@ -65,24 +65,31 @@ mutual
   pub found : (p : Path) (t : Tree) (K : Value → Prog) (c : Cursor) (y : Value × Cursor) → IsBounded t → Ends (asks p t K) c y
       → Found (λ v. Has p t v) (λ v. layout p t v) K c y
   found p boolean K c y b e =
-      found_after [] (λ n. read flag c ≡ Ok n) (λ v. Has p boolean v) (λ n. asked p flag n ∷ []) (λ v. layout p boolean v) (λ n. K (truth (n == 1))) K c y (λ n. truth (n == 1)) tt
-      (found_ask p flag (λ n. K (truth (n == 1))) c y e) (λ n h s. tt) (λ n h s. ap (λ m. asked p flag m ∷ []) (bit_so n (flag_read c n h))) (λ n h. refl)
+      found_after [] (λ n. read flag c ≡ Ok n) (λ v. Has p boolean v) (λ n. asked p flag n ∷ []) (λ v. layout p boolean v) (λ n. K (truth
+      (n == 1))) K c y (λ n. truth (n == 1)) tt
+      (found_ask p flag (λ n. K (truth (n == 1))) c y e) (λ n h s. tt) (λ n h s. ap (λ m. asked p flag m ∷ []) (bit_so n
+      (flag_read c n h))) (λ n h. refl)
   found p (integer low high extensible) K c y b e =
-      found_after [] _ (λ v. Has p (integer low high extensible) v) _ (λ v. layout p (integer low high extensible) v) (λ z. K (number z)) K c y (λ z. number z) tt
+      found_after [] _ (λ v. Has p (integer low high extensible) v) _ (λ v. layout p (integer low high extensible) v) (λ z. K
+      (number z)) K c y (λ z. number z) tt
       (found_integer p low high extensible (λ z. K (number z)) c y b.0 b.1 e) (λ z h s. h) (λ z h s. refl) (λ z h. refl)
   found p (enumerated names extensible) K c y b e =
-      found_after [] _ (λ v. Has p (enumerated names extensible) v) _ (λ v. layout p (enumerated names extensible) v) (λ i. K (enumeral i)) K c y (λ i. enumeral i) tt
+      found_after [] _ (λ v. Has p (enumerated names extensible) v) _ (λ v. layout p (enumerated names extensible) v) (λ i. K
+      (enumeral i)) K c y (λ i. enumeral i) tt
       (found_index p names extensible (λ i. K (enumeral i)) c y b.0 b.1 e) (λ i h s. h) (λ i h s. refl) (λ i h. refl)
   found p (bit_string size) K c y b e =
-      found_after [] (IsString of_bits size) (λ v. Has p (bit_string size) v) _ (λ v. layout p (bit_string size) v) (λ xs. K (bits (map (λ x. x == 1) xs))) K c y
+      found_after [] (IsString of_bits size) (λ v. Has p (bit_string size) v) _ (λ v. layout p (bit_string size) v) (λ xs. K (bits (map
+      (λ x. x == 1) xs))) K c y
       (λ xs. bits (map (λ x. x == 1) xs)) tt
       (found_string p of_bits size (λ xs. K (bits (map (λ x. x == 1) xs))) c y b e)
       (λ us h s. ap (is_count_of None size) (mapped us) ∙ h.0) (λ us h s. ap (string_fields p of_bits size) (bits_so us h.1)) (λ us h. refl)
   found p (octet_string size) K c y b e =
-      found_after [] (IsString of_octets size) (λ v. Has p (octet_string size) v) _ (λ v. layout p (octet_string size) v) (λ xs. K (octets xs)) K c y (λ xs. octets xs) tt
+      found_after [] (IsString of_octets size) (λ v. Has p (octet_string size) v) _ (λ v. layout p (octet_string size) v) (λ xs. K
+      (octets xs)) K c y (λ xs. octets xs) tt
       (found_string p of_octets size (λ xs. K (octets xs)) c y b e) (λ us h s. (h.0, octets_so us h.1)) (λ us h s. refl) (λ us h. refl)
   found p (printable_string size) K c y b e =
-      found_after [] (IsString of_characters size) (λ v. Has p (printable_string size) v) _ (λ v. layout p (printable_string size) v) (λ xs. K (text xs)) K c y (λ xs. text xs) tt
+      found_after [] (IsString of_characters size) (λ v. Has p (printable_string size) v) _ (λ v. layout p (printable_string size) v)
+      (λ xs. K (text xs)) K c y (λ xs. text xs) tt
       (found_string p of_characters size (λ xs. K (text xs)) c y b e) (λ us h s. h) (λ us h s. refl) (λ us h. refl)
   found p (sequence extensible root additions) K c y b e =
       let K3 = λ (x : Bool) (ws : Options). ask_marks p x (λ added. ask_additions p additions added (λ os. K (components ws os))) in
@@ -111,24 +118,30 @@ mutual
       let rest4 : Ends (ask_additions p additions added L) (after_all (f1 ++ (f2 ++ (f3 ++ f4))) c) y =
       subst (λ d. Ends (ask_additions p additions added L) d y) (sym at_end) a4.rest in
       let so = λ (more : Options). λ (h : presence more ≡ added). additions_so extensible x more a1.is (subst (AreMarks x) (sym h) a4.is) in
-      found_after (f1 ++ (f2 ++ (f3 ++ f4))) (λ more. (presence more ≡ added) × HasAdditions p additions more) (λ v. Has p (sequence extensible root additions) v)
-      (λ more. addition_fields p additions more) (λ v. layout p (sequence extensible root additions) v) L K c y (λ more. components vs more) s14
+      found_after (f1 ++ (f2 ++ (f3 ++ f4))) (λ more. (presence more ≡ added) × HasAdditions p additions more) (λ v. Has p
+      (sequence extensible root additions) v)
+      (λ more. addition_fields p additions more) (λ v. layout p (sequence extensible root additions) v) L K c y
+      (λ more. components vs more) s14
       (found_additions p additions added L (after_all (f1 ++ (f2 ++ (f3 ++ f4))) c) y b.1 rest4)
       (λ more h s. (a3.is.1, (so more h.0).0, h.1))
       (λ more h s. sequence_fields p extensible x root th added vs more f3 (addition_fields p additions more) (so more h.0).1 a3.is.0 h.0)
       (λ more h. refl)
   found p (choice extensible root additions) K c y b e =
       let count = part_count root in
-      let K1 = λ (j : ℕ). cond (nat_lt j count) (ask_alternative p root j (λ w. K (chosen j w))) (ask_added p additions (j - count) (λ w. K (chosen j w))) in
+      let K1 = λ (j : ℕ). cond (nat_lt j count) (ask_alternative p root j (λ w. K (chosen j w))) (ask_added p additions (j - count)
+      (λ w. K (chosen j w))) in
       let a = found_index p count extensible K1 c y b.0 b.1 e in
       let i = a.made in
       let d = after_all (index_fields p count extensible i) c in
       let L = λ (w : Value). K (chosen i w) in
-      found_after (index_fields p count extensible i) (λ v. Either (nat_lt i count) (HasAlternative p root i v) (HasAdded p additions (i - count) v))
+      found_after (index_fields p count extensible i) (λ v. Either (nat_lt i count) (HasAlternative p root i v) (HasAdded p additions
+      (i - count) v))
       (λ v. Has p (choice extensible root additions) v)
-      (λ v. cond (nat_lt i count) (alternative_fields p root i v) (added_fields p additions (i - count) v)) (λ v. layout p (choice extensible root additions) v) L K c y (λ v. chosen i v)
+      (λ v. cond (nat_lt i count) (alternative_fields p root i v) (added_fields p additions (i - count) v)) (λ v. layout p
+      (choice extensible root additions) v) L K c y (λ v. chosen i v)
       a.stand
-      (found_either (nat_lt i count) (λ v. HasAlternative p root i v) (λ v. HasAdded p additions (i - count) v) (λ v. alternative_fields p root i v)
+      (found_either (nat_lt i count) (λ v. HasAlternative p root i v) (λ v. HasAdded p additions (i - count) v)
+      (λ v. alternative_fields p root i v)
       (λ v. added_fields p additions (i - count) v) _ _ L d y
       (λ e2. found_alternative p root i L d y b.2 e2) (λ e2. found_added p additions (i - count) L d y b.3 e2) a.rest)
       (λ v h s. (a.is, h)) (λ v h s. refl) (λ v h. refl)
@@ -141,7 +154,8 @@ mutual
       let n = a.made in
       found_after (count_fields p size n) (λ vs. (value_count vs ≡ n) × EachFrom P 0 vs) (λ v. Has p (sequence_of size t) v)
       (λ vs. each_from f 0 vs) (λ v. layout p (sequence_of size t) v) L K c y (λ vs. list vs) a.stand
-      (found_members f each_one P y (λ i L2 d e2. found (fields.member i ∷ p) t L2 d y b.1 e2) 0 n L (after_all (count_fields p size n) c) a.rest)
+      (found_members f each_one P y (λ i L2 d e2. found (fields.member i ∷ p) t L2 d y b.1 e2) 0 n L (after_all
+      (count_fields p size n) c) a.rest)
       (λ vs h s. (subst (λ (m : ℕ). is_count_of (Some 16383) size m ≡ true) (sym h.0) a.is, h.1))
       (λ vs h s. ap (λ (m : ℕ). count_fields p size m ++ each_from f 0 vs) (sym h.0)) (λ vs h. refl)
   found p (container rows) K c y b e =
@@ -155,19 +169,24 @@ mutual
       let n = a.made in
       let d : Cursor = answered_at question n (answered_at pad 0 c) in
       let r = count_read (mandatory_count known) (answered_at pad 0 c) n a.stand.1.0 in
-      found_after (asked p pad 0 ∷ asked p question n ∷ []) (λ ies. (ie_count ies ≡ n) × AreElements known P known ies) (λ v. Has p (container rows) v)
+      found_after (asked p pad 0 ∷ asked p question n ∷ []) (λ ies. (ie_count ies ≡ n) × AreElements known P known ies) (λ v. Has p
+      (container rows) v)
       (λ ies. ie_fields p known f known ies) (λ v. layout p (container rows) v) L K c y (λ ies. elements ies) a.stand
       (found_ies p known f body P y (λ id L2 d2 e2. found_row p rows id L2 d2 y b e2) n known L d r.0 a.rest)
       (λ ies h s. (subst (λ (m : ℕ). m < 65536) (sym h.0) r.1, h.1))
       (λ ies h s. ap (λ (m : ℕ). asked p pad 0 ∷ asked p question m ∷ ie_fields p known f known ies) (sym h.0)) (λ ies h. refl)
   found p (pdu procedures) K c y b e =
-      found_after [] (IsMessage (λ i j v. HasBody p procedures i j v)) (λ v. Has p (pdu procedures) v) (message_fields p (λ i j v. body_fields p procedures i j v))
-      (λ v. layout p (pdu procedures) v) (λ x. K (message x.index x.code x.criticality x.body)) K c y (λ x. message x.index x.code x.criticality x.body) tt
-      (found_message p (λ i j v. body_fields p procedures i j v) (λ i j v. HasBody p procedures i j v) (λ i j. ask_body p procedures i j) K c y
+      found_after [] (IsMessage (λ i j v. HasBody p procedures i j v)) (λ v. Has p (pdu procedures) v) (message_fields p
+      (λ i j v. body_fields p procedures i j v))
+      (λ v. layout p (pdu procedures) v) (λ x. K (message x.index x.code x.criticality x.body)) K c y
+      (λ x. message x.index x.code x.criticality x.body) tt
+      (found_message p (λ i j v. body_fields p procedures i j v) (λ i j v. HasBody p procedures i j v)
+      (λ i j. ask_body p procedures i j) K c y
       (λ i j L d e2. found_body p procedures i j L d y b e2) e)
       (λ x h s. h) (λ x h s. refl) (λ x h. refl)
 
-  found_components : (p : Path) (parts : Parts) (marks : List Bool) (K : Options → Prog) (c : Cursor) (y : Value × Cursor) → ArePartsBounded parts → AreThere parts marks
+  found_components : (p : Path) (parts : Parts) (marks : List Bool) (K : Options → Prog) (c : Cursor) (y : Value × Cursor)
+      → ArePartsBounded parts → AreThere parts marks
       → Ends (ask_components p parts marks K) c y
       → Found (λ vs. (presence vs ≡ marks) × HasComponents p parts vs) (λ vs. component_fields p parts vs) K c y
   found_components p no_parts [] K c y b th e = record { made = no_options; is = (refl, tt); stand = tt; rest = e }
@@ -177,29 +196,35 @@ mutual
       let q = fields.component name ∷ p in
       let a = found q t (λ v. ask_components p others marks (λ vs. K (present v vs))) c y b.0 e in
       let v = a.made in
-      found_after (layout q t v) (λ vs. (presence vs ≡ marks) × HasComponents p others vs) _ (λ vs. component_fields p others vs) _ (λ vs. K (present v vs)) K c y (λ vs. present v vs)
+      found_after (layout q t v) (λ vs. (presence vs ≡ marks) × HasComponents p others vs) _ (λ vs. component_fields p others vs) _
+      (λ vs. K (present v vs)) K c y (λ vs. present v vs)
       a.stand (found_components p others marks (λ vs. K (present v vs)) (after_all (layout q t v) c) y b.1 th.1 a.rest)
       (λ vs h s. (ap (λ (bs : List Bool). true ∷ bs) h.0, (a.is, h.1))) (λ vs h s. refl) (λ vs h. refl)
   found_components p (part name optional t others) (false ∷ marks) K c y b th e =
-      found_after [] (λ vs. (presence vs ≡ marks) × HasComponents p others vs) _ (λ vs. component_fields p others vs) _ (λ vs. K (absent vs)) K c y (λ vs. absent vs)
+      found_after [] (λ vs. (presence vs ≡ marks) × HasComponents p others vs) _ (λ vs. component_fields p others vs) _ (λ vs. K
+      (absent vs)) K c y (λ vs. absent vs)
       tt (found_components p others marks (λ vs. K (absent vs)) c y b.1 th.1 e)
       (λ vs h s. (ap (λ (bs : List Bool). false ∷ bs) h.0, (th.0 refl, h.1))) (λ vs h s. refl) (λ vs h. refl)
 
-  found_additions : (p : Path) (parts : Parts) (marks : List Bool) (K : Options → Prog) (c : Cursor) (y : Value × Cursor) → ArePartsBounded parts
+  found_additions : (p : Path) (parts : Parts) (marks : List Bool) (K : Options → Prog) (c : Cursor) (y : Value × Cursor)
+      → ArePartsBounded parts
       → Ends (ask_additions p parts marks K) c y
       → Found (λ more. (presence more ≡ marks) × HasAdditions p parts more) (λ more. addition_fields p parts more) K c y
   found_additions p no_parts marks K c y b e = found_raw_additions p marks K c y e
   found_additions p (part name optional t others) [] K c y b e = record { made = no_options; is = (refl, tt); stand = tt; rest = e }
   found_additions p (part name optional t others) (false ∷ marks) K c y b e =
-      found_after [] (λ more. (presence more ≡ marks) × HasAdditions p others more) _ (λ more. addition_fields p others more) _ (λ more. K (absent more)) K c y (λ more. absent more)
+      found_after [] (λ more. (presence more ≡ marks) × HasAdditions p others more) _ (λ more. addition_fields p others more) _
+      (λ more. K (absent more)) K c y (λ more. absent more)
       tt (found_additions p others marks (λ more. K (absent more)) c y b.1 e)
       (λ more h s. (ap (λ (bs : List Bool). false ∷ bs) h.0, h.1)) (λ more h s. refl) (λ more h. refl)
   found_additions p (part name optional t others) (true ∷ marks) K c y b e =
       let q = fields.component name ∷ p in
-      let a = found_open p q (asks q t) (λ v. Has q t v) (λ v. layout q t v) (λ v. ask_additions p others marks (λ more. K (present v more))) c y
+      let a = found_open p q (asks q t) (λ v. Has q t v) (λ v. layout q t v) (λ v. ask_additions p others marks (λ more. K
+      (present v more))) c y
       (λ v h. placed q t v b.0 h) (λ L d e2. found q t L d y b.0 e2) e in
       let v = a.made in
-      found_after (open_fields p q (layout q t v)) (λ more. (presence more ≡ marks) × HasAdditions p others more) _ (λ more. addition_fields p others more) _
+      found_after (open_fields p q (layout q t v)) (λ more. (presence more ≡ marks) × HasAdditions p others more) _
+      (λ more. addition_fields p others more) _
       (λ more. K (present v more)) K c y (λ more. present v more)
       a.stand (found_additions p others marks (λ more. K (present v more)) (after_all (open_fields p q (layout q t v)) c) y b.1 a.rest)
       (λ more h s. (ap (λ (bs : List Bool). true ∷ bs) h.0, (a.is.0, a.is.1, h.1))) (λ more h s. refl) (λ more h. refl)
@@ -227,10 +252,12 @@ mutual
   found_row p (row other mandatory t others) id K c y b e =
       let q = fields.element id ∷ p in
       found_either (other == id) _ _ _ _ _ _ K c y
-      (λ e2. found_open p q (asks q t) (λ v. Has q t v) (λ v. layout q t v) K c y (λ v h. placed q t v b.0 h) (λ L d e3. found q t L d y b.0 e3) e2)
+      (λ e2. found_open p q (asks q t) (λ v. Has q t v) (λ v. layout q t v) K c y (λ v h. placed q t v b.0 h)
+      (λ L d e3. found q t L d y b.0 e3) e2)
       (λ e2. found_row p others id K c y b.1 e2) e
 
-  found_body : (p : Path) (procedures : Procedures) (index code : ℕ) (K : Value → Prog) (c : Cursor) (y : Value × Cursor) → AreProceduresBounded procedures
+  found_body : (p : Path) (procedures : Procedures) (index code : ℕ) (K : Value → Prog) (c : Cursor) (y : Value × Cursor)
+      → AreProceduresBounded procedures
       → Ends (ask_body p procedures index code K) c y
       → Found (λ v. HasBody p procedures index code v) (λ v. body_fields p procedures index code v) K c y
   found_body p no_procedures index code K c y b e = found_raw p (fields.outcome index ∷ p) K c y e

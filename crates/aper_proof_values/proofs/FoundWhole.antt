@@ -62,7 +62,8 @@ read_spells t octets w d b e at_end =
     let empty : bits_at (after_all (closed [] fs) c) ≡ [] =
     ap bits_at after ∙ none_left c3.place (octet_bits octets) (length-octet_bits octets ∙ sym size) in
     let all : octet_bits octets ≡ put_all [] (closed [] fs) = stand_there (closed [] fs) c stand
-    ∙ ap (λ (xs : List Bool). all_bits 0 (closed [] fs) ++ xs) empty ∙ append-nil (all_bits 0 (closed [] fs)) ∙ sym (put_all-nil (closed [] fs)) in
+    ∙ ap (λ (xs : List Bool). all_bits 0 (closed [] fs) ++ xs) empty ∙ append-nil (all_bits 0 (closed [] fs)) ∙ sym (put_all-nil
+    (closed [] fs)) in
     let an : Answered closing c2 (empty_mark fs) = answer_read closing c2 (empty_mark fs) closes in
     let limit : c2.place + asked_width closing c2 ≤ bit_limit = taken_limit c2 (asked_width closing c2) an.room in
     let width : asked_width closing c2 ≡ width_at c2.place closing (empty_mark fs) = (written closing c2 (empty_mark fs) an).0 in
@@ -72,7 +73,8 @@ pub decoded_spells : (t : Tree) (v : Value) (octets : List ℕ) → IsBounded t 
 decoded_spells t v octets b e = go (run (asks_whole t) (at_first octets)) refl e
   where
     ended : (w : Value) (d : Cursor) (x : Bool) → (d.place == 8 * length d.octets) ≡ x
-        → cond x (Ok w) (Err (record { bit = d.place; reason = reasons.Tail; path = [] })) ≡ (let r : Result Value Fault = Ok v in r) → (d.place ≡ 8 * length d.octets) × (w ≡ v)
+        → cond x (Ok w) (Err (record { bit = d.place; reason = reasons.Tail; path = [] })) ≡ (let r : Result Value Fault = Ok v in r)
+        → (d.place ≡ 8 * length d.octets) × (w ≡ v)
     ended w d true f g = (same d.place (8 * length d.octets) f, cc)
     ended w d false f g = cc
 
