@@ -7,6 +7,4 @@ pub mod epochs;
 pub mod items;
 pub mod radio;
 pub mod radios;
-#[cfg(test)]
-mod tests;
 pub mod tunnels;
