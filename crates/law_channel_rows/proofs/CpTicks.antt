@@ -2,17 +2,18 @@
 use Rattle.std.proofs.Common.{◌≡◌, Bool, true, false, List, [], ◌∷◌, ◌++◌, Option, Some, None, refl, sym, ap, ◌∙◌, subst}
 use Rattle.std.specs.Prelude.{if◌then◌else◌}
 use Rattle.gnb_types.specs.declared.names.NodeId.{NodeId}
+use Rattle.gnb_types.specs.declared.names.NodeId.TheVariants.{CuCp}
 use Rattle.gnb_types.specs.declared.names.UeId.{UeId}
 use Rattle.gnb_types.specs.declared.reasons.DropReason.TheVariants.{Unexpected}
 use Rattle.transaction_defs.specs.Callers.{Due, repeats as due_again, expires, due, after_tick}
 use Rattle.unit_defs.specs.declared.StateName.{StateName}
 use Rattle.unit_defs.specs.declared.StateName.TheVariants as states
 use Rattle.unit_defs.specs.Ways.{Message, control, Input, control_input, tick_input, order_input, Answer, gives, spent, with_outputs, ◌then◌, nothing, drops}
-use Rattle.unit_defs.specs.Messages.{channel}
+use Rattle.unit_defs.specs.Messages.{shares_interface, channel}
 use Rattle.unit_defs.specs.Transactions.{Kind, request, reply, transfer, kind_of, Transactions, on_request}
 use Rattle.unit_defs.specs.CpRecords.{Attempt, CpContext, CuCpRecord, terminal_of, with_transactions, Row, carry_out}
 use Rattle.unit_defs.specs.CpRows.{handover_expires, command}
-use Rattle.unit_defs.specs.CuCp.{is_peer, at_of, asked, control_by, control_came, expired_on, due_one, due_each, command_by, command_on, command_each, ues_of, tick, cu_cp_acts}
+use Rattle.unit_defs.specs.CuCp.{at_of, asked, control_by, control_came, expired_on, due_one, due_each, command_by, command_on, command_each, ues_of, tick, cu_cp_acts}
 use Rattle.law_channel.specs.Replies.{Talk}
 use Rattle.law_channel.specs.Ends.{Sent}
 use Rattle.law_channel.specs.Moves.{ages, repeats, Net, sent_by, after}
@@ -134,7 +135,7 @@ module _ {M C P : Type 0} (talk : Talk M C P) (n : NodeId) where
 
       control_made : (from : NodeId) (m : Message C) → WasSent talk net from n m → Made talk net n (kept talk n) (control_came talk.way from m r)
       unfolding control_came
-      control_made from m sent = by (is_peer r.gnb from)
+      control_made from m sent = by (shares_interface (CuCp r.gnb) from)
         where
           by : (b : Bool) → Made talk net n (kept talk n) (if b then control_by talk.way from m r (kind_of m) else drops Unexpected r)
           by true = control_by_made from m sent (kind_of m) refl
