@@ -52,7 +52,7 @@ fn push_all_members(
 }
 
 /// The number of the assignment of a name.
-fn number_of(name: &[u8], assignments: &[Assignment]) -> Option<usize>
+pub fn number_of(name: &[u8], assignments: &[Assignment]) -> Option<usize>
     ensures { result ≡ number_of name.now assignments.now }
 {
     assignments

@@ -4,5 +4,5 @@
 mod graph;
 mod paths;
 
-pub use graph::{Edge, edges_of, vertex_count};
+pub use graph::{Edge, edges_of, number_of, vertex_count};
 pub use paths::{depths, looping, reached, value_at};

@@ -3,3 +3,4 @@ pub mod TypeCount
 pub mod LinkLemmas
 pub mod RowLinks
 pub mod Facts
+pub mod NamesByNumber

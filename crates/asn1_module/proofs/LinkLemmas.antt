@@ -1,5 +1,5 @@
 -- The numbers in a module that is read are those of its types.
-use Rattle.std.proofs.Common.{◌≡◌, ℕ, zero, suc, ◌+◌, ◌<◌, ◌≤◌, List, [], ◌∷◌, ◌++◌, length, Bool, true, false, cond, ◌&&◌, refl, subst, arith, length-append}
+use Rattle.std.proofs.Common.{◌≡◌, ℕ, zero, suc, ◌+◌, ◌<◌, ◌≤◌, List, [], ◌∷◌, ◌++◌, length, true, false, ◌&&◌, refl, subst, arith, length-append}
 use Rattle.std.specs.Prelude.{Result, Ok, Err, Option, Some, None}
 use Rattle.gnb_types.proofs.Choices.{chosen}
 use Rattle.asn1_tokens.specs.declared.token.Word.{Word}
@@ -22,7 +22,7 @@ use Rattle.asn1_types.specs.Reading.{◌>>=◌, Left, first_word, begins_with_si
 use Rattle.asn1_types.specs.Sizes.{size_at, optional_size_at, bounded_at, integer_least, integer_greatest, greatest_beside, integer_ellipsis_at, integer_at}
 use Rattle.asn1_types.specs.Members.{no_parts, additions_of, put_part, with_part, extended, can_extend, is_full, all_parts, has_component, new_name_at, list_goes_on_at, names_at, least_members, composed, node, named_at, entry_at, optional_at, component, member_end_at, close_at}
 use Rattle.asn1_types.specs.Types.{enumerated_at, bit_string_at, octet_string_at, printable_string_at, simple_rest_at, is_simple, simple_at, list_head_at, components_head_at, sequence_head_at, choice_head_at, set_name_at, container_at, pdu_at, reference_at, head_by, head_at, next_id, Risen, risen, rise_at, type_turn_at, type_goes_on, type_within_at, type_at}
-use Rattle.asn1_module.specs.Links.{AreBelow, PartsBelow, IsInside, AreOrdered, OptionBelow}
+use Rattle.asn1_module.specs.Links.{AreBelow, PartsBelow, IsInside, AreOrdered, OptionBelow, OptionFrom}
 
 pub bind_ok : {A B : Type 0} (r : Result A Fault) (f : A → Result B Fault) (y : B) → (r >>= f) ≡ Ok y → (x : A) × (r ≡ Ok x) × (f x ≡ Ok y)
 bind_ok (Ok x) f y h = (x, refl, h)
@@ -244,35 +244,37 @@ record RisenOk (least : ℕ) (r : Risen) : Type 0 where
   ordered : AreOrdered 0 r.2
   stack : StackOk (length r.2) r.1
   whole : OptionBelow (length r.2) r.0
+  from : OptionFrom least r.0
   grown : least ≤ length r.2
 
-risen_ok : (least : ℕ) (head : Head) (stack : List Frame) (nodes : List Node) (ts : Left) (on : TypeId → List Node → Left → Result Risen Fault) (r : Risen) → risen head stack nodes ts on ≡ Ok r → HeadOk (length nodes) head → StackOk (length nodes) stack → AreOrdered 0 nodes → least ≤ length nodes → ((id : TypeId) (more : List Node) (ts : Left) → on id more ts ≡ Ok r → StackOk (length more) stack → id.number < length more → AreOrdered 0 more → least ≤ length more → RisenOk least r) → RisenOk least r
+risen_ok : (least : ℕ) (head : Head) (stack : List Frame) (nodes : List Node) (ts : Left) (on : TypeId → List Node → Left → Result Risen Fault) (r : Risen) → risen head stack nodes ts on ≡ Ok r → HeadOk (length nodes) head → StackOk (length nodes) stack → AreOrdered 0 nodes → least ≤ length nodes → ((id : TypeId) (more : List Node) (ts : Left) → on id more ts ≡ Ok r → StackOk (length more) stack → id.number < length more → AreOrdered 0 more → least ≤ length more → least ≤ id.number → RisenOk least r) → RisenOk least r
 risen_ok least (heads.Leaf new) stack nodes ts on r h ok stacked ordered grown next =
     let size : length (nodes ++ new ∷ []) ≡ length nodes + 1 = omega (arith, length-append nodes (new ∷ [])) in
     next (next_id nodes) (nodes ++ new ∷ []) ts h (stack_up (length nodes) (length (nodes ++ new ∷ [])) stack (omega (arith, size)) stacked) (omega (arith, size))
-    (ordered_push 0 nodes new ordered (subst (λ (k : ℕ). IsInside k new.definition) (omega arith) ok)) (omega (arith, size))
+    (ordered_push 0 nodes new ordered (subst (λ (k : ℕ). IsInside k new.definition) (omega arith) ok)) (omega (arith, size)) grown
 risen_ok least (heads.Opens frame) stack nodes ts on r h ok stacked ordered grown next =
-    subst (RisenOk least) (ok_same _ _ h) (record { ordered = ordered; stack = (ok, stacked); whole = tt; grown = grown })
+    subst (RisenOk least) (ok_same _ _ h) (record { ordered = ordered; stack = (ok, stacked); whole = tt; from = tt; grown = grown })
 
-rise_ok : (least : ℕ) (stack : List Frame) (id : TypeId) (nodes : List Node) (ts : Left) (r : Risen) → rise_at stack id nodes ts ≡ Ok r → StackOk (length nodes) stack → id.number < length nodes → AreOrdered 0 nodes → least ≤ length nodes → RisenOk least r
+rise_ok : (least : ℕ) (stack : List Frame) (id : TypeId) (nodes : List Node) (ts : Left) (r : Risen) → rise_at stack id nodes ts ≡ Ok r → StackOk (length nodes) stack → id.number < length nodes → AreOrdered 0 nodes → least ≤ length nodes → least ≤ id.number → RisenOk least r
 unfolding rise_at
-rise_ok least [] id nodes ts r h stacked lt ordered grown = subst (RisenOk least) (ok_same _ _ h) (record { ordered = ordered; stack = tt; whole = lt; grown = grown })
-rise_ok least (frame ∷ stack) id nodes ts r h stacked lt ordered grown =
+rise_ok least [] id nodes ts r h stacked lt ordered grown from = subst (RisenOk least) (ok_same _ _ h) (record { ordered = ordered; stack = tt; whole = lt; from = from; grown = grown })
+rise_ok least (frame ∷ stack) id nodes ts r h stacked lt ordered grown from =
     let head = bind_ok (close_at frame id ts) _ r h in
     risen_ok least head.0.0 stack nodes head.0.1 (rise_at stack) r head.2 (close_ok (length nodes) frame id ts head.0 head.1 stacked.0 lt) stacked.1 ordered grown
-    (λ id more ts h stacked lt ordered grown. rise_ok least stack id more ts r h stacked lt ordered grown)
+    (λ id more ts h stacked lt ordered grown from. rise_ok least stack id more ts r h stacked lt ordered grown from)
 
 turn_ok : (least turns : ℕ) (stack : List Frame) (nodes : List Node) (ts : Left) (r : Risen) → type_turn_at turns stack nodes ts ≡ Ok r → StackOk (length nodes) stack → AreOrdered 0 nodes → least ≤ length nodes → RisenOk least r
 unfolding type_turn_at
 turn_ok least turns stack nodes ts r h stacked ordered grown =
     let head = bind_ok (head_at turns ts) _ r h in
     risen_ok least head.0.0 stack nodes head.0.1 (rise_at stack) r head.2 (head_ok (length nodes) turns (first_word ts) ts head.0 head.1) stacked ordered grown
-    (λ id more ts h stacked lt ordered grown. rise_ok least stack id more ts r h stacked lt ordered grown)
+    (λ id more ts h stacked lt ordered grown from. rise_ok least stack id more ts r h stacked lt ordered grown from)
 
 -- a type that was read, among the types so far
 pub record TypeOk (least : ℕ) (r : TypeId × List Node × Left) : Type 0 where
   pub ordered : AreOrdered 0 r.1
   pub below : r.0.number < length r.1
+  pub from : least ≤ r.0.number
   pub grown : least ≤ length r.1
 
 within_ok : (least most turns : ℕ) (stack : List Frame) (nodes : List Node) (ts : Left) (r : TypeId × List Node × Left) → type_within_at most turns stack nodes ts ≡ Ok r → StackOk (length nodes) stack → AreOrdered 0 nodes → least ≤ length nodes → TypeOk least r
@@ -284,7 +286,7 @@ within_ok least most (suc turns) stack nodes ts r h stacked ordered grown =
   where
     goes : (t : Risen) → type_goes_on t (type_within_at most turns) ≡ Ok r → RisenOk least t → ((stack : List Frame) (nodes : List Node) (ts : Left) → type_within_at most turns stack nodes ts ≡ Ok r → StackOk (length nodes) stack → AreOrdered 0 nodes → least ≤ length nodes → TypeOk least r) → TypeOk least r
     goes (None, stack, nodes, ts) h ok next = next stack nodes ts h ok.stack ok.ordered ok.grown
-    goes (Some id, stack, nodes, ts) h ok next = subst (TypeOk least) (ok_same _ _ h) (record { ordered = ok.ordered; below = ok.whole; grown = ok.grown })
+    goes (Some id, stack, nodes, ts) h ok next = subst (TypeOk least) (ok_same _ _ h) (record { ordered = ok.ordered; below = ok.whole; from = ok.from; grown = ok.grown })
 
 -- a type that is read keeps the order
 pub type_ok : (turns : ℕ) (nodes : List Node) (ts : Left) (r : TypeId × List Node × Left) → type_at turns nodes ts ≡ Ok r → AreOrdered 0 nodes → TypeOk (length nodes) r

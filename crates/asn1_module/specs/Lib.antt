@@ -1,5 +1,7 @@
 pub mod Position
 pub mod Names
 pub mod Judgement
-pub mod Module
 pub mod Links
+pub mod Module
+pub mod Targets
+pub mod Numbers

@@ -1,5 +1,5 @@
 -- The numbers by which types refer to those inside them.
-use Rattle.std.specs.Prelude.{ℕ, suc, ◌<◌, List, [], ◌∷◌, length, Option, Some, None}
+use Rattle.std.specs.Prelude.{ℕ, suc, ◌<◌, ◌≤◌, List, [], ◌∷◌, length, Option, Some, None}
 use Rattle.asn1_types.specs.declared.definition.TypeId.{TypeId}
 use Rattle.asn1_types.specs.declared.definition.Component.{Component}
 use Rattle.asn1_types.specs.declared.definition.Extensible.{Extensible}
@@ -63,7 +63,31 @@ abbrev pub BodiesBelow : ℕ → List Assignment → Type 0
 BodiesBelow n [] = Unit {0}
 BodiesBelow n (a ∷ assignments) = BodyBelow n a.body × BodiesBelow n assignments
 
+-- the types of these have numbers from n on
+abbrev pub OptionFrom : ℕ → Option TypeId → Type 0
+OptionFrom n None = Unit {0}
+OptionFrom n (Some id) = n ≤ id.number
+
+abbrev pub IesFrom : ℕ → List IeRow → Type 0
+IesFrom n [] = Unit {0}
+IesFrom n (row ∷ rows) = (n ≤ row.definition.number) × IesFrom n rows
+
+abbrev pub ProceduresFrom : ℕ → List ProcedureRow → Type 0
+ProceduresFrom n [] = Unit {0}
+ProceduresFrom n (row ∷ rows) = ((n ≤ row.initiating.number) × (OptionFrom n row.successful × OptionFrom n row.unsuccessful)) × ProceduresFrom n rows
+
+abbrev pub BodyFrom : ℕ → Body → Type 0
+BodyFrom n (bodies.Type definition) = n ≤ definition.number
+BodyFrom n (bodies.IeSet rows) = IesFrom n rows
+BodyFrom n (bodies.ProcedureSet rows) = ProceduresFrom n rows
+
+-- the types of each assignment stand from the end of the one before on, up to its own; the first begins with number n
+abbrev pub AreParted : ℕ → List Assignment → Type 0
+AreParted n [] = Unit {0}
+AreParted n (a ∷ assignments) = BodyFrom n a.body × BodyBelow a.end a.body × AreParted a.end assignments
+
 -- each number in a module is that of one of its types, and types inside another one have lesser numbers than it
 pub record IsLinked (s : Syntax) : Type 0 where
   pub types : AreOrdered 0 s.nodes
   pub assignments : BodiesBelow (length s.nodes) s.assignments
+  pub parts : AreParted 0 s.assignments

@@ -96,8 +96,11 @@ unfoldable pub type_name : TypeId → List Assignment → List ℕ
 type_name id [] = []
 type_name id (a ∷ assignments) = if is_body_of id a.body then a.name else type_name id assignments
 
--- What is so of each module: it has at most a thousand types, its numbers are those of its types, and nothing is wrong with it.
+-- What is so of each module: it is a text's, it has at most a thousand types, its numbers are those of its types, and nothing is wrong
+-- with it.
 pub record IsModule (m : Syntax) : Type 0 where
+  pub text : List ℕ
+  pub is : IsTextOf text m
   pub types : length (type_ids m.assignments) ≤ 1000
   pub linked : IsLinked m
   pub sound : IsSound m

@@ -2,10 +2,13 @@
 
 ghost use Rattle.std.specs.Prelude.{◌≡◌, ◌==◌, ◌<◌, ◌≤◌, length, MatchResult, IfSome, slice_get, option_map, Some};
 ghost use Rattle.asn1_module.specs.Links.{IsInside, IesBelow, ProceduresBelow};
-ghost use Rattle.asn1_module.specs.Module.{Reads, RefusedSo, IsModule, HasTarget, HasFault, type_ids, find_type, type_name, is_body_of, ie_rows, procedure_rows};
+ghost use Rattle.asn1_module.specs.Module.{Reads, RefusedSo, IsModule, HasTarget, HasFault, type_of, type_ids, find_type, type_name, is_body_of, ie_rows, ie_rows_of, procedure_rows, procedure_rows_of};
+ghost use Rattle.asn1_module.specs.Targets.{definition_at, referred, all_of, element_rows, message_rows};
+ghost use Rattle.asn1_module.specs.Numbers.{body_at, number_in, found_in};
 
 use crate::error::ModuleError;
 use crate::judgement::judge;
+use crate::numbers::numbers_in;
 use crate::position::position_after;
 use asn1_assignments::{Assignment, Body, IeRow, ProcedureRow, Syntax, read_syntax};
 use asn1_tokens::is_text;
@@ -17,17 +20,21 @@ use std::marker::Model;
 #[derive(Debug, Drop)]
 pub struct Module {
     syntax: Syntax,
+    /// For each type the number of the assignment that its name refers to, so that no name is searched for again.
+    targets: Vec<Option<usize>>,
 }
 
 impl Model for Module {
+    ghost use Rattle.std.specs.Prelude.{◌≡◌};
     ghost use Rattle.asn1_assignments.specs.declared.assignment.Syntax.{Syntax};
     ghost use Rattle.asn1_module.specs.Module.{IsModule};
+    ghost use Rattle.asn1_module.specs.Numbers.{numbers_in};
 
     ghost Value = { Syntax };
 
     ghost view = { λ m. m.syntax };
 
-    ghost invariant = { λ m. IsModule m.syntax };
+    ghost invariant = { λ m. IsModule m.syntax × (m.targets.items ≡ numbers_in m.syntax) };
 }
 
 /// The refusal of a text for this fault.
@@ -133,6 +140,49 @@ fn find_procedure_rows<'a>(assignments: &'a [Assignment], set: &[u8]) -> Option<
     None
 }
 
+/// What the assignment with this number gives its name.
+fn body_at(assignments: &[Assignment], number: Option<usize>) -> Option<&Body>
+    ensures { option_map (λ body. body.now) result ≡ body_at assignments.now number }
+{
+    match number {
+        None => None,
+        Some(number) => match assignments.get(number) {
+            None => None,
+            Some(assignment) => Some(&assignment.body),
+        },
+    }
+}
+
+/// The type that a name stands for.
+fn type_of(body: Option<&Body>) -> Option<TypeId>
+    ensures { result ≡ found_in type_of (option_map (λ body. body.now) body.entry) }
+{
+    match body {
+        Some(Body::Type(definition)) => Some(*definition),
+        _ => None,
+    }
+}
+
+/// The rows of the set of information elements that a name stands for.
+fn ie_rows_of(body: Option<&Body>) -> &[IeRow]
+    ensures { result.now ≡ all_of (found_in ie_rows_of (option_map (λ body. body.now) body.entry)) }
+{
+    match body {
+        Some(Body::IeSet(rows)) => rows.as_slice(),
+        _ => &[],
+    }
+}
+
+/// The rows of the set of procedures that a name stands for.
+fn procedure_rows_of(body: Option<&Body>) -> &[ProcedureRow]
+    ensures { result.now ≡ all_of (found_in procedure_rows_of (option_map (λ body. body.now) body.entry)) }
+{
+    match body {
+        Some(Body::ProcedureSet(rows)) => rows.as_slice(),
+        _ => &[],
+    }
+}
+
 /// The module at the front of a text, with the number of its octets, or the first fault of the text.
 pub fn read_module(alloc: Global, text: &[u8]) -> Result<(Module, usize), ModuleError>
     ensures { MatchResult result (λ read. Reads text.now read.1 read.0) (RefusedSo text.now) }
@@ -145,8 +195,9 @@ pub fn read_module(alloc: Global, text: &[u8]) -> Result<(Module, usize), Module
     match judge(alloc, &syntax)? {
         Some(fault) => Err(refused(text, fault)),
         None => {
+            let targets = numbers_in(alloc, &syntax)?;
             let end = syntax.end;
-            Ok((Module { syntax }, end))
+            Ok((Module { syntax, targets }, end))
         }
     }
 }
@@ -172,8 +223,10 @@ impl Module {
     pub fn definition(&self, id: TypeId) -> &Definition
         requires { id.number < length self.now.nodes }
         ensures form { option_map (λ node. node.definition) (slice_get self.now.nodes id.number) ≡ Some result.now }
+        ensures at { result.now ≡ definition_at self.now id.number }
         ensures inside { IsInside id.number result.now }
         ensures target { HasTarget self.now.assignments result.now }
+        ensures sound { IsModule self.now }
     {
         &self.syntax.nodes.as_slice()[id.number].definition
     }
@@ -229,5 +282,51 @@ impl Module {
         ensures inside { IfSome result (λ rows. ProceduresBelow (length self.now.nodes) rows.now) }
     {
         find_procedure_rows(self.syntax.assignments.as_slice(), set)
+    }
+
+    /// What the name in a type stands for.
+    fn body_of(&self, id: TypeId) -> Option<&Body>
+        requires { id.number < length self.now.nodes }
+        ensures { option_map (λ body. body.now) result ≡ body_at self.now.assignments (number_in self.now.assignments (definition_at self.now id.number)) }
+    {
+        let number = self.targets.as_slice()[id.number];
+        body_at(self.syntax.assignments.as_slice(), number)
+    }
+
+    /// The type that a name refers to; none for a type of another form.
+    pub fn referred(&self, id: TypeId) -> Option<TypeId>
+        requires { id.number < length self.now.nodes }
+        ensures target { result ≡ referred self.now.assignments (definition_at self.now id.number) }
+        ensures inside { IfSome result (λ target. target.number < length self.now.nodes) }
+        ensures sound { IsModule self.now }
+    {
+        match self.definition(id) {
+            Definition::Reference(_) => type_of(self.body_of(id)),
+            _ => None,
+        }
+    }
+
+    /// The rows of the set that a container is of; none for a type of another form.
+    pub fn element_rows(&self, id: TypeId) -> &[IeRow]
+        requires { id.number < length self.now.nodes }
+        ensures rows { result.now ≡ element_rows self.now.assignments (definition_at self.now id.number) }
+        ensures inside { IesBelow (length self.now.nodes) result.now }
+    {
+        match self.definition(id) {
+            Definition::IeContainer(_) => ie_rows_of(self.body_of(id)),
+            _ => &[],
+        }
+    }
+
+    /// The rows of the set that a PDU is of; none for a type of another form.
+    pub fn message_rows(&self, id: TypeId) -> &[ProcedureRow]
+        requires { id.number < length self.now.nodes }
+        ensures rows { result.now ≡ message_rows self.now.assignments (definition_at self.now id.number) }
+        ensures inside { ProceduresBelow (length self.now.nodes) result.now }
+    {
+        match self.definition(id) {
+            Definition::Pdu(_) => procedure_rows_of(self.body_of(id)),
+            _ => &[],
+        }
     }
 }

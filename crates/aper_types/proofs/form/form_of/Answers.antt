@@ -1,0 +1,13 @@
+use Rattle.std.proofs.Common.{◌∙◌}
+use Rattle.aper_types.specs.Types.{tree}
+use Rattle.aper_types.proofs.TreeLaws.{tree_is}
+use Rattle.aper_types.proofs.Bounded.{tree_bounded}
+use Rattle.aper_types.proofs.form.form_of.Goals as goal
+
+pub returns-clause-tree : goal.returns-clause-tree
+returns-clause-tree c =
+    c.resolved-end.ensures.tree ∙ tree_is c.args.m.now c.resolved-end.result.number c.resolved-end.ensures.sound c.resolved-end.ensures.inside
+    ∙ c.own_form.ensures.tree (tree c.args.m.now)
+
+pub returns-clause-bounded : goal.returns-clause-bounded
+returns-clause-bounded c = tree_bounded c.args.m.now c.args.id.number c.resolved-end.ensures.sound

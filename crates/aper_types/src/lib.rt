@@ -1,0 +1,6 @@
+//! The types of a module as an encoder and a decoder take them: each with its names followed, and what its set holds (ITU-T X.680).
+#![tactic(auto)]
+
+mod form;
+
+pub use form::{Form, form_of};
