@@ -1,0 +1,5 @@
+//! Values of ASN.1 types, whatever their type.
+#![tactic(auto)]
+
+pub mod make;
+pub mod value;
