@@ -1,0 +1,4 @@
+pub mod Questions
+pub mod Rows
+pub mod Answers
+pub mod inside

@@ -1,0 +1,2 @@
+-- Internal: what ties the functions of a cursor together.
+pub mod Places

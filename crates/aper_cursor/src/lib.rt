@@ -1,0 +1,17 @@
+//! A place in octets of aligned PER with the open types around it, and the answers that stand there (ITU-T X.691).
+#![tactic(auto)]
+
+mod cursor;
+mod error;
+mod lengths;
+mod numbers;
+mod questions;
+mod rows;
+#[cfg(test)]
+mod tests;
+
+pub use cursor::Cursor;
+pub use error::Unanswered;
+pub use lengths::Extent;
+pub use numbers::{bits_for, octets_for, signed_number};
+pub use questions::{Question, Range, Role, RunUnit};
