@@ -1,0 +1,7 @@
+pub mod Grows
+pub mod Bearers
+pub mod Still
+pub mod CuUps
+pub mod Dus
+pub mod Placed
+pub mod Runs
