@@ -1,8 +1,8 @@
-//! Tests of the tunnels and radios of the links.
+//! Tests of the tunnels and radios of the links, by public calls alone.
 #![tactic(auto)]
 
 #[cfg(test)]
-mod items;
+mod calls;
 #[cfg(test)]
 mod radios;
 #[cfg(test)]

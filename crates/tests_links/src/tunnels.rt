@@ -1,68 +1,97 @@
 //! Tunnels, call by call. The answers were worked out by hand.
 
-use crate::items::{DU, UP, item};
-use gnb_types::names::{BearerId, Dir, UeId};
+use crate::calls::{Answer, DU, KEY, UP, given, item, shown};
+use gnb_types::items::Memory;
+use gnb_types::names::NodeId;
 use links::error::LinkError;
 use links::tunnels::Tunnels;
+use std::alloc::Global;
 use std::test::Fail;
 
-#[test]
-fn tunnels_stand_in_the_order_of_node_and_teid(rt: HostRuntime) -> Result<(), Fail> {
-    let mut tunnels = Tunnels::new(rt.alloc())?;
-    tunnels.make(UP, 1, false)?;
-    tunnels.make(DU, 2, true)?;
-    tunnels.make(DU, 1, true)?;
+/// A call of the tunnels. An item is put with its COUNT and its octet.
+#[derive(Clone, Copy)]
+enum Call {
+    Make(NodeId, u32, bool),
+    Put(NodeId, u32, Option<u32>, u8),
+    Head(NodeId, u32),
+    Length(NodeId, u32),
+    Get(NodeId, u32),
+    Lose(NodeId, u32),
+    Close(NodeId, u32),
+    After(Option<(NodeId, u32)>),
+    Standing,
+}
+
+const CALLS: [(Call, Answer); 29] = [
     // The DUs of gNB A stand before the CU-UPs of B.
-    assert!(rt; tunnels.after(None) == Some((DU, 1)));
-    assert!(rt; tunnels.after(Some((DU, 1))) == Some((DU, 2)));
-    assert!(rt; tunnels.after(Some((DU, 2))) == Some((UP, 1)));
-    assert!(rt; tunnels.after(Some((UP, 1))).is_none());
-    Ok(())
+    (Call::Make(UP, 1, false), Answer::Done),
+    (Call::Make(DU, 2, true), Answer::Done),
+    (Call::Make(DU, 1, true), Answer::Done),
+    (Call::After(None), Answer::Place(Some((DU, 1)))),
+    (Call::After(Some((DU, 1))), Answer::Place(Some((DU, 2)))),
+    (Call::After(Some((DU, 2))), Answer::Place(Some((UP, 1)))),
+    (Call::After(Some((UP, 1))), Answer::Place(None)),
+    // The oldest item is taken.
+    (Call::Put(DU, 1, Some(7), 1), Answer::Is(true)),
+    (Call::Put(DU, 1, None, 2), Answer::Is(true)),
+    (Call::Put(UP, 1, Some(4), 3), Answer::Is(true)),
+    (Call::Length(DU, 1), Answer::Number(2)),
+    (Call::Standing, Answer::Standing(3, Some(4))),
+    (Call::Head(DU, 1), Answer::Item(Some(7), Some(1))),
+    (Call::Get(DU, 1), Answer::Item(Some(7), Some(1))),
+    (Call::Lose(DU, 1), Answer::Item(None, Some(2))),
+    // What is refused.
+    (Call::Get(DU, 1), Answer::Refused(LinkError::Empty)),
+    (Call::Lose(DU, 1), Answer::Refused(LinkError::Empty)),
+    (Call::Lose(DU, 3), Answer::Refused(LinkError::NoSuch)),
+    (Call::Lose(UP, 1), Answer::Refused(LinkError::NotAllowed)),
+    // A closed tunnel has no item, and one that is made anew has none.
+    (Call::Put(DU, 2, Some(5), 4), Answer::Is(true)),
+    (Call::Close(UP, 1), Answer::Number(1)),
+    (Call::Standing, Answer::Standing(1, Some(5))),
+    (Call::Put(UP, 1, Some(6), 5), Answer::Is(false)),
+    (Call::Head(UP, 1), Answer::Refused(LinkError::NoSuch)),
+    (Call::Lose(UP, 1), Answer::Refused(LinkError::NoSuch)),
+    (Call::Length(UP, 1), Answer::Number(0)),
+    (Call::After(Some((DU, 2))), Answer::Place(None)),
+    (Call::Make(DU, 2, false), Answer::Done),
+    (Call::Standing, Answer::Standing(0, None)),
+];
+
+fn answer(tunnels: &mut Tunnels, alloc: Global, call: Call) -> Result<Answer, Memory> {
+    match call {
+        Call::Make(node, teid, lossy) => {
+            tunnels.make(node, teid, lossy)?;
+            Ok(Answer::Done)
+        }
+        Call::Put(node, teid, count, octet) => {
+            let item = item(alloc, count, octet)?;
+            Ok(Answer::Is(tunnels.put(node, teid, item)?))
+        }
+        Call::Head(node, teid) => Ok(shown(tunnels.head(node, teid))),
+        Call::Length(node, teid) => Ok(Answer::Number(tunnels.length(node, teid))),
+        Call::Get(node, teid) => given(tunnels.get(node, teid)),
+        Call::Lose(node, teid) => given(tunnels.lose(node, teid)),
+        Call::Close(node, teid) => Ok(Answer::Number(tunnels.close(node, teid))),
+        Call::After(place) => Ok(Answer::Place(tunnels.after(place))),
+        Call::Standing => {
+            let (number, least) = tunnels.standing(KEY.ue, KEY.bearer, KEY.dir);
+            Ok(Answer::Standing(number, least))
+        }
+    }
 }
 
+/// After a call that was out of memory all is as it was, so that it answers the same when it is made again.
 #[test]
-fn the_oldest_item_is_taken(rt: HostRuntime) -> Result<(), Fail> {
+fn tunnels_from_end_to_end(rt: HostRuntime) -> Result<(), Fail> {
     let alloc = rt.alloc();
     let mut tunnels = Tunnels::new(alloc)?;
-    tunnels.make(DU, 1, true)?;
-    tunnels.put(DU, 1, item(alloc, 1, Dir::Dl, Some(7), 1)?)?;
-    tunnels.put(DU, 1, item(alloc, 1, Dir::Dl, None, 2)?)?;
-    assert_eq!(rt; tunnels.length(DU, 1), 2);
-    assert!(rt; tunnels.head(DU, 1)?.count == Some(7));
-    assert!(rt; tunnels.get(DU, 1)? == item(alloc, 1, Dir::Dl, Some(7), 1)?);
-    assert!(rt; tunnels.lose(DU, 1)? == item(alloc, 1, Dir::Dl, None, 2)?);
-    assert!(rt; tunnels.get(DU, 1) == Err(LinkError::Empty));
-    Ok(())
-}
-
-#[test]
-fn a_closed_tunnel_has_no_item(rt: HostRuntime) -> Result<(), Fail> {
-    let alloc = rt.alloc();
-    let mut tunnels = Tunnels::new(alloc)?;
-    tunnels.make(DU, 1, true)?;
-    tunnels.make(UP, 1, false)?;
-    tunnels.put(DU, 1, item(alloc, 1, Dir::Dl, Some(4), 1)?)?;
-    tunnels.put(UP, 1, item(alloc, 1, Dir::Dl, Some(5), 2)?)?;
-    assert!(rt; tunnels.standing(UeId(1), BearerId(1), Dir::Dl) == (2, Some(4)));
-    assert_eq!(rt; tunnels.close(DU, 1), 1);
-    assert!(rt; tunnels.standing(UeId(1), BearerId(1), Dir::Dl) == (1, Some(5)));
-    assert!(rt; tunnels.put(DU, 1, item(alloc, 1, Dir::Dl, Some(6), 3)?)? == false);
-    Ok(())
-}
-
-#[test]
-fn refused_losses(rt: HostRuntime) -> Result<(), Fail> {
-    let alloc = rt.alloc();
-    let mut tunnels = Tunnels::new(alloc)?;
-    tunnels.make(DU, 2, true)?;
-    tunnels.make(UP, 1, false)?;
-    for (end, teid, error) in [
-        (DU, 1, LinkError::NoSuch),
-        (DU, 2, LinkError::Empty),
-        (UP, 1, LinkError::NotAllowed),
-        (UP, 2, LinkError::NoSuch),
-    ] {
-        assert!(rt; tunnels.lose(end, teid) == Err(error));
+    for (call, wanted) in &CALLS {
+        let answered = match answer(&mut tunnels, alloc, *call) {
+            Ok(answered) => answered,
+            Err(Memory) => answer(&mut tunnels, alloc, *call)?,
+        };
+        assert_eq!(rt; answered, *wanted);
     }
     Ok(())
 }
