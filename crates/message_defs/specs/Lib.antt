@@ -1,0 +1,9 @@
+pub mod Fields
+pub mod Known
+pub mod Places
+pub mod Heard
+pub mod F1
+pub mod E1
+pub mod Xn
+pub mod Core
+pub mod Tokens

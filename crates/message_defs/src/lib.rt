@@ -1,0 +1,2 @@
+//! Definitions alone: the values that stand for messages and tokens, and what is heard in a value.
+#![tactic(auto)]
