@@ -43,7 +43,9 @@ fn row(id: u16, presence: Presence) -> IeRow {
     }
 }
 
-fn id<'m>(known: &'m [IeRow], left: &'m [IeRow], after: u64) -> Question<'m> {
+fn id<'m>(known: &'m [IeRow], left: &'m [IeRow], after: u64) -> Question<'m>
+    ensures { IsAskable result }
+{
     Question::IeId { known, left, after }
 }
 
@@ -87,17 +89,12 @@ fn part(previous: u64) -> Question<'static> {
 
 #[test]
 fn fields(rt: HostRuntime) -> Result<(), Fail> {
-    let known = [
-        row(1, Presence::Mandatory),
-        row(2, Presence::Optional),
-        row(3, Presence::Mandatory),
-    ];
     let two_to_four = Size {
         low: 2,
         high: 4,
         extensible: true,
     };
-    let rows: [(&[u8], Question, Result<u64, Reason>); 29] = [
+    let rows: [(&'static [u8], Question<'static>, Result<u64, Reason>); 26] = [
         (&[0x80], Question::Flag, Ok(1)),
         (&[], Question::Flag, Err(Reason::Truncated)),
         (&[0x60], number(Role::Value, 3, 6), Ok(3)),
@@ -128,19 +125,29 @@ fn fields(rt: HostRuntime) -> Result<(), Fail> {
         (b"A", Question::Character, Ok(65)),
         (b"*", Question::Character, Err(Reason::Character)),
         (&[0x00, 0x01], Question::IeCount(2), Err(Reason::Required)),
-        (&[0x00, 0x02], id(&known, &known, 1), Err(Reason::Required)),
-        (
-            &[0x00, 0x01],
-            id(&known, &known[2..], 1),
-            Err(Reason::Order),
-        ),
-        (&[0x00, 0x09], id(&known, &known, 2), Ok(9)),
     ];
     for (octets, question, answer) in rows {
         assert!(rt; octets.len() < 100);
         assert!(rt; is_askable(&question));
         assert!(rt; first(rt.alloc(), octets, question) == answer);
     }
+    Ok(())
+}
+
+/// The first is mandatory, and so is the third.
+#[test]
+fn ids(rt: HostRuntime) -> Result<(), Fail> {
+    let known = [
+        row(1, Presence::Mandatory),
+        row(2, Presence::Optional),
+        row(3, Presence::Mandatory),
+    ];
+    let last = &known[2..];
+    assert!(rt; first(rt.alloc(), &[0x00, 0x02], id(&known, &known, 1)) == Err(Reason::Required));
+    assert!(rt; first(rt.alloc(), &[0x00, 0x01], id(&known, last, 1)) == Err(Reason::Order));
+    assert!(rt; first(rt.alloc(), &[0x00, 0x03], id(&known, last, 0)) == Ok(3));
+    assert!(rt; first(rt.alloc(), &[0x00, 0x09], id(&known, last, 0)) == Err(Reason::Required));
+    assert!(rt; first(rt.alloc(), &[0x00, 0x09], id(&known, last, 1)) == Ok(9));
     Ok(())
 }
 
