@@ -2,7 +2,7 @@
 use Rattle.std.proofs.Common.{◌≡◌, ◌≢◌, ℕ, zero, suc, ◌+◌, ◌-◌, ◌<◌, ◌≤◌, ◌==◌, Bool, true, false, if◌then◌else◌, List, [], ◌∷◌, ◌++◌, refl, sym, ap, subst, ◌∙◌, true≢false, eqb-true, max, arith}
 use Rattle.std.specs.List.{AllByRecursion}
 use Rattle.law_intervals.specs.Intervals.{segment, upto, HasNoGap, reach}
-use Rattle.law_intervals.proofs.Intervals.{upto-cons, upto-nil, upto-no_gap, upto-reach, HasNoGap-append, reach-append}
+use Rattle.law_intervals.proofs.Intervals.{all_append, upto-cons, upto-nil, upto-no_gap, upto-reach, HasNoGap-append, reach-append}
 use Rattle.chain_defs.specs.Parts.{Item, Member, Part, set}
 use Rattle.chain_defs.specs.Orders.{changed, put_on, passed}
 use Rattle.chain_defs.specs.Guards.{Feeds}
@@ -262,10 +262,6 @@ module _ (p : ℕ → List ℕ) (w : ℕ) (s : Part) (g : ℕ → Ghost) (x : �
           to
 
 -- ---- the radio
-
-all_append : {X : Type 0} (P : X → Type 0) (xs ys : List X) → AllByRecursion P xs → AllByRecursion P ys → AllByRecursion P (xs ++ ys)
-all_append P [] ys h k = k
-all_append P (x ∷ xs) ys h k = (h.0, all_append P xs ys h.1 k)
 
 segment_packets : (p : ℕ → List ℕ) (a n : ℕ) → AllByRecursion (λ (e : ℕ × List ℕ). e.1 ≡ p e.0) (segment (pairs p) a n)
 unfolding segment

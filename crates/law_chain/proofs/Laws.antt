@@ -3,7 +3,7 @@ use Rattle.std.proofs.Common.{◌≡◌, ℕ, zero, suc, ◌+◌, ◌-◌, ◌<�
 use Rattle.std.specs.List.{AllByRecursion, enumerate_from}
 use Rattle.gnb_types.specs.declared.names.SnBits.{SnBits}
 use Rattle.law_intervals.specs.Intervals.{segment, upto, reach}
-use Rattle.law_intervals.proofs.Intervals.{upto-nil, upto-cons, upto-length, reach-le}
+use Rattle.law_intervals.proofs.Intervals.{all_append, all_upto, upto-nil, upto-cons, upto-length, reach-le}
 use Rattle.pdcp_defs.specs.Senders.{window, first, first_of}
 use Rattle.chain_defs.specs.Parts.{Item, numbered, fresh, Part, start, is_open, is_fed}
 use Rattle.chain_defs.specs.Orders.{Order, drops, run, offers_in}
@@ -14,26 +14,13 @@ use Rattle.law_chain.proofs.Facts.{pairs, Ends, ends_of, Tunnels, Good}
 use Rattle.law_chain.proofs.Core.{never_drops}
 use Rattle.law_chain.proofs.Runs.{stream, agrees, all_offered, kept_run, good_start}
 
-all_append : {X : Type 0} (P : X → Type 0) (xs ys : List X) → AllByRecursion P xs → AllByRecursion P ys → AllByRecursion P (xs ++ ys)
-all_append P [] ys h k = k
-all_append P (x ∷ xs) ys h k = (h.0, all_append P xs ys h.1 k)
-
-all_segment : {X : Type 0} (P : X → Type 0) (f : ℕ → X) (a n : ℕ) → ((i : ℕ) → i < a + n → P (f i)) → AllByRecursion P (segment f a n)
-unfolding segment
-all_segment P f a zero h = tt
-all_segment P f a (suc n) h = (h a (omega arith), all_segment P f (a + 1) n (λ i l. h i (omega arith)))
-
-all_upto : {X : Type 0} (P : X → Type 0) (f : ℕ → X) (a b : ℕ) → ((i : ℕ) → i < max a b → P (f i)) → AllByRecursion P (upto f a b)
-unfolding upto
-all_upto P f a b h = all_segment P f a (b - a) (λ i l. h i (omega arith))
-
-stream_at : (xs : List (List ℕ)) (i : ℕ) → i < length xs → slice_get xs i ≡ Some (stream xs i)
+pub stream_at : (xs : List (List ℕ)) (i : ℕ) → i < length xs → slice_get xs i ≡ Some (stream xs i)
 unfolding stream
 stream_at [] i l = absurd (let e : i < 0 = l in omega arith)
 stream_at (x ∷ xs) zero l = refl
 stream_at (x ∷ xs) (suc i) l = stream_at xs i (omega arith)
 
-first_ones : (p : ℕ → List ℕ) (xs : List (List ℕ)) (a n : ℕ) → ((i : ℕ) → p (a + i) ≡ stream xs i) → n ≤ length xs
+pub first_ones : (p : ℕ → List ℕ) (xs : List (List ℕ)) (a n : ℕ) → ((i : ℕ) → p (a + i) ≡ stream xs i) → n ≤ length xs
     → segment (pairs p) a n ≡ enumerate_from a (take n xs)
 unfolding segment stream
 first_ones p xs a zero h l = refl

@@ -24,7 +24,7 @@ stream [] i = []
 stream (x ∷ xs) zero = x
 stream (x ∷ xs) (suc i) = stream xs i
 
-pub Agrees : (ℕ → List ℕ) → ℕ → List (List ℕ) → Type 0
+unfoldable pub Agrees : (ℕ → List ℕ) → ℕ → List (List ℕ) → Type 0
 Agrees p n [] = ⊤
 Agrees p n (x ∷ xs) = (x ≡ p n) × Agrees p (n + 1) xs
 

@@ -10,21 +10,12 @@ use Rattle.unit_defs.specs.UpRecords.{Downlink}
 use Rattle.unit_defs.specs.Du.{DuBearer}
 use Rattle.law_chain.proofs.Facts.{pairs}
 use Rattle.law_chain.proofs.Runs.{stream}
+use Rattle.law_chain.proofs.Laws.{first_ones}
 use Rattle.law_downlink_path.specs.Paths.{Frame, Path, packet_of, start}
 use Rattle.law_downlink_path.specs.Steps.{Step, run, packets_in, AreKept}
 use Rattle.law_downlink_path.specs.Words.{DeliversInOrder, TakesAtOnce, Follow, packets_of, RunsHaveNoGap, WayHasNoGap, RestartsAtReceived}
 use Rattle.law_downlink_path.proofs.Facts.{FitsPacket, Quiet, Fits, Stands, Kept}
 use Rattle.law_downlink_path.proofs.Runs.{all_come, kept_run, kept_start}
-
-first_ones : (p : ℕ → List ℕ) (xs : List (List ℕ)) (a n : ℕ) → ((i : ℕ) → p (a + i) ≡ stream xs i) → n ≤ length xs
-    → segment (pairs p) a n ≡ enumerate_from a (take n xs)
-unfolding segment stream
-first_ones p xs a zero h l = refl
-first_ones p [] a (suc n) h l = absurd (let e : suc n ≤ 0 = l in omega arith)
-first_ones p (x ∷ xs) a (suc n) h l =
-    let e : a + 0 ≡ a = omega arith in
-    let here : p a ≡ x = sym (ap p e) ∙ h 0 in
-    rw (here, first_ones p xs (a + 1) n (λ i. (let f : a + 1 + i ≡ a + suc i = omega arith in ap p f ∙ h (suc i))) (omega arith))
 
 -- ---- of one state
 

@@ -3,17 +3,13 @@ use Rattle.std.proofs.Common.{◌≡◌, ℕ, ◌+◌, ◌<◌, ◌≤◌, max, 
 use Rattle.std.proofs.lemmas.List.{append-nil}
 use Rattle.std.specs.List.{AllByRecursion}
 use Rattle.law_intervals.specs.Intervals.{HasNoGap, reach}
-use Rattle.law_intervals.proofs.Intervals.{reach-le, reach-append, HasNoGap-append}
+use Rattle.law_intervals.proofs.Intervals.{all_append, reach-le, reach-append, HasNoGap-append}
 use Rattle.unit_defs.specs.Ways.{Pdu, packet_pdu, report_pdu}
 use Rattle.law_chain.proofs.Frames.{apart}
 use Rattle.law_downlink_path.specs.Paths.{Frame, Path, carried_by, gap_after, taken_by}
 use Rattle.law_downlink_path.specs.Steps.{loses, takes, after}
 use Rattle.law_downlink_path.proofs.Facts.{View, view, FitsPacket, Quiet, Fits, Stands, Radio, Kept}
 use Rattle.law_downlink_path.proofs.Puts.{stands_without}
-
-all_append : {X : Type 0} (P : X → Type 0) (xs ys : List X) → AllByRecursion P xs → AllByRecursion P ys → AllByRecursion P (xs ++ ys)
-all_append P [] ys h k = k
-all_append P (x ∷ xs) ys h k = (h.0, all_append P xs ys h.1 k)
 
 -- a gap that isn't open after a frame
 no_gap_by : (gap late restart : Bool) → ((gap || late) && not restart) ≡ false → restart ≡ false → (gap ≡ false) × (late ≡ false)

@@ -1,5 +1,6 @@
 -- Intervals at their two ends, their parts, and lists without a gap.
 use Rattle.std.proofs.Common.{◌≡◌, ℕ, zero, suc, ◌+◌, ◌-◌, ◌<◌, ◌≤◌, max, Bool, true, false, cond, List, [], ◌∷◌, ◌++◌, map, length, filter, refl, sym, ap, ◌∙◌, nat_lt, arith}
+use Rattle.std.specs.List.{AllByRecursion}
 use Rattle.law_intervals.specs.Intervals.{segment, upto, HasNoGap, reach}
 
 module _ {X : Type 0} (f : ℕ → X) where
@@ -124,6 +125,41 @@ module _ {X : Type 0} (f : ℕ → X) (q : X → Bool) (m : ℕ) (below : (i : �
           let l : a ≤ b = grind arith in
           let e : a + (b - a) ≡ b = omega arith in
           segment-filter a (b - a) (λ i o k. above i o (omega arith)) ∙ ap (λ c. upto f (max a m) c) e
+
+-- what is true from the first place on leaves all
+module _ {X : Type 0} (f : ℕ → X) (q : X → Bool) where
+  segment-kept : (a n : ℕ) → ((i : ℕ) → a ≤ i → q (f i) ≡ true) → filter q (segment f a n) ≡ segment f a n
+  unfolding segment
+  segment-kept a zero above = refl
+  segment-kept a (suc n) above =
+      rw (above a (omega arith)) (ap (λ xs. f a ∷ xs) (segment-kept (a + 1) n (λ i l. above i (omega arith))))
+
+  pub upto-kept : (a b : ℕ) → ((i : ℕ) → a ≤ i → q (f i) ≡ true) → filter q (upto f a b) ≡ upto f a b
+  unfolding upto
+  upto-kept a b above = segment-kept a (b - a) above
+
+-- ---- a property of each
+
+pub all_append : {X : Type 0} (P : X → Type 0) (xs ys : List X) → AllByRecursion P xs → AllByRecursion P ys → AllByRecursion P (xs ++ ys)
+all_append P [] ys h k = k
+all_append P (x ∷ xs) ys h k = (h.0, all_append P xs ys h.1 k)
+
+pub all_filter : {X : Type 0} (P : X → Type 0) (q : X → Bool) (xs : List X) → AllByRecursion P xs → AllByRecursion P (filter q xs)
+all_filter P q [] h = tt
+all_filter {X} P q (x ∷ xs) h = by (q x) (all_filter P q xs h.1)
+  where
+    by : (t : Bool) → AllByRecursion P (filter q xs) → AllByRecursion P (cond t (x ∷ filter q xs) (filter q xs))
+    by true k = (h.0, k)
+    by false k = k
+
+all_segment : {X : Type 0} (P : X → Type 0) (f : ℕ → X) (a n : ℕ) → ((i : ℕ) → i < a + n → P (f i)) → AllByRecursion P (segment f a n)
+unfolding segment
+all_segment P f a zero h = tt
+all_segment P f a (suc n) h = (h a (omega arith), all_segment P f (a + 1) n (λ i l. h i (omega arith)))
+
+pub all_upto : {X : Type 0} (P : X → Type 0) (f : ℕ → X) (a b : ℕ) → ((i : ℕ) → i < max a b → P (f i)) → AllByRecursion P (upto f a b)
+unfolding upto
+all_upto P f a b h = all_segment P f a (b - a) (λ i l. h i (omega arith))
 
 -- ---- lists without a gap
 

@@ -1,0 +1,59 @@
+-- What the laws say of the uplink of one bearer, after some orders that offered these packets.
+use Rattle.std.specs.Prelude.{◌≡◌, ◌⊎◌, ℕ, ◌<◌, Bool, true, false, List, [], ◌∷◌, length, take, is_some, ⊤}
+use Rattle.std.specs.List.{AllByRecursion, enumerate_from}
+use Rattle.std.specs.Ordering.{nat_cmp}
+use Rattle.tables.specs.Tables.{find}
+use Rattle.law_chain.specs.Words.{IsInPlace}
+use Rattle.uplink_defs.specs.Parts.{Item, numbered, end_marker, uplink_tunnel, Member, Part}
+use Rattle.uplink_defs.specs.Guards.{IsOpen}
+
+-- what was delivered is a prefix of what was offered, each packet once, and the COUNTs are 0, 1, 2 and so on
+unfoldable pub DeliversInOrder : List (List ℕ) → Part → Type 0
+DeliversInOrder offered s = s.delivered ≡ enumerate_from 0 (take (length s.delivered) offered)
+
+abbrev pub IsItemInPlace : List (List ℕ) → Item → Type 0
+IsItemInPlace offered (numbered count packet) = IsInPlace offered count packet
+IsItemInPlace offered end_marker = ⊤
+
+-- wherever a COUNT stands: unconfirmed, on the radio, on an uplink tunnel, open or not, on a forwarding tunnel, stored
+pub record CountsArePlaces (offered : List (List ℕ)) (s : Part) : Type 0 where
+  pub unconfirmed : AllByRecursion (λ (e : ℕ × List ℕ). IsInPlace offered e.0 e.1) s.terminal.sender.unconfirmed
+  pub on_air : AllByRecursion (λ (e : ℕ × List ℕ). IsInPlace offered e.0 e.1) s.air
+  pub uplink : (q teid : ℕ) → (s.members q).is_there ≡ true → AllByRecursion (IsItemInPlace offered) ((s.members q).uplink teid)
+  pub forwarded : (q : ℕ) → (s.members q).is_there ≡ true → AllByRecursion (IsItemInPlace offered) (s.members q).forwarded
+  pub stored : (q : ℕ) → (s.members q).is_there ≡ true
+      → AllByRecursion (λ (e : ℕ × List ℕ). IsInPlace offered e.0 e.1) (s.members q).bearer.receiver.stored
+
+-- a packet with this COUNT is one of them
+abbrev pub has : List (ℕ × List ℕ) → ℕ → Bool
+has packets count = is_some (find nat_cmp packets count)
+
+unfoldable pub Stands : ℕ → List Item → Type 0
+Stands i [] = ⊥
+Stands i (numbered count packet ∷ items) = (i ≡ count) ⊎ Stands i items
+Stands i (end_marker ∷ items) = Stands i items
+
+-- it stands on an open tunnel of this context, or is stored there and the terminal is there
+abbrev pub IsOnTunnel : Member → ℕ → Type 0
+IsOnTunnel m i = Stands i m.forwarded ⊎ ((teid : ℕ) × IsOpen m (uplink_tunnel teid) × Stands i (m.uplink teid))
+
+abbrev pub IsAt : (station x : ℕ) → Member → ℕ → Type 0
+IsAt station x m i = (m.is_there ≡ true) × (IsOnTunnel m i ⊎ ((x ≡ station) × (has m.bearer.receiver.stored i ≡ true)))
+
+unfoldable pub IsUnderWay : Part → ℕ → Type 0
+IsUnderWay s i = (x : ℕ) × IsAt s.station x (s.members x) i
+
+-- what has a COUNT and is no longer held by the terminal was delivered, or is on its way
+unfoldable pub LosesNone : Part → Type 0
+LosesNone s = (i : ℕ) → i < s.terminal.sender.next → has s.terminal.sender.unconfirmed i ≡ false → (i < length s.delivered) ⊎ IsUnderWay s i
+
+-- nothing stands on an open tunnel, the terminal holds nothing, and the context that it is at isn't frozen
+pub record IsQuiet (s : Part) : Type 0 where
+  pub uplink : (q teid : ℕ) → (s.members q).is_there ≡ true → IsOpen (s.members q) (uplink_tunnel teid) → (s.members q).uplink teid ≡ []
+  pub forwarded : (q : ℕ) → (s.members q).is_there ≡ true → (s.members q).forwarded ≡ []
+  pub unconfirmed : s.terminal.sender.unconfirmed ≡ []
+  pub waiting : s.terminal.waiting ≡ []
+  pub serves : (s.members s.station).flags.frozen ≡ false
+
+unfoldable pub HasDeliveredAll : List (List ℕ) → Part → Type 0
+HasDeliveredAll offered s = s.delivered ≡ enumerate_from 0 offered

@@ -1,0 +1,52 @@
+//! Laws of the uplink of one bearer, over every list of orders that keeps what is asked of them: any handovers between
+//! contexts, with packets forwarded through several. Each function does nothing: its contract is the law.
+#![tactic(auto)]
+
+ghost use Rattle.std.specs.Prelude.{◌≡◌, ℕ, List, [], ◌∷◌};
+ghost use Rattle.uplink_defs.specs.Parts.{start};
+ghost use Rattle.uplink_defs.specs.Orders.{Order, run, offers_in};
+ghost use Rattle.uplink_defs.specs.Guards.{AreKept};
+ghost use Rattle.law_chain.specs.Relay.{a, b, c, d};
+ghost use Rattle.law_uplink.specs.Relay.{relay, cancelled};
+ghost use Rattle.law_uplink.specs.Words.{DeliversInOrder, CountsArePlaces, LosesNone};
+ghost use Rattle.law_uplink.specs.Words.{IsQuiet, HasDeliveredAll};
+
+/// What is delivered is a prefix of what the terminal was offered, each packet once, with COUNTs 0, 1, 2 and so on.
+pub fn delivers_a_prefix()
+    ensures in_order { (first teid : ℕ) (orders : List Order) → AreKept (start first teid) orders
+        → DeliversInOrder (offers_in orders) (run (start first teid) orders) }
+{}
+
+/// What has a COUNT and is no longer held by the terminal was delivered, or is on its way: it stands on an open tunnel of
+/// a context, or is stored at the one where the terminal is.
+pub fn loses_none()
+    ensures on_its_way { (first teid : ℕ) (orders : List Order) → AreKept (start first teid) orders
+        → LosesNone (run (start first teid) orders) }
+{}
+
+/// With nothing on a tunnel and nothing held by the terminal, all that was offered was delivered.
+pub fn delivers_all()
+    ensures when_quiet { (first teid : ℕ) (orders : List Order) → AreKept (start first teid) orders
+        → IsQuiet (run (start first teid) orders)
+        → HasDeliveredAll (offers_in orders) (run (start first teid) orders) }
+{}
+
+/// Wherever a COUNT stands, its packet is the one that was offered at this place.
+pub fn counts_are_places()
+    ensures places { (first teid : ℕ) (orders : List Order) → AreKept (start first teid) orders
+        → CountsArePlaces (offers_in orders) (run (start first teid) orders) }
+{}
+
+/// What is asked of the orders can be met: four packets over three contexts, one of them with two uplink tunnels, where the
+/// second handover begins before the first hop is done, packets go on at both, and both contexts close in the end.
+pub fn forwards_over_two_hops()
+    ensures guards { AreKept (start 1 10) relay }
+    ensures delivered { (run (start 1 10) relay).delivered
+        ≡ (0, a) ∷ (1, b) ∷ (2, c) ∷ (3, d) ∷ [] }
+{}
+
+/// And with a handover that is cancelled after a packet was stored and forwarded, and a radio that fails.
+pub fn goes_on_after_a_cancel()
+    ensures guards { AreKept (start 1 10) cancelled }
+    ensures delivered { (run (start 1 10) cancelled).delivered ≡ (0, a) ∷ (1, b) ∷ [] }
+{}
