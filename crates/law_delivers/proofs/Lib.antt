@@ -1,0 +1,4 @@
+pub mod Lines
+pub mod Receivers
+pub mod Units
+pub mod Runs
