@@ -1,0 +1,4 @@
+pub mod Answers
+pub mod Sources
+pub mod Targets
+pub mod Relays
