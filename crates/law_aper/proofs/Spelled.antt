@@ -107,11 +107,11 @@ pub one_spelling : (t : Tree) (v : Value) (a b : List ℕ) → All (λ o. o < 25
 one_spelling t v a b h k s r = same_octets a b h k (s.bits ∙ sym r.bits)
 
 -- ---- octets of bits
-octets_of : ℕ → List Bool → List ℕ
+unfoldable pub octets_of : ℕ → List Bool → List ℕ
 octets_of zero bits = []
 octets_of (suc count) bits = number_of (take 8 bits) ∷ octets_of count (drop 8 bits)
 
-octets_of_bits : (count : ℕ) (bits : List Bool) → length bits ≡ 8 * count → octet_bits (octets_of count bits) ≡ bits
+pub octets_of_bits : (count : ℕ) (bits : List Bool) → length bits ≡ 8 * count → octet_bits (octets_of count bits) ≡ bits
 unfolding octets_of
 octets_of_bits zero [] h = refl
 octets_of_bits zero (b ∷ bits) h = absurd (omega (arith, h))
@@ -123,7 +123,7 @@ octets_of_bits (suc count) bits h =
     ∙ ap (λ (xs : List Bool). take 8 bits ++ xs) (octets_of_bits count (drop 8 bits) (omega (arith, length-drop 8 bits, h)))
     ∙ take-append-drop 8 bits
 
-octets_of_count : (count : ℕ) (bits : List Bool) → length (octets_of count bits) ≡ count
+pub octets_of_count : (count : ℕ) (bits : List Bool) → length (octets_of count bits) ≡ count
 unfolding octets_of
 octets_of_count zero bits = refl
 octets_of_count (suc count) bits = ap suc (octets_of_count count (drop 8 bits))

@@ -1,8 +1,9 @@
 -- What is heard in a value of a PDU or of a token: a message, or why it is none.
 use Rattle.std.specs.Prelude.{ℕ, ◌==◌, List, [], ◌∷◌, Bool, false, Option, Some, None, Result, Ok, Err, not, ◌&&◌, ◌||◌, if◌then◌else◌}
-use Rattle.aper_defs.specs.Values.{Ies}
-use Rattle.aper_defs.specs.Values.{no_ies, ie}
-use Rattle.profile_defs.specs.Tables.{Use, Message}
+use Rattle.aper_defs.specs.Values.{Value, Ies}
+use Rattle.aper_defs.specs.Values.{message, no_ies, ie}
+use Rattle.profile_defs.specs.Tables.{Use, Message, is_at}
+use Rattle.message_defs.specs.Places.{elements_in}
 
 -- The procedure isn't in the set, or has no such outcome; or the first information element that isn't known and has criticality reject.
 -- Alternatives of a token and outcomes that aren't known have code 0 and criticality 0.
@@ -26,3 +27,11 @@ unless_rejected (Some id) msg = Err (unknown_element id)
 -- the message, unless one of its information elements is to be rejected
 abbrev pub heard_as : {M : Type 0} → Message → Ies → M → Result M Cause
 heard_as m ies msg = unless_rejected (first_rejected m.elements ies) msg
+
+-- the information element for which a value of a PDU is to be rejected, if it stands at the place of one of these messages
+abbrev pub rejected_in : List Message → Value → Option ℕ
+rejected_in [] v = None
+rejected_in (m ∷ ms) (message index code criticality body) = if is_at code index m
+    then first_rejected m.elements (elements_in body)
+    else rejected_in ms (message index code criticality body)
+rejected_in ms v = None

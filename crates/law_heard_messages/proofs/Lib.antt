@@ -1,0 +1,8 @@
+pub mod Ordered
+pub mod Rounds
+pub mod Matched
+pub mod SaysF1
+pub mod SaysE1
+pub mod SaysXn
+pub mod SaysCore
+pub mod SaysToken

@@ -1,0 +1,50 @@
+-- CoreMessage: messages whose fields lie in their ranges are written as values of their type.
+use Rattle.std.proofs.Common.{◌≡◌, ℕ, Bool, true, false, List, [], ◌∷◌, Option, Some, None, refl, arith}
+use Rattle.std.specs.Prelude.{codes}
+use Rattle.message_types.specs.declared.xn.CoreMessage.TheVariants as cores
+use Rattle.message_types.specs.declared.xn.CoreMessage.{CoreMessage}
+use Rattle.aper_defs.specs.Values.{Value, truth, enumeral, octets, text, no_options}
+use Rattle.aper_defs.specs.Fields.{Path}
+use Rattle.aper_defs.specs.Fields as fields
+use Rattle.aper_defs.specs.Layouts.{layout, component_fields, addition_fields, row_fields, body_fields, outcome_fields}
+use Rattle.aper_defs.specs.Membership.{Has, HasComponents, HasAdditions, HasRow, HasBody, HasOutcome}
+use Rattle.profile_defs.specs.Forms.{tree, parts, rows, procedures, outcome_tree}
+use Rattle.profile_defs.specs.BaseTypes as types
+use Rattle.profile_defs.specs.Compounds as compounds
+use Rattle.profile_defs.specs.Elements as ies
+use Rattle.profile_defs.specs.Tables.{Use}
+use Rattle.profile_defs.specs.Messages.{path_switch_request, path_switch_acknowledge}
+use Rattle.profile_defs.specs.Profile.{core_type}
+use Rattle.message_defs.specs.Fields.{from_number, from_ue, from_sn, from_peer, from_tunnels, from_statuses}
+use Rattle.message_defs.specs.Places.{has, may_have}
+use Rattle.message_defs.specs.Core.{written_core}
+use Rattle.law_message_ranges.specs.Ranges.{is_peer, is_unit, are_tunnels, are_statuses, InRangeCore}
+use Rattle.law_message_ranges.proofs.Goods.{ue_good, word_good, bearer_good, quota_good, unit_good, cause_good, mode_good, peer_good, container_good, name_good, tunnels_good, statuses_good, sn_good, flag_good}
+use Rattle.law_message_ranges.proofs.Bodies.{none, one, given, maybe, always, message_good}
+
+pub in_range : (msg : CoreMessage) → InRangeCore msg → Has [] core_type (written_core msg)
+unfolding core_type tree parts rows procedures outcome_tree written_core layout row_fields body_fields outcome_fields Has HasRow HasBody HasOutcome
+in_range (cores.PathSwitchRequest ue instance peer n3) h =
+    let p : Path = fields.component (codes "protocolIEs") ∷ fields.outcome 0 ∷ [] in
+    let uses : List Use = path_switch_request.elements in (
+      omega arith,
+      omega arith,
+      message_good uses (fields.outcome 0 ∷ [])
+          (has ies.ue (from_ue ue) ∷ has ies.instance (from_number instance) ∷ has ies.peer (from_peer peer) ∷ has ies.n3 (from_tunnels n3) ∷ [])
+          (one 72 refl (omega arith) (always (from_ue ue) true) (given p (fields.element 1 ∷ p) (tree types.ue) (from_ue ue) 41 (ue_good (fields.element 1 ∷ p) ue.0 h.0) (omega arith))
+          (one 72 refl (omega arith) (always (from_number instance) true) (given p (fields.element 2 ∷ p) (tree types.word) (from_number instance) 41 (word_good (fields.element 2 ∷ p) instance h.1) (omega arith))
+          (one 121 refl (omega arith) (always (from_peer peer) true) (given p (fields.element 12 ∷ p) (tree compounds.peer) (from_peer peer) 90 (peer_good (fields.element 12 ∷ p) peer h.2) (omega arith))
+          (one 774 refl (omega arith) (always (from_tunnels n3) true) (given p (fields.element 13 ∷ p) (tree compounds.tunnels) (from_tunnels n3) 743 (tunnels_good (fields.element 13 ∷ p) n3 h.3) (omega arith)) none))))
+          refl (omega arith) (omega arith),
+    )
+in_range (cores.PathSwitchAcknowledge ue instance) h =
+    let p : Path = fields.component (codes "protocolIEs") ∷ fields.outcome 1 ∷ [] in
+    let uses : List Use = path_switch_acknowledge.elements in (
+      omega arith,
+      omega arith,
+      message_good uses (fields.outcome 1 ∷ [])
+          (has ies.ue (from_ue ue) ∷ has ies.instance (from_number instance) ∷ [])
+          (one 72 refl (omega arith) (always (from_ue ue) true) (given p (fields.element 1 ∷ p) (tree types.ue) (from_ue ue) 41 (ue_good (fields.element 1 ∷ p) ue.0 h.0) (omega arith))
+          (one 72 refl (omega arith) (always (from_number instance) true) (given p (fields.element 2 ∷ p) (tree types.word) (from_number instance) 41 (word_good (fields.element 2 ∷ p) instance h.1) (omega arith)) none))
+          refl (omega arith) (omega arith),
+    )

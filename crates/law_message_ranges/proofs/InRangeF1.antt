@@ -1,0 +1,141 @@
+-- F1: messages whose fields lie in their ranges are written as values of their type.
+use Rattle.std.proofs.Common.{◌≡◌, ℕ, Bool, true, false, List, [], ◌∷◌, Option, Some, None, refl, arith}
+use Rattle.std.specs.Prelude.{codes}
+use Rattle.message_types.specs.declared.f1.F1.TheVariants as f1s
+use Rattle.aper_defs.specs.Values.{Value, truth, enumeral, octets, text, no_options}
+use Rattle.aper_defs.specs.Fields.{Path}
+use Rattle.aper_defs.specs.Fields as fields
+use Rattle.aper_defs.specs.Layouts.{layout, component_fields, addition_fields, row_fields, body_fields, outcome_fields}
+use Rattle.aper_defs.specs.Membership.{Has, HasComponents, HasAdditions, HasRow, HasBody, HasOutcome}
+use Rattle.profile_defs.specs.Forms.{tree, parts, rows, procedures, outcome_tree}
+use Rattle.profile_defs.specs.BaseTypes as types
+use Rattle.profile_defs.specs.Compounds as compounds
+use Rattle.profile_defs.specs.Elements as ies
+use Rattle.profile_defs.specs.Tables.{Use}
+use Rattle.profile_defs.specs.Messages.{f1_setup_request, f1_setup_response, ue_context_setup_request, ue_context_setup_response, ue_context_modification_request, ue_context_modification_response, ue_context_release_command, ue_context_release_complete, dl_rrc_message_transfer, ul_rrc_message_transfer}
+use Rattle.profile_defs.specs.Profile.{f1_type}
+use Rattle.message_defs.specs.Fields.{from_number, from_ue, from_sn, from_peer, from_tunnels, from_statuses}
+use Rattle.message_defs.specs.Places.{has, may_have}
+use Rattle.message_defs.specs.F1.{F1Message, written_f1}
+use Rattle.law_message_ranges.specs.Ranges.{is_peer, is_unit, are_tunnels, are_statuses, InRangeF1}
+use Rattle.law_message_ranges.proofs.Goods.{ue_good, word_good, bearer_good, quota_good, unit_good, cause_good, mode_good, peer_good, container_good, name_good, tunnels_good, statuses_good, sn_good, flag_good}
+use Rattle.law_message_ranges.proofs.Bodies.{none, one, given, maybe, always, message_good}
+
+pub in_range : (msg : F1Message) → InRangeF1 msg → Has [] f1_type (written_f1 msg)
+unfolding f1_type tree parts rows procedures outcome_tree written_f1 layout row_fields body_fields outcome_fields Has HasRow HasBody HasOutcome
+in_range (f1s.F1SetupRequest instance name) h =
+    let p : Path = fields.component (codes "protocolIEs") ∷ fields.outcome 0 ∷ [] in
+    let uses : List Use = f1_setup_request.elements in (
+      omega arith,
+      omega arith,
+      message_good uses (fields.outcome 0 ∷ [])
+          (has ies.instance (from_number instance) ∷ has ies.name (text name) ∷ [])
+          (one 72 refl (omega arith) (always (from_number instance) true) (given p (fields.element 2 ∷ p) (tree types.word) (from_number instance) 41 (word_good (fields.element 2 ∷ p) instance h.0) (omega arith))
+          (one 128062 refl (omega arith) (always (text name) true) (given p (fields.element 17 ∷ p) (tree types.name) (text name) 128031 (name_good (fields.element 17 ∷ p) name h.1) (omega arith)) none))
+          refl (omega arith) (omega arith),
+    )
+in_range (f1s.F1SetupResponse instance) h =
+    let p : Path = fields.component (codes "protocolIEs") ∷ fields.outcome 1 ∷ [] in
+    let uses : List Use = f1_setup_response.elements in (
+      omega arith,
+      omega arith,
+      message_good uses (fields.outcome 1 ∷ [])
+          (has ies.instance (from_number instance) ∷ [])
+          (one 72 refl (omega arith) (always (from_number instance) true) (given p (fields.element 2 ∷ p) (tree types.word) (from_number instance) 41 (word_good (fields.element 2 ∷ p) instance h) (omega arith)) none)
+          refl (omega arith) (omega arith),
+    )
+in_range (f1s.UeContextSetupRequest ue instance epoch uplinks sn peer) h =
+    let p : Path = fields.component (codes "protocolIEs") ∷ fields.outcome 0 ∷ [] in
+    let uses : List Use = ue_context_setup_request.elements in (
+      omega arith,
+      omega arith,
+      message_good uses (fields.outcome 0 ∷ [])
+          (has ies.ue (from_ue ue) ∷ has ies.instance (from_number instance) ∷ has ies.epoch (from_number epoch) ∷ has ies.uplinks (from_tunnels uplinks) ∷ has ies.sn (from_sn sn) ∷ has ies.peer (from_peer peer) ∷ [])
+          (one 72 refl (omega arith) (always (from_ue ue) true) (given p (fields.element 1 ∷ p) (tree types.ue) (from_ue ue) 41 (ue_good (fields.element 1 ∷ p) ue.0 h.0) (omega arith))
+          (one 72 refl (omega arith) (always (from_number instance) true) (given p (fields.element 2 ∷ p) (tree types.word) (from_number instance) 41 (word_good (fields.element 2 ∷ p) instance h.1) (omega arith))
+          (one 72 refl (omega arith) (always (from_number epoch) true) (given p (fields.element 3 ∷ p) (tree types.word) (from_number epoch) 41 (word_good (fields.element 3 ∷ p) epoch h.2) (omega arith))
+          (one 774 refl (omega arith) (always (from_tunnels uplinks) true) (given p (fields.element 5 ∷ p) (tree compounds.tunnels) (from_tunnels uplinks) 743 (tunnels_good (fields.element 5 ∷ p) uplinks h.3) (omega arith))
+          (one 72 refl (omega arith) (always (from_sn sn) true) (given p (fields.element 9 ∷ p) (tree types.sn_bits) (from_sn sn) 41 (sn_good (fields.element 9 ∷ p) sn) (omega arith))
+          (one 121 refl (omega arith) (always (from_peer peer) true) (given p (fields.element 12 ∷ p) (tree compounds.peer) (from_peer peer) 90 (peer_good (fields.element 12 ∷ p) peer h.4) (omega arith)) none))))))
+          refl (omega arith) (omega arith),
+    )
+in_range (f1s.UeContextSetupResponse ue instance downlinks) h =
+    let p : Path = fields.component (codes "protocolIEs") ∷ fields.outcome 1 ∷ [] in
+    let uses : List Use = ue_context_setup_response.elements in (
+      omega arith,
+      omega arith,
+      message_good uses (fields.outcome 1 ∷ [])
+          (has ies.ue (from_ue ue) ∷ has ies.instance (from_number instance) ∷ has ies.downlinks (from_tunnels downlinks) ∷ [])
+          (one 72 refl (omega arith) (always (from_ue ue) true) (given p (fields.element 1 ∷ p) (tree types.ue) (from_ue ue) 41 (ue_good (fields.element 1 ∷ p) ue.0 h.0) (omega arith))
+          (one 72 refl (omega arith) (always (from_number instance) true) (given p (fields.element 2 ∷ p) (tree types.word) (from_number instance) 41 (word_good (fields.element 2 ∷ p) instance h.1) (omega arith))
+          (one 774 refl (omega arith) (always (from_tunnels downlinks) true) (given p (fields.element 6 ∷ p) (tree compounds.tunnels) (from_tunnels downlinks) 743 (tunnels_good (fields.element 6 ∷ p) downlinks h.2) (omega arith)) none)))
+          refl (omega arith) (omega arith),
+    )
+in_range (f1s.UeContextModificationRequest ue instance epoch) h =
+    let p : Path = fields.component (codes "protocolIEs") ∷ fields.outcome 0 ∷ [] in
+    let uses : List Use = ue_context_modification_request.elements in (
+      omega arith,
+      omega arith,
+      message_good uses (fields.outcome 0 ∷ [])
+          (has ies.ue (from_ue ue) ∷ has ies.instance (from_number instance) ∷ has ies.epoch (from_number epoch) ∷ [])
+          (one 72 refl (omega arith) (always (from_ue ue) true) (given p (fields.element 1 ∷ p) (tree types.ue) (from_ue ue) 41 (ue_good (fields.element 1 ∷ p) ue.0 h.0) (omega arith))
+          (one 72 refl (omega arith) (always (from_number instance) true) (given p (fields.element 2 ∷ p) (tree types.word) (from_number instance) 41 (word_good (fields.element 2 ∷ p) instance h.1) (omega arith))
+          (one 72 refl (omega arith) (always (from_number epoch) true) (given p (fields.element 3 ∷ p) (tree types.word) (from_number epoch) 41 (word_good (fields.element 3 ∷ p) epoch h.2) (omega arith)) none)))
+          refl (omega arith) (omega arith),
+    )
+in_range (f1s.UeContextModificationResponse ue instance downlinks) h =
+    let p : Path = fields.component (codes "protocolIEs") ∷ fields.outcome 1 ∷ [] in
+    let uses : List Use = ue_context_modification_response.elements in (
+      omega arith,
+      omega arith,
+      message_good uses (fields.outcome 1 ∷ [])
+          (has ies.ue (from_ue ue) ∷ has ies.instance (from_number instance) ∷ has ies.downlinks (from_tunnels downlinks) ∷ [])
+          (one 72 refl (omega arith) (always (from_ue ue) true) (given p (fields.element 1 ∷ p) (tree types.ue) (from_ue ue) 41 (ue_good (fields.element 1 ∷ p) ue.0 h.0) (omega arith))
+          (one 72 refl (omega arith) (always (from_number instance) true) (given p (fields.element 2 ∷ p) (tree types.word) (from_number instance) 41 (word_good (fields.element 2 ∷ p) instance h.1) (omega arith))
+          (one 774 refl (omega arith) (always (from_tunnels downlinks) true) (given p (fields.element 6 ∷ p) (tree compounds.tunnels) (from_tunnels downlinks) 743 (tunnels_good (fields.element 6 ∷ p) downlinks h.2) (omega arith)) none)))
+          refl (omega arith) (omega arith),
+    )
+in_range (f1s.UeContextReleaseCommand ue instance) h =
+    let p : Path = fields.component (codes "protocolIEs") ∷ fields.outcome 0 ∷ [] in
+    let uses : List Use = ue_context_release_command.elements in (
+      omega arith,
+      omega arith,
+      message_good uses (fields.outcome 0 ∷ [])
+          (has ies.ue (from_ue ue) ∷ has ies.instance (from_number instance) ∷ [])
+          (one 72 refl (omega arith) (always (from_ue ue) true) (given p (fields.element 1 ∷ p) (tree types.ue) (from_ue ue) 41 (ue_good (fields.element 1 ∷ p) ue.0 h.0) (omega arith))
+          (one 72 refl (omega arith) (always (from_number instance) true) (given p (fields.element 2 ∷ p) (tree types.word) (from_number instance) 41 (word_good (fields.element 2 ∷ p) instance h.1) (omega arith)) none))
+          refl (omega arith) (omega arith),
+    )
+in_range (f1s.UeContextReleaseComplete ue instance) h =
+    let p : Path = fields.component (codes "protocolIEs") ∷ fields.outcome 1 ∷ [] in
+    let uses : List Use = ue_context_release_complete.elements in (
+      omega arith,
+      omega arith,
+      message_good uses (fields.outcome 1 ∷ [])
+          (has ies.ue (from_ue ue) ∷ has ies.instance (from_number instance) ∷ [])
+          (one 72 refl (omega arith) (always (from_ue ue) true) (given p (fields.element 1 ∷ p) (tree types.ue) (from_ue ue) 41 (ue_good (fields.element 1 ∷ p) ue.0 h.0) (omega arith))
+          (one 72 refl (omega arith) (always (from_number instance) true) (given p (fields.element 2 ∷ p) (tree types.word) (from_number instance) 41 (word_good (fields.element 2 ∷ p) instance h.1) (omega arith)) none))
+          refl (omega arith) (omega arith),
+    )
+in_range (f1s.DlRrcMessageTransfer ue container) h =
+    let p : Path = fields.component (codes "protocolIEs") ∷ fields.outcome 0 ∷ [] in
+    let uses : List Use = dl_rrc_message_transfer.elements in (
+      omega arith,
+      omega arith,
+      message_good uses (fields.outcome 0 ∷ [])
+          (has ies.ue (from_ue ue) ∷ has ies.container (octets container) ∷ [])
+          (one 72 refl (omega arith) (always (from_ue ue) true) (given p (fields.element 1 ∷ p) (tree types.ue) (from_ue ue) 41 (ue_good (fields.element 1 ∷ p) ue.0 h.0) (omega arith))
+          (one 128062 refl (omega arith) (always (octets container) true) (given p (fields.element 7 ∷ p) (tree types.container) (octets container) 128031 (container_good (fields.element 7 ∷ p) container h.1) (omega arith)) none))
+          refl (omega arith) (omega arith),
+    )
+in_range (f1s.UlRrcMessageTransfer ue container) h =
+    let p : Path = fields.component (codes "protocolIEs") ∷ fields.outcome 0 ∷ [] in
+    let uses : List Use = ul_rrc_message_transfer.elements in (
+      omega arith,
+      omega arith,
+      message_good uses (fields.outcome 0 ∷ [])
+          (has ies.ue (from_ue ue) ∷ has ies.container (octets container) ∷ [])
+          (one 72 refl (omega arith) (always (from_ue ue) true) (given p (fields.element 1 ∷ p) (tree types.ue) (from_ue ue) 41 (ue_good (fields.element 1 ∷ p) ue.0 h.0) (omega arith))
+          (one 128062 refl (omega arith) (always (octets container) true) (given p (fields.element 7 ∷ p) (tree types.container) (octets container) 128031 (container_good (fields.element 7 ∷ p) container h.1) (omega arith)) none))
+          refl (omega arith) (omega arith),
+    )

@@ -1,0 +1,22 @@
+//! A law of messages in the ranges of the profile: what is written for them is a value of its type. Its function does nothing: its contract is the law.
+#![tactic(auto)]
+
+ghost use Rattle.std.specs.Prelude.{ℕ, []};
+ghost use Rattle.message_types.specs.declared.e1.E1Message.{E1Message};
+ghost use Rattle.message_types.specs.declared.xn.XnMessage.{XnMessage};
+ghost use Rattle.message_types.specs.declared.xn.CoreMessage.{CoreMessage};
+ghost use Rattle.aper_defs.specs.Membership.{Has};
+ghost use Rattle.profile_defs.specs.Profile.{f1_type, e1_type, xn_type, core_type};
+ghost use Rattle.message_defs.specs.F1.{F1Message, written_f1};
+ghost use Rattle.message_defs.specs.E1.{written_e1};
+ghost use Rattle.message_defs.specs.Xn.{written_xn};
+ghost use Rattle.message_defs.specs.Core.{written_core};
+ghost use Rattle.law_message_ranges.specs.Ranges.{InRangeF1, InRangeE1, InRangeXn, InRangeCore};
+
+/// What is written for a message whose fields lie in their ranges is a value of its type.
+pub fn messages_in_range_are_values()
+    ensures f1 { (msg : F1Message) → InRangeF1 msg → Has [] f1_type (written_f1 msg) }
+    ensures e1 { (msg : E1Message) → InRangeE1 msg → Has [] e1_type (written_e1 msg) }
+    ensures xn { (version : ℕ) (msg : XnMessage) → InRangeXn version msg → Has [] (xn_type version) (written_xn msg) }
+    ensures core { (msg : CoreMessage) → InRangeCore msg → Has [] core_type (written_core msg) }
+{}

@@ -1,0 +1,4 @@
+pub mod SameBits
+pub mod Octets
+pub mod Newer
+pub mod Older

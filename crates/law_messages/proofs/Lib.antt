@@ -1,0 +1,13 @@
+pub mod Fields
+pub mod Elements
+pub mod HeardF1
+pub mod HeardE1
+pub mod HeardXn
+pub mod HeardCore
+pub mod HeardTokens
+pub mod KnownFields
+pub mod SaidF1
+pub mod SaidE1
+pub mod SaidXn
+pub mod SaidCore
+pub mod SaidTokens
