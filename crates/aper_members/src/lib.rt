@@ -1,0 +1,6 @@
+//! What an encoder puts around the members of a value, and which types rows give (BASIC-PER aligned, ITU-T X.691).
+#![tactic(auto)]
+
+pub mod heads;
+pub mod raw;
+pub mod rows;
