@@ -1,6 +1,8 @@
 -- What the laws say of the uplink of one bearer, after some orders that offered these packets.
 use Rattle.std.specs.Prelude.{◌≡◌, ◌⊎◌, ℕ, ◌<◌, true, false, List, [], length, take, ⊤}
 use Rattle.std.specs.List.{AllByRecursion, enumerate_from}
+use Rattle.pdcp_defs.specs.Senders.{is_reported}
+use Rattle.pdcp_defs.specs.Receivers.{received_bits}
 use Rattle.law_chain.specs.Words.{IsInPlace}
 use Rattle.uplink_defs.specs.Parts.{Item, numbered, end_marker, uplink_tunnel, Part}
 use Rattle.uplink_defs.specs.Guards.{IsOpen}
@@ -40,3 +42,9 @@ pub record IsQuiet (s : Part) : Type 0 where
 
 unfoldable pub HasDeliveredAll : List (List ℕ) → Part → Type 0
 HasDeliveredAll offered s = s.delivered ≡ enumerate_from 0 offered
+
+-- what a status report of the context where the terminal is says was received, once its SN status is there
+unfoldable pub Reports : Part → ℕ → Type 0
+Reports s i =
+    let m = s.members s.station in
+    (m.flags.has_status ≡ true) × (is_reported m.bearer.receiver.deliv (received_bits m.bearer.receiver) i ≡ true)
