@@ -36,33 +36,33 @@ module _ {M P : Type 0} where
 module _ {M C P : Type 0} (way : Way M C P) (at : UpAt) where
   -- ---- what goes to the next context
 
-  down : SourceHop → Tag → Load P → Output M P
+  unfoldable pub down : SourceHop → Tag → Load P → Output M P
   down hop tag load = packet hop.peer hop.down at.ue at.bearer Dl tag load
 
-  up : SourceHop → Tag → Load P → Output M P
+  unfoldable pub up : SourceHop → Tag → Load P → Output M P
   up hop tag load = packet hop.peer hop.up at.ue at.bearer Ul tag load
 
-  put_down_is : (tag : Tag) (load : Load P) (b : UpBearer) (hop : SourceHop) → b.hop ≡ Some hop
+  pub put_down_is : (tag : Tag) (load : Load P) (b : UpBearer) (hop : SourceHop) → b.hop ≡ Some hop
       → forwarded_down way at tag load b ≡ gives (down hop tag load ∷ []) b
   unfolding forwarded_down down
   put_down_is tag load b hop e = rw e
 
-  put_up_is : (tag : Tag) (load : Load P) (b : UpBearer) (hop : SourceHop) → b.hop ≡ Some hop
+  pub put_up_is : (tag : Tag) (load : Load P) (b : UpBearer) (hop : SourceHop) → b.hop ≡ Some hop
       → forwarded_up way at tag load b ≡ gives (up hop tag load ∷ []) b
   unfolding forwarded_up up
   put_up_is tag load b hop e = rw e
 
-  numbered_are : (es : List (ℕ × List ℕ)) (b : UpBearer) (hop : SourceHop) → b.hop ≡ Some hop
+  pub numbered_are : (es : List (ℕ × List ℕ)) (b : UpBearer) (hop : SourceHop) → b.hop ≡ Some hop
       → forward_numbered way at es b ≡ gives (map (λ e. down hop (Own e.0) (ways.numbered at.sn e.0 e.1)) es) b
   numbered_are [] b hop e = refl
   numbered_are (x ∷ es) b hop e = rw (put_down_is (Own x.0) (ways.numbered at.sn x.0 x.1) b hop e, numbered_are es b hop e)
 
-  fresh_are : (ps : List (List ℕ)) (b : UpBearer) (hop : SourceHop) → b.hop ≡ Some hop
+  pub fresh_are : (ps : List (List ℕ)) (b : UpBearer) (hop : SourceHop) → b.hop ≡ Some hop
       → forward_fresh way at ps b ≡ gives (map (λ p. down hop Absent (ways.fresh p)) ps) b
   fresh_are [] b hop e = refl
   fresh_are (x ∷ ps) b hop e = rw (put_down_is Absent (ways.fresh x) b hop e, fresh_are ps b hop e)
 
-  late_are : (es : List (ℕ × List ℕ)) (b : UpBearer) (hop : SourceHop) → b.hop ≡ Some hop
+  pub late_are : (es : List (ℕ × List ℕ)) (b : UpBearer) (hop : SourceHop) → b.hop ≡ Some hop
       → forward_late way at es b ≡ gives (map (λ e. up hop (Own e.0) (ways.numbered at.sn e.0 e.1)) es) b
   late_are [] b hop e = refl
   late_are (x ∷ es) b hop e = rw (put_up_is (Own x.0) (ways.numbered at.sn x.0 x.1) b hop e, late_are es b hop e)

@@ -1,7 +1,6 @@
 -- A frame is lost, the DU takes one, the terminal takes a packet: all is kept.
 use Rattle.std.proofs.Common.{◌≡◌, ℕ, ◌+◌, ◌<◌, ◌≤◌, max, Bool, true, false, not, ◌&&◌, ◌||◌, nat_lt, List, [], ◌∷◌, ◌++◌, Option, Some, None, refl, sym, subst, ◌∙◌, true≢false, arith}
 use Rattle.std.proofs.lemmas.List.{append-nil}
-use Rattle.std.specs.List.{AllByRecursion}
 use Rattle.law_intervals.specs.Intervals.{HasNoGap, reach}
 use Rattle.law_intervals.proofs.Intervals.{all_append, reach-le, reach-append, HasNoGap-append}
 use Rattle.unit_defs.specs.Ways.{Pdu, packet_pdu, report_pdu}

@@ -17,10 +17,11 @@ use Rattle.law_chain.proofs.Laws.{stream_at, first_ones}
 use Rattle.uplink_defs.specs.Parts.{Item, numbered, end_marker, Part, start}
 use Rattle.uplink_defs.specs.Orders.{Order, run, offers_in}
 use Rattle.uplink_defs.specs.Guards.{AreKept}
-use Rattle.law_uplink.specs.Words.{DeliversInOrder, IsItemInPlace, CountsArePlaces, has, IsAt, IsUnderWay, LosesNone, IsQuiet, HasDeliveredAll}
-use Rattle.law_uplink.proofs.Items.{IsRight, IsRightItem, stands-none}
-use Rattle.law_uplink.proofs.Receivers.{rises_has}
-use Rattle.law_uplink.proofs.Facts.{view, StationIs, Own, Beyond, Kept, Good}
+use Rattle.uplink_defs.specs.Places.{has, IsAt}
+use Rattle.law_uplink.specs.Words.{DeliversInOrder, IsItemInPlace, CountsArePlaces, IsUnderWay, LosesNone, IsQuiet, HasDeliveredAll}
+use Rattle.law_uplink_facts.proofs.Items.{IsRight, IsRightItem, stands-none}
+use Rattle.law_uplink_facts.proofs.Receivers.{rises_has}
+use Rattle.law_uplink_facts.proofs.Facts.{view, StationIs, Own, Beyond, Kept, Good}
 use Rattle.law_uplink.proofs.Runs.{all_offered, kept_run, good_start}
 
 -- ---- which COUNTs a sender holds

@@ -1,15 +1,4 @@
-pub mod Items
-pub mod Receivers
-pub mod Facts
-pub mod Frames
-pub mod Terminals
-pub mod Contexts
-pub mod Takes
-pub mod Relays
-pub mod Handing
-pub mod Moves
-pub mod Ends
-pub mod Arrivals
 pub mod Runs
 pub mod Laws
+pub mod Reports
 pub mod Relayed

@@ -11,18 +11,18 @@ use Rattle.law_chain.proofs.Runs.{Agrees}
 use Rattle.uplink_defs.specs.Parts.{Item, numbered, Source, forwarding, uplink_tunnel, Member, Part, start, new_member, no_member, with_rest}
 use Rattle.uplink_defs.specs.Orders.{Order, offers, numbers, connects, leaves, arrives, carries, acknowledges, reports, marks, makes, adds, freezes, knows, switches, resumes, releases, closes, discards, takes, ends_uplink, ends_hop, after, stored_at, new_at, late_at, taken_at, ended_if, ended_at, is_up_over, without_uplink, run, offers_in}
 use Rattle.uplink_defs.specs.Guards.{IsTaken, IsReady, IsOwed, AreKept}
-use Rattle.law_uplink.proofs.Items.{NoData, EndsLast}
-use Rattle.law_uplink.proofs.Receivers.{Rises, is_old}
-use Rattle.law_uplink.proofs.Facts.{Ghost, view, Fine, Passed, Kept, Good}
-use Rattle.law_uplink.proofs.Frames.{either, put_one}
-use Rattle.law_uplink.proofs.Terminals.{kept_offers, kept_numbers, kept_connects, kept_leaves, kept_acknowledges, kept_reports}
-use Rattle.law_uplink.proofs.Contexts.{kept_marks, kept_makes, kept_adds, kept_knows, kept_releases, kept_closes, kept_discards}
-use Rattle.law_uplink.proofs.Takes.{kept_drops, passes}
-use Rattle.law_uplink.proofs.Relays.{kept_relays, kept_passes}
-use Rattle.law_uplink.proofs.Handing.{kept_switches, kept_resumes, kept_delivers}
-use Rattle.law_uplink.proofs.Moves.{kept_freezes}
-use Rattle.law_uplink.proofs.Arrivals.{kept_carries, kept_arrives}
-use Rattle.law_uplink.proofs.Ends.{kept_ends_uplink, kept_ends_hop}
+use Rattle.law_uplink_facts.proofs.Items.{NoData, EndsLast}
+use Rattle.law_uplink_facts.proofs.Receivers.{Rises, is_old}
+use Rattle.law_uplink_facts.proofs.Facts.{Ghost, view, Fine, Passed, Kept, Good}
+use Rattle.law_uplink_facts.proofs.Frames.{either, put_one}
+use Rattle.law_uplink_moves.proofs.Terminals.{kept_offers, kept_numbers, kept_connects, kept_leaves, kept_acknowledges, kept_reports}
+use Rattle.law_uplink_facts.proofs.Contexts.{kept_marks, kept_makes, kept_adds, kept_knows, kept_releases, kept_closes, kept_discards}
+use Rattle.law_uplink_takes.proofs.Takes.{kept_drops, passes}
+use Rattle.law_uplink_takes.proofs.Relays.{kept_relays, kept_passes}
+use Rattle.law_uplink_takes.proofs.Handing.{kept_switches, kept_resumes, kept_delivers}
+use Rattle.law_uplink_moves.proofs.Moves.{kept_freezes}
+use Rattle.law_uplink_moves.proofs.Arrivals.{kept_carries, kept_arrives}
+use Rattle.law_uplink_takes.proofs.Ends.{kept_ends_uplink, kept_ends_hop}
 
 OfferIs : (ℕ → List ℕ) → Part → Order → Type 0
 OfferIs p s (offers packet) = packet ≡ p s.offered

@@ -1,11 +1,12 @@
 -- What the laws say of the uplink of one bearer, after some orders that offered these packets.
-use Rattle.std.specs.Prelude.{◌≡◌, ◌⊎◌, ℕ, ◌<◌, Bool, true, false, List, [], ◌∷◌, length, take, is_some, ⊤}
+use Rattle.std.specs.Prelude.{◌≡◌, ◌⊎◌, ℕ, ◌<◌, true, false, List, [], length, take, ⊤}
 use Rattle.std.specs.List.{AllByRecursion, enumerate_from}
-use Rattle.std.specs.Ordering.{nat_cmp}
-use Rattle.tables.specs.Tables.{find}
+use Rattle.pdcp_defs.specs.Senders.{is_reported}
+use Rattle.pdcp_defs.specs.Receivers.{received_bits}
 use Rattle.law_chain.specs.Words.{IsInPlace}
-use Rattle.uplink_defs.specs.Parts.{Item, numbered, end_marker, uplink_tunnel, Member, Part}
+use Rattle.uplink_defs.specs.Parts.{Item, numbered, end_marker, uplink_tunnel, Part}
 use Rattle.uplink_defs.specs.Guards.{IsOpen}
+use Rattle.uplink_defs.specs.Places.{has, IsAt}
 
 -- what was delivered is a prefix of what was offered, each packet once, and the COUNTs are 0, 1, 2 and so on
 unfoldable pub DeliversInOrder : List (List ℕ) → Part → Type 0
@@ -24,22 +25,6 @@ pub record CountsArePlaces (offered : List (List ℕ)) (s : Part) : Type 0 where
   pub stored : (q : ℕ) → (s.members q).is_there ≡ true
       → AllByRecursion (λ (e : ℕ × List ℕ). IsInPlace offered e.0 e.1) (s.members q).bearer.receiver.stored
 
--- a packet with this COUNT is one of them
-abbrev pub has : List (ℕ × List ℕ) → ℕ → Bool
-has packets count = is_some (find nat_cmp packets count)
-
-unfoldable pub Stands : ℕ → List Item → Type 0
-Stands i [] = ⊥
-Stands i (numbered count packet ∷ items) = (i ≡ count) ⊎ Stands i items
-Stands i (end_marker ∷ items) = Stands i items
-
--- it stands on an open tunnel of this context, or is stored there and the terminal is there
-abbrev pub IsOnTunnel : Member → ℕ → Type 0
-IsOnTunnel m i = Stands i m.forwarded ⊎ ((teid : ℕ) × IsOpen m (uplink_tunnel teid) × Stands i (m.uplink teid))
-
-abbrev pub IsAt : (station x : ℕ) → Member → ℕ → Type 0
-IsAt station x m i = (m.is_there ≡ true) × (IsOnTunnel m i ⊎ ((x ≡ station) × (has m.bearer.receiver.stored i ≡ true)))
-
 unfoldable pub IsUnderWay : Part → ℕ → Type 0
 IsUnderWay s i = (x : ℕ) × IsAt s.station x (s.members x) i
 
@@ -57,3 +42,9 @@ pub record IsQuiet (s : Part) : Type 0 where
 
 unfoldable pub HasDeliveredAll : List (List ℕ) → Part → Type 0
 HasDeliveredAll offered s = s.delivered ≡ enumerate_from 0 offered
+
+-- what a status report of the context where the terminal is says was received, once its SN status is there
+unfoldable pub Reports : Part → ℕ → Type 0
+Reports s i =
+    let m = s.members s.station in
+    (m.flags.has_status ≡ true) × (is_reported m.bearer.receiver.deliv (received_bits m.bearer.receiver) i ≡ true)

@@ -2,14 +2,14 @@
 //! contexts, with packets forwarded through several. Each function does nothing: its contract is the law.
 #![tactic(auto)]
 
-ghost use Rattle.std.specs.Prelude.{◌≡◌, ℕ, List, [], ◌∷◌};
+ghost use Rattle.std.specs.Prelude.{◌≡◌, ◌<◌, ℕ, List, [], ◌∷◌};
 ghost use Rattle.uplink_defs.specs.Parts.{start};
 ghost use Rattle.uplink_defs.specs.Orders.{Order, run, offers_in};
 ghost use Rattle.uplink_defs.specs.Guards.{AreKept};
 ghost use Rattle.law_chain.specs.Relay.{a, b, c, d};
 ghost use Rattle.law_uplink.specs.Relay.{relay, cancelled};
 ghost use Rattle.law_uplink.specs.Words.{DeliversInOrder, CountsArePlaces, LosesNone};
-ghost use Rattle.law_uplink.specs.Words.{IsQuiet, HasDeliveredAll};
+ghost use Rattle.law_uplink.specs.Words.{IsQuiet, HasDeliveredAll, Reports};
 
 /// What is delivered is a prefix of what the terminal was offered, each packet once, with COUNTs 0, 1, 2 and so on.
 pub fn delivers_a_prefix()
@@ -35,6 +35,14 @@ pub fn delivers_all()
 pub fn counts_are_places()
     ensures places { (first teid : ℕ) (orders : List Order) → AreKept (start first teid) orders
         → CountsArePlaces (offers_in orders) (run (start first teid) orders) }
+{}
+
+/// What a status report of the context where the terminal is says was received, was carried up, also if the report comes after
+/// further orders, whatever these are: so it is a report that the terminal may be given.
+pub fn reports_say_what_was_carried()
+    ensures carried { (first teid : ℕ) (orders more : List Order) (i : ℕ)
+        → AreKept (start first teid) orders → Reports (run (start first teid) orders) i
+        → i < (run (run (start first teid) orders) more).reached }
 {}
 
 /// What is asked of the orders can be met: four packets over three contexts, one of them with two uplink tunnels, where the

@@ -6,7 +6,7 @@ use Rattle.unit_defs.specs.UpRecords.{TunnelKind, f1u_uplink, forwarding_up}
 use Rattle.unit_defs.specs.UpBearers.{is_one_of, no_uplink}
 use Rattle.unit_defs.specs.UpItems.{first_held, held_as_target}
 use Rattle.uplink_defs.specs.Parts.{Item, numbered, end_marker, Source, uplink_tunnel, forwarding, Member, Part, items_at}
-use Rattle.uplink_defs.specs.Orders.{Order, offers, numbers, connects, leaves, arrives, carries, acknowledges, reports, marks, makes, adds, freezes, knows, switches, resumes, releases, closes, discards, takes, ends_uplink, ends_hop, is_hop_up_done, after}
+use Rattle.uplink_defs.specs.Orders.{Order, numbers, arrives, carries, acknowledges, reports, makes, adds, freezes, knows, switches, resumes, releases, closes, discards, takes, ends_uplink, ends_hop, is_hop_up_done, after}
 
 abbrev pub kind_of : Source → TunnelKind
 kind_of (uplink_tunnel teid) = f1u_uplink

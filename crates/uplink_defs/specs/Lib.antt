@@ -1,3 +1,4 @@
 pub mod Parts
 pub mod Orders
 pub mod Guards
+pub mod Places

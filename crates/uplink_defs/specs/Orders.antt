@@ -1,11 +1,10 @@
 -- What happens to the uplink of one bearer, in small orders: a row of a unit is a list of them.
-use Rattle.std.specs.Prelude.{◌==◌, ℕ, ◌+◌, max, Bool, true, false, not, ◌&&◌, ◌||◌, nat_lt, if◌then◌else◌, List, [], ◌∷◌, ◌++◌, map, filter, Option, Some, None}
+use Rattle.std.specs.Prelude.{◌==◌, ℕ, ◌+◌, max, Bool, true, false, not, ◌&&◌, ◌||◌, nat_lt, List, [], ◌∷◌, ◌++◌, map, filter, Option, Some, None}
 use Rattle.gnb_types.specs.declared.plans.SnStatus.{SnStatus}
 use Rattle.pdcp_defs.specs.Senders.{numbered as with_next, confirmed_to, confirmed_by}
 use Rattle.pdcp_defs.specs.Receivers.{Delivery, is_duplicate, stored, deliver}
 use Rattle.unit_defs.specs.UpRecords.{SourceHop, UpBearer, UpFlags}
 use Rattle.unit_defs.specs.UpBearers.{released, thawed, no_uplink}
-use Rattle.unit_defs.specs.Ue.{UeBearer}
 use Rattle.chain_defs.specs.Parts.{set}
 use Rattle.chain_defs.specs.Orders.{frozen, known}
 use Rattle.uplink_defs.specs.Parts.{Item, numbered, end_marker, Source, uplink_tunnel, forwarding, Member, Part, new_member, no_member, with_rest}

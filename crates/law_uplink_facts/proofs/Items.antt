@@ -7,7 +7,7 @@ use Rattle.std.specs.Ordering.{nat_cmp, is_eq}
 use Rattle.tables.specs.Tables.{find}
 use Rattle.uplink_defs.specs.Parts.{Item, numbered, end_marker}
 use Rattle.uplink_defs.specs.Guards.{NoEnd}
-use Rattle.law_uplink.specs.Words.{has, Stands}
+use Rattle.uplink_defs.specs.Places.{has, Stands}
 
 -- End Markers alone
 unfoldable pub NoData : List Item → Type 0

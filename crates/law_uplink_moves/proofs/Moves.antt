@@ -8,11 +8,11 @@ use Rattle.law_chain.proofs.Frames.{apart, set_here, set_far}
 use Rattle.uplink_defs.specs.Parts.{Member, Part}
 use Rattle.uplink_defs.specs.Orders.{freezes, late, after}
 use Rattle.uplink_defs.specs.Guards.{IsUnfed, IsUntouched, NoEnd}
-use Rattle.law_uplink.specs.Words.{has, Stands, IsAt}
-use Rattle.law_uplink.proofs.Items.{IsRightItem, late_right, late_no_end, late_stands, no_end-ends_last, ends_last-put, no_end-put, stands-left, stands-right}
-use Rattle.law_uplink.proofs.Facts.{Ghost, View, view, Own, StationIs, out, into, Link, Passed, Kept, Good}
-use Rattle.law_uplink.proofs.Frames.{kept_one, later_same, kept_ghost}
-use Rattle.law_uplink.proofs.Contexts.{stays, not_done}
+use Rattle.uplink_defs.specs.Places.{has, Stands, IsAt}
+use Rattle.law_uplink_facts.proofs.Items.{IsRightItem, late_right, late_no_end, late_stands, no_end-ends_last, ends_last-put, no_end-put, stands-left, stands-right}
+use Rattle.law_uplink_facts.proofs.Facts.{Ghost, View, view, Own, StationIs, out, into, Link, Passed, Kept, Good}
+use Rattle.law_uplink_facts.proofs.Frames.{kept_one, later_same, kept_ghost}
+use Rattle.law_uplink_facts.proofs.Contexts.{stays, not_done}
 
 abbrev pub halted : Member → ℕ → SourceHop → Member
 halted c y hop = record c {

@@ -8,12 +8,12 @@ use Rattle.law_chain.proofs.Frames.{set_here, set_far, put_pairs}
 use Rattle.uplink_defs.specs.Parts.{Item, numbered, uplink_tunnel, Member, Part}
 use Rattle.uplink_defs.specs.Orders.{carries, arrives, after}
 use Rattle.uplink_defs.specs.Guards.{IsOpen, Feeds, NoEnd}
-use Rattle.law_uplink.specs.Words.{has, Stands, IsAt}
-use Rattle.law_uplink.proofs.Items.{IsRightItem, EndsLast, ends_last-put, stands-left, stands-right, stands-first}
-use Rattle.law_uplink.proofs.Facts.{Ghost, View, view, Own, StationIs, Fine, Link, into, out, Linked, Ahead, Beyond, Passed, Radio, Kept, Good}
-use Rattle.law_uplink.proofs.Frames.{either, put_one, tunnels_later, holds_later, kept_one, at_here}
-use Rattle.law_uplink.proofs.Contexts.{feeds_not}
-use Rattle.law_uplink.proofs.Terminals.{sends_on, no_air}
+use Rattle.uplink_defs.specs.Places.{has, Stands, IsAt}
+use Rattle.law_uplink_facts.proofs.Items.{IsRightItem, EndsLast, ends_last-put, stands-left, stands-right, stands-first}
+use Rattle.law_uplink_facts.proofs.Facts.{Ghost, View, view, Own, StationIs, Fine, Link, into, out, Linked, Ahead, Beyond, Passed, Radio, Kept, Good}
+use Rattle.law_uplink_facts.proofs.Frames.{either, put_one, tunnels_later, holds_later, kept_one, at_here}
+use Rattle.law_uplink_facts.proofs.Contexts.{feeds_not}
+use Rattle.law_uplink_moves.proofs.Terminals.{sends_on, no_air}
 
 counts_later : (a b : ℕ) → a ≤ b → (cs : List ℕ) → AllByRecursion (λ (c : ℕ). c < a) cs → AllByRecursion (λ (c : ℕ). c < b) cs
 counts_later a b l [] h = tt

@@ -9,9 +9,9 @@ use Rattle.law_chain.proofs.Facts.{pairs}
 use Rattle.uplink_defs.specs.Parts.{Item, Member, Part}
 use Rattle.uplink_defs.specs.Orders.{is_hop_up_done}
 use Rattle.uplink_defs.specs.Guards.{Feeds, NoEnd}
-use Rattle.law_uplink.specs.Words.{has, Stands, IsAt}
-use Rattle.law_uplink.proofs.Items.{IsRight, IsRightItem, NoData, EndsLast}
-use Rattle.law_uplink.proofs.Receivers.{Rises}
+use Rattle.uplink_defs.specs.Places.{has, Stands, IsAt}
+use Rattle.law_uplink_facts.proofs.Items.{IsRight, IsRightItem, NoData, EndsLast}
+use Rattle.law_uplink_facts.proofs.Receivers.{Rises}
 
 -- Of a context: its place in the order in which the terminal came to them, 0 where it never was; and who feeds it.
 pub record Ghost : Type 0 where

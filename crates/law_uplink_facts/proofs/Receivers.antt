@@ -11,8 +11,8 @@ use Rattle.law_intervals.specs.Intervals.{upto}
 use Rattle.law_intervals.proofs.Intervals.{upto-nil, upto-cons}
 use Rattle.pdcp_defs.specs.Receivers.{Receiver, Delivery, is_duplicate, deliver, deliver_from, with_packet}
 use Rattle.law_chain.proofs.Facts.{pairs}
-use Rattle.law_uplink.specs.Words.{has}
-use Rattle.law_uplink.proofs.Items.{IsRight, at_is}
+use Rattle.uplink_defs.specs.Places.{has}
+use Rattle.law_uplink_facts.proofs.Items.{IsRight, at_is}
 
 unfoldable pub Rises : ℕ → List (ℕ × List ℕ) → Type 0
 Rises n [] = ⊤

@@ -10,9 +10,9 @@ use Rattle.law_chain.proofs.Facts.{pairs}
 use Rattle.law_chain.proofs.Frames.{apart}
 use Rattle.uplink_defs.specs.Parts.{Part}
 use Rattle.uplink_defs.specs.Orders.{offers, numbers, connects, leaves, acknowledges, reports, after}
-use Rattle.law_uplink.proofs.Items.{IsRight, right_later}
-use Rattle.law_uplink.proofs.Facts.{Ghost, Sends, Radio, Terminal, Kept, Good}
-use Rattle.law_uplink.proofs.Frames.{kept_rest}
+use Rattle.law_uplink_facts.proofs.Items.{IsRight, right_later}
+use Rattle.law_uplink_facts.proofs.Facts.{Ghost, Sends, Radio, Terminal, Kept, Good}
+use Rattle.law_uplink_facts.proofs.Frames.{kept_rest}
 
 -- ---- the sender, while more is carried up and confirmed
 

@@ -13,11 +13,11 @@ use Rattle.law_chain.proofs.Frames.{apart, set_here}
 use Rattle.uplink_defs.specs.Parts.{Item, end_marker, Member, Part, new_member, no_member}
 use Rattle.uplink_defs.specs.Orders.{marks, makes, adds, knows, releases, closes, discards, is_hop_up_done, after}
 use Rattle.uplink_defs.specs.Guards.{Feeds, IsUnfed}
-use Rattle.law_uplink.specs.Words.{Stands, IsAt}
-use Rattle.law_uplink.proofs.Items.{IsRightItem, NoData, EndsLast, ends_last-end, no_data-stands, stands-left}
-use Rattle.law_uplink.proofs.Receivers.{Rises}
-use Rattle.law_uplink.proofs.Facts.{Ghost, View, view, is_ended, Own, Beyond, Passed, Kept, Good}
-use Rattle.law_uplink.proofs.Frames.{either, put_one, kept_one, later_same, kept_ghost, at_here}
+use Rattle.uplink_defs.specs.Places.{Stands, IsAt}
+use Rattle.law_uplink_facts.proofs.Items.{IsRightItem, NoData, EndsLast, ends_last-end, no_data-stands, stands-left}
+use Rattle.law_uplink_facts.proofs.Receivers.{Rises}
+use Rattle.law_uplink_facts.proofs.Facts.{Ghost, View, view, is_ended, Own, Beyond, Passed, Kept, Good}
+use Rattle.law_uplink_facts.proofs.Frames.{either, put_one, kept_one, later_same, kept_ghost, at_here}
 
 pub rises_none : (n : ℕ) (es : List (ℕ × List ℕ)) → es ≡ [] → Rises n es
 unfolding Rises

@@ -8,13 +8,13 @@ use Rattle.law_chain.proofs.Frames.{apart, set_here, set_far}
 use Rattle.uplink_defs.specs.Parts.{Item, numbered, Source, Member, Part, with_rest}
 use Rattle.uplink_defs.specs.Orders.{stores, is_hop_up_done, put_on, passed}
 use Rattle.uplink_defs.specs.Guards.{IsTaken, Feeds, NoEnd}
-use Rattle.law_uplink.specs.Words.{has, Stands}
-use Rattle.law_uplink.proofs.Items.{EndsLast, ends_last-put, no_end-put, stands-left, stands-right, stands-first}
-use Rattle.law_uplink.proofs.Receivers.{rises_put, right_put, has_more, has_new, has_either, is_new}
-use Rattle.law_uplink.proofs.Facts.{Ghost, View, view, is_ended, Holds, Own, Link, into, out, Beyond, Passed, Kept}
-use Rattle.law_uplink.proofs.Frames.{either, at_here}
-use Rattle.law_uplink.proofs.Contexts.{feeds_not, not_done}
-use Rattle.law_uplink.proofs.Takes.{with_more, kept_put, taken_right, not_ended, passes, Goes, left, IsTakenAt, kept_taken}
+use Rattle.uplink_defs.specs.Places.{has, Stands}
+use Rattle.law_uplink_facts.proofs.Items.{EndsLast, ends_last-put, no_end-put, stands-left, stands-right, stands-first}
+use Rattle.law_uplink_facts.proofs.Receivers.{rises_put, right_put, has_more, has_new, has_either, is_new}
+use Rattle.law_uplink_facts.proofs.Facts.{Ghost, View, view, is_ended, Holds, Own, Link, into, out, Beyond, Passed, Kept}
+use Rattle.law_uplink_facts.proofs.Frames.{either, at_here}
+use Rattle.law_uplink_facts.proofs.Contexts.{feeds_not, not_done}
+use Rattle.law_uplink_takes.proofs.Takes.{with_more, kept_put, taken_right, not_ended, passes, Goes, left, IsTakenAt, kept_taken}
 
 -- two places of a function, in either order
 set_swap : {X : Type 0} (f : ℕ → X) (x : ℕ) (a : X) (y : ℕ) (b : X) → y ≢ x → set (set f x a) y b ≡ set (set f y b) x a

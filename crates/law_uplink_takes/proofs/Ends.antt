@@ -8,12 +8,12 @@ use Rattle.law_chain.proofs.Frames.{apart, set_here, set_far}
 use Rattle.uplink_defs.specs.Parts.{Item, end_marker, uplink_tunnel, forwarding, Member, Part}
 use Rattle.uplink_defs.specs.Orders.{ends_uplink, ends_hop, is_up_over, ended_if, ended_at, put_on, passed, after}
 use Rattle.uplink_defs.specs.Guards.{IsTaken, NoEnd}
-use Rattle.law_uplink.specs.Words.{Stands, IsOnTunnel, IsAt}
-use Rattle.law_uplink.proofs.Items.{IsRightItem, NoData, EndsLast, no_data-put, no_data-stands, no_data-ends_last, ends_last-end, rest_no_data, rest_right, end_is_there, stands-end}
-use Rattle.law_uplink.proofs.Facts.{Ghost, View, view, is_ended, Tunnels, Own, Passed, Kept, Good}
-use Rattle.law_uplink.proofs.Frames.{either, put_one, kept_one, later_same}
-use Rattle.law_uplink.proofs.Contexts.{feeds_not, stays}
-use Rattle.law_uplink.proofs.Takes.{kept_put, passes}
+use Rattle.uplink_defs.specs.Places.{Stands, IsOnTunnel, IsAt}
+use Rattle.law_uplink_facts.proofs.Items.{IsRightItem, NoData, EndsLast, no_data-put, no_data-stands, no_data-ends_last, ends_last-end, rest_no_data, rest_right, end_is_there, stands-end}
+use Rattle.law_uplink_facts.proofs.Facts.{Ghost, View, view, is_ended, Tunnels, Own, Passed, Kept, Good}
+use Rattle.law_uplink_facts.proofs.Frames.{either, put_one, kept_one, later_same}
+use Rattle.law_uplink_facts.proofs.Contexts.{feeds_not, stays}
+use Rattle.law_uplink_takes.proofs.Takes.{kept_put, passes}
 
 -- a tunnel that is closed is no longer open, and others stay so
 open_after : (uplinks : List ℕ) (teid t : ℕ) → t ≢ teid → is_one_of uplinks t ≡ true

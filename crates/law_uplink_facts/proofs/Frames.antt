@@ -4,9 +4,9 @@ use Rattle.chain_defs.specs.Parts.{set}
 use Rattle.law_chain.proofs.Frames.{apart, same, set_here, set_far, put_each, put_pairs}
 use Rattle.uplink_defs.specs.Parts.{Item, Member, Part}
 use Rattle.uplink_defs.specs.Guards.{Feeds, IsUnfed}
-use Rattle.law_uplink.specs.Words.{has, IsAt}
-use Rattle.law_uplink.proofs.Items.{right_later, items_later}
-use Rattle.law_uplink.proofs.Facts.{Ghost, View, view, is_ended, Tunnels, Holds, Own, StationIs, Fine, into, Link, Linked, Ahead, Beyond, Passed, Sends, Radio, Terminal, Kept}
+use Rattle.uplink_defs.specs.Places.{has, IsAt}
+use Rattle.law_uplink_facts.proofs.Items.{right_later, items_later}
+use Rattle.law_uplink_facts.proofs.Facts.{Ghost, View, view, is_ended, Tunnels, Holds, Own, StationIs, Fine, into, Link, Linked, Ahead, Beyond, Passed, Sends, Radio, Terminal, Kept}
 
 pub either : (q x : ℕ) → (q ≡ x) ⊎ (q ≢ x)
 either q x = by (q == x) refl

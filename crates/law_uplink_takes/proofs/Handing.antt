@@ -14,12 +14,12 @@ use Rattle.law_chain.proofs.Frames.{apart}
 use Rattle.uplink_defs.specs.Parts.{Item, numbered, Source, uplink_tunnel, forwarding, Member, Part, items_at, forwarded_left, with_rest}
 use Rattle.uplink_defs.specs.Orders.{switches, resumes, stores, is_hop_up_done, handed, after}
 use Rattle.uplink_defs.specs.Guards.{IsTaken, NoEnd}
-use Rattle.law_uplink.specs.Words.{has, IsOnTunnel, IsAt}
-use Rattle.law_uplink.proofs.Items.{IsRight, rest_no_end}
-use Rattle.law_uplink.proofs.Receivers.{Rises, rises_less, rises_put, right_put, has_more, has_new, is_new, hands}
-use Rattle.law_uplink.proofs.Facts.{Ghost, View, view, Tunnels, Flags, Own, StationIs, Beyond, Kept, Good}
-use Rattle.law_uplink.proofs.Frames.{kept_one, at_here}
-use Rattle.law_uplink.proofs.Takes.{tunnels_taken, taken_right, was_there, passes}
+use Rattle.uplink_defs.specs.Places.{has, IsOnTunnel, IsAt}
+use Rattle.law_uplink_facts.proofs.Items.{IsRight, rest_no_end}
+use Rattle.law_uplink_facts.proofs.Receivers.{Rises, rises_less, rises_put, right_put, has_more, has_new, is_new, hands}
+use Rattle.law_uplink_facts.proofs.Facts.{Ghost, View, view, Tunnels, Flags, Own, StationIs, Beyond, Kept, Good}
+use Rattle.law_uplink_facts.proofs.Frames.{kept_one, at_here}
+use Rattle.law_uplink_takes.proofs.Takes.{tunnels_taken, taken_right, was_there, passes}
 
 -- ---- what a receiver hands up, where delivery stands at its RX_DELIV, or it has no SN status and stores nothing
 

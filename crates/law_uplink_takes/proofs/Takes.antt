@@ -11,11 +11,11 @@ use Rattle.law_chain.proofs.Frames.{apart}
 use Rattle.uplink_defs.specs.Parts.{Item, numbered, Source, uplink_tunnel, forwarding, Member, Part, items_at, standing, uplink_left, forwarded_left, with_rest}
 use Rattle.uplink_defs.specs.Orders.{is_hop_up_done, changed, put_on}
 use Rattle.uplink_defs.specs.Guards.{IsOpen, IsTaken, Feeds, NoEnd, kind_of}
-use Rattle.law_uplink.specs.Words.{has, Stands, IsOnTunnel, IsAt}
-use Rattle.law_uplink.proofs.Items.{IsRightItem, NoData, EndsLast, rest_ends_last, rest_no_end, data_is_there, first_right, stands-left, stands-one}
-use Rattle.law_uplink.proofs.Facts.{Ghost, View, view, is_ended, Tunnels, Holds, Own, Beyond, Passed, Kept}
-use Rattle.law_uplink.proofs.Frames.{either, put_one, kept_one, later_same, at_here, at_far}
-use Rattle.law_uplink.proofs.Contexts.{feeds_not, stays, none_open}
+use Rattle.uplink_defs.specs.Places.{has, Stands, IsOnTunnel, IsAt}
+use Rattle.law_uplink_facts.proofs.Items.{IsRightItem, NoData, EndsLast, rest_ends_last, rest_no_end, data_is_there, first_right, stands-left, stands-one}
+use Rattle.law_uplink_facts.proofs.Facts.{Ghost, View, view, is_ended, Tunnels, Holds, Own, Beyond, Passed, Kept}
+use Rattle.law_uplink_facts.proofs.Frames.{either, put_one, kept_one, later_same, at_here, at_far}
+use Rattle.law_uplink_facts.proofs.Contexts.{feeds_not, stays, none_open}
 
 -- ---- an item is put on the forwarding tunnel of y
 
