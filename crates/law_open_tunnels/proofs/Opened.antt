@@ -3,15 +3,12 @@ use Rattle.std.proofs.Common.{◌≡◌, ◌==◌, ℕ, Bool, true, false, cond,
 use Rattle.std.specs.Prelude.{is_some}
 use Rattle.std.specs.Ordering.{nat_cmp, eq_by_cmp, is_eq}
 use Rattle.std.specs.Cmp.{nat_cmp_total, tied_itself, Equal-is}
-use Rattle.std.specs.List.{flat_map}
-use Rattle.std.proofs.lemmas.Grind.{flat_map-append}
 use Rattle.std.proofs.lemmas.Map.Lookups.{exact_unsigned}
 use Rattle.tables.specs.Tables.{find, put, without}
 use Rattle.tables.proofs.TableLaws.{find-put, find-without}
 use Rattle.unit_defs.specs.Ways.{Put, Output, control, packet, radio, deliver, dropped, held, opened, closed, failed, no}
 use Rattle.unit_defs.specs.Teids.{without_each}
-use Rattle.unit_defs.specs.CuUp.{closed_in}
-use Rattle.law_teids.specs.Given.{opened_in, opened_by}
+use Rattle.law_teids.specs.Given.{opened_by}
 use Rattle.law_teids.proofs.Bearers.{closed_by}
 use Rattle.law_open_tunnels.specs.Open.{open_after, is_open_in}
 

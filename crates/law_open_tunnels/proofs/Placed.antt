@@ -1,7 +1,7 @@
 -- A terminal that is set up without messages: its tunnels stand where its units have their TEIDs open.
-use Rattle.std.proofs.Common.{◌≡◌, ◌==◌, ℕ, zero, suc, ◌+◌, ◌*◌, Bool, true, false, cond, ◌||◌, List, [], ◌∷◌, ◌++◌, length, map, Option, Some, None, refl, sym, ap, ◌∙◌, subst, arith}
-use Rattle.std.specs.Prelude.{if◌then◌else◌, unwrap_or, is_some}
-use Rattle.std.specs.Ordering.{nat_cmp, eq_by_cmp}
+use Rattle.std.proofs.Common.{◌≡◌, ◌==◌, ℕ, zero, suc, ◌+◌, ◌*◌, Bool, true, false, cond, ◌||◌, List, [], ◌∷◌, length, Option, Some, None, refl, sym, ap, ◌∙◌, arith}
+use Rattle.std.specs.Prelude.{if◌then◌else◌, unwrap_or}
+use Rattle.std.specs.Ordering.{eq_by_cmp}
 use Rattle.std.specs.Option.{option_map}
 use Rattle.std.specs.Cmp.{Equal-is}
 use Rattle.std.specs.List.{flat_map}
@@ -16,13 +16,13 @@ use Rattle.gnb_types.specs.declared.plans.Plan.{Plan}
 use Rattle.gnb_types.specs.declared.plans.Tunnel.{Tunnel}
 use Rattle.gnb_types.specs.Orders.{node_cmp, tunnel_cmp}
 use Rattle.gnb_types.proofs.OrderLemmas.{node_total, node_exact}
-use Rattle.tables.specs.Tables.{find, put, at}
+use Rattle.tables.specs.Tables.{find, at}
 use Rattle.tables.proofs.TableLaws.{at-put}
 use Rattle.unit_defs.specs.CpRecords.{CuCpRecord}
-use Rattle.unit_defs.specs.UpRecords.{UpBearer, CuUp}
+use Rattle.unit_defs.specs.UpRecords.{CuUp}
 use Rattle.unit_defs.specs.UpBearers.{made}
 use Rattle.unit_defs.specs.CuUp.{new_cu_up, bearers_from, bearers_made, entries_of}
-use Rattle.unit_defs.specs.Du.{Du, DuBearer, new_du, bearers_made as du_bearers}
+use Rattle.unit_defs.specs.Du.{Du, new_du, bearers_made as du_bearers}
 use Rattle.unit_defs.specs.Static.{with_downlinks, up_context, up_placed, cp_placed, uplinks_from, du_context, du_placed, up_set_up, du_set_up}
 use Rattle.unit_defs.specs.Ue.{new_ue, placed}
 use Rattle.transport_defs.specs.declared.Item.{Item}
@@ -31,7 +31,7 @@ use Rattle.run_defs.specs.States.{State}
 use Rattle.run_defs.specs.Steps.{with_tunnel}
 use Rattle.run_defs.specs.Conditions.{tunnels_from, units_placed, all_set_up, statically}
 use Rattle.law_teids.specs.Given.{count_from}
-use Rattle.law_teids.proofs.CuUps.{Entry, how_many}
+use Rattle.law_teids.proofs.CuUps.{how_many}
 use Rattle.law_teids.proofs.Dus.{made_counted}
 use Rattle.law_teids.proofs.Placed.{find_mapped}
 use Rattle.law_open_tunnels.specs.Open.{is_open_in, stands, StandWhereOpen}

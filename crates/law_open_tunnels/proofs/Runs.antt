@@ -1,6 +1,6 @@
 -- In every run tunnels stand where their TEIDs are open.
-use Rattle.std.proofs.Common.{◌≡◌, ℕ, Bool, true, false, cond, ◌||◌, ◌&&◌, List, [], ◌∷◌, map, Option, Some, None, refl, sym, ap, ◌∙◌, subst}
-use Rattle.std.specs.Prelude.{if◌then◌else◌, is_some, unwrap_or}
+use Rattle.std.proofs.Common.{◌≡◌, ℕ, Bool, true, false, cond, List, [], ◌∷◌, map, Option, Some, None, refl, sym, ap, ◌∙◌, subst}
+use Rattle.std.specs.Prelude.{if◌then◌else◌, unwrap_or}
 use Rattle.std.specs.Ordering.{eq_by_cmp}
 use Rattle.gnb_types.specs.declared.names.Gnb.{Gnb}
 use Rattle.gnb_types.specs.declared.names.Gnb.TheVariants.{A, B}
@@ -11,19 +11,17 @@ use Rattle.std.specs.BTreeMap.{is_at}
 use Rattle.tables.specs.Tables.{find, at}
 use Rattle.message_types.specs.declared.rrc.Token.{Token}
 use Rattle.scenario_text.specs.declared.event.Event.{Event}
-use Rattle.unit_defs.specs.Ways.{Message, Pdu, Load, Put, control, packet, radio, deliver, dropped, held, opened, closed, failed, no, Input, Answer, gives, spent}
-use Rattle.unit_defs.specs.Ue.{UeNode, new_ue, ue_acts}
-use Rattle.unit_defs.specs.UpRecords.{CuUp, UpTunnel}
+use Rattle.unit_defs.specs.Ways.{Message, Pdu, Load, Put, control, packet, radio, deliver, dropped, held, opened, closed, failed, no, Input, gives, spent}
+use Rattle.unit_defs.specs.Ue.{UeNode, ue_acts}
+use Rattle.unit_defs.specs.UpRecords.{CuUp}
 use Rattle.unit_defs.specs.CuUp.{new_cu_up, cu_up_acts}
-use Rattle.unit_defs.specs.Du.{Du, DuTunnel, new_du, du_acts}
+use Rattle.unit_defs.specs.Du.{Du, new_du, du_acts}
 use Rattle.unit_defs.specs.CpRecords.{CuCpRecord}
 use Rattle.unit_defs.specs.CuCp.{cu_cp_acts}
-use Rattle.unit_defs.specs.Messages.{teid_of}
 use Rattle.run_defs.specs.Units.{Units, new_units, cp_of, with_cp, up_of, with_up, du_of, with_du, ue_of, with_ue}
 use Rattle.run_defs.specs.Written.{Written, written_put, PlainStepped, WrittenStepped, written_step}
 use Rattle.run_defs.specs.States.{State, new_state, Lengths, Given, stepped, step_spent, World, sn_of, goes, stops, told_before, ◌next◌, Ending, Within, Outcome, as_step}
-use Rattle.run_defs.specs.Steps.{check_spans, put_on_tunnel, put_out_all}
-use Rattle.run_defs.specs.Conditions.{statically}
+use Rattle.run_defs.specs.Steps.{check_spans, put_out_all}
 use Rattle.run_defs.specs.Events.{landed_as}
 use Rattle.run_defs.specs.Runs.{Reading, PlainGiven, Plain, plain_way, input_of, fault_of, stepped_with, ue_stepped, acts_on, plain_by, plain_world, happens}
 use Rattle.law_steps.specs.Causes.{Cause, by_order, by_tick, by_octets, by_octets_on, by_attach, by_release, by_offer, by_item, by_air, by_ack, by_letter, node_of, given_of}
