@@ -5,3 +5,4 @@ pub mod Dus
 pub mod Links
 pub mod Placed
 pub mod Runs
+pub mod UnitRuns

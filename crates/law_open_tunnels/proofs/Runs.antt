@@ -35,7 +35,7 @@ use Rattle.law_open_tunnels.proofs.Dus.{Fits as DuFits, du_fits}
 use Rattle.law_open_tunnels.proofs.Links.{told, differs, there_again, HasTunnels, then_kept, then_tunnels, as_good, kept_checked, kept_put_on_tunnel, all_told, act_told}
 use Rattle.law_open_tunnels.proofs.Placed.{open_up, open_du, up_becomes, du_becomes, with_cp_same, placed_holds}
 
-not_told : {M L P : Type 0} (node : NodeId) (outputs : List (Put M L P)) (n : NodeId) (q : ℕ) (x : Bool) → (n ≡ node → ⊥) → told node outputs n q x ≡ x
+pub not_told : {M L P : Type 0} (node : NodeId) (outputs : List (Put M L P)) (n : NodeId) (q : ℕ) (x : Bool) → (n ≡ node → ⊥) → told node outputs n q x ≡ x
 not_told node outputs n q x apart = ap (λ (t : Bool). if t then open_after q outputs x else x) (differs n node apart)
 
 idle : (a x : Bool) → x ≡ (if a then x else x)
@@ -47,6 +47,18 @@ abbrev pub Show : {M C M' L P : Type 0} → NodeId → List (Put M' L P) → Uni
 Show node outputs u v =
     ((g : Gnb) (k q : ℕ) → open_up v g k q ≡ told node outputs (up_id g k) q (open_up u g k q))
     × ((g : Gnb) (k q : ℕ) → open_du v g k q ≡ told node outputs (du_id g k) q (open_du u g k q))
+
+-- no output opens or closes anything
+pub nothing_shown : {M C M' L P : Type 0} (u : Units M C) (node : NodeId) (outputs : List (Put M' L P)) → ((q : ℕ) (x : Bool) → open_after q outputs x ≡ x)
+    → Show node outputs u u
+nothing_shown {M' = M'} {L = L} {P = P} u node outputs none = (
+  λ g k q. by q (open_up u g k q) (eq_by_cmp node_cmp (up_id g k) node),
+  λ g k q. by q (open_du u g k q) (eq_by_cmp node_cmp (du_id g k) node),
+)
+  where
+    by : (q : ℕ) (x a : Bool) → x ≡ (if a then open_after q outputs x else x)
+    by q x true = sym (none q x)
+    by q x false = refl
 
 -- ---- events of any world whose units show what they open
 
@@ -218,18 +230,6 @@ module _ (reading : Reading) where
   )
   by_ue u ue (spent counter) = tt
 
-  -- no output opens or closes anything
-  nothing_shown : (u : PlainUnits) (node : NodeId) (outputs : List (Put (Message Token) (Load Pdu) Pdu)) → ((q : ℕ) (x : Bool) → open_after q outputs x ≡ x)
-      → Show node outputs u u
-  nothing_shown u node outputs none = (
-    λ g k q. by (up_id g k) q (open_up u g k q) (eq_by_cmp node_cmp (up_id g k) node),
-    λ g k q. by (du_id g k) q (open_du u g k q) (eq_by_cmp node_cmp (du_id g k) node),
-  )
-    where
-      by : (n : NodeId) (q : ℕ) (x a : Bool) → x ≡ (if a then open_after q outputs x else x)
-      by n q x true = sym (none q x)
-      by n q x false = refl
-
   acted : (u : PlainUnits) (node : NodeId) (input : Input Token Pdu) → Shown u node (acts_on reading u node input)
   acted u (CuCp gnb) input = by_cp u gnb (cu_cp_acts plain_way (cp_of u gnb) input)
   acted u (up_id gnb number) input =
@@ -239,12 +239,13 @@ module _ (reading : Reading) where
   acted u (Ue ue) input = there (ue_of u (record { 0 = ue }))
     where
       there : (o : Option UeNode) → Shown u (Ue ue) (ue_stepped reading u ue input o)
-      there None = nothing_shown u (Ue ue) [] (λ q x. refl)
+      there None = nothing_shown {M' = Message Token} {L = Load Pdu} {P = Pdu} u (Ue ue) [] (λ q x. refl)
       there (Some x) = by_ue u ue (ue_acts plain_way x input)
-  acted u Core input = nothing_shown u Core [] (λ q x. refl)
+  acted u Core input = nothing_shown {M' = Message Token} {L = Load Pdu} {P = Pdu} u Core [] (λ q x. refl)
 
   answered : (u : PlainUnits) (node : NodeId) (given : PlainGiven) (o : Option (Input Token Pdu)) → Shown u node (plain_by reading u node given o)
-  answered u node given None = nothing_shown u node (dropped (fault_of reading node given) ∷ []) (λ q x. refl)
+  answered u node given None =
+      nothing_shown {M' = Message Token} {L = Load Pdu} {P = Pdu} u node (dropped (fault_of reading node given) ∷ []) (λ q x. refl)
   answered u node given (Some input) = acted u node input
 
   told_written : (lengths : Lengths) (node : NodeId) (outputs : List (Put (Message Token) (Load Pdu) Pdu)) (n : NodeId) (q : ℕ) (x : Bool)
