@@ -164,7 +164,7 @@ module _ {M C L P : Type 0} (world : World M C L P) where
   first_units (by_ack key home item rest) s = refl
   first_units (by_letter number l to) s = refl
 
-  act_units : (cause : Cause M L P) (outputs : List (Put M L P)) (units : Units M C) (s : State M C L P)
+  pub act_units : (cause : Cause M L P) (outputs : List (Put M L P)) (units : Units M C) (s : State M C L P)
       → HasUnits (units_by cause units) (carried_out world (node_of cause) (count_of cause) (first_of world cause) outputs units s)
   act_units cause outputs units s =
       let u = units_by cause units in

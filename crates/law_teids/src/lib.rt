@@ -6,12 +6,14 @@ ghost use Rattle.law_teids.specs.Given.{GivesTeids, GiveOnce};
 ghost use Rattle.message_types.specs.declared.rrc.Token.{Token};
 ghost use Rattle.run_defs.specs.Runs.{plain_world, Reading};
 ghost use Rattle.run_defs.specs.States.{State};
+ghost use Rattle.run_defs.specs.UnitRuns.{tables, unit_world};
 ghost use Rattle.run_defs.specs.Written.{Written};
 ghost use Rattle.scenario_text.specs.declared.event.Event.{Event};
-ghost use Rattle.std.specs.Prelude.{List, Some, ◌≡◌};
+ghost use Rattle.std.specs.Prelude.{List, Some, ℕ, ◌≡◌};
 ghost use Rattle.unit_defs.specs.CuUp.{cu_up_acts};
 ghost use Rattle.unit_defs.specs.Du.{Du, du_acts};
 ghost use Rattle.unit_defs.specs.UpRecords.{CuUp};
+ghost use Rattle.unit_octet_defs.specs.Codec.{Codec};
 ghost use Rattle.unit_defs.specs.Ways.{Input, Load, Message, Pdu, Way};
 
 /// What a CU-UP opens on any input, in any state, are its next TEIDs, ascending; the next ones are never lowered; and a
@@ -28,9 +30,12 @@ pub fn a_du_gives_the_next_teids<M, C, P>()
 {}
 
 /// In every run, from every state: a TEID that is open at a CU-UP or DU later was open there before, as the same one's, or
-/// was not given before; and no TEID that was given is given again.
+/// was not given before; and no TEID that was given is given again. So it is in the run of units that do what the tables say
+/// after decoding.
 pub fn a_teid_is_given_once()
-    ensures { (reading : Reading) (events : List Event)
+    ensures run { (reading : Reading) (events : List Event)
         (s t : State (Message Token) Token (Written (Load Pdu)) (Written Pdu))
         → reached (plain_world reading) events s ≡ Some t → GiveOnce s.units t.units }
+    ensures units { (codec : Codec) (events : List Event) (s t : State (List ℕ) (List ℕ) (List ℕ) (List ℕ))
+        → reached (unit_world codec (tables codec)) events s ≡ Some t → GiveOnce s.units t.units }
 {}
