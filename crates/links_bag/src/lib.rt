@@ -3,5 +3,3 @@
 
 pub mod bag;
 pub mod error;
-#[cfg(test)]
-mod tests;

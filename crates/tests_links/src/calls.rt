@@ -31,6 +31,9 @@ pub enum Answer {
     Place(Option<(NodeId, u32)>),
     /// How many items stand there, and the least COUNT that one shows.
     Standing(u64, Option<u32>),
+    /// A control message: its ends, its terminal, and its octet.
+    Message(NodeId, NodeId, u8, Option<u8>),
+    Least(Option<u32>),
 }
 
 /// An item of one octet.
@@ -54,7 +57,14 @@ pub fn shown(answer: Result<&Item, LinkError>) -> Answer {
 pub fn given(answer: Result<Item, LinkError>) -> Result<Answer, Memory> {
     match answer {
         Ok(item) => Ok(shown(Ok(&item))),
-        Err(LinkError::Memory) => Err(Memory),
-        Err(error) => Ok(Answer::Refused(error)),
+        Err(error) => refused(error),
+    }
+}
+
+/// Out of memory is no answer.
+pub fn refused(error: LinkError) -> Result<Answer, Memory> {
+    match error {
+        LinkError::Memory => Err(Memory),
+        error => Ok(Answer::Refused(error)),
     }
 }

@@ -1,6 +1,8 @@
-//! Tests of the tunnels and radios of the links, by public calls alone.
+//! Tests of the links, by public calls alone.
 #![tactic(auto)]
 
+#[cfg(test)]
+mod bag;
 #[cfg(test)]
 mod calls;
 #[cfg(test)]
