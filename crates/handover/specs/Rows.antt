@@ -1,5 +1,5 @@
--- The calls of the states: what each gives and says, or why it refuses. The rows are those of the procedure tables (TS 38.401, 8.9; TS 38.423,
--- 8.2), with messages, modes and receivers by name.
+-- The calls of the states: what each gives and says, or why it refuses. The rows are those of the procedure tables (TS 38.401, 8.9;
+-- TS 38.423, 8.2), with messages, modes and receivers by name.
 use Rattle.std.specs.Prelude.{◌≡◌, ℕ, ◌+◌, Bool, true, false, not, ◌&&◌, ◌||◌, is_some, if◌then◌else◌, List, [], ◌∷◌, Option, Some, None, Result, Ok, Err}
 use Rattle.gnb_types.specs.declared.names.Gnb.{Gnb}
 use Rattle.gnb_types.specs.declared.names.UeId.{UeId}
@@ -80,11 +80,16 @@ attach_is_declined a instance = only_if (is_awaited a.awaits.cu_up instance) []
 
 -- ---- a handover is prepared, at its source. The epoch that was accepted last is told.
 
+abbrev pub preparing_move : UeId → ℕ → Plan → Onward
+preparing_move ue epoch goal =
+    (with_cu_up (Some BearerContextModificationRequest) (new_attempt ue kinds.BetweenDus (epoch + 1) (Some goal)), modifies Uplinks ∷ [])
+
+abbrev pub preparing_handover : UeId → ℕ → Plan → Onward
+preparing_handover ue epoch goal =
+    (with_other_cu (Some HandoverRequest) (new_attempt ue kinds.BetweenGnbs (epoch + 1) (Some goal)), sends HandoverRequest OtherCu ∷ [])
+
 abbrev pub preparing : UeId → Gnb → ℕ → Plan → Onward
-preparing ue home epoch goal =
-    if is_same_gnb goal.gnb home
-    then (with_cu_up (Some BearerContextModificationRequest) (new_attempt ue kinds.BetweenDus (epoch + 1) (Some goal)), modifies Uplinks ∷ [])
-    else (with_other_cu (Some HandoverRequest) (new_attempt ue kinds.BetweenGnbs (epoch + 1) (Some goal)), sends HandoverRequest OtherCu ∷ [])
+preparing ue home epoch goal = if is_same_gnb goal.gnb home then preparing_move ue epoch goal else preparing_handover ue epoch goal
 
 -- between DUs: further uplinks, and then the context at the target. Nothing is frozen, but the next step is the same.
 abbrev pub move_has_uplinks : Attempt → ℕ → Result Onward Refusal

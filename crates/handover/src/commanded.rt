@@ -75,8 +75,8 @@ impl Commanded {
         })
     }
 
-    /// The terminal asks for re-establishment with this epoch: with that of the attempt at the serving DU, with the one after it at the target
-    /// DU, where it arrived and lost its radio.
+    /// The terminal asks for re-establishment with this epoch: with that of the attempt at the serving DU, with the one after it at the
+    /// target DU, where it arrived and lost its radio.
     pub fn returned(self, epoch: u32) -> Result<(Returning, Steps), (Commanded, Refusal)>
         ensures { Meets (return_while_commanded self epoch) self result }
     {
