@@ -1,6 +1,3 @@
-pub mod Ordered
-pub mod Rounds
-pub mod Matched
 pub mod SaysF1
 pub mod SaysE1
 pub mod SaysXn

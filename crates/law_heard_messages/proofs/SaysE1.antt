@@ -18,8 +18,8 @@ use Rattle.message_defs.specs.Known.{known, known_row, known_body, known_message
 use Rattle.message_defs.specs.Heard.{Cause, unknown_procedure, first_rejected, unless_rejected, rejected_in}
 use Rattle.message_defs.specs.E1.{written_e1, e1_at, heard_e1}
 use Rattle.law_messages.proofs.HeardE1.{heard}
-use Rattle.law_heard_messages.proofs.Rounds.{ue_is, word_is, bearer_is, unit_is, quota_is, cause_is, mode_is, sn_is, flag_is, name_is, peer_is, tunnels_is, statuses_is}
-use Rattle.law_heard_messages.proofs.Matched.{none, one, must, may, its_tree, inside, are_its, known_body_is, code_is, outcome_is, answer_is, here}
+use Rattle.message_proof_elements.proofs.Rounds.{ue_is, word_is, bearer_is, unit_is, quota_is, cause_is, mode_is, sn_is, flag_is, name_is, peer_is, tunnels_is, statuses_is}
+use Rattle.message_proof_elements.proofs.Matched.{none, one, must, may, its_tree, inside, are_its, known_body_is, code_is, outcome_is, answer_is, here}
 
 whole : ℕ → ℕ → Value → Value
 whole index code body = message index code 0 body

@@ -16,7 +16,7 @@ use Rattle.message_defs.specs.Fields.{from_number, to_number, from_ue, to_ue, to
 use Rattle.message_defs.specs.Heard.{Cause, unknown_procedure}
 use Rattle.message_defs.specs.Tokens.{written_mark, written_token, component_in, components_in, heard_token}
 use Rattle.law_messages.proofs.HeardTokens.{heard}
-use Rattle.law_heard_messages.proofs.Rounds.{ue_is, word_is, gnb_is, unit_is}
+use Rattle.message_proof_elements.proofs.Rounds.{ue_is, word_is, gnb_is, unit_is}
 
 differs : (let b : Bool = false in b) ≡ true → ⊥
 differs h = cc

@@ -20,8 +20,8 @@ use Rattle.message_defs.specs.Known.{if_some, known, known_additions, known_row,
 use Rattle.message_defs.specs.Heard.{Cause, unknown_procedure, first_rejected, unless_rejected, rejected_in}
 use Rattle.message_defs.specs.Xn.{origin_additions, to_origin, written_xn, xn_at, heard_xn}
 use Rattle.law_messages.proofs.HeardXn.{heard}
-use Rattle.law_heard_messages.proofs.Rounds.{ue_is, word_is, bearer_is, unit_is, quota_is, cause_is, sn_is, peer_is, tunnels_is, statuses_is}
-use Rattle.law_heard_messages.proofs.Matched.{none, one, must, its_tree, inside, are_its, additions_are, known_body_is, code_is, outcome_is, answer_is, here}
+use Rattle.message_proof_elements.proofs.Rounds.{ue_is, word_is, bearer_is, unit_is, quota_is, cause_is, sn_is, peer_is, tunnels_is, statuses_is}
+use Rattle.message_proof_elements.proofs.Matched.{none, one, must, its_tree, inside, are_its, additions_are, known_body_is, code_is, outcome_is, answer_is, here}
 
 whole : ℕ → ℕ → Value → Value
 whole index code body = message index code 0 body

@@ -7,7 +7,7 @@ use Rattle.aper_defs.specs.Fields.{Path, Field, asked, flag, constrained, ie_id,
 use Rattle.aper_defs.specs.Fields as fields
 use Rattle.aper_defs.specs.Bits.{open_fields}
 use Rattle.aper_defs.specs.Layouts.{layout, component_fields, addition_fields, row_fields, ie_fields, mark_fields}
-use Rattle.aper_defs.specs.Membership.{Has, HasComponents, HasAdditions, HasRow, Either, IsInOrder, AreElements, AreAdditions, FitsOpen}
+use Rattle.aper_defs.specs.Membership.{Has, HasComponents, HasAdditions, HasRow, Either, AreElements, AreAdditions, FitsOpen}
 use Rattle.aper_proof_answers.proofs.NumberFacts.{same}
 use Rattle.profile_defs.specs.Forms.{Components, component, no_components, tree, parts, rows}
 use Rattle.profile_defs.specs.BaseTypes as types

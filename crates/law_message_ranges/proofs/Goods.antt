@@ -1,8 +1,7 @@
 -- Fields in their ranges are values of their types, and have at most so many bits.
-use Rattle.std.proofs.Common.{◌≡◌, ℕ, suc, ◌+◌, ◌-◌, ◌*◌, ◌/◌, ◌<◌, ◌≤◌, ◌==◌, cond, Bool, true, false, List, [], ◌∷◌, ◌++◌, length, Option, Some, None, refl, sym, ap, subst, ◌∙◌, arith}
+use Rattle.std.proofs.Common.{◌≡◌, ℕ, suc, ◌+◌, ◌-◌, ◌*◌, ◌/◌, ◌<◌, ◌≤◌, ◌==◌, cond, Bool, true, false, List, [], ◌∷◌, ◌++◌, length, Option, Some, None, refl, sym, ap, subst, arith}
 use Rattle.std.specs.Prelude.{pos, ◌&&◌, ◌||◌, nat_lt, nat_le, codes, map}
 use Rattle.std.specs.List.{list_all}
-use Rattle.std.proofs.lemmas.List.{length-map}
 use Rattle.gnb_types.specs.declared.names.Gnb.{Gnb}
 use Rattle.gnb_types.specs.declared.names.Gnb.TheVariants.{A, B}
 use Rattle.gnb_types.specs.declared.names.SnBits.{SnBits}
@@ -13,19 +12,19 @@ use Rattle.gnb_types.specs.declared.plans.SnStatus.{SnStatus}
 use Rattle.asn1_types.specs.declared.definition.Size.{Size}
 use Rattle.bits_core.specs.Bits.{bit_value}
 use Rattle.aper_defs.specs.Trees.{Tree, integer, enumerated, bit_string, sequence_of}
-use Rattle.aper_defs.specs.Values.{Value, Values, truth, number, enumeral, bits, octets, text, list, value, no_values, value_count, each_from}
+use Rattle.aper_defs.specs.Values.{Value, truth, enumeral, bits, octets, text, list, value_count, each_from}
 use Rattle.aper_defs.specs.Numbers.{in_range, above}
 use Rattle.aper_defs.specs.Fields.{Path, Field, asked, flag, small, character, extent, whole, pad}
 use Rattle.aper_defs.specs.Fields as fields
-use Rattle.aper_defs.specs.Parts.{integer_fields, index_fields, number_fields, extension_fields, string_fields, sized_fields, all_part_fields, part_fields, part_of_fields, unit_fields, count_fields, of_bits, of_octets, of_characters, Content, in_size, pad_limit}
-use Rattle.aper_defs.specs.Bits.{part_units, extent_width}
+use Rattle.aper_defs.specs.Parts.{integer_fields, index_fields, number_fields, extension_fields, string_fields, sized_fields, all_part_fields, part_fields, unit_fields, count_fields, of_bits, of_octets, of_characters, Content, in_size, pad_limit}
+use Rattle.aper_defs.specs.Bits.{part_units}
 use Rattle.aper_defs.specs.Layouts.{layout, component_fields, addition_fields}
 use Rattle.aper_defs.specs.Membership.{Has, HasComponents, HasAdditions, EachFrom, is_index_of, is_printable, are_octets}
-use Rattle.aper_proof_answers.proofs.NumberFacts.{above_at_most, below, is_below, at_most, is_at_most, same}
+use Rattle.aper_proof_answers.proofs.NumberFacts.{above_at_most, at_most}
 use Rattle.profile_defs.specs.Forms.{tree, parts}
 use Rattle.profile_defs.specs.BaseTypes as types
 use Rattle.profile_defs.specs.Compounds as compounds
-use Rattle.message_defs.specs.Fields.{from_number, gnb_index, sn_index, from_sn, from_peer, from_tunnel, from_each, from_tunnels, from_received, from_status, from_statuses}
+use Rattle.message_defs.specs.Fields.{from_number, gnb_index, from_sn, from_peer, from_tunnel, from_each, from_tunnels, from_status, from_statuses}
 use Rattle.law_message_ranges.specs.Ranges.{is_between, is_bearer, is_word, is_unit, is_quota, is_cause, is_mode, is_name, is_container, is_peer, is_tunnel, are_tunnels, is_received, is_status, are_statuses}
 use Rattle.law_message_ranges.proofs.Bounds.{bound, bound-append, number_within, word_within, extent_within}
 

@@ -1,13 +1,13 @@
 -- E1Message: messages whose fields lie in their ranges are written as values of their type.
-use Rattle.std.proofs.Common.{◌≡◌, ℕ, Bool, true, false, List, [], ◌∷◌, Option, Some, None, refl, arith}
+use Rattle.std.proofs.Common.{true, List, [], ◌∷◌, refl, arith}
 use Rattle.std.specs.Prelude.{codes}
 use Rattle.message_types.specs.declared.e1.E1Message.TheVariants as e1s
 use Rattle.message_types.specs.declared.e1.E1Message.{E1Message}
-use Rattle.aper_defs.specs.Values.{Value, truth, enumeral, octets, text, no_options}
+use Rattle.aper_defs.specs.Values.{truth, enumeral, text}
 use Rattle.aper_defs.specs.Fields.{Path}
 use Rattle.aper_defs.specs.Fields as fields
-use Rattle.aper_defs.specs.Layouts.{layout, component_fields, addition_fields, row_fields, body_fields, outcome_fields}
-use Rattle.aper_defs.specs.Membership.{Has, HasComponents, HasAdditions, HasRow, HasBody, HasOutcome}
+use Rattle.aper_defs.specs.Layouts.{layout, row_fields, body_fields, outcome_fields}
+use Rattle.aper_defs.specs.Membership.{Has, HasRow, HasBody, HasOutcome}
 use Rattle.profile_defs.specs.Forms.{tree, parts, rows, procedures, outcome_tree}
 use Rattle.profile_defs.specs.BaseTypes as types
 use Rattle.profile_defs.specs.Compounds as compounds
@@ -19,7 +19,7 @@ use Rattle.message_defs.specs.Fields.{from_number, from_ue, from_sn, from_peer, 
 use Rattle.message_defs.specs.Places.{has, may_have}
 use Rattle.message_defs.specs.E1.{written_e1}
 use Rattle.law_message_ranges.specs.Ranges.{is_peer, is_unit, are_tunnels, are_statuses, InRangeE1}
-use Rattle.law_message_ranges.proofs.Goods.{ue_good, word_good, bearer_good, quota_good, unit_good, cause_good, mode_good, peer_good, container_good, name_good, tunnels_good, statuses_good, sn_good, flag_good}
+use Rattle.law_message_ranges.proofs.Goods.{ue_good, word_good, bearer_good, quota_good, unit_good, cause_good, mode_good, peer_good, name_good, tunnels_good, statuses_good, sn_good, flag_good}
 use Rattle.law_message_ranges.proofs.Bodies.{none, one, given, maybe, always, message_good}
 
 pub in_range : (msg : E1Message) → InRangeE1 msg → Has [] e1_type (written_e1 msg)

@@ -1,12 +1,12 @@
 -- F1: messages whose fields lie in their ranges are written as values of their type.
-use Rattle.std.proofs.Common.{◌≡◌, ℕ, Bool, true, false, List, [], ◌∷◌, Option, Some, None, refl, arith}
+use Rattle.std.proofs.Common.{true, List, [], ◌∷◌, refl, arith}
 use Rattle.std.specs.Prelude.{codes}
 use Rattle.message_types.specs.declared.f1.F1.TheVariants as f1s
-use Rattle.aper_defs.specs.Values.{Value, truth, enumeral, octets, text, no_options}
+use Rattle.aper_defs.specs.Values.{octets, text}
 use Rattle.aper_defs.specs.Fields.{Path}
 use Rattle.aper_defs.specs.Fields as fields
-use Rattle.aper_defs.specs.Layouts.{layout, component_fields, addition_fields, row_fields, body_fields, outcome_fields}
-use Rattle.aper_defs.specs.Membership.{Has, HasComponents, HasAdditions, HasRow, HasBody, HasOutcome}
+use Rattle.aper_defs.specs.Layouts.{layout, row_fields, body_fields, outcome_fields}
+use Rattle.aper_defs.specs.Membership.{Has, HasRow, HasBody, HasOutcome}
 use Rattle.profile_defs.specs.Forms.{tree, parts, rows, procedures, outcome_tree}
 use Rattle.profile_defs.specs.BaseTypes as types
 use Rattle.profile_defs.specs.Compounds as compounds
@@ -14,12 +14,12 @@ use Rattle.profile_defs.specs.Elements as ies
 use Rattle.profile_defs.specs.Tables.{Use}
 use Rattle.profile_defs.specs.Messages.{f1_setup_request, f1_setup_response, ue_context_setup_request, ue_context_setup_response, ue_context_modification_request, ue_context_modification_response, ue_context_release_command, ue_context_release_complete, dl_rrc_message_transfer, ul_rrc_message_transfer}
 use Rattle.profile_defs.specs.Profile.{f1_type}
-use Rattle.message_defs.specs.Fields.{from_number, from_ue, from_sn, from_peer, from_tunnels, from_statuses}
-use Rattle.message_defs.specs.Places.{has, may_have}
+use Rattle.message_defs.specs.Fields.{from_number, from_ue, from_sn, from_peer, from_tunnels}
+use Rattle.message_defs.specs.Places.{has}
 use Rattle.message_defs.specs.F1.{F1Message, written_f1}
-use Rattle.law_message_ranges.specs.Ranges.{is_peer, is_unit, are_tunnels, are_statuses, InRangeF1}
-use Rattle.law_message_ranges.proofs.Goods.{ue_good, word_good, bearer_good, quota_good, unit_good, cause_good, mode_good, peer_good, container_good, name_good, tunnels_good, statuses_good, sn_good, flag_good}
-use Rattle.law_message_ranges.proofs.Bodies.{none, one, given, maybe, always, message_good}
+use Rattle.law_message_ranges.specs.Ranges.{InRangeF1}
+use Rattle.law_message_ranges.proofs.Goods.{ue_good, word_good, peer_good, container_good, name_good, tunnels_good, sn_good}
+use Rattle.law_message_ranges.proofs.Bodies.{none, one, given, always, message_good}
 
 pub in_range : (msg : F1Message) → InRangeF1 msg → Has [] f1_type (written_f1 msg)
 unfolding f1_type tree parts rows procedures outcome_tree written_f1 layout row_fields body_fields outcome_fields Has HasRow HasBody HasOutcome

@@ -1,16 +1,16 @@
 -- XnMessage: messages whose fields lie in their ranges are written as values of their type.
-use Rattle.std.proofs.Common.{◌≡◌, ℕ, Bool, true, false, List, [], ◌∷◌, Option, Some, None, ◌==◌, refl, sym, subst, arith}
+use Rattle.std.proofs.Common.{ℕ, true, List, [], ◌∷◌, Option, Some, None, ◌==◌, refl, sym, subst, arith}
 use Rattle.std.specs.Prelude.{codes}
 use Rattle.gnb_types.specs.declared.names.UeId.{UeId}
 use Rattle.gnb_types.specs.declared.names.SnBits.{SnBits}
 use Rattle.gnb_types.specs.declared.plans.Peer.{Peer}
 use Rattle.message_types.specs.declared.xn.XnMessage.TheVariants as xns
 use Rattle.message_types.specs.declared.xn.XnMessage.{XnMessage}
-use Rattle.aper_defs.specs.Values.{Value, truth, enumeral, octets, text, no_options, present}
+use Rattle.aper_defs.specs.Values.{enumeral, text, no_options, present}
 use Rattle.aper_defs.specs.Fields.{Path}
 use Rattle.aper_defs.specs.Fields as fields
-use Rattle.aper_defs.specs.Layouts.{layout, component_fields, addition_fields, row_fields, body_fields, outcome_fields}
-use Rattle.aper_defs.specs.Membership.{Has, HasComponents, HasAdditions, HasRow, HasBody, HasOutcome}
+use Rattle.aper_defs.specs.Layouts.{layout, row_fields, body_fields, outcome_fields}
+use Rattle.aper_defs.specs.Membership.{Has, HasRow, HasBody, HasOutcome}
 use Rattle.profile_defs.specs.Forms.{tree, parts, rows, procedures, outcome_tree}
 use Rattle.profile_defs.specs.BaseTypes as types
 use Rattle.profile_defs.specs.Compounds as compounds
@@ -19,11 +19,11 @@ use Rattle.profile_defs.specs.Tables.{Use}
 use Rattle.profile_defs.specs.Messages.{handover_request, handover_request_acknowledge, handover_preparation_failure, sn_status_transfer, handover_cancel, ue_context_release, transport_confirm}
 use Rattle.profile_defs.specs.Profile.{xn_type}
 use Rattle.message_defs.specs.Fields.{from_number, from_ue, from_sn, from_peer, from_tunnels, from_statuses}
-use Rattle.message_defs.specs.Places.{Field, has, may_have}
+use Rattle.message_defs.specs.Places.{Field, has}
 use Rattle.message_defs.specs.Xn.{written_xn}
-use Rattle.law_message_ranges.specs.Ranges.{is_peer, is_unit, are_tunnels, are_statuses, InRangeXn}
-use Rattle.law_message_ranges.proofs.Goods.{ue_good, word_good, bearer_good, quota_good, unit_good, cause_good, mode_good, peer_good, container_good, name_good, tunnels_good, statuses_good, sn_good, flag_good}
-use Rattle.law_message_ranges.proofs.Bodies.{none, one, given, maybe, always, message_made, message_good, additions_if, none_has, none_short, origin_has, origin_short}
+use Rattle.law_message_ranges.specs.Ranges.{InRangeXn}
+use Rattle.law_message_ranges.proofs.Goods.{ue_good, word_good, bearer_good, quota_good, unit_good, cause_good, peer_good, tunnels_good, statuses_good, sn_good}
+use Rattle.law_message_ranges.proofs.Bodies.{none, one, given, always, message_made, message_good, additions_if, none_has, none_short, origin_has, origin_short}
 
 -- a Handover Request
 module _ (version : ℕ) (ue : UeId) (instance epoch bearers : ℕ) (sn : SnBits) (quota : ℕ) (peer : Peer) (du : ℕ) where

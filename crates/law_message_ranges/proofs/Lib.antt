@@ -5,3 +5,4 @@ pub mod InRangeF1
 pub mod InRangeE1
 pub mod InRangeXn
 pub mod InRangeCore
+pub mod Bounded

@@ -13,7 +13,7 @@ use Rattle.profile_defs.specs.Tables.{Use, Message, element_rows, is_at}
 use Rattle.message_defs.specs.Known.{known, known_components, known_additions, known_row, known_elements, if_some}
 use Rattle.message_defs.specs.Places.{Field, content_of, put_element, written_elements, element_of, or_empty, the, any, elements_in, additions_in}
 use Rattle.message_defs.specs.Heard.{unless_rejected}
-use Rattle.law_heard_messages.proofs.Ordered.{ie_of, put, collected, are_distinct, ordered, is_mandatory, there, body_of}
+use Rattle.message_proof_elements.proofs.Ordered.{ie_of, put, collected, are_distinct, ordered, is_mandatory, there, body_of}
 
 same_element : (e : Element) (ies : Ies) → element_of e ies ≡ ie_of e.id ies
 same_element e no_ies = refl

@@ -1,0 +1,13 @@
+//! A law: the texts of the profile are those of its types. Its function does nothing: its contract is the law.
+#![tactic(auto)]
+
+ghost use Rattle.profile_defs.specs.Profile.{profile_types};
+ghost use Rattle.law_profile_text.specs.Texts.{IsProfileText};
+
+use profile::{PROFILE_TEXT, PROFILE_TEXT_2};
+
+/// Each text is that of a module which agrees with the profile's types of its version.
+pub fn profile_texts_agree()
+    ensures one { IsProfileText (profile_types 1) PROFILE_TEXT.now }
+    ensures two { IsProfileText (profile_types 2) PROFILE_TEXT_2.now }
+{}
