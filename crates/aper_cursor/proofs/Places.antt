@@ -1,5 +1,5 @@
 -- The ends of the open types around a place, and what bits pass.
-use Rattle.std.proofs.Common.{◌≡◌, ℕ, ◌+◌, ◌-◌, ◌*◌, ◌^◌, ◌<◌, ◌≤◌, cond, Bool, true, false, List, [], ◌∷◌, ◌++◌, length, nat_lt, take, get_or, Option, None, Some, refl, sym, ap, subst, ◌∙◌, arith, min, map, ◌&&◌}
+use Rattle.std.proofs.Common.{◌≡◌, ℕ, ◌+◌, ◌*◌, ◌^◌, ◌<◌, ◌≤◌, cond, Bool, true, false, List, [], ◌∷◌, ◌++◌, length, nat_lt, Option, None, Some, refl, sym, ap, subst, ◌∙◌, arith, min, map, ◌&&◌}
 use Rattle.std.specs.Prelude.{nat_le, reverse}
 use Rattle.std.proofs.lemmas.Bool.Decides.{nat_tests}
 use Rattle.std.proofs.lemmas.List.{reverse-append, length-drop}
@@ -7,7 +7,7 @@ use Rattle.bits_core.specs.Bits.{octet_bits}
 use Rattle.bits_core.proofs.BitLemmas.{length-octet_bits}
 use Rattle.aper_defs.specs.declared.reason.Reason.{Reason}
 use Rattle.aper_defs.specs.declared.reason.Reason.TheVariants as reasons
-use Rattle.aper_defs.specs.Reading.{Cursor, Opened, is_within, passes, bits_at, bit_limit}
+use Rattle.aper_defs.specs.Reading.{Cursor, is_within, passes, bits_at, bit_limit}
 use Rattle.aper_proof_answers.proofs.NumberFacts.{is_at_most, is_not_below, is_below}
 use Rattle.aper_proof_values.proofs.Found.{taken_size, taken_limit}
 use Rattle.aper_cursor.specs.declared.cursor.OpenType.{OpenType}

@@ -1,4 +1,4 @@
-use Rattle.std.proofs.Common.{sym, ap, ◌∙◌, ◌≤◌, length, None, arith}
+use Rattle.std.proofs.Common.{sym, ap, length, arith}
 use Rattle.bits_core.specs.Reading.{bits_left}
 use Rattle.aper_cursor.proofs.Places.{room_size}
 use Rattle.aper_cursor.proofs.Runs.{taken_ok}

@@ -1,4 +1,4 @@
-use Rattle.std.proofs.Common.{ℕ, List, ◌≡◌, ◌+◌, ◌*◌, ◌%◌, ◌/◌, ◌≤◌, ◌++◌, length, replicate, sym, ap, subst, ◌∙◌, arith}
+use Rattle.std.proofs.Common.{◌≡◌, ◌+◌, ◌*◌, ◌%◌, ◌≤◌, ◌++◌, length, replicate, sym, ap, subst, ◌∙◌, arith}
 use Rattle.bits_core.specs.Bits.{numbers_at}
 use Rattle.aper_defs.specs.Reading.{Cursor, bits_at}
 use Rattle.aper_cursor.proofs.Places.{room_octets}
