@@ -102,7 +102,7 @@ relay_kept =
                           -- freezes 1 2 (hop_to 2 22)
                           (
                             (refl, refl),
-                            (refl, record { there = refl; target = refl; ended = refl; status = refl; arrived = refl; released = refl; forwarded = refl }, unfed relay 11 2 (λ x. search (idle_if, idle_by) depth 60 fits 2000)),
+                            (refl, record { target = refl; ended = refl; status = refl; arrived = refl; released = refl; forwarded = refl }, unfed relay 11 2 (λ x. search (idle_if, idle_by) depth 60 fits 2000)),
                             -- takes 1 (uplink_tunnel 11) 1 b []
                             (
                               record { there = refl; open_ = refl; stands = refl; passes = refl },
@@ -162,7 +162,7 @@ relay_kept =
                                                         -- freezes 2 3 (hop_to 3 32)
                                                         (
                                                           (refl, refl),
-                                                          (refl, record { there = refl; target = refl; ended = refl; status = refl; arrived = refl; released = refl; forwarded = refl }, unfed relay 26 3 (λ x. search (idle_if, idle_by) depth 60 fits 2000)),
+                                                          (refl, record { target = refl; ended = refl; status = refl; arrived = refl; released = refl; forwarded = refl }, unfed relay 26 3 (λ x. search (idle_if, idle_by) depth 60 fits 2000)),
                                                           -- leaves
                                                           (
                                                             tt,
@@ -201,7 +201,7 @@ relay_kept =
                                                                             (refl, apart_numbers _ _ refl),
                                                                             -- ends_hop 2 []
                                                                             (
-                                                                              (record { there = refl; open_ = tt; stands = refl; passes = refl }, refl),
+                                                                              record { there = refl; open_ = tt; stands = refl; passes = refl },
                                                                               tt,
                                                                               -- marks 2 24
                                                                               (
@@ -229,7 +229,7 @@ relay_kept =
                                                                                           tt,
                                                                                           -- ends_hop 3 []
                                                                                           (
-                                                                                            (record { there = refl; open_ = tt; stands = refl; passes = refl }, refl),
+                                                                                            record { there = refl; open_ = tt; stands = refl; passes = refl },
                                                                                             tt,
                                                                                             -- reports 2 []
                                                                                             (
@@ -371,7 +371,7 @@ cancelled_kept =
                 -- freezes 1 2 (hop_to 2 22)
                 (
                   (refl, refl),
-                  (refl, record { there = refl; target = refl; ended = refl; status = refl; arrived = refl; released = refl; forwarded = refl }, unfed cancelled 6 2 (λ x. search (idle_if, idle_by) depth 60 fits 2000)),
+                  (refl, record { target = refl; ended = refl; status = refl; arrived = refl; released = refl; forwarded = refl }, unfed cancelled 6 2 (λ x. search (idle_if, idle_by) depth 60 fits 2000)),
                   -- takes 1 (uplink_tunnel 11) 0 a []
                   (
                     record { there = refl; open_ = refl; stands = refl; passes = refl },
