@@ -119,7 +119,8 @@ module _ (x teid : ℕ) (os : List Order) (kept : AreKept (start x teid) os) whe
   unfolding reach
   air_places n [] h l = tt
   air_places n (e ∷ es) h l =
-      (in_place e.0 (let a = reach-le (max n (e.0 + 1)) es in omega arith) ∙ ap (λ y. Some y) (sym h.0), air_places (max n (e.0 + 1)) es h.1 l)
+      let below : e.0 < s.offered = (let a = reach-le (max n (e.0 + 1)) es in omega arith) in
+      (in_place e.0 below ∙ ap (λ y. Some y) (sym h.0), air_places (max n (e.0 + 1)) es h.1 l)
 
   pub counts_are_places : CountsArePlaces (offers_in os) (run (start x teid) os)
   unfolding s

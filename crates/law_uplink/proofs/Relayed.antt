@@ -53,7 +53,8 @@ reported fmc reached l i h = by (nat_lt i fmc) (nat_lt fmc i) refl h
     by false false t h = absurd (true≢false (sym h))
 
 pub relay_kept : AreKept (start 1 10) relay
-unfolding relay start run AreKept IsReady IsOwed after made with_next confirmed_to confirmed_by is_duplicate stored deliver find put NoEnd feeds
+unfolding relay start run AreKept IsReady IsOwed after made
+    with_next confirmed_to confirmed_by is_duplicate stored deliver find put NoEnd feeds
 relay_kept =
     -- offers a
     (
@@ -102,7 +103,18 @@ relay_kept =
                           -- freezes 1 2 (hop_to 2 22)
                           (
                             (refl, refl),
-                            (refl, record { there = refl; target = refl; ended = refl; status = refl; arrived = refl; released = refl; forwarded = refl }, unfed relay 11 2 (λ x. search (idle_if, idle_by) depth 60 fits 2000)),
+                            (
+                              refl,
+                              record {
+                                target = refl;
+                                ended = refl;
+                                status = refl;
+                                arrived = refl;
+                                released = refl;
+                                forwarded = refl;
+                              },
+                              unfed relay 11 2 (λ x. search (idle_if, idle_by) depth 60 fits 2000),
+                            ),
                             -- takes 1 (uplink_tunnel 11) 1 b []
                             (
                               record { there = refl; open_ = refl; stands = refl; passes = refl },
@@ -162,7 +174,18 @@ relay_kept =
                                                         -- freezes 2 3 (hop_to 3 32)
                                                         (
                                                           (refl, refl),
-                                                          (refl, record { there = refl; target = refl; ended = refl; status = refl; arrived = refl; released = refl; forwarded = refl }, unfed relay 26 3 (λ x. search (idle_if, idle_by) depth 60 fits 2000)),
+                                                          (
+                                                            refl,
+                                                            record {
+                                                              target = refl;
+                                                              ended = refl;
+                                                              status = refl;
+                                                              arrived = refl;
+                                                              released = refl;
+                                                              forwarded = refl;
+                                                            },
+                                                            unfed relay 26 3 (λ x. search (idle_if, idle_by) depth 60 fits 2000),
+                                                          ),
                                                           -- leaves
                                                           (
                                                             tt,
@@ -201,7 +224,12 @@ relay_kept =
                                                                             (refl, apart_numbers _ _ refl),
                                                                             -- ends_hop 2 []
                                                                             (
-                                                                              (record { there = refl; open_ = tt; stands = refl; passes = refl }, refl),
+                                                                              record {
+                                                                                there = refl;
+                                                                                open_ = tt;
+                                                                                stands = refl;
+                                                                                passes = refl;
+                                                                              },
                                                                               tt,
                                                                               -- marks 2 24
                                                                               (
@@ -209,7 +237,12 @@ relay_kept =
                                                                                 tt,
                                                                                 -- ends_uplink 2 24 []
                                                                                 (
-                                                                                  record { there = refl; open_ = refl; stands = refl; passes = refl },
+                                                                                  record {
+                                                                                    there = refl;
+                                                                                    open_ = refl;
+                                                                                    stands = refl;
+                                                                                    passes = refl;
+                                                                                  },
                                                                                   tt,
                                                                                   -- closes 2
                                                                                   (
@@ -225,11 +258,21 @@ relay_kept =
                                                                                         tt,
                                                                                         -- takes 3 forwarding 2 c (end_marker ∷ [])
                                                                                         (
-                                                                                          record { there = refl; open_ = tt; stands = refl; passes = refl },
+                                                                                          record {
+                                                                                            there = refl;
+                                                                                            open_ = tt;
+                                                                                            stands = refl;
+                                                                                            passes = refl;
+                                                                                          },
                                                                                           tt,
                                                                                           -- ends_hop 3 []
                                                                                           (
-                                                                                            (record { there = refl; open_ = tt; stands = refl; passes = refl }, refl),
+                                                                                            record {
+                                                                                              there = refl;
+                                                                                              open_ = tt;
+                                                                                              stands = refl;
+                                                                                              passes = refl;
+                                                                                            },
                                                                                             tt,
                                                                                             -- reports 2 []
                                                                                             (
@@ -257,15 +300,30 @@ relay_kept =
                                                                                                         (refl, tt),
                                                                                                         -- takes 3 (uplink_tunnel 31) 1 b (numbered 2 c ∷ numbered 3 d ∷ [])
                                                                                                         (
-                                                                                                          record { there = refl; open_ = refl; stands = refl; passes = refl },
+                                                                                                          record {
+                                                                                                            there = refl;
+                                                                                                            open_ = refl;
+                                                                                                            stands = refl;
+                                                                                                            passes = refl;
+                                                                                                          },
                                                                                                           tt,
                                                                                                           -- takes 3 (uplink_tunnel 31) 2 c (numbered 3 d ∷ [])
                                                                                                           (
-                                                                                                            record { there = refl; open_ = refl; stands = refl; passes = refl },
+                                                                                                            record {
+                                                                                                              there = refl;
+                                                                                                              open_ = refl;
+                                                                                                              stands = refl;
+                                                                                                              passes = refl;
+                                                                                                            },
                                                                                                             tt,
                                                                                                             -- takes 3 (uplink_tunnel 31) 3 d []
                                                                                                             (
-                                                                                                              record { there = refl; open_ = refl; stands = refl; passes = refl },
+                                                                                                              record {
+                                                                                                                there = refl;
+                                                                                                                open_ = refl;
+                                                                                                                stands = refl;
+                                                                                                                passes = refl;
+                                                                                                              },
                                                                                                               tt,
                                                                                                               -- acknowledges 1 (2 ∷ 3 ∷ [])
                                                                                                               (
@@ -342,7 +400,8 @@ unfolding relay start run after made with_next confirmed_to confirmed_by is_dupl
 relay_delivers = refl
 
 pub cancelled_kept : AreKept (start 1 10) cancelled
-unfolding cancelled start run AreKept IsReady IsOwed after made with_next confirmed_to confirmed_by is_duplicate stored deliver find put NoEnd feeds
+unfolding cancelled start run AreKept IsReady IsOwed after made
+    with_next confirmed_to confirmed_by is_duplicate stored deliver find put NoEnd feeds
 cancelled_kept =
     -- offers a
     (
@@ -371,7 +430,18 @@ cancelled_kept =
                 -- freezes 1 2 (hop_to 2 22)
                 (
                   (refl, refl),
-                  (refl, record { there = refl; target = refl; ended = refl; status = refl; arrived = refl; released = refl; forwarded = refl }, unfed cancelled 6 2 (λ x. search (idle_if, idle_by) depth 60 fits 2000)),
+                  (
+                    refl,
+                    record {
+                      target = refl;
+                      ended = refl;
+                      status = refl;
+                      arrived = refl;
+                      released = refl;
+                      forwarded = refl;
+                    },
+                    unfed cancelled 6 2 (λ x. search (idle_if, idle_by) depth 60 fits 2000),
+                  ),
                   -- takes 1 (uplink_tunnel 11) 0 a []
                   (
                     record { there = refl; open_ = refl; stands = refl; passes = refl },

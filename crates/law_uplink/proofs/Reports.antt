@@ -114,5 +114,6 @@ pub reports_carried : (x teid : ℕ) (os more : List Order) (i : ℕ) → AreKep
 unfolding start
 reports_carried x teid os more i kept said =
     let p : ℕ → List ℕ = stream (offers_in os) in
-    let l = reports_now p (run (start x teid) os) (kept_run p (start x teid) os (good_start p x teid) kept (agrees (offers_in os))) i said in
+    let good = kept_run p (start x teid) os (good_start p x teid) kept (agrees (offers_in os)) in
+    let l = reports_now p (run (start x teid) os) good i said in
     let k = run_grows (run (start x teid) os) more in omega arith

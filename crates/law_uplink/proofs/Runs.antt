@@ -97,7 +97,7 @@ module _ (p : ℕ → List ℕ) (s : Part) (d : ℕ) (g : ℕ → Ghost) (k : Ke
   kept_order (discards x) r w is = kept_discards p s d g k x w.0 w.1
   kept_order (takes x from count packet rest) r w is = kept_takes x from count packet rest r
   kept_order (ends_uplink x teid rest) r w is = kept_ends_uplink p s d g k x teid rest r
-  kept_order (ends_hop x rest) r w is = kept_ends_hop p s d g k x rest r.0
+  kept_order (ends_hop x rest) r w is = kept_ends_hop p s d g k x rest r
 
 -- ---- lists of orders
 

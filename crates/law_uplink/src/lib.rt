@@ -37,8 +37,8 @@ pub fn counts_are_places()
         → CountsArePlaces (offers_in orders) (run (start first teid) orders) }
 {}
 
-/// What a status report of the context where the terminal is says was received, was carried up, also if the report comes after
-/// further orders, whatever these are: so it is a report that the terminal may be given.
+/// What a status report of the context where the terminal is says was received, was carried up, also if the report comes
+/// after further orders, whatever these are: so it is a report that the terminal may be given.
 pub fn reports_say_what_was_carried()
     ensures carried { (first teid : ℕ) (orders more : List Order) (i : ℕ)
         → AreKept (start first teid) orders → Reports (run (start first teid) orders) i

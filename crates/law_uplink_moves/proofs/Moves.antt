@@ -23,9 +23,8 @@ halted c y hop = record c {
 
 -- what a target is once all that its source stores was forwarded to it
 pub record Awaits (x deliv : ℕ) (stored : List (ℕ × List ℕ)) (t : Member) (h : Ghost) : Type 0 where
-  pub there : t.is_there ≡ true
   pub from : h.from ≡ x
-  pub ranks : h.rank ≡ 0
+  pub ranks : t.is_there ≡ true → h.rank ≡ 0
   pub target : t.flags.target ≡ true
   pub ended : t.bearer.up_ended ≡ false
   pub no_end : NoEnd t.forwarded
@@ -77,7 +76,7 @@ module _ (p : ℕ → List ℕ) (s : Part) (d : ℕ) (g : ℕ → Ghost) (k : Ke
           open_ = λ _. (a.ended, a.no_end);
           onward = λ away. absurd (away is);
           ahead = λ _. record {
-            ranks = a.ranks;
+            ranks = a.ranks (subst (λ q. (s.members q).is_there ≡ true) (sym f.2) u);
             arrived = a.arrived;
             keeps = a.keeps;
             known = λ u. apart u a.unknown;
@@ -186,16 +185,15 @@ module _ (p : ℕ → List ℕ) (s : Part) (d : ℕ) (g : ℕ → Ghost) (k : Ke
       here : set s.members y (forwarded_to y) x ≡ m
       here = set_far s.members y (forwarded_to y) x (λ (e : x ≡ y). far (sym e))
 
-      never : 0 < (g y).rank → ⊥
-      never pos =
-          let o = (k.each y).own u.there in
+      never : (s.members y).is_there ≡ true → 0 < (g y).rank → ⊥
+      never there pos =
+          let o = (k.each y).own there in
           apart (o.flags.served (o.placed.frozen pos (λ (e : y ≡ s.station). far (e ∙ sym is)))).1 u.arrived
 
       awaits : Awaits x m.bearer.receiver.deliv m.bearer.receiver.stored (forwarded_to y) (fed_by y)
       awaits = record {
-        there = u.there;
         from = refl;
-        ranks = rank_none (g y).rank never;
+        ranks = λ there. rank_none (g y).rank (never there);
         target = u.target;
         ended = u.ended;
         no_end = no_end-put (s.members y).forwarded (late m.bearer) (subst NoEnd (sym u.forwarded) tt)

@@ -1,6 +1,5 @@
 -- The rows of a CU-UP on the uplink of one bearer, by what their orders do.
-use Rattle.std.proofs.Common.{◌≡◌, ℕ, ◌==◌, Bool, true, false, not, ◌&&◌, ◌||◌, if◌then◌else◌, nat_lt, List, [], ◌∷◌, ◌++◌, map, filter, Option, Some, None, refl, sym, ap, subst, ◌∙◌, append_assoc, true≢false}
-use Rattle.std.proofs.lemmas.List.{append-nil}
+use Rattle.std.proofs.Common.{◌≡◌, ℕ, Bool, true, false, not, ◌&&◌, if◌then◌else◌, nat_lt, List, [], ◌∷◌, ◌++◌, map, Some, None, refl, sym, ap, subst, ◌∙◌, append_assoc}
 use Rattle.gnb_types.specs.declared.reasons.DropReason.TheVariants.{Duplicate, Unexpected}
 use Rattle.gnb_types.specs.declared.names.NodeId.{NodeId}
 use Rattle.gnb_types.specs.declared.names.Dir.TheVariants.{Ul}
@@ -10,10 +9,10 @@ use Rattle.unit_defs.specs.Ways.{Load, Output, packet, deliver, closed, Way, Ans
 use Rattle.unit_defs.specs.Ways as ways
 use Rattle.unit_defs.specs.UpRecords.{UpBearer, SourceHop, UpAt}
 use Rattle.unit_defs.specs.UpBearers.{forwarded_up, frozen_to, deliver_stored, delivered, no_uplink}
-use Rattle.unit_defs.specs.UpItems.{took_uplink, stored_at, passed_up, uplink_ended, up_ended, up_hop_ends, up_hop_ends_if}
+use Rattle.unit_defs.specs.UpItems.{took_uplink, uplink_ended, up_ended, up_hop_ends, up_hop_ends_if}
 use Rattle.chain_defs.specs.Orders.{frozen}
 use Rattle.law_chain_rows.proofs.Rows.{down, up, put_up_is, numbered_are, fresh_are, late_are}
-use Rattle.uplink_defs.specs.Parts.{Item, numbered, end_marker}
+use Rattle.uplink_defs.specs.Parts.{numbered, end_marker}
 use Rattle.uplink_defs.specs.Orders.{late, is_hop_up_done}
 use Rattle.law_uplink_rows.specs.Shown.{items_of, item_of, delivered_in, Gives, closed_at}
 

@@ -42,8 +42,8 @@ pub fn other_packets_are_not()
         → Gives [] [] b (took_uplink way at (Some count) p b) }
 {}
 
-/// An End Marker of an uplink tunnel closes it, and one of the hop ends this; where nothing can come any more, an End Marker
-/// goes on, once.
+/// An End Marker of an uplink tunnel closes it, and one of the hop ends this; where nothing can come any more, an End
+/// Marker goes on, once.
 pub fn end_markers_end()
     ensures unfrozen { (way : Way (Message Token) Token Pdu) (at : UpAt) (teid : ℕ) (b : UpBearer)
         → b.hop ≡ None → Gives [] [] (closed_at b teid) (uplink_ended way at teid b) }
@@ -73,8 +73,8 @@ pub fn end_markers_end()
         → Gives [] [] (record b { up_ended = true }) (up_ended way at b) }
 {}
 
-/// A freeze forwards all that is stored; where a frozen state ends, and where the terminal arrived, what the receiver hands up
-/// is delivered first.
+/// A freeze forwards all that is stored; where a frozen state ends, and where the terminal arrived, what the receiver hands
+/// up is delivered first.
 pub fn handovers_forward_and_deliver()
     ensures freezes { (way : Way (Message Token) Token Pdu) (at : UpAt) (peer : NodeId) (down up : ℕ)
         (b : UpBearer) → Gives (late b) []

@@ -32,7 +32,6 @@ IsUnfed s y = (x : ℕ) → Feeds (s.members x) y → ⊥
 
 -- a target that nothing has come to yet
 pub record IsUntouched (m : Member) : Type 0 where
-  pub there : m.is_there ≡ true
   pub target : m.flags.target ≡ true
   pub ended : m.bearer.up_ended ≡ false
   pub status : m.flags.has_status ≡ false
@@ -58,7 +57,7 @@ IsReady s (closes x) =
     (m.flags.released ≡ true) × (no_uplink m.bearer.uplinks ≡ true) × (is_hop_up_done m.flags m.bearer ≡ true)
 IsReady s (takes x from count packet rest) = IsTaken (s.members x) from (numbered count packet) rest
 IsReady s (ends_uplink x teid rest) = IsTaken (s.members x) (uplink_tunnel teid) end_marker rest
-IsReady s (ends_hop x rest) = IsTaken (s.members x) forwarding end_marker rest × ((s.members x).bearer.up_ended ≡ false)
+IsReady s (ends_hop x rest) = IsTaken (s.members x) forwarding end_marker rest
 IsReady s o = ⊤
 
 unfoldable pub IsOwed : Part → Order → Type 0
