@@ -30,14 +30,19 @@ ghost use Rattle.unit_defs.specs.Ways.{Load, Message, packet_pdu, Pdu};
 /// where the context is neither frozen nor released and doesn't hold the item, is delivered in the step that takes it, by
 /// the event that gets it and where settling gets it.
 pub fn a_cu_up_delivers_what_it_awaits()
-    ensures taken { (reading : Reading) (s : State (Message Token) Token (Written (Load Pdu)) (Written Pdu))
-        (gnb : Gnb) (number teid : ℕ) (item : Item (Written (Load Pdu))) (rest : List (Item (Written (Load Pdu))))
+    ensures taken { (reading : Reading)
+        (s : State (Message Token) Token (Written (Load Pdu)) (Written Pdu))
+        (gnb : Gnb) (number teid : ℕ) (item : Item (Written (Load Pdu)))
+        (rest : List (Item (Written (Load Pdu))))
         (count : ℕ) (packet : List ℕ) → length s.bag.letters ≤ most_letters
         → (awaited : IsAwaitedAt (up_of s.units gnb number) teid item.content.says count packet)
         → IsDeliveredBy (entity awaited.tunnel.ue awaited.tunnel.bearer Ul) count packet
-        (get_done (plain_world reading) (record { node = CuUp gnb number; teid = teid }) item rest s) }
-    ensures got { (reading : Reading) (s : State (Message Token) Token (Written (Load Pdu)) (Written Pdu))
-        (gnb : Gnb) (number teid : ℕ) (item : Item (Written (Load Pdu))) (rest : List (Item (Written (Load Pdu))))
+        (get_done (plain_world reading) (record { node = CuUp gnb number; teid = teid }) item rest
+        s) }
+    ensures got { (reading : Reading)
+        (s : State (Message Token) Token (Written (Load Pdu)) (Written Pdu))
+        (gnb : Gnb) (number teid : ℕ) (item : Item (Written (Load Pdu)))
+        (rest : List (Item (Written (Load Pdu))))
         (count : ℕ) (packet : List ℕ) → length s.bag.letters ≤ most_letters
         → find tunnel_cmp s.tunnels (record { node = CuUp gnb number; teid = teid }) ≡ Some (item ∷ rest)
         → (awaited : IsAwaitedAt (up_of s.units gnb number) teid item.content.says count packet)
@@ -47,18 +52,21 @@ pub fn a_cu_up_delivers_what_it_awaits()
 
 /// The same of a PDU with the packet that a terminal's bearer awaits, where it has room, when the radio carries it.
 pub fn a_terminal_delivers_what_it_awaits()
-    ensures taken { (reading : Reading) (s : State (Message Token) Token (Written (Load Pdu)) (Written Pdu))
+    ensures taken { (reading : Reading)
+        (s : State (Message Token) Token (Written (Load Pdu)) (Written Pdu))
         (ue : UeId) (bearer : BearerId) (home : NodeId) (item : Item (Written Pdu)) (u : UeNode)
         (count : ℕ) (packet : List ℕ) → length s.bag.letters ≤ most_letters
         → item.key ≡ entity ue bearer Dl → item.content.says ≡ packet_pdu count packet
         → ue_of s.units ue ≡ Some u → IsAwaitedBy u bearer count
         → IsDeliveredBy (entity u.plan.ue bearer Dl) count packet
         (carry_done (plain_world reading) (entity ue bearer Dl) home item s) }
-    ensures aired { (reading : Reading) (s : State (Message Token) Token (Written (Load Pdu)) (Written Pdu))
+    ensures aired { (reading : Reading)
+        (s : State (Message Token) Token (Written (Load Pdu)) (Written Pdu))
         (ue : UeId) (bearer : BearerId) (home : NodeId) (item : Item (Written Pdu)) (u : UeNode)
         (count : ℕ) (packet : List ℕ) → length s.bag.letters ≤ most_letters
         → has_bearer s ue bearer ≡ true → ready_home s ue ≡ Some home
-        → nth (radio_of s (entity ue bearer Dl)).items (radio_of s (entity ue bearer Dl)).carried ≡ Some item
+        → nth (radio_of s (entity ue bearer Dl)).items (radio_of s (entity ue bearer Dl)).carried
+        ≡ Some item
         → item.key ≡ entity ue bearer Dl → item.content.says ≡ packet_pdu count packet
         → ue_of s.units ue ≡ Some u → IsAwaitedBy u bearer count
         → DeliversIn (entity u.plan.ue bearer Dl) count packet

@@ -1,8 +1,6 @@
 -- What a CU-UP does to a bearer numbers its frames one after another.
-use Rattle.std.proofs.Common.{◌≡◌, ◌==◌, ℕ, Bool, true, false, not, ◌&&◌, ◌||◌, List, [], ◌∷◌, ◌++◌, Option, Some, None, ◌⊎◌, inl, inr, refl, sym, ap, ◌∙◌, ◌+◌, subst, length}
+use Rattle.std.proofs.Common.{◌≡◌, ◌==◌, ℕ, Bool, true, false, not, ◌&&◌, ◌||◌, List, [], ◌∷◌, ◌++◌, Option, Some, None, refl, sym, ap, ◌+◌, subst}
 use Rattle.std.specs.Prelude.{if◌then◌else◌, nat_lt, filter}
-use Rattle.std.specs.List.{flat_map}
-use Rattle.std.proofs.lemmas.List.{append-nil}
 use Rattle.std.proofs.lemmas.Grind.{flat_map-append}
 use Rattle.gnb_types.specs.declared.names.NodeId.{NodeId}
 use Rattle.gnb_types.specs.declared.names.Dir.TheVariants.{Dl}
@@ -13,10 +11,10 @@ use Rattle.gnb_types.specs.declared.reasons.DropReason.TheVariants.{Unexpected}
 use Rattle.pdcp.specs.Near.{last_count}
 use Rattle.pdcp_defs.specs.Senders.{numbered as with_next, has_room, may_restore, restored, confirmed_by, confirmed_to}
 use Rattle.pdcp_defs.specs.Receivers.{deliver as handed_up, received_bits, is_duplicate, stored}
-use Rattle.unit_defs.specs.Ways.{packet_pdu, report_pdu, Content, packet_content, report_content, Load, fresh, numbered, end_marker, Taken, fresh_item, numbered_item, uplink_item, status_item, end_item, Output, Way, Answer, gives, spent, with_outputs, ◌then◌, nothing, puts, drops, closed, counts_spent, frame, uplink, status, packet, frames_spent}
+use Rattle.unit_defs.specs.Ways.{packet_pdu, report_pdu, Content, packet_content, report_content, Load, fresh, numbered, end_marker, Taken, fresh_item, numbered_item, uplink_item, status_item, end_item, Way, Answer, gives, spent, with_outputs, ◌then◌, nothing, puts, drops, closed, counts_spent, frame, uplink, status, packet, frames_spent}
 use Rattle.unit_defs.specs.UpRecords.{Downlink, SourceHop, UpBearer, TunnelKind, n3, f1u_uplink, forwarding_down, forwarding_up, UpAt}
 use Rattle.unit_defs.specs.UpBearers.{last_frame, has_downlink, owed, thawed, no_uplink, bits_in, framed_on, framed, sent, sent_again, number_each, number_waiting, delivered, deliver_stored, put_down, forwarded_down, put_up, forwarded_up, begin_downlink, begin_where_known, switched, forward_numbered, forward_fresh, forward_late, frozen_to, begin_where_arrived, with_status, resumed, with_uplink}
-use Rattle.unit_defs.specs.UpItems.{took_fresh, closed_n3, n3_ended, restored_at, took_numbered, down_ended, stored_at, passed_up, took_uplink, took_report, took_content, confirmed_if, lost_frames, took_delivery_status, up_hop_ends_if, uplink_ended, up_ended, took}
+use Rattle.unit_defs.specs.UpItems.{took_fresh, closed_n3, n3_ended, restored_at, took_numbered, stored_at, passed_up, took_uplink, took_report, took_content, confirmed_if, lost_frames, took_delivery_status, up_hop_ends_if, uplink_ended, up_ended, took}
 use Rattle.law_frames.specs.Numbered.{Frame, frame_of, frames_in, frames_by, GoOn, NumbersFrom}
 use Rattle.law_frames.proofs.Frames.{stay, on_with, on_then}
 
@@ -129,7 +127,7 @@ module _ {M C P : Type 0} (way : Way M C P) where
       (framed_stays at false false (Some (way.write at.sn (report_pdu fmc bits))) Absent b) (λ c. sent_again_stays at c.sender.unconfirmed c))
       (number_waiting_stays at)
 
-  pub switched_stays : (at : UpAt) (du : NodeId) (teid : ℕ) (b : UpBearer) 
+  pub switched_stays : (at : UpAt) (du : NodeId) (teid : ℕ) (b : UpBearer)
       → Goes (Some (record { du = du; teid = teid; next = 0 })) (switched way at du teid b)
   unfolding switched
   switched_stays at du teid b =

@@ -38,6 +38,7 @@ pub fn tunnels_are_those_of_open_teids()
     ensures on { (reading : Reading) (events : List Event)
         (s t : State (Message Token) Token (Written (Load Pdu)) (Written Pdu)) → StandWhereOpen s
         → reached (plain_world reading) events s ≡ Some t → StandWhereOpen t }
-    ensures units { (codec : Codec) (events : List Event) (t : State (List ℕ) (List ℕ) (List ℕ) (List ℕ))
+    ensures units { (codec : Codec) (events : List Event)
+        (t : State (List ℕ) (List ℕ) (List ℕ) (List ℕ))
         → reached (unit_world codec (tables codec)) events new_state ≡ Some t → StandWhereOpen t }
 {}

@@ -36,6 +36,7 @@ pub fn a_teid_is_given_once()
     ensures run { (reading : Reading) (events : List Event)
         (s t : State (Message Token) Token (Written (Load Pdu)) (Written Pdu))
         → reached (plain_world reading) events s ≡ Some t → GiveOnce s.units t.units }
-    ensures units { (codec : Codec) (events : List Event) (s t : State (List ℕ) (List ℕ) (List ℕ) (List ℕ))
+    ensures units { (codec : Codec) (events : List Event)
+        (s t : State (List ℕ) (List ℕ) (List ℕ) (List ℕ))
         → reached (unit_world codec (tables codec)) events s ≡ Some t → GiveOnce s.units t.units }
 {}
