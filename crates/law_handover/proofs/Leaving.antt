@@ -52,4 +52,5 @@ module _ {M C P : Type 0} (way : Way M C P) (at : CpAt) (from : NodeId) (t : CpT
       (cond (is_epoch way c.epoch 2 epoch) (completes_again way at epoch there context (away_attempt BetweenDus a))
       (cond back (returns way at epoch there context) unexpected)))))
       (sym h)
-      (by_reestablish epoch (is_epoch way c.epoch 0 epoch && c.finished) (not (same_node from (own_du at a.du))) (is_epoch way c.epoch 2 epoch))
+      (by_reestablish epoch (is_epoch way c.epoch 0 epoch && c.finished) (not (same_node from (own_du at a.du)))
+      (is_epoch way c.epoch 2 epoch))

@@ -1,5 +1,5 @@
--- The point of no return: a terminal that was told to leave its DU (TS 38.300, 9.2.3.2). From there the DU serves it again by the terminal's own
--- return alone.
+-- The point of no return: a terminal that was told to leave its DU (TS 38.300, 9.2.3.2). From there the DU serves it again by the
+-- terminal's own return alone.
 use Rattle.std.specs.Prelude.{◌≡◌, ◌&&◌, ◌⊎◌, Bool, false, Option, Some, None}
 use Rattle.gnb_types.specs.declared.names.NodeId.{NodeId}
 use Rattle.message_types.specs.declared.rrc.Token.{Token}

@@ -28,12 +28,12 @@ pub fn an_attach_goes_by_its_rows<M, C, P>()
         → Goes (place at (rows.attach_context way plan)
         (rows.new_attempt kinds.Attach 1 plan.up plan.du))
         states.Attaching (calls.attaching at.ue plan) (rows.attach way at plan t) }
-    ensures tunnels { (way : Way M C P) (p : Place) (t : CpTerminal) (h : Attempt) (uplinks n3 : List Tunnel)
-        → IsAttempt h p.attempt
+    ensures tunnels { (way : Way M C P) (p : Place) (t : CpTerminal) (h : Attempt)
+        (uplinks n3 : List Tunnel) → IsAttempt h p.attempt
         → Goes p states.Attaching (calls.asks_du ServingDu h)
         (rows.attach_has_tunnels way p.at uplinks n3 t p.context p.attempt) }
-    ensures placed { (way : Way M C P) (p : Place) (t : CpTerminal) (h : Attempt) (downlinks : List Tunnel)
-        → IsAttempt h p.attempt
+    ensures placed { (way : Way M C P) (p : Place) (t : CpTerminal) (h : Attempt)
+        (downlinks : List Tunnel) → IsAttempt h p.attempt
         → Goes p states.Commanded (calls.first_command h)
         (rows.attach_is_placed way p.at downlinks t p.context p.attempt) }
     ensures declined { (way : Way M C P) (p : Place) (t : CpTerminal) (cause : CauseName)
@@ -48,12 +48,12 @@ pub fn a_move_goes_by_its_rows<M, C, P>()
         → Goes (place at c (rows.new_attempt kinds.BetweenDus (epoch + 1) c.up goal.du))
         states.Preparing (calls.preparing at.ue at.gnb epoch goal)
         (rows.move_begins way at goal epoch t c) }
-    ensures uplinks { (way : Way M C P) (p : Place) (t : CpTerminal) (h : Attempt) (uplinks : List Tunnel)
-        → IsAttempt h p.attempt → nat_lt last_epoch p.attempt.epoch ≡ false
+    ensures uplinks { (way : Way M C P) (p : Place) (t : CpTerminal) (h : Attempt)
+        (uplinks : List Tunnel) → IsAttempt h p.attempt → nat_lt last_epoch p.attempt.epoch ≡ false
         → Goes p states.Preparing (calls.asks_du TargetDu h)
         (rows.move_has_uplinks way p.at uplinks t p.context p.attempt) }
-    ensures placed { (way : Way M C P) (p : Place) (t : CpTerminal) (h : Attempt) (downlinks : List Tunnel)
-        → IsAttempt h p.attempt
+    ensures placed { (way : Way M C P) (p : Place) (t : CpTerminal) (h : Attempt)
+        (downlinks : List Tunnel) → IsAttempt h p.attempt
         → Goes p states.Frozen (calls.awaits_command h)
         (rows.move_is_placed way downlinks t p.context p.attempt) }
 {}
@@ -74,8 +74,8 @@ pub fn a_handover_goes_by_its_rows<M, C, P>()
         → Serves p [] (rows.handover_is_declined way cause t p.context) }
     ensures expires { (way : Way M C P) (p : Place) (t : CpTerminal)
         → Serves p calls.cancels (rows.handover_expires way p.at t p.context) }
-    ensures frozen { (way : Way M C P) (p : Place) (t : CpTerminal) (h : Attempt) (statuses : List SnStatus)
-        → IsAttempt h p.attempt → h.awaits.other_cu ≡ None
+    ensures frozen { (way : Way M C P) (p : Place) (t : CpTerminal) (h : Attempt)
+        (statuses : List SnStatus) → IsAttempt h p.attempt → h.awaits.other_cu ≡ None
         → Goes p states.Frozen (calls.sends_status h)
         (rows.handover_is_frozen way p.at statuses t p.context p.attempt) }
     ensures not_frozen { (way : Way M C P) (p : Place) (t : CpTerminal) (cause : CauseName)

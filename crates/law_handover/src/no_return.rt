@@ -22,8 +22,8 @@ pub fn only_a_return_brings_it_back<M, C, P>()
         → StaysAway (token_row way at from (away BetweenGnbs t c a) token) }
 {}
 
-/// No order brings it back, no answer, no tick, and no request of another node. That a deadline doesn't, is not said here: the one request that
-/// has one, the Handover Request, was answered before the command.
+/// No order brings it back, no answer, no tick, and no request of another node. That a deadline doesn't, is not said here: the one
+/// request that has one, the Handover Request, was answered before the command.
 #[tactic(auto, unfolding(unit_defs::specs::CpRows::attach, unit_defs::specs::CpRows::handover, unit_defs::specs::CpRows::cancel, unit_defs::specs::CpRows::release, unit_defs::specs::CpRows::command, unit_defs::specs::CpRows::offer, unit_defs::specs::CpRows::status, unit_defs::specs::CpRows::xn_cancelled, unit_defs::specs::CpRows::xn_released, unit_defs::specs::CpRows::handed_over))]
 pub fn nothing_else_brings_it_back<M, C, P>()
     ensures attach { (way : Way M C P) (at : CpAt) (plan : Plan) (t : CpTerminal) (c : CpContext)
@@ -34,8 +34,8 @@ pub fn nothing_else_brings_it_back<M, C, P>()
         (a : Attempt) → StaysAway (rows.cancel way at (away BetweenGnbs t c a)) }
     ensures release { (way : Way M C P) (at : CpAt) (t : CpTerminal) (c : CpContext)
         (a : Attempt) → StaysAway (rows.release way at (away BetweenGnbs t c a)) }
-    ensures answer { (way : Way M C P) (at : CpAt) (message : Message C) (t : CpTerminal) (c : CpContext)
-        (a : Attempt) → IfSome (in_state way at message t (away_context BetweenGnbs c a)
+    ensures answer { (way : Way M C P) (at : CpAt) (message : Message C) (t : CpTerminal)
+        (c : CpContext) (a : Attempt) → IfSome (in_state way at message t (away_context BetweenGnbs c a)
         Commanded (away_attempt BetweenGnbs a)) (λ r. StaysAway r) }
     ensures tick { (way : Way M C P) (at : CpAt) (t : CpTerminal) (c : CpContext)
         (a : Attempt) → let u = away BetweenGnbs t c a in
@@ -77,8 +77,8 @@ pub fn nothing_else_brings_it_back_to_its_du<M, C, P>()
         (a : Attempt) → LeavesDu a (rows.cancel way at (away BetweenDus t c a)) }
     ensures release { (way : Way M C P) (at : CpAt) (t : CpTerminal) (c : CpContext)
         (a : Attempt) → LeavesDu a (rows.release way at (away BetweenDus t c a)) }
-    ensures answer { (way : Way M C P) (at : CpAt) (message : Message C) (t : CpTerminal) (c : CpContext)
-        (a : Attempt) → IfSome (in_state way at message t (away_context BetweenDus c a)
+    ensures answer { (way : Way M C P) (at : CpAt) (message : Message C) (t : CpTerminal)
+        (c : CpContext) (a : Attempt) → IfSome (in_state way at message t (away_context BetweenDus c a)
         Commanded (away_attempt BetweenDus a)) (λ r. LeavesDu a r) }
     ensures tick { (way : Way M C P) (at : CpAt) (t : CpTerminal) (c : CpContext)
         (a : Attempt) → let u = away BetweenDus t c a in

@@ -23,7 +23,8 @@ pub fn an_offer_goes_by_its_rows<M, C, P>()
         (t : CpTerminal) → t.context ≡ None
         → has_unit at.units (rows.own_up at plan.up) ≡ true
         → has_unit at.units (rows.own_du at plan.du) ≡ true
-        → let new = rows.offer_context way plan.up plan.du instance plan.bearers plan.sn plan.quota epoch in
+        → let new = rows.offer_context way plan.up plan.du instance plan.bearers plan.sn
+        plan.quota epoch in
         Goes (place at new (rows.new_attempt kinds.Offer epoch plan.up plan.du)) states.Offered
         (calls.offered at.ue epoch plan) (rows.offer way at from instance new t) }
     ensures tunnels { (way : Way M C P) (p : Place) (t : CpTerminal) (h : Attempt)
@@ -33,8 +34,8 @@ pub fn an_offer_goes_by_its_rows<M, C, P>()
     ensures declined { (way : Way M C P) (p : Place) (t : CpTerminal) (cause : ℕ)
         → GivesUp p (calls.sends HandoverPreparationFailure OtherCu ∷ [])
         (rows.offer_is_declined way p.at cause t p.attempt) }
-    ensures placed { (way : Way M C P) (p : Place) (t : CpTerminal) (h : Attempt) (downlinks : List Tunnel)
-        → IsAttempt h p.attempt → h.awaits.other_cu ≡ None
+    ensures placed { (way : Way M C P) (p : Place) (t : CpTerminal) (h : Attempt)
+        (downlinks : List Tunnel) → IsAttempt h p.attempt → h.awaits.other_cu ≡ None
         → Goes p states.Ready (calls.acknowledges h)
         (rows.offer_is_placed way p.at downlinks t p.context p.attempt) }
     ensures cancelled { (way : Way M C P) (p : Place) (t : CpTerminal) (h : Attempt) (instance : ℕ)
@@ -45,12 +46,12 @@ pub fn an_offer_goes_by_its_rows<M, C, P>()
         → p.attempt.du_begun ≡ true
         → GivesUp p calls.cancel_of_ready
         (rows.offer_cancelled way p.at (rows.other_cp p.at) instance t p.context p.attempt) }
-    ensures arrives { (way : Way M C P) (p : Place) (t : CpTerminal) (h : Attempt) (epoch : ℕ)
-        → IsAttempt h p.attempt
+    ensures arrives { (way : Way M C P) (p : Place) (t : CpTerminal) (h : Attempt)
+        (epoch : ℕ) → IsAttempt h p.attempt
         → Goes p states.Arrived (calls.takes_arrival h)
         (rows.arrives way p.at epoch t p.context p.attempt) }
-    ensures arrives_again { (way : Way M C P) (p : Place) (t : CpTerminal) (h : Attempt) (epoch : ℕ)
-        → IsAttempt h p.attempt
+    ensures arrives_again { (way : Way M C P) (p : Place) (t : CpTerminal) (h : Attempt)
+        (epoch : ℕ) → IsAttempt h p.attempt
         → Goes p states.Arrived (calls.takes_arrival_and_loss h epoch)
         (rows.arrives_again way p.at epoch t p.context p.attempt) }
 {}
