@@ -1,9 +1,9 @@
 -- What is written in version 1 is spelled as in version 2.
-use Rattle.std.proofs.Common.{ℕ, List, Option, Some, None}
+use Rattle.std.proofs.Common.{ℕ, List, Some, None}
 use Rattle.message_types.specs.declared.xn.XnMessage.{XnMessage}
 use Rattle.message_types.specs.declared.xn.XnMessage.TheVariants as xns
-use Rattle.aper_defs.specs.Layouts.{layout, component_fields, addition_fields, row_fields, body_fields, outcome_fields}
-use Rattle.aper_defs.specs.Membership.{Has, HasComponents, HasAdditions, HasRow, HasBody, HasOutcome}
+use Rattle.aper_defs.specs.Layouts.{layout, addition_fields, body_fields, outcome_fields}
+use Rattle.aper_defs.specs.Membership.{Has, HasAdditions, HasBody, HasOutcome}
 use Rattle.aper_defs.specs.Spelling.{Spells}
 use Rattle.profile_defs.specs.Forms.{tree, parts, rows, procedures, outcome_tree}
 use Rattle.profile_defs.specs.Profile.{xn_type}

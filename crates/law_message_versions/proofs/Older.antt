@@ -1,5 +1,5 @@
 -- What is written in version 2 is in version 1 a spelling of the same, with the origin as octets that aren't known.
-use Rattle.std.proofs.Common.{◌≡◌, ℕ, ◌*◌, ◌≤◌, Bool, List, [], ◌∷◌, ◌++◌, length, Option, Some, None, Result, Ok, refl, sym, ap, subst, ◌∙◌, arith}
+use Rattle.std.proofs.Common.{◌≡◌, ℕ, ◌*◌, ◌≤◌, Bool, List, [], ◌∷◌, length, Some, None, Result, Ok, refl, sym, ap, subst, ◌∙◌, arith}
 use Rattle.std.specs.Prelude.{codes, true, false}
 use Rattle.bits_core.specs.Bits.{octet_bits}
 use Rattle.gnb_types.specs.declared.names.SnBits.{SnBits}
@@ -7,13 +7,13 @@ use Rattle.gnb_types.specs.declared.names.UeId.{UeId}
 use Rattle.gnb_types.specs.declared.plans.Peer.{Peer}
 use Rattle.message_types.specs.declared.xn.XnMessage.{XnMessage}
 use Rattle.message_types.specs.declared.xn.XnMessage.TheVariants as xns
-use Rattle.aper_defs.specs.Trees.{Tree, Parts, no_parts, part, sequence}
-use Rattle.aper_defs.specs.Values.{Value, Options, Ies, text, raw, components, elements, no_options, present}
+use Rattle.aper_defs.specs.Trees.{Parts, no_parts, part, sequence}
+use Rattle.aper_defs.specs.Values.{Value, Options, text, raw, components, elements, no_options, present}
 use Rattle.aper_defs.specs.Fields.{Path, Field, closing, asked}
 use Rattle.aper_defs.specs.Fields as fields
-use Rattle.aper_defs.specs.Bits.{put_all, closed, octet_count, open_fields}
-use Rattle.aper_defs.specs.Layouts.{layout, component_fields, addition_fields, row_fields, body_fields, outcome_fields, message_head}
-use Rattle.aper_defs.specs.Membership.{Has, HasComponents, HasAdditions, HasRow, HasBody, HasOutcome, IsRaw}
+use Rattle.aper_defs.specs.Bits.{put_all, closed, octet_count}
+use Rattle.aper_defs.specs.Layouts.{layout, addition_fields, body_fields, outcome_fields, message_head}
+use Rattle.aper_defs.specs.Membership.{Has, HasAdditions, HasBody, HasOutcome, IsRaw}
 use Rattle.aper_defs.specs.Spelling.{Spells}
 use Rattle.aper_proof_places.proofs.Bits.{total-append}
 use Rattle.aper_proof_places.proofs.Opened.{empty_mark, size_is, closing_is, octets_are, octets_some}
@@ -24,7 +24,7 @@ use Rattle.profile_defs.specs.Elements as ies
 use Rattle.profile_defs.specs.Tables.{element_rows}
 use Rattle.profile_defs.specs.Messages.{handover_request}
 use Rattle.profile_defs.specs.Profile.{xn_type}
-use Rattle.message_defs.specs.Fields.{from_number, from_ue, from_sn, from_peer, to_sn, to_peer}
+use Rattle.message_defs.specs.Fields.{from_number, from_ue, from_sn, from_peer, to_peer}
 use Rattle.message_defs.specs.Places as places
 use Rattle.message_defs.specs.Places.{written_message, written_elements}
 use Rattle.message_defs.specs.Heard.{Cause}

@@ -1,5 +1,5 @@
 -- Fields whose bits are the same at every place.
-use Rattle.std.proofs.Common.{◌≡◌, ℕ, ◌+◌, ◌*◌, ◌/◌, ◌%◌, ◌==◌, ◌≤◌, cond, Bool, true, false, List, [], ◌∷◌, ◌++◌, length, refl, sym, ap, ◌∙◌, arith, append_assoc, append-nil}
+use Rattle.std.proofs.Common.{◌≡◌, ℕ, ◌+◌, ◌*◌, ◌/◌, ◌%◌, ◌==◌, cond, Bool, true, false, List, [], ◌∷◌, ◌++◌, length, refl, sym, ap, ◌∙◌, arith}
 use Rattle.std.specs.Prelude.{nat_lt, if◌then◌else◌}
 use Rattle.bits_core.specs.Bits.{bits_of, pad_of, octet_bits}
 use Rattle.bits_core.proofs.BitLemmas.{length-octet_bits}
@@ -9,9 +9,8 @@ use Rattle.aper_defs.specs.Fields.{Path, Ask, Field, pad, opening, closing, end,
 use Rattle.aper_defs.specs.Fields as fields
 use Rattle.aper_defs.specs.Bits.{put_all, closed, octet_count, open_fields, extent_width, extent_number, width_at, spelled, part_units}
 use Rattle.aper_defs.specs.Parts.{extension_fields}
-use Rattle.aper_defs.specs.Layouts.{layout, component_fields, addition_fields, flag_fields, mark_fields, raw_fields, raw_additions}
+use Rattle.aper_defs.specs.Layouts.{layout, component_fields, addition_fields, flag_fields, mark_fields, raw_fields}
 use Rattle.aper_proof_places.proofs.Bits.{all_bits, total, length-all_bits, all_bits-append, all_bits-same, put_all-nil}
-use Rattle.aper_proof_places.proofs.Opened.{size_is, octets_are}
 
 pub record IsSame (a b : List Field) : Type 0 where
   pub bits : (place : ℕ) → all_bits place a ≡ all_bits place b

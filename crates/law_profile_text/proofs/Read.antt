@@ -11,7 +11,16 @@ use Rattle.asn1_module.specs.Names.{first_unknown}
 use Rattle.profile_defs.specs.Forms.{Form}
 use Rattle.profile_defs.specs.Profile.{module_name}
 use Rattle.profile_defs.specs.Agreement.{differs}
-use Rattle.law_profile_text.specs.Texts.{IsProfileText, is_read_so}
+use Rattle.law_profile_text.specs.Texts.{IsProfileText}
+use Rattle.law_profile_text.proofs.Layers.{is_layered, layers, sound_of}
+
+abbrev pub agreeing : List Form → Syntax → Bool
+agreeing types m = is_none (differs types m) && (is_text m.name module_name && ((length (type_ids m.assignments) == 53)
+    && (is_none (first_unknown m.assignments m.nodes) && is_layered m)))
+
+abbrev pub is_read_so : List Form → Result Syntax Fault → Bool
+is_read_so types (Ok m) = agreeing types m
+is_read_so types (Err fault) = false
 
 both_left : (a b : Bool) → (a && b) ≡ true → a ≡ true
 both_left true b h = refl
@@ -36,14 +45,16 @@ is_read types text h = by (syntax_of text) refl h
         let name = is_text m.name module_name in
         let count = length (type_ids m.assignments) == 53 in
         let known = is_none (first_unknown m.assignments m.nodes) in
-        let later : (name && (count && known)) ≡ true = both_right (is_none (differs types m)) (name && (count && known)) h in
-        let last : (count && known) ≡ true = both_right name (count && known) later in
+        let last = known && is_layered m in
+        let g : (name && (count && last)) ≡ true = both_right (is_none (differs types m)) (name && (count && last)) h in
+        let k : (count && last) ≡ true = both_right name (count && last) g in
+        let l : last ≡ true = both_right count last k in
         record {
           m = m;
           is = is_text_of text m e;
-          agrees = none_is (differs types m) (both_left (is_none (differs types m)) (name && (count && known)) h);
-          name = both_left name (count && known) later;
-          count = same (length (type_ids m.assignments)) 53 (both_left count known last);
-          known = both_right count known last;
+          sound = sound_of m (layers m) (both_right known (is_layered m) l) (both_left known (is_layered m) l);
+          agrees = none_is (differs types m) (both_left (is_none (differs types m)) (name && (count && last)) h);
+          name = both_left name (count && last) g;
+          count = same (length (type_ids m.assignments)) 53 (both_left count last k);
         }
     by (Err fault) e h = cc

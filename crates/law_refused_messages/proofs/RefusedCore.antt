@@ -1,5 +1,5 @@
 -- CoreMessage: why nothing is heard in a value of the PDU.
-use Rattle.std.proofs.Common.{◌≡◌, ℕ, Bool, true, false, cond, Option, Some, None, Result, Ok, Err, refl, ap}
+use Rattle.std.proofs.Common.{◌≡◌, ℕ, Bool, true, false, cond, Option, Some, None, Result, Err, refl, ap}
 use Rattle.message_types.specs.declared.xn.CoreMessage.TheVariants as cores
 use Rattle.message_types.specs.declared.xn.CoreMessage.{CoreMessage}
 use Rattle.aper_defs.specs.Values.{Value, message}
@@ -8,7 +8,7 @@ use Rattle.profile_defs.specs.Elements as ies
 use Rattle.profile_defs.specs.Tables.{is_at, outcome_at, message_form}
 use Rattle.profile_defs.specs.Messages.{core_messages, path_switch_request, path_switch_acknowledge}
 use Rattle.message_defs.specs.Fields.{to_number, to_peer, to_tunnels, to_ue}
-use Rattle.message_defs.specs.Places.{the, any, elements_in, additions_in}
+use Rattle.message_defs.specs.Places.{the, elements_in}
 use Rattle.message_defs.specs.Heard.{Cause, unknown_procedure, unknown_element, first_rejected, unless_rejected, rejected_in}
 use Rattle.message_defs.specs.Core.{core_at, heard_core}
 

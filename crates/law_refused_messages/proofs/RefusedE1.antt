@@ -1,5 +1,5 @@
 -- E1Message: why nothing is heard in a value of the PDU.
-use Rattle.std.proofs.Common.{◌≡◌, ℕ, Bool, true, false, cond, Option, Some, None, Result, Ok, Err, refl, ap}
+use Rattle.std.proofs.Common.{◌≡◌, ℕ, Bool, true, false, cond, Option, Some, None, Result, Err, refl, ap}
 use Rattle.message_types.specs.declared.e1.E1Message.TheVariants as e1s
 use Rattle.message_types.specs.declared.e1.E1Message.{E1Message}
 use Rattle.aper_defs.specs.Values.{Value, message}
@@ -8,7 +8,7 @@ use Rattle.profile_defs.specs.Elements as ies
 use Rattle.profile_defs.specs.Tables.{is_at, outcome_at, message_form}
 use Rattle.profile_defs.specs.Messages.{e1_messages, e1_setup_request, e1_setup_response, bearer_context_setup_request, bearer_context_setup_response, bearer_context_setup_failure, bearer_context_modification_request, bearer_context_modification_response, bearer_context_modification_failure, bearer_context_release_command, bearer_context_release_complete}
 use Rattle.message_defs.specs.Fields.{to_flag, to_index, to_number, to_peer, to_sn, to_statuses, to_text, to_tunnels, to_ue}
-use Rattle.message_defs.specs.Places.{the, any, elements_in, additions_in}
+use Rattle.message_defs.specs.Places.{the, any, elements_in}
 use Rattle.message_defs.specs.Heard.{Cause, unknown_procedure, unknown_element, first_rejected, unless_rejected, rejected_in}
 use Rattle.message_defs.specs.E1.{e1_at, heard_e1}
 

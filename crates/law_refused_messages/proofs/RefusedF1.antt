@@ -1,5 +1,5 @@
 -- F1: why nothing is heard in a value of the PDU.
-use Rattle.std.proofs.Common.{◌≡◌, ℕ, Bool, true, false, cond, Option, Some, None, Result, Ok, Err, refl, ap}
+use Rattle.std.proofs.Common.{◌≡◌, ℕ, Bool, true, false, cond, Option, Some, None, Result, Err, refl, ap}
 use Rattle.message_types.specs.declared.f1.F1.TheVariants as f1s
 use Rattle.aper_defs.specs.Values.{Value, message}
 use Rattle.profile_defs.specs.Forms.{Form, OutcomeForm, no_form, some_form}
@@ -7,7 +7,7 @@ use Rattle.profile_defs.specs.Elements as ies
 use Rattle.profile_defs.specs.Tables.{is_at, outcome_at, message_form}
 use Rattle.profile_defs.specs.Messages.{f1_messages, f1_setup_request, f1_setup_response, ue_context_setup_request, ue_context_setup_response, ue_context_modification_request, ue_context_modification_response, ue_context_release_command, ue_context_release_complete, dl_rrc_message_transfer, ul_rrc_message_transfer}
 use Rattle.message_defs.specs.Fields.{to_number, to_octets, to_peer, to_sn, to_text, to_tunnels, to_ue}
-use Rattle.message_defs.specs.Places.{the, any, elements_in, additions_in}
+use Rattle.message_defs.specs.Places.{the, elements_in}
 use Rattle.message_defs.specs.Heard.{Cause, unknown_procedure, unknown_element, first_rejected, unless_rejected, rejected_in}
 use Rattle.message_defs.specs.F1.{F1Message, f1_at, heard_f1}
 

@@ -1,5 +1,5 @@
 -- XnMessage: why nothing is heard in a value of the PDU.
-use Rattle.std.proofs.Common.{◌≡◌, ℕ, Bool, true, false, cond, Option, Some, None, Result, Ok, Err, refl, ap}
+use Rattle.std.proofs.Common.{◌≡◌, ℕ, Bool, true, false, cond, Option, Some, None, Result, Err, refl, ap}
 use Rattle.message_types.specs.declared.xn.XnMessage.TheVariants as xns
 use Rattle.message_types.specs.declared.xn.XnMessage.{XnMessage}
 use Rattle.aper_defs.specs.Values.{Value, message}
@@ -8,7 +8,7 @@ use Rattle.profile_defs.specs.Elements as ies
 use Rattle.profile_defs.specs.Tables.{is_at, outcome_at, message_form}
 use Rattle.profile_defs.specs.Messages.{xn_messages, handover_request, handover_request_acknowledge, handover_preparation_failure, sn_status_transfer, handover_cancel, ue_context_release, transport_confirm}
 use Rattle.message_defs.specs.Fields.{to_index, to_number, to_peer, to_sn, to_statuses, to_tunnels, to_ue}
-use Rattle.message_defs.specs.Places.{the, any, elements_in, additions_in}
+use Rattle.message_defs.specs.Places.{the, elements_in, additions_in}
 use Rattle.message_defs.specs.Heard.{Cause, unknown_procedure, unknown_element, first_rejected, unless_rejected, rejected_in}
 use Rattle.message_defs.specs.Xn.{to_origin, xn_at, heard_xn}
 
