@@ -84,14 +84,14 @@ unfoldable mutual
   are_components s no_components [] = true
   are_components s (component name optional form others) (c ∷ cs) =
       is_text c.name name && is_same_bool optional c.optional && is_form s form (definition_at s c.definition) && are_components s others cs
-  are_components s components found = false
+  are_components s _ _ = false
 
   -- of additions OPTIONAL doesn't matter
   pub are_additions : Syntax → Components → Option (List Component) → Bool
   are_additions s no_components (Some []) = true
   are_additions s (component name optional form others) (Some (c ∷ cs)) =
       is_text c.name name && is_form s form (definition_at s c.definition) && are_additions s others (Some cs)
-  are_additions s components found = false
+  are_additions s _ _ = false
 
   -- the same ids in the same order, each with the same type and presence, and with criticality reject
   pub are_elements : Syntax → ElementRows → Option (List IeRow) → Bool
@@ -99,7 +99,7 @@ unfoldable mutual
   are_elements s (element id mandatory form others) (Some (row ∷ rows)) =
       row.id == id && is_reject row.criticality && is_form s form (definition_at s row.definition)
       && is_same_bool mandatory (is_mandatory row.presence) && are_elements s others (Some rows)
-  are_elements s elements found = false
+  are_elements s _ _ = false
 
   -- the same codes in the same order, each with the same messages, and with criticality reject
   pub are_procedures : Syntax → ProcedureRows → Option (List ProcedureRow) → Bool
@@ -107,7 +107,7 @@ unfoldable mutual
   are_procedures s (procedure code initiating successful unsuccessful others) (Some (row ∷ rows)) =
       row.code == code && is_reject row.criticality && is_form s initiating (definition_at s row.initiating)
       && is_outcome s successful row.successful && is_outcome s unsuccessful row.unsuccessful && are_procedures s others (Some rows)
-  are_procedures s procedures found = false
+  are_procedures s _ _ = false
 
   pub is_outcome : Syntax → OutcomeForm → Option TypeId → Bool
   is_outcome s no_form None = true
