@@ -1,5 +1,5 @@
 -- The types of a module are within the bounds that an encoding depends on.
-use Rattle.std.proofs.Common.{◌≡◌, ℕ, zero, suc, ◌+◌, ◌-◌, ◌^◌, ◌<◌, ◌≤◌, List, [], ◌∷◌, length, Bool, true, refl, ap, arith}
+use Rattle.std.proofs.Common.{◌≡◌, ℕ, zero, suc, ◌+◌, ◌-◌, ◌^◌, ◌<◌, ◌≤◌, List, [], ◌∷◌, length, Bool, true, arith}
 use Rattle.std.specs.Prelude.{Option, Some, None, slice_get, ℤ, pos, ◌+ℤ◌, ◌-ℤ◌}
 use Rattle.std.specs.Int.Signed.{le_z}
 use Rattle.std.specs.Int.{int_min}
@@ -21,9 +21,10 @@ use Rattle.asn1_module.specs.Module.{find_type, ie_rows, procedure_rows, IsModul
 use Rattle.asn1_module.specs.Targets.{definition_of, definition_at, all_of}
 use Rattle.asn1_bounds_laws.specs.Proper.{Each, IsSize, IsTextSize, Maybe, IsRange, IsWithin}
 use Rattle.asn1_bounds_laws.proofs.ModuleBounds.{proper}
-use Rattle.aper_defs.specs.Trees.{Tree, part_count}
+use Rattle.aper_defs.specs.Trees.{Tree}
 use Rattle.aper_defs.specs.Numbers.{above}
 use Rattle.aper_defs.specs.Bounds.{IsSizeBounded, IsBounded, ArePartsBounded, AreRowsBounded, AreProceduresBounded, IsOutcomeBounded}
+use Rattle.aper_types.proofs.Members.{part_count_is}
 use Rattle.aper_types.specs.Types.{parts_of, rows_of, outcome_of, procedures_of, named_tree, definition_tree, tree_by, tree}
 
 size_bounded : (size : Option Size) → Maybe IsSize size → IsSizeBounded size
@@ -44,10 +45,6 @@ range_bounded : (low high : ℤ) (extensible : Bool) → IsRange low high extens
 range_bounded low high extensible h =
     let fits = above_fits low high (2 ^ 64 - 1) h.ordered (least_of high (pos (2 ^ 64 - 1)) (low +ℤ pos (2 ^ 64 - 1)) h.greatest) in
     (h.ordered, omega (arith, fits))
-
-count_is : (of : ℕ → Tree) (cs : List Component) → part_count (parts_of of cs) ≡ length cs
-count_is of [] = refl
-count_is of (c ∷ cs) = ap suc (count_is of cs)
 
 module _ (of : ℕ → Tree) (each : (n : ℕ) → IsBounded (of n)) where
   parts_bounded : (cs : List Component) → ArePartsBounded (parts_of of cs)
@@ -86,8 +83,8 @@ module _ (of : ℕ → Tree) (each : (n : ℕ) → IsBounded (of n)) where
   definition_bounded names (types.PrintableString size) h = text_size_bounded size h
   definition_bounded names (types.Sequence members) h = (parts_bounded members.root, parts_bounded (additions_of members.additions))
   definition_bounded names (types.Choice members) h = (
-    omega (arith, h.enough, count_is of members.root),
-    omega (arith, h.root, count_is of members.root),
+    omega (arith, h.enough, part_count_is of members.root),
+    omega (arith, h.root, part_count_is of members.root),
     parts_bounded members.root,
     parts_bounded (additions_of members.additions),
   )
@@ -104,7 +101,8 @@ within_at (node ∷ nodes) (suc i) h = within_at nodes i h.1
 bounded_by : (m : Syntax) → Each (λ node. IsWithin node.definition) m.nodes → (steps id : ℕ) → IsBounded (tree_by steps m id)
 unfolding tree_by IsBounded
 bounded_by m h zero id = tt
-bounded_by m h (suc steps) id = definition_bounded (tree_by steps m) (bounded_by m h steps) m.assignments (definition_at m id) (within_at m.nodes id h)
+bounded_by m h (suc steps) id =
+    definition_bounded (tree_by steps m) (bounded_by m h steps) m.assignments (definition_at m id) (within_at m.nodes id h)
 
 pub tree_bounded : (m : Syntax) (id : ℕ) → IsModule m → IsBounded (tree m id)
 unfolding tree

@@ -19,11 +19,13 @@ use Rattle.asn1_module.specs.Targets.{definition_at, referred, element_rows, mes
 use Rattle.asn1_module.specs.Links.{AreBelow, PartsBelow, IsInside}
 use Rattle.aper_defs.specs.Trees.{Tree, integer, enumerated, container, pdu}
 use Rattle.aper_types.specs.Types.{is_extensible, rows_of, procedures_of, named_tree, definition_tree, tree}
-use Rattle.aper_types.proofs.Ranks.{rank}
-use Rattle.aper_types.proofs.Inside.{OfOption, EachOf, Lesser, ranks_fall}
+use Rattle.asn1_rank_laws.specs.Leading.{OfOption, EachOf, Lesser}
+use Rattle.asn1_rank_laws.proofs.Ranks.{rank}
+use Rattle.asn1_rank_laws.proofs.Inside.{ranks_fall}
 use Rattle.aper_types.proofs.TreeLaws.{tree_is}
 
-named_is : (of : ℕ → Tree) (names : List Assignment) (d : Definition) (next : TypeId) → referred names d ≡ Some next → definition_tree names of d ≡ of next.number
+named_is : (of : ℕ → Tree) (names : List Assignment) (d : Definition) (next : TypeId) → referred names d ≡ Some next
+    → definition_tree names of d ≡ of next.number
 named_is of names (types.Reference name) next h = ap (named_tree of) h
 named_is of names (types.Sequence members) next h = cc
 named_is of names (types.Choice members) next h = cc
@@ -37,7 +39,8 @@ named_is of names (types.BitString size) next h = cc
 named_is of names (types.OctetString size) next h = cc
 named_is of names (types.PrintableString size) next h = cc
 
-named_has : (P : ℕ → Type 0) (names : List Assignment) (d : Definition) (next : TypeId) → referred names d ≡ Some next → EachOf P names d → P next.number
+named_has : (P : ℕ → Type 0) (names : List Assignment) (d : Definition) (next : TypeId) → referred names d ≡ Some next → EachOf P names d
+    → P next.number
 named_has P names (types.Reference name) next h each = subst (OfOption P) h each
 named_has P names (types.Sequence members) next h each = cc
 named_has P names (types.Choice members) next h each = cc
@@ -52,14 +55,18 @@ named_has P names (types.OctetString size) next h each = cc
 named_has P names (types.PrintableString size) next h each = cc
 
 -- a name has the tree of the type that it refers to
-pub follows : (m : Syntax) (id : ℕ) (next : TypeId) → IsModule m → id < length m.nodes → Some next ≡ referred m.assignments (definition_at m id) → tree m id ≡ tree m next.number
+pub follows : (m : Syntax) (id : ℕ) (next : TypeId) → IsModule m → id < length m.nodes
+    → Some next ≡ referred m.assignments (definition_at m id) → tree m id ≡ tree m next.number
 follows m id next is lt found = tree_is m id is lt ∙ named_is (tree m) m.assignments (definition_at m id) next (sym found)
 
-pub rank_follows : (m : Syntax) (id : ℕ) (next : TypeId) → IsModule m → id < length m.nodes → Some next ≡ referred m.assignments (definition_at m id) → rank m next.number < rank m id
-rank_follows m id next is lt found = (named_has (Lesser m id) m.assignments (definition_at m id) next (sym found) (ranks_fall m is id lt)).1
+pub rank_follows : (m : Syntax) (id : ℕ) (next : TypeId) → IsModule m → id < length m.nodes
+    → Some next ≡ referred m.assignments (definition_at m id) → rank m next.number < rank m id
+rank_follows m id next is lt found =
+    (named_has (Lesser m (rank m) id) m.assignments (definition_at m id) next (sym found) (ranks_fall m is id lt)).1
 
 -- a name refers to something
-pub no_name : (names : List Assignment) (d : Definition) (name : List ℕ) → d ≡ types.Reference name → HasTarget names d → None ≡ referred names d → ⊥
+pub no_name : (names : List Assignment) (d : Definition) (name : List ℕ) → d ≡ types.Reference name → HasTarget names d
+    → None ≡ referred names d → ⊥
 no_name names d name is has none = clash (find_type name names) (subst (HasTarget names) is has) (none ∙ ap (referred names) is)
   where
     clash : (o : Option TypeId) → IsSome o → None ≡ o → ⊥
@@ -68,26 +75,29 @@ no_name names d name is has none = clash (find_type name names) (subst (HasTarge
 
 -- ---- what stands at a number, as a form
 
-pub integer_shown : (of : ℕ → Tree) (names : List Assignment) (d : Definition) (low high : ℤ) (extensible : Bool) → SFits w128 low → SFits w128 high → d ≡ types.Integer low high extensible
+pub integer_shown : (of : ℕ → Tree) (names : List Assignment) (d : Definition) (low high : ℤ) (extensible : Bool) → SFits w128 low
+    → SFits w128 high → d ≡ types.Integer low high extensible
     → definition_tree names of d ≡ integer (to_z w128 (of_z w128 low)) (to_z w128 (of_z w128 high)) extensible
 integer_shown of names d low high extensible l h is =
     ap (definition_tree names of) is
     ∙ ap (λ (z : ℤ). integer z high extensible) (sym (to_z-of_z w128 low l))
     ∙ ap (λ (z : ℤ). integer (to_z w128 (of_z w128 low)) z extensible) (sym (to_z-of_z w128 high h))
 
-pub enumerated_shown : (of : ℕ → Tree) (names : List Assignment) (d : Definition) (parts : Extensible (List ℕ)) (n : ℕ) (extensible : Bool) → d ≡ types.Enumerated parts → n ≡ length parts.root → extensible ≡ is_extensible parts
-    → definition_tree names of d ≡ enumerated n extensible
-enumerated_shown of names d parts n extensible is size more =
+pub enumerated_shown : (of : ℕ → Tree) (names : List Assignment) (d : Definition) (parts : Extensible (List ℕ)) (n : ℕ) (more : Bool)
+    → d ≡ types.Enumerated parts → n ≡ length parts.root → more ≡ is_extensible parts → definition_tree names of d ≡ enumerated n more
+enumerated_shown of names d parts n more is size marked =
     ap (definition_tree names of) is
     ∙ ap (λ (k : ℕ). enumerated k (is_extensible parts)) (sym size)
-    ∙ ap (λ (b : Bool). enumerated n b) (sym more)
+    ∙ ap (λ (b : Bool). enumerated n b) (sym marked)
 
-pub container_shown : (of : ℕ → Tree) (names : List Assignment) (d : Definition) (set : List ℕ) (rows : List IeRow) → d ≡ types.IeContainer set → rows ≡ element_rows names d
+pub container_shown : (of : ℕ → Tree) (names : List Assignment) (d : Definition) (set : List ℕ) (rows : List IeRow)
+    → d ≡ types.IeContainer set → rows ≡ element_rows names d
     → definition_tree names of d ≡ container (rows_of of rows)
 container_shown of names d set rows is are =
     ap (definition_tree names of) is ∙ ap (λ (rs : List IeRow). container (rows_of of rs)) (sym (are ∙ ap (element_rows names) is))
 
-pub pdu_shown : (of : ℕ → Tree) (names : List Assignment) (d : Definition) (set : List ℕ) (rows : List ProcedureRow) → d ≡ types.Pdu set → rows ≡ message_rows names d
+pub pdu_shown : (of : ℕ → Tree) (names : List Assignment) (d : Definition) (set : List ℕ) (rows : List ProcedureRow) → d ≡ types.Pdu set
+    → rows ≡ message_rows names d
     → definition_tree names of d ≡ pdu (procedures_of of rows)
 pdu_shown of names d set rows is are =
     ap (definition_tree names of) is ∙ ap (λ (rs : List ProcedureRow). pdu (procedures_of of rs)) (sym (are ∙ ap (message_rows names) is))
@@ -99,8 +109,10 @@ below_up n m (c ∷ cs) lt below = (omega (arith, below.0), below_up n m cs lt b
 parts_up : (n m : ℕ) (members : Extensible Component) → n < m → PartsBelow n members → PartsBelow m members
 parts_up n m members lt below = (below_up n m members.root lt below.0, below_up n m (additions_of members.additions) lt below.1)
 
-pub sequence_inside : (n m : ℕ) (d : Definition) (members : Extensible Component) → n < m → IsInside n d → d ≡ types.Sequence members → PartsBelow m members
+pub sequence_inside : (n m : ℕ) (d : Definition) (members : Extensible Component) → n < m → IsInside n d → d ≡ types.Sequence members
+    → PartsBelow m members
 sequence_inside n m d members lt inside is = parts_up n m members lt (subst (IsInside n) is inside)
 
-pub choice_inside : (n m : ℕ) (d : Definition) (members : Extensible Component) → n < m → IsInside n d → d ≡ types.Choice members → PartsBelow m members
+pub choice_inside : (n m : ℕ) (d : Definition) (members : Extensible Component) → n < m → IsInside n d → d ≡ types.Choice members
+    → PartsBelow m members
 choice_inside n m d members lt inside is = parts_up n m members lt (subst (IsInside n) is inside)

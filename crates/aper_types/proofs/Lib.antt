@@ -1,6 +1,4 @@
-pub mod Ranks
-pub mod Steps
-pub mod Inside
 pub mod TreeLaws
+pub mod Members
 pub mod Bounded
 pub mod Follow

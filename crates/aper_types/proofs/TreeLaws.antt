@@ -14,8 +14,9 @@ use Rattle.asn1_module.specs.Module.{find_type, ie_rows, procedure_rows, IsModul
 use Rattle.asn1_module.specs.Targets.{definition_at, all_of}
 use Rattle.aper_defs.specs.Trees.{Tree, Parts, Rows, part, row, outcome}
 use Rattle.aper_types.specs.Types.{parts_of, is_mandatory, rows_of, outcome_of, procedures_of, named_tree, definition_tree, tree_by, tree}
-use Rattle.aper_types.proofs.Ranks.{rank, rank_most}
-use Rattle.aper_types.proofs.Inside.{EachPart, OfOption, EachIe, EachProcedure, EachOf, each_more, Lesser, ranks_fall}
+use Rattle.asn1_rank_laws.specs.Leading.{EachPart, OfOption, EachIe, EachProcedure, EachOf, Lesser}
+use Rattle.asn1_rank_laws.proofs.Ranks.{rank, rank_most}
+use Rattle.asn1_rank_laws.proofs.Inside.{each_more, ranks_fall}
 
 -- two trees for each number, which are one where they are asked
 module _ (f g : ℕ → Tree) where
@@ -76,22 +77,27 @@ module _ (f g : ℕ → Tree) where
   definition_same names (types.PrintableString size) h = refl
 
 -- more steps than the rank of a type give one tree
-steps_same : (m : Syntax) → IsModule m → (a b id : ℕ) → id < length m.nodes → rank m id < a → rank m id < b → tree_by a m id ≡ tree_by b m id
+steps_same : (m : Syntax) → IsModule m → (a b id : ℕ) → id < length m.nodes → rank m id < a → rank m id < b
+    → tree_by a m id ≡ tree_by b m id
 unfolding tree_by
 steps_same m is zero b id lt fewer more = absurd (omega arith)
 steps_same m is (suc a) zero id lt fewer more = absurd (omega arith)
 steps_same m is (suc a) (suc b) id lt fewer more =
     definition_same (tree_by a m) (tree_by b m) m.assignments (definition_at m id)
-    (each_more (Lesser m id) (λ n. tree_by a m n ≡ tree_by b m n) (λ n less. steps_same m is a b n less.0 (omega (arith, less.1)) (omega (arith, less.1)))
+    (each_more (Lesser m (rank m) id) (λ n. tree_by a m n ≡ tree_by b m n)
+    (λ n less. steps_same m is a b n less.0 (omega (arith, less.1)) (omega (arith, less.1)))
     m.assignments (definition_at m id) (ranks_fall m is id lt))
 
-pub tree_is : (m : Syntax) (id : ℕ) → IsModule m → id < length m.nodes → tree m id ≡ definition_tree m.assignments (tree m) (definition_at m id)
+pub tree_is : (m : Syntax) (id : ℕ) → IsModule m → id < length m.nodes
+    → tree m id ≡ definition_tree m.assignments (tree m) (definition_at m id)
 unfolding tree tree_by
 tree_is m id is lt =
     let steps : ℕ = length m.nodes + length m.assignments in
     ap (λ (k : ℕ). tree_by k m id) (let one : steps + 1 ≡ suc steps = omega arith in one)
-    ∙ definition_same (tree_by (length m.nodes + length m.assignments) m) (tree_by (length m.nodes + length m.assignments + 1) m) m.assignments (definition_at m id)
-    (each_more (Lesser m id) (λ n. tree_by (length m.nodes + length m.assignments) m n ≡ tree_by (length m.nodes + length m.assignments + 1) m n)
+    ∙ definition_same (tree_by (length m.nodes + length m.assignments) m)
+    (tree_by (length m.nodes + length m.assignments + 1) m) m.assignments (definition_at m id)
+    (each_more (Lesser m (rank m) id) (λ n. tree_by (length m.nodes + length m.assignments) m n ≡ tree_by
+    (length m.nodes + length m.assignments + 1) m n)
     (λ n less. steps_same m is (length m.nodes + length m.assignments) (length m.nodes + length m.assignments + 1) n less.0
     (omega (arith, less.1, rank_most m id)) (omega (arith, less.1, rank_most m id)))
     m.assignments (definition_at m id) (ranks_fall m is id lt))

@@ -6,7 +6,8 @@ use Rattle.aper_types.proofs.form.form_of.Goals as goal
 
 pub returns-clause-tree : goal.returns-clause-tree
 returns-clause-tree c =
-    c.resolved-end.ensures.tree ∙ tree_is c.args.m.now c.resolved-end.result.number c.resolved-end.ensures.sound c.resolved-end.ensures.inside
+    c.resolved-end.ensures.tree
+    ∙ tree_is c.args.m.now c.resolved-end.result.number c.resolved-end.ensures.sound c.resolved-end.ensures.inside
     ∙ c.own_form.ensures.tree (tree c.args.m.now)
 
 pub returns-clause-bounded : goal.returns-clause-bounded

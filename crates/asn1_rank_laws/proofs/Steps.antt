@@ -40,7 +40,8 @@ member_goes base from [] e below h = elim h [ ]
 member_goes base from (c ∷ cs) e below (inl is) = subst (Goes base) is (inl below.0)
 member_goes base from (c ∷ cs) e below (inr h) = member_goes base from cs e below.1 h
 
-members_go : (base from : ℕ) (cs ds : List Component) (e : Edge) → AreBelow from cs → AreBelow from ds → IsAmong e (member_edges from cs ++ member_edges from ds) → Goes base e
+members_go : (base from : ℕ) (cs ds : List Component) (e : Edge) → AreBelow from cs → AreBelow from ds
+    → IsAmong e (member_edges from cs ++ member_edges from ds) → Goes base e
 members_go base from cs ds e below added h = elim (among_cases e (member_edges from cs) (member_edges from ds) h) [
   | inl l ↦ member_goes base from cs e below l
   | inr r ↦ member_goes base from ds e added r
@@ -51,10 +52,13 @@ numbered_goes base from None e h = elim h [ ]
 numbered_goes base from (Some number) e (inl is) = subst (Goes base) is (inr (omega arith))
 numbered_goes base from (Some number) e (inr h) = elim h [ ]
 
-node_goes : (base : ℕ) (names : List Assignment) (from : ℕ) (d : Definition) (e : Edge) → IsInside from d → IsAmong e (node_edges base names from d) → Goes base e
+node_goes : (base : ℕ) (names : List Assignment) (from : ℕ) (d : Definition) (e : Edge) → IsInside from d
+    → IsAmong e (node_edges base names from d) → Goes base e
 unfolding node_edges
-node_goes base names from (types.Sequence members) e inside h = members_go base from members.root (additions_of members.additions) e inside.0 inside.1 h
-node_goes base names from (types.Choice members) e inside h = members_go base from members.root (additions_of members.additions) e inside.0 inside.1 h
+node_goes base names from (types.Sequence members) e inside h =
+    members_go base from members.root (additions_of members.additions) e inside.0 inside.1 h
+node_goes base names from (types.Choice members) e inside h =
+    members_go base from members.root (additions_of members.additions) e inside.0 inside.1 h
 node_goes base names from (types.SequenceOf size element) e inside (inl is) = subst (Goes base) is (inl inside)
 node_goes base names from (types.SequenceOf size element) e inside (inr h) = elim h [ ]
 node_goes base names from (types.Reference name) e inside h = numbered_goes base from (number_of name names) e h
@@ -67,7 +71,8 @@ node_goes base names from (types.BitString size) e inside h = elim h [ ]
 node_goes base names from (types.OctetString size) e inside h = elim h [ ]
 node_goes base names from (types.PrintableString size) e inside h = elim h [ ]
 
-nodes_go : (base : ℕ) (names : List Assignment) (from : ℕ) (nodes : List Node) (e : Edge) → AreOrdered from nodes → IsAmong e (nodes_edges base names from nodes) → Goes base e
+nodes_go : (base : ℕ) (names : List Assignment) (from : ℕ) (nodes : List Node) (e : Edge) → AreOrdered from nodes
+    → IsAmong e (nodes_edges base names from nodes) → Goes base e
 unfolding nodes_edges
 nodes_go base names from [] e ordered h = elim h [ ]
 nodes_go base names from (node ∷ nodes) e ordered h =
@@ -92,10 +97,12 @@ parts_from vertex start (a ∷ names) e h =
     ]
 
 -- a step from a type
-step_goes : (m : Syntax) (a b : ℕ) → IsModule m → a < length m.nodes → IsStep (vertex_count m) (edges_of m) a b → (b < a) ⊎ (length m.nodes ≤ b)
+step_goes : (m : Syntax) (a b : ℕ) → IsModule m → a < length m.nodes → IsStep (vertex_count m) (edges_of m) a b
+    → (b < a) ⊎ (length m.nodes ≤ b)
 unfolding edges_of
 step_goes m a b is lt step =
-    elim (among_cases (edge a b) (nodes_edges (length m.nodes) m.assignments 0 m.nodes) (parts_edges (length m.nodes) 0 m.assignments) step.among) [
+    elim (among_cases (edge a b) (nodes_edges (length m.nodes) m.assignments 0 m.nodes)
+    (parts_edges (length m.nodes) 0 m.assignments) step.among) [
       | inl l ↦ nodes_go (length m.nodes) m.assignments 0 m.nodes (edge a b) is.linked.types l
       | inr r ↦ absurd (omega (arith, parts_from (length m.nodes) 0 m.assignments (edge a b) r))
     ]

@@ -49,7 +49,8 @@ unfolding marks
 marks_up zero t u h = omega arith
 marks_up (suc n) t u h = omega (arith, mark_up (get_or t n 0) (get_or u n 0) (h n), marks_up n t u h)
 
-marks_less : (n : ℕ) (t u : List ℕ) (v : ℕ) → ((v : ℕ) → 0 < get_or t v 0 → 0 < get_or u v 0) → v < n → get_or t v 0 ≡ 0 → 0 < get_or u v 0 → marks n t < marks n u
+marks_less : (n : ℕ) (t u : List ℕ) (v : ℕ) → ((v : ℕ) → 0 < get_or t v 0 → 0 < get_or u v 0) → v < n → get_or t v 0 ≡ 0
+    → 0 < get_or u v 0 → marks n t < marks n u
 unfolding marks
 marks_less zero t u v h lt none some = absurd (omega arith)
 marks_less (suc n) t u v h lt none some = go (cases_lt v n) (λ before. marks_less n t u v h before none some)
@@ -69,9 +70,11 @@ one_round edges start t = round_of (mark_step start) false t edges
 
 reached_by : ℕ → List Edge → ℕ → List ℕ → List ℕ
 reached_by zero edges start t = (one_round edges start t).1
-reached_by (suc rounds) edges start t = cond (one_round edges start t).0 (reached_by rounds edges start (one_round edges start t).1) (one_round edges start t).1
+reached_by (suc rounds) edges start t =
+    cond (one_round edges start t).0 (reached_by rounds edges start (one_round edges start t).1) (one_round edges start t).1
 
-reached_is : (count : ℕ) (edges : List Edge) (start : ℕ) → start < count → (rounds : ℕ) (t : List ℕ) → slack 1 t ≤ rounds → MarksWell count edges start t → IsReach count edges start (reached_by rounds edges start t)
+reached_is : (count : ℕ) (edges : List Edge) (start : ℕ) → start < count → (rounds : ℕ) (t : List ℕ) → slack 1 t ≤ rounds
+    → MarksWell count edges start t → IsReach count edges start (reached_by rounds edges start t)
 unfolding reached_by one_round
 reached_is count edges start lt zero t h well =
     by_test (IsReach count edges start (round_of (mark_step start) false t edges).1) (round_of (mark_step start) false t edges).0
@@ -79,7 +82,8 @@ reached_is count edges start lt zero t h well =
     (λ ends. mark_round_done count edges start t well ends)
 reached_is count edges start lt (suc rounds) t h well =
     by_choice (IsReach count edges start) (round_of (mark_step start) false t edges).0 _ _
-    (λ goes. reached_is count edges start lt rounds (round_of (mark_step start) false t edges).1 (omega (arith, mark_round_less start t edges goes)) (mark_round_keeps count edges start t lt well))
+    (λ goes. reached_is count edges start lt rounds (round_of (mark_step start) false t edges).1
+    (omega (arith, mark_round_less start t edges goes)) (mark_round_keeps count edges start t lt well))
     (λ ends. mark_round_done count edges start t well ends)
 
 table : Syntax → ℕ → List ℕ
@@ -87,7 +91,9 @@ table m v = reached_by (slack 1 (replicate (vertex_count m) 0)) (edges_of m) v (
 
 table_is : (m : Syntax) (v : ℕ) → v < vertex_count m → IsReach (vertex_count m) (edges_of m) v (table m v)
 unfolding table
-table_is m v lt = reached_is (vertex_count m) (edges_of m) v lt (slack 1 (replicate (vertex_count m) 0)) (replicate (vertex_count m) 0) (omega arith) (no_marks (vertex_count m) (edges_of m) v)
+table_is m v lt =
+    reached_is (vertex_count m) (edges_of m) v lt (slack 1 (replicate (vertex_count m) 0)) (replicate (vertex_count m) 0) (omega arith)
+    (no_marks (vertex_count m) (edges_of m) v)
 
 -- ---- ranks
 
@@ -102,7 +108,8 @@ pub leads_after : (count : ℕ) (edges : List Edge) (a b c : ℕ) → IsStep cou
 leads_after count edges a b c step (first last) = further (first step) last
 leads_after count edges a b c step (further {b = d} path last) = further (leads_after count edges a b d step path) last
 
-pub rank_falls : (m : Syntax) (a b : ℕ) → IsStep (vertex_count m) (edges_of m) a b → (Leads (vertex_count m) (edges_of m) b b → ⊥) → rank m b < rank m a
+pub rank_falls : (m : Syntax) (a b : ℕ) → IsStep (vertex_count m) (edges_of m) a b → (Leads (vertex_count m) (edges_of m) b b → ⊥)
+    → rank m b < rank m a
 unfolding rank
 rank_falls m a b step finite =
     let from = table_is m a step.from in

@@ -23,45 +23,11 @@ use Rattle.asn1_module.specs.Module.{type_of, find_type, ie_rows_of, ie_rows, pr
 use Rattle.asn1_module.specs.Targets.{definition_of, definition_at, all_of}
 use Rattle.asn1_module.specs.Numbers.{body_at, found_in}
 use Rattle.asn1_module.proofs.NamesByNumber.{type_numbered, ies_numbered, procedures_numbered}
-use Rattle.aper_types.proofs.Ranks.{rank, rank_falls}
-use Rattle.aper_types.proofs.Steps.{among_left, among_right, finite}
+use Rattle.asn1_rank_laws.specs.Leading.{EachPart, OfOption, EachIe, EachProcedure, EachOfBody, EachOf, Lesser, IsRank}
+use Rattle.asn1_rank_laws.proofs.Ranks.{rank, rank_most, rank_falls}
+use Rattle.asn1_rank_laws.proofs.Steps.{among_left, among_right, finite}
 
 -- ---- a property of each type that a type leads to
-
-abbrev pub EachPart : (ℕ → Type 0) → List Component → Type 0
-EachPart P [] = Unit {0}
-EachPart P (c ∷ cs) = P c.definition.number × EachPart P cs
-
-abbrev pub OfOption : (ℕ → Type 0) → Option TypeId → Type 0
-OfOption P None = Unit {0}
-OfOption P (Some id) = P id.number
-
-abbrev pub EachIe : (ℕ → Type 0) → List IeRow → Type 0
-EachIe P [] = Unit {0}
-EachIe P (row ∷ rows) = P row.definition.number × EachIe P rows
-
-abbrev pub EachProcedure : (ℕ → Type 0) → List ProcedureRow → Type 0
-EachProcedure P [] = Unit {0}
-EachProcedure P (row ∷ rows) = (P row.initiating.number × OfOption P row.successful × OfOption P row.unsuccessful) × EachProcedure P rows
-
-abbrev pub EachOfBody : (ℕ → Type 0) → Body → Type 0
-EachOfBody P (bodies.Type id) = P id.number
-EachOfBody P (bodies.IeSet rows) = EachIe P rows
-EachOfBody P (bodies.ProcedureSet rows) = EachProcedure P rows
-
-abbrev pub EachOf : (ℕ → Type 0) → List Assignment → Definition → Type 0
-EachOf P names (types.Sequence members) = EachPart P members.root × EachPart P (additions_of members.additions)
-EachOf P names (types.Choice members) = EachPart P members.root × EachPart P (additions_of members.additions)
-EachOf P names (types.SequenceOf size element) = P element.number
-EachOf P names (types.Reference name) = OfOption P (find_type name names)
-EachOf P names (types.IeContainer set) = EachIe P (all_of (ie_rows set names))
-EachOf P names (types.Pdu set) = EachProcedure P (all_of (procedure_rows set names))
-EachOf P names types.Boolean = Unit {0}
-EachOf P names (types.Integer low high extensible) = Unit {0}
-EachOf P names (types.Enumerated parts) = Unit {0}
-EachOf P names (types.BitString size) = Unit {0}
-EachOf P names (types.OctetString size) = Unit {0}
-EachOf P names (types.PrintableString size) = Unit {0}
 
 module _ (P Q : ℕ → Type 0) (more : (n : ℕ) → P n → Q n) where
   parts_more : (cs : List Component) → EachPart P cs → EachPart Q cs
@@ -141,8 +107,10 @@ body_steps : (vertex start : ℕ) (names : List Assignment) (k : ℕ) (a : Assig
 unfolding parts_edges
 body_steps vertex start [] k a there parted = cc
 body_steps vertex start (b ∷ names) zero a there parted = subst (λ (x : Assignment). EachOfBody (λ n. Has n) x.body) (same there)
-    (body_between Has start b.end (λ n least most. among_left (edge (vertex + 0) n) (range_edges vertex start (b.end - start)) (parts_edges (vertex + 1) b.end names)
-    (subst (λ (v : ℕ). IsAmong (edge v n) (range_edges vertex start (b.end - start))) (omega arith) (range_has vertex start (b.end - start) n least (omega arith))))
+    (body_between Has start b.end (λ n least most. among_left (edge (vertex + 0) n) (range_edges vertex start (b.end - start))
+    (parts_edges (vertex + 1) b.end names)
+    (subst (λ (v : ℕ). IsAmong (edge v n) (range_edges vertex start (b.end - start))) (omega arith)
+    (range_has vertex start (b.end - start) n least (omega arith))))
     b.body parted.0 parted.1)
   where
     Has : ℕ → Type 0
@@ -164,13 +132,16 @@ nodes_have : (base : ℕ) (names : List Assignment) (from : ℕ) (nodes : List N
     → IsAmong e (node_edges base names (from + i) (definition_of (slice_get nodes i))) → IsAmong e (nodes_edges base names from nodes)
 unfolding nodes_edges
 nodes_have base names from [] i e lt h = absurd (omega arith)
-nodes_have base names from (node ∷ nodes) zero e lt h = among_left e (node_edges base names from node.definition) (nodes_edges base names (from + 1) nodes)
+nodes_have base names from (node ∷ nodes) zero e lt h =
+    among_left e (node_edges base names from node.definition) (nodes_edges base names (from + 1) nodes)
     (subst (λ (k : ℕ). IsAmong e (node_edges base names k node.definition)) (omega arith) h)
-nodes_have base names from (node ∷ nodes) (suc i) e lt h = among_right e (node_edges base names from node.definition) (nodes_edges base names (from + 1) nodes)
+nodes_have base names from (node ∷ nodes) (suc i) e lt h =
+    among_right e (node_edges base names from node.definition) (nodes_edges base names (from + 1) nodes)
     (nodes_have base names (from + 1) nodes i e (omega arith)
     (subst (λ (k : ℕ). IsAmong e (node_edges base names k (definition_of (slice_get nodes i)))) (omega arith) h))
 
-type_step : (m : Syntax) (id to : ℕ) → id < length m.nodes → to < vertex_count m → IsAmong (edge id to) (node_edges (length m.nodes) m.assignments id (definition_at m id))
+type_step : (m : Syntax) (id to : ℕ) → id < length m.nodes → to < vertex_count m
+    → IsAmong (edge id to) (node_edges (length m.nodes) m.assignments id (definition_at m id))
     → IsStep (vertex_count m) (edges_of m) id to
 unfolding edges_of
 type_step m id to lt inner h = record {
@@ -181,26 +152,25 @@ type_step m id to lt inner h = record {
   to = inner;
 }
 
-name_step : (m : Syntax) (k to : ℕ) → k < length m.assignments → to < length m.nodes → IsAmong (edge (length m.nodes + k) to) (parts_edges (length m.nodes) 0 m.assignments)
+name_step : (m : Syntax) (k to : ℕ) → k < length m.assignments → to < length m.nodes
+    → IsAmong (edge (length m.nodes + k) to) (parts_edges (length m.nodes) 0 m.assignments)
     → IsStep (vertex_count m) (edges_of m) (length m.nodes + k) to
 unfolding edges_of
 name_step m k to lt inner h = record {
-  among = among_right (edge (length m.nodes + k) to) (nodes_edges (length m.nodes) m.assignments 0 m.nodes) (parts_edges (length m.nodes) 0 m.assignments) h;
+  among =
+      among_right (edge (length m.nodes + k) to) (nodes_edges (length m.nodes) m.assignments 0 m.nodes)
+      (parts_edges (length m.nodes) 0 m.assignments) h;
   from = omega arith;
   to = omega arith;
 }
 
 -- ---- ranks fall
 
--- a type of the module with a lesser rank
-abbrev pub Lesser : Syntax → ℕ → ℕ → Type 0
-Lesser m id n = (n < length m.nodes) × (rank m n < rank m id)
-
 falls_by : (m : Syntax) (a b : ℕ) → IsModule m → IsStep (vertex_count m) (edges_of m) a b → rank m b < rank m a
 falls_by m a b is step = rank_falls m a b step (finite m b is)
 
 members_fall : (m : Syntax) (id : ℕ) (cs : List Component) → IsModule m → id < length m.nodes → AreBelow id cs
-    → ((n : ℕ) → n < length m.nodes → IsAmong (edge id n) (member_edges id cs) → rank m n < rank m id) → EachPart (Lesser m id) cs
+    → ((n : ℕ) → n < length m.nodes → IsAmong (edge id n) (member_edges id cs) → rank m n < rank m id) → EachPart (Lesser m (rank m) id) cs
 unfolding member_edges
 members_fall m id [] is lt below step = tt
 members_fall m id (c ∷ cs) is lt below step = (
@@ -209,14 +179,17 @@ members_fall m id (c ∷ cs) is lt below step = (
 )
 
 all_members_fall : (m : Syntax) (id : ℕ) (cs ds : List Component) → IsModule m → id < length m.nodes → AreBelow id cs → AreBelow id ds
-    → ((n : ℕ) → n < length m.nodes → IsAmong (edge id n) (member_edges id cs ++ member_edges id ds) → rank m n < rank m id) → EachPart (Lesser m id) cs × EachPart (Lesser m id) ds
+    → ((n : ℕ) → n < length m.nodes → IsAmong (edge id n) (member_edges id cs ++ member_edges id ds) → rank m n < rank m id) → EachPart
+    (Lesser m (rank m) id) cs × EachPart (Lesser m (rank m) id) ds
 all_members_fall m id cs ds is lt below added step = (
   members_fall m id cs is lt below (λ n inner among. step n inner (among_left (edge id n) (member_edges id cs) (member_edges id ds) among)),
-  members_fall m id ds is lt added (λ n inner among. step n inner (among_right (edge id n) (member_edges id cs) (member_edges id ds) among)),
+  members_fall m id ds is lt added
+      (λ n inner among. step n inner (among_right (edge id n) (member_edges id cs) (member_edges id ds) among)),
 )
 
 -- what stands at a number is of lesser rank than a type that refers to it
-bodies_at : (n : ℕ) (names : List Assignment) (k : ℕ) (a : Assignment) → slice_get names k ≡ Some a → BodiesBelow n names → BodyBelow n a.body
+bodies_at : (n : ℕ) (names : List Assignment) (k : ℕ) (a : Assignment) → slice_get names k ≡ Some a → BodiesBelow n names
+    → BodyBelow n a.body
 bodies_at n [] k a there ok = cc
 bodies_at n (b ∷ names) zero a there ok = subst (λ (x : Assignment). BodyBelow n x.body) (same there) ok.0
   where
@@ -240,7 +213,8 @@ module _ (m : Syntax) (is : IsModule m) (id : ℕ) (lt : id < length m.nodes) wh
 
       procedures : (rows : List ProcedureRow) → EachProcedure P rows → EachProcedure Q rows → EachProcedure (λ n. P n × Q n) rows
       procedures [] p q = tt
-      procedures (row ∷ rows) p q = (((p.0.0, q.0.0), option row.successful p.0.1 q.0.1, option row.unsuccessful p.0.2 q.0.2), procedures rows p.1 q.1)
+      procedures (row ∷ rows) p q =
+          (((p.0.0, q.0.0), option row.successful p.0.1 q.0.1, option row.unsuccessful p.0.2 q.0.2), procedures rows p.1 q.1)
 
   below_of : (n : ℕ) (body : Body) → BodyBelow n body → EachOfBody (λ k. k < n) body
   below_of n (bodies.Type d) ok = ok
@@ -260,10 +234,12 @@ module _ (m : Syntax) (is : IsModule m) (id : ℕ) (lt : id < length m.nodes) wh
       procedures (row ∷ rows) ok = ((ok.0.0, option row.successful ok.0.1.0, option row.unsuccessful ok.0.1.1), procedures rows ok.1)
 
   -- what the name with this number stands for
-  body_falls : (k : ℕ) (a : Assignment) → slice_get m.assignments k ≡ Some a → rank m (length m.nodes + k) < rank m id → EachOfBody (Lesser m id) a.body
+  body_falls : (k : ℕ) (a : Assignment) → slice_get m.assignments k ≡ Some a → rank m (length m.nodes + k) < rank m id
+      → EachOfBody (Lesser m (rank m) id) a.body
   body_falls k a there less =
       let inner : k < length m.assignments = slice_get_within m.assignments k a there in
-      body_more (λ n. (n < length m.nodes) × IsAmong (edge (length m.nodes + k) n) (parts_edges (length m.nodes) 0 m.assignments)) (Lesser m id)
+      body_more (λ n. (n < length m.nodes) × IsAmong (edge (length m.nodes + k) n) (parts_edges (length m.nodes) 0 m.assignments))
+      (Lesser m (rank m) id)
       (λ n both. (both.0, omega (arith, falls_by m (length m.nodes + k) n is (name_step m k n inner both.0 both.1), less)))
       a.body
       (both_of (λ n. n < length m.nodes) (λ n. IsAmong (edge (length m.nodes + k) n) (parts_edges (length m.nodes) 0 m.assignments)) a.body
@@ -271,8 +247,11 @@ module _ (m : Syntax) (is : IsModule m) (id : ℕ) (lt : id < length m.nodes) wh
       (body_steps (length m.nodes) 0 m.assignments k a there is.linked.parts))
 
   -- what the name in a type stands for
-  named_falls : (name : List ℕ) (Q : Option Body → Type 0) → ((body : Body) → EachOfBody (Lesser m id) body → Q (Some body)) → Q None
-      → ((n : ℕ) → n < vertex_count m → IsAmong (edge id n) (numbered_edges (length m.nodes) id (number_of name m.assignments)) → rank m n < rank m id)
+  named_falls : (name : List ℕ) (Q : Option Body → Type 0) → ((body : Body) → EachOfBody (Lesser m (rank m) id) body → Q (Some body))
+      → Q None
+      →
+      ((n : ℕ) → n < vertex_count m → IsAmong (edge id n)
+      (numbered_edges (length m.nodes) id (number_of name m.assignments)) → rank m n < rank m id)
       → Q (body_at m.assignments (number_of name m.assignments))
   named_falls name Q some none step = go (number_of name m.assignments) step
     where
@@ -284,39 +263,46 @@ module _ (m : Syntax) (is : IsModule m) (id : ℕ) (lt : id < length m.nodes) wh
           let inner : k < length m.assignments = slice_get_within m.assignments k a there in
           some a.body (body_falls k a there (step (length m.nodes + k) (omega arith) (inl refl)))
 
-      go : (o : Option ℕ) → ((n : ℕ) → n < vertex_count m → IsAmong (edge id n) (numbered_edges (length m.nodes) id o) → rank m n < rank m id) → Q (body_at m.assignments o)
+      go : (o : Option ℕ)
+          → ((n : ℕ) → n < vertex_count m → IsAmong (edge id n) (numbered_edges (length m.nodes) id o) → rank m n < rank m id)
+          → Q (body_at m.assignments o)
       go None step = none
       go (Some k) step = at k (slice_get m.assignments k) refl step
 
-  each_by : (d : Definition) → IsInside id d → ((n : ℕ) → n < vertex_count m → IsAmong (edge id n) (node_edges (length m.nodes) m.assignments id d) → rank m n < rank m id)
-      → EachOf (Lesser m id) m.assignments d
+  each_by : (d : Definition) → IsInside id d
+      → ((n : ℕ) → n < vertex_count m → IsAmong (edge id n) (node_edges (length m.nodes) m.assignments id d) → rank m n < rank m id)
+      → EachOf (Lesser m (rank m) id) m.assignments d
   unfolding node_edges
   each_by (types.Sequence members) inside step =
-      all_members_fall m id members.root (additions_of members.additions) is lt inside.0 inside.1 (λ n inner among. step n (omega arith) among)
+      all_members_fall m id members.root (additions_of members.additions) is lt inside.0 inside.1
+      (λ n inner among. step n (omega arith) among)
   each_by (types.Choice members) inside step =
-      all_members_fall m id members.root (additions_of members.additions) is lt inside.0 inside.1 (λ n inner among. step n (omega arith) among)
+      all_members_fall m id members.root (additions_of members.additions) is lt inside.0 inside.1
+      (λ n inner among. step n (omega arith) among)
   each_by (types.SequenceOf size element) inside step = (omega (arith, inside), step element.number (omega (arith, inside)) (inl refl))
   each_by (types.Reference name) inside step =
-      subst (OfOption (Lesser m id)) (sym (type_numbered name m.assignments))
-      (named_falls name (λ o. OfOption (Lesser m id) (found_in type_of o)) type_is tt step)
+      subst (OfOption (Lesser m (rank m) id)) (sym (type_numbered name m.assignments))
+      (named_falls name (λ o. OfOption (Lesser m (rank m) id) (found_in type_of o)) type_is tt step)
     where
-      type_is : (body : Body) → EachOfBody (Lesser m id) body → OfOption (Lesser m id) (type_of body)
+      type_is : (body : Body) → EachOfBody (Lesser m (rank m) id) body → OfOption (Lesser m (rank m) id) (type_of body)
       type_is (bodies.Type d) h = h
       type_is (bodies.IeSet rows) h = tt
       type_is (bodies.ProcedureSet rows) h = tt
   each_by (types.IeContainer set) inside step =
-      subst (λ (o : Option (List IeRow)). EachIe (Lesser m id) (all_of o)) (sym (ies_numbered set m.assignments))
-      (named_falls set (λ o. EachIe (Lesser m id) (all_of (found_in ie_rows_of o))) rows_are tt step)
+      subst (λ (o : Option (List IeRow)). EachIe (Lesser m (rank m) id) (all_of o)) (sym (ies_numbered set m.assignments))
+      (named_falls set (λ o. EachIe (Lesser m (rank m) id) (all_of (found_in ie_rows_of o))) rows_are tt step)
     where
-      rows_are : (body : Body) → EachOfBody (Lesser m id) body → EachIe (Lesser m id) (all_of (ie_rows_of body))
+      rows_are : (body : Body) → EachOfBody (Lesser m (rank m) id) body → EachIe (Lesser m (rank m) id) (all_of (ie_rows_of body))
       rows_are (bodies.Type d) h = tt
       rows_are (bodies.IeSet rows) h = h
       rows_are (bodies.ProcedureSet rows) h = tt
   each_by (types.Pdu set) inside step =
-      subst (λ (o : Option (List ProcedureRow)). EachProcedure (Lesser m id) (all_of o)) (sym (procedures_numbered set m.assignments))
-      (named_falls set (λ o. EachProcedure (Lesser m id) (all_of (found_in procedure_rows_of o))) rows_are tt step)
+      subst (λ (o : Option (List ProcedureRow)). EachProcedure (Lesser m (rank m) id) (all_of o))
+      (sym (procedures_numbered set m.assignments))
+      (named_falls set (λ o. EachProcedure (Lesser m (rank m) id) (all_of (found_in procedure_rows_of o))) rows_are tt step)
     where
-      rows_are : (body : Body) → EachOfBody (Lesser m id) body → EachProcedure (Lesser m id) (all_of (procedure_rows_of body))
+      rows_are : (body : Body) → EachOfBody (Lesser m (rank m) id) body
+          → EachProcedure (Lesser m (rank m) id) (all_of (procedure_rows_of body))
       rows_are (bodies.Type d) h = tt
       rows_are (bodies.IeSet rows) h = tt
       rows_are (bodies.ProcedureSet rows) h = h
@@ -328,11 +314,18 @@ module _ (m : Syntax) (is : IsModule m) (id : ℕ) (lt : id < length m.nodes) wh
   each_by (types.PrintableString size) inside step = tt
 
   -- the types inside a type, that of its name and those in its set have lesser ranks
-  pub ranks_fall : EachOf (Lesser m id) m.assignments (definition_at m id)
-  ranks_fall = each_by (definition_at m id) (subst (λ (k : ℕ). IsInside k (definition_at m id)) (omega arith) (inside_of m.nodes id 0 lt is.linked.types)) (λ n inner among. falls_by m id n is (type_step m id n lt inner among))
+  pub ranks_fall : EachOf (Lesser m (rank m) id) m.assignments (definition_at m id)
+  ranks_fall =
+      each_by (definition_at m id)
+      (subst (λ (k : ℕ). IsInside k (definition_at m id)) (omega arith) (inside_of m.nodes id 0 lt is.linked.types))
+      (λ n inner among. falls_by m id n is (type_step m id n lt inner among))
     where
-      inside_of : (nodes : List Node) (i n : ℕ) → i < length nodes → AreOrdered n nodes → IsInside (n + i) (definition_of (slice_get nodes i))
+      inside_of : (nodes : List Node) (i n : ℕ) → i < length nodes → AreOrdered n nodes
+          → IsInside (n + i) (definition_of (slice_get nodes i))
       inside_of [] i n lt ok = absurd (omega arith)
       inside_of (node ∷ nodes) zero n lt ok = subst (λ (k : ℕ). IsInside k node.definition) (omega arith) ok.0
       inside_of (node ∷ nodes) (suc i) n lt ok =
           subst (λ (k : ℕ). IsInside k (definition_of (slice_get nodes i))) (omega arith) (inside_of nodes i (suc n) (omega arith) ok.1)
+
+pub is_rank : (m : Syntax) → IsModule m → IsRank m (rank m)
+is_rank m is = record { most = rank_most m; falls = ranks_fall m is }
