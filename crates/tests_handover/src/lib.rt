@@ -1,4 +1,4 @@
-//! Tests of the states of an attach and a handover.
+//! Tests of the states of an attach, a handover and a return.
 #![tactic(auto)]
 
 #[cfg(test)]
