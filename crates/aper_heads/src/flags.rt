@@ -1,6 +1,6 @@
 //! Which components and additions are there.
 
-ghost use Rattle.std.specs.Prelude.{◌≡◌, ℕ, ◌≤◌, length, IfOk};
+ghost use Rattle.std.specs.Prelude.{◌≡◌, ℕ, ◌≤◌, length, true, if◌then◌else◌, IfOk};
 ghost use Rattle.bits_core.specs.Bits.{bits_of};
 ghost use Rattle.aper_defs.specs.Trees.{Tree};
 ghost use Rattle.aper_defs.specs.Questions.{ask_flags};
@@ -8,14 +8,14 @@ ghost use Rattle.aper_defs.specs.Asking.{ask_marks};
 ghost use Rattle.aper_types.specs.Types.{parts_of};
 ghost use Rattle.aper_asking.specs.Going.{GoesOnOrMemory};
 
-use aper_asking::{ask_flag, ask_one};
+use aper_asking::{ask_extension, ask_one};
 use aper_cursor::{Cursor, Question, Role, Unanswered};
 use asn1_types::Component;
 use gnb_types::bits::Bits;
 use gnb_types::items::Memory;
 use std::alloc::Global;
 
-/// Which components are there: a bit for each OPTIONAL one, and the mandatory ones are.
+/// Which components are there: a bit for each OPTIONAL one, and each mandatory one is.
 pub fn ask_flags(
     alloc: Global,
     cursor: &mut Cursor,
@@ -26,14 +26,17 @@ pub fn ask_flags(
 {
     let mut there = Vec::new(alloc);
     for part in parts {
-        let is_there = if part.optional {
-            ask_flag(cursor)?
-        } else {
-            true
-        };
-        there.push(is_there)?;
+        // As an extension bit, it stands only where it may be 0 or 1.
+        let marked = ask_extension(cursor, part.optional)?;
+        there.push(is_there(part.optional, marked))?;
     }
     Ok(Bits::from_vec(there))
+}
+
+fn is_there(optional: bool, marked: bool) -> bool
+    ensures { result ≡ (if optional then marked else true) }
+{
+    !optional || marked
 }
 
 /// Which additions are there, of at most 64; none where the extension bit is 0.
@@ -50,10 +53,11 @@ pub fn ask_marks(alloc: Global, cursor: &mut Cursor, extended: bool) -> Result<B
     Ok(bits_of(alloc, count, number)?)
 }
 
-/// So many bits of a number, the most significant first.
+/// So many bits of a number, the highest first.
 fn bits_of(alloc: Global, count: u32, number: u64) -> Result<Bits, Memory>
     requires { count ≤ 64 }
-    ensures { IfOk result (λ bits. bits ≡ bits_of count number) }
+    ensures bits { IfOk result (λ bits. bits ≡ bits_of count number) }
+    ensures size { IfOk result (λ bits. length bits ≡ count) }
 {
     let mut bits = Vec::new(alloc);
     for done in 0..count {

@@ -1,15 +1,16 @@
 //! Strings.
 
-ghost use Rattle.std.specs.Prelude.{◌≡◌, ◌≤◌, ◌<◌, length};
+ghost use Rattle.std.specs.Prelude.{◌≡◌, ◌≤◌, ◌<◌, ◌^◌, length, Some};
 ghost use Rattle.aper_defs.specs.Bounds.{IsSizeBounded};
-ghost use Rattle.aper_defs.specs.Questions.{ask_string, ask_sized, ask_all_parts};
+ghost use Rattle.aper_defs.specs.Fields.{pad};
+ghost use Rattle.aper_defs.specs.Parts.{pad_limit};
+ghost use Rattle.aper_defs.specs.Questions.{ask, ask_string, ask_sized, ask_units, ask_all_parts};
 ghost use Rattle.aper_asking.specs.Going.{GoesOnOrMemory, PutsOn};
 ghost use Rattle.aper_strings.specs.Contents.{content_of};
 
 use crate::units::{Content, ask_units};
 use aper_asking::{ask_aligned, ask_extension, ask_number, ask_one};
 use aper_cursor::{Cursor, Extent, Question, Role, Unanswered};
-use aper_defs::Reason;
 use asn1_types::Size;
 use gnb_types::octets::Octets;
 use std::alloc::Global;
@@ -17,7 +18,7 @@ use std::alloc::Global;
 /// A part of a string that isn't the last one has so many units, or up to four times so many.
 const PART_UNITS: u64 = 16384;
 
-/// An encoding has room for at most so many parts.
+/// The first parts of an encoding have so many bits at least, and only 64 fit it.
 const PART_LIMIT: u32 = 65;
 
 /// A string. Its bits are numbers, 0 or 1.
@@ -31,17 +32,44 @@ pub fn ask_string(
     ensures { GoesOnOrMemory (λ p. ask_string p (content_of content) size) cursor.old cursor.new result }
 {
     let mut units = Vec::new(alloc);
-    match size {
-        None => ask_parts(cursor, content, size, &mut units)?,
-        Some(bounds) => {
-            if ask_extension(cursor, bounds.extensible)? {
-                ask_parts(cursor, content, size, &mut units)?;
-            } else {
-                ask_sized(cursor, content, bounds, &mut units)?;
-            }
-        }
-    }
+    ask_into(cursor, content, size, &mut units)?;
     Ok(Octets::from_vec(units))
+}
+
+/// A string, of which nothing is there yet.
+#[tactic(auto, unfolding(aper_defs::specs::Questions::ask_string))]
+fn ask_into(
+    cursor: &mut Cursor,
+    content: Content,
+    size: Option<Size>,
+    out: &mut Vec<u8>,
+) -> Result<(), Unanswered>
+    requires bounded { IsSizeBounded size }
+    requires empty { length out.old.items ≡ 0 }
+    ensures { PutsOn (λ p. ask_string p (content_of content) size) cursor.old cursor.new out.old.items out.new.items result }
+{
+    match size {
+        None => Ok(ask_parts(cursor, content, None, out)?),
+        Some(bounds) => Ok(ask_bounded(cursor, content, bounds, out)?),
+    }
+}
+
+/// A string in a size or past it, of which nothing is there yet.
+fn ask_bounded(
+    cursor: &mut Cursor,
+    content: Content,
+    bounds: Size,
+    out: &mut Vec<u8>,
+) -> Result<(), Unanswered>
+    requires bounded { IsSizeBounded (Some bounds) }
+    requires empty { length out.old.items ≡ 0 }
+    ensures { PutsOn (λ p. ask_string p (content_of content) (Some bounds)) cursor.old cursor.new out.old.items out.new.items result }
+{
+    let is_extended = ask_extension(cursor, bounds.extensible)?;
+    if is_extended {
+        return Ok(ask_parts(cursor, content, Some(bounds), out)?);
+    }
+    Ok(ask_sized(cursor, content, bounds, out)?)
 }
 
 /// A string in the root of a size.
@@ -56,17 +84,30 @@ fn ask_sized(
     ensures { PutsOn (λ p. ask_sized p (content_of content) size) cursor.old cursor.new out.old.items out.new.items result }
 {
     if size.low == size.high {
-        if size.low > content.pad_limit() {
-            ask_one(cursor, Question::Pad)?;
+        if size.low <= content.pad_limit() {
+            return Ok(ask_units(cursor, content, size.low, out)?);
         }
-        return Ok(ask_units(cursor, content, size.low, out)?);
+        return Ok(ask_padded(cursor, content, size.low, out)?);
     }
     let further = ask_number(cursor, Role::Length, u64::from(size.high - size.low))?;
-    ask_one(cursor, Question::Pad)?;
-    Ok(ask_units(cursor, content, size.low + further as u32, out)?)
+    Ok(ask_padded(cursor, content, size.low + further as u32, out)?)
 }
 
-/// A string in parts.
+/// So many units after a pad.
+fn ask_padded(
+    cursor: &mut Cursor,
+    content: Content,
+    count: u32,
+    out: &mut Vec<u8>,
+) -> Result<(), Unanswered>
+    requires { count < 2 ^ 29 }
+    ensures { PutsOn (λ p K. ask p pad (λ z. ask_units p (content_of content) count K)) cursor.old cursor.new out.old.items out.new.items result }
+{
+    ask_one(cursor, Question::Pad)?;
+    Ok(ask_units(cursor, content, count, out)?)
+}
+
+/// A string in parts, of which nothing is there yet.
 fn ask_parts(
     cursor: &mut Cursor,
     content: Content,
@@ -90,5 +131,5 @@ fn ask_parts(
         }
         previous = count;
     }
-    Err(Unanswered::Wrong(Reason::TooLong))
+    unreachable!()
 }

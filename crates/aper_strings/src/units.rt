@@ -1,6 +1,6 @@
 //! Units of a string.
 
-ghost use Rattle.std.specs.Prelude.{◌≡◌, ◌+◌, ◌≤◌, ◌<◌, ◌→◌, ◌^◌, length, OnOk};
+ghost use Rattle.std.specs.Prelude.{◌≡◌, ◌+◌, ◌≤◌, ◌<◌, ◌^◌, length, OnOk};
 ghost use Rattle.aper_defs.specs.Questions.{ask_units, ask_characters};
 ghost use Rattle.aper_defs.specs.Parts.{pad_limit};
 ghost use Rattle.aper_asking.specs.Going.{PutsOn};
