@@ -1,5 +1,6 @@
 -- One turn of each loop, whatever is asked after it.
-use Rattle.std.proofs.Common.{◌≡◌, ℕ, zero, suc, ◌+◌, ◌<◌, ◌≤◌, cond, nat_lt, List, [], ◌∷◌, ◌++◌, length, Bool, true, false, Option, Result, Ok, Err, refl, sym, ap, fun_ext, ◌∙◌, arith, append_assoc}
+use Rattle.std.proofs.Common.{◌≡◌, ℕ, zero, suc, ◌+◌, ◌-◌, ◌<◌, ◌≤◌, cond, nat_lt, List, [], ◌∷◌, ◌++◌, length, Bool, true, false, Option, Result, Ok, Err, refl, sym, ap, ◌∙◌, arith, append_assoc}
+use Rattle.std.proofs.Math.Path.{fun_ext}
 use Rattle.asn1_types.specs.declared.definition.Size.{Size}
 use Rattle.aper_defs.specs.declared.reason.Reason.{Reason}
 use Rattle.aper_defs.specs.Fields.{Path, character, extent, part}
@@ -10,6 +11,7 @@ use Rattle.aper_defs.specs.Parts.{Content}
 use Rattle.aper_defs.specs.Questions.{Prog, ask, never, ask_aligned, ask_characters, ask_units, ask_parts}
 use Rattle.aper_defs.specs.Reading.{Cursor, Fault, read, run, goes_on, answered_at}
 use Rattle.aper_proof_answers.proofs.NumberFacts.{is_below, is_not_below}
+use Rattle.aper_asking.specs.Going.{fault_at}
 
 -- ---- characters
 pub characters_turn : (count : ℕ) (out : List ℕ) (x : ℕ) (c d : Cursor)
@@ -59,3 +61,57 @@ parts_as p content outside turns before previous K out =
     ap (λ (f : ℕ → List ℕ → Prog). ask_aligned p (extent (part before previous outside)) (λ n. ask_units p content n (f n)))
     (fun_ext (λ n. fun_ext (λ us. ap (λ (L : List ℕ → Prog). cond (nat_lt n part_units) (K (out ++ us))
     (ask_parts p content outside turns (before + n) n L)) (fun_ext (λ more. ap K (sym (append_assoc out us more)))))))
+
+module _ (content : Content) (outside : Option Size) (turn before previous : ℕ) (out : List ℕ) (c d : Cursor)
+    (early : turn < 65) (before_is : before ≡ length out) where
+  -- what is asked, with one part more
+  parts_here : (p : Path) (K : List ℕ → Prog)
+      → run (ask_parts p content outside (65 - turn) (length out) previous (λ us. K (out ++ us))) c
+      ≡ run (ask_aligned p (extent (part before previous outside)) (λ n. ask_units p content n (λ us.
+      after_part p content outside (64 - turn) (length out) K n (out ++ us)))) c
+  parts_here p K =
+      let left : 65 - turn ≡ suc (64 - turn) = omega arith in
+      ap (λ (k : ℕ). run (ask_parts p content outside k (length out) previous (λ us. K (out ++ us))) c) left
+      ∙ ap (λ P. run P c) (parts_as p content outside (64 - turn) (length out) previous K out)
+      ∙ ap (λ (b : ℕ). run (ask_aligned p (extent (part b previous outside)) (λ n. ask_units p content n (λ us.
+      after_part p content outside (64 - turn) (length out) K n (out ++ us)))) c) (sym before_is)
+
+  pub length_wrong : (reason : Reason)
+      → ((p : Path) (J : ℕ → Prog) → run (ask_aligned p (extent (part before previous outside)) J) c ≡ Err (fault_at d reason p))
+      → (p : Path) (K : List ℕ → Prog)
+      → run (ask_parts p content outside (65 - turn) (length out) previous (λ us. K (out ++ us))) c ≡ Err (fault_at d reason p)
+  length_wrong reason wrong p K = parts_here p K ∙ wrong p (λ n. ask_units p content n (λ us.
+      after_part p content outside (64 - turn) (length out) K n (out ++ us)))
+
+  module _ (n : ℕ)
+      (asked : (p : Path) (J : ℕ → Prog) → run (ask_aligned p (extent (part before previous outside)) J) c ≡ run (J n) d) where
+    -- the units of the part
+    pub units_there : (p : Path) (K : List ℕ → Prog)
+        → run (ask_parts p content outside (65 - turn) (length out) previous (λ us. K (out ++ us))) c
+        ≡ run (ask_units p content n (λ us. after_part p content outside (64 - turn) (length out) K n (out ++ us))) d
+    units_there p K = parts_here p K ∙ asked p (λ m. ask_units p content m (λ us.
+        after_part p content outside (64 - turn) (length out) K m (out ++ us)))
+
+    module _ (after : List ℕ) (e : Cursor)
+        (units : (p : Path) (J : List ℕ → Prog) → run (ask_units p content n (λ us. J (out ++ us))) d ≡ run (J after) e) where
+      part_there : (p : Path) (K : List ℕ → Prog)
+          → run (ask_parts p content outside (65 - turn) (length out) previous (λ us. K (out ++ us))) c
+          ≡ run (after_part p content outside (64 - turn) (length out) K n after) e
+      part_there p K = units_there p K ∙ units p (after_part p content outside (64 - turn) (length out) K n)
+
+      pub last_part : n < part_units → (p : Path) (K : List ℕ → Prog)
+          → run (ask_parts p content outside (65 - turn) (length out) previous (λ us. K (out ++ us))) c ≡ run (K after) e
+      last_part few p K = part_there p K
+          ∙ ap (λ (b : Bool). run (cond b (K after) (ask_parts p content outside (64 - turn) (length out + n) n (λ more. K (after ++ more)))) e)
+          (is_below n part_units few)
+
+      pub further_part : part_units ≤ n → length after ≡ length out + n → (p : Path) (K : List ℕ → Prog)
+          → run (ask_parts p content outside (65 - turn) (length out) previous (λ us. K (out ++ us))) c
+          ≡ run (ask_parts p content outside (65 - (turn + 1)) (length after) n (λ us. K (after ++ us))) e
+      further_part many size p K =
+          let left : 64 - turn ≡ 65 - (turn + 1) = omega arith in
+          part_there p K
+          ∙ ap (λ (b : Bool). run (cond b (K after) (ask_parts p content outside (64 - turn) (length out + n) n (λ more. K (after ++ more)))) e)
+          (is_not_below n part_units many)
+          ∙ ap (λ (k : ℕ). run (ask_parts p content outside k (length out + n) n (λ more. K (after ++ more))) e) left
+          ∙ ap (λ (k : ℕ). run (ask_parts p content outside (65 - (turn + 1)) k n (λ more. K (after ++ more))) e) (sym size)

@@ -67,9 +67,9 @@ fn ask_bounded(
 {
     let is_extended = ask_extension(cursor, bounds.extensible)?;
     if is_extended {
-        return Ok(ask_parts(cursor, content, Some(bounds), out)?);
+        return ask_parts(cursor, content, Some(bounds), out);
     }
-    Ok(ask_sized(cursor, content, bounds, out)?)
+    ask_sized(cursor, content, bounds, out)
 }
 
 /// A string in the root of a size.
@@ -87,10 +87,10 @@ fn ask_sized(
         if size.low <= content.pad_limit() {
             return Ok(ask_units(cursor, content, size.low, out)?);
         }
-        return Ok(ask_padded(cursor, content, size.low, out)?);
+        return ask_padded(cursor, content, size.low, out);
     }
     let further = ask_number(cursor, Role::Length, u64::from(size.high - size.low))?;
-    Ok(ask_padded(cursor, content, size.low + further as u32, out)?)
+    ask_padded(cursor, content, size.low + further as u32, out)
 }
 
 /// So many units after a pad.
