@@ -15,4 +15,3 @@ pub use error::Unanswered;
 pub use lengths::Extent;
 pub use numbers::{bits_for, octets_for, signed_number};
 pub use questions::{Question, Range, Role, RunUnit};
-pub use rows::{find_row, mandatory_count};
