@@ -1,7 +1,6 @@
 -- Units that are put after what is asked before them.
-use Rattle.std.proofs.Common.{◌≡◌, ℕ, ◌+◌, ◌-◌, ◌<◌, ◌==◌, cond, nat_lt, List, [], ◌++◌, length, Bool, true, false, Some, Option, Result, Ok, Err, refl, sym, ap, ◌∙◌}
+use Rattle.std.proofs.Common.{◌≡◌, ℕ, ◌+◌, ◌-◌, ◌<◌, ◌==◌, cond, nat_lt, List, [], ◌++◌, length, Bool, false, Some, Result, Ok, Err, refl, sym, ap, ◌∙◌}
 use Rattle.asn1_types.specs.declared.definition.Size.{Size}
-use Rattle.aper_defs.specs.declared.reason.Reason.{Reason}
 use Rattle.aper_defs.specs.Fields.{Path, pad}
 use Rattle.aper_defs.specs.Fields as fields
 use Rattle.aper_defs.specs.Parts.{Content, pad_limit}

@@ -1,4 +1,4 @@
-use Rattle.std.proofs.Common.{◌≡◌, ◌++◌, true, false, Some, ap, ◌∙◌}
+use Rattle.std.proofs.Common.{◌++◌, true, false, Some, ap, ◌∙◌}
 use Rattle.std.proofs.lemmas.Result.{err_from_is_err_and}
 use Rattle.aper_defs.specs.Questions.{ask_string, ask_string_by, ask_sized, ask_all_parts}
 use Rattle.aper_defs.specs.Reading.{run}

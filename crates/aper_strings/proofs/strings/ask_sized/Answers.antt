@@ -1,4 +1,4 @@
-use Rattle.std.proofs.Common.{◌≡◌, ℕ, ◌+◌, ◌-◌, ◌++◌, sym, ap, ◌∙◌, arith}
+use Rattle.std.proofs.Common.{ℕ, ◌+◌, ◌-◌, ◌++◌, sym, ap, ◌∙◌, arith}
 use Rattle.aper_defs.specs.Fields.{pad, length}
 use Rattle.aper_defs.specs.Parts.{pad_limit}
 use Rattle.aper_defs.specs.Questions.{ask, ask_units, ask_number, ask_sized}
