@@ -1,4 +1,4 @@
-use Rattle.std.proofs.Common.{◌≡◌, ◌∙◌, sym, ap, Option, Some, None}
+use Rattle.std.proofs.Common.{◌∙◌, sym, ap}
 use Rattle.std.specs.Prelude.{is_some}
 use Rattle.links_bag.proofs.BagLemmas.{bag-land, seen_in, seen_landed}
 use Rattle.links_bag.proofs.bag.Bag.land.Goals as goal

@@ -1,4 +1,4 @@
-use Rattle.std.proofs.Common.{◌≡◌, ℕ, ◌+◌, arith}
+use Rattle.std.proofs.Common.{◌≡◌, ◌+◌, arith}
 use Rattle.std.specs.Map.{keys_of}
 use Rattle.links_bag.proofs.BagLemmas.{letter_found, letter_zero}
 use Rattle.links_bag.proofs.bag.Bag.letter.Goals as goal

@@ -1,4 +1,4 @@
-use Rattle.std.proofs.Common.{◌≡◌, ◌<◌, ◌∙◌, sym, ap, ℕ, ◌+◌, length, List, [], ◌∷◌, ◌++◌, refl, arith}
+use Rattle.std.proofs.Common.{◌<◌, ◌∙◌, ap, ℕ, ◌+◌, length, List, [], ◌∷◌, ◌++◌, refl, arith}
 use Rattle.transport_defs.specs.declared.Letter.{Letter}
 use Rattle.links_bag.specs.Bags.{message}
 use Rattle.links_bag.proofs.BagLemmas.{bag-put, bag-undone, bag-counts, seen_full, seen_put, seen_same}
