@@ -3,5 +3,3 @@
 #![tactic(auto)]
 
 pub mod tallies;
-#[cfg(test)]
-mod tests;

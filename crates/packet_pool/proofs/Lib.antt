@@ -3,4 +3,3 @@ mod AccountLemmas
 mod EntryLemmas
 mod PoolChanges
 mod PoolLemmas
-mod TestLemmas

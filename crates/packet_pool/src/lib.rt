@@ -6,8 +6,6 @@ mod accounts;
 mod contents;
 pub mod pool;
 mod region;
-#[cfg(test)]
-mod tests;
 
 pub use accounts::{QuotaError, QuotaUsed};
 pub use pool::{Key, Pool, Ref};

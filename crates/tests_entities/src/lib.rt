@@ -1,8 +1,10 @@
-//! Tests of the entities of PDCP over their pool, by public calls alone.
+//! Tests of the pool, and of the entities of PDCP over it, by public calls alone.
 #![tactic(auto)]
 
 #[cfg(test)]
 mod pools;
+#[cfg(test)]
+mod quotas;
 #[cfg(test)]
 mod receiving;
 #[cfg(test)]

@@ -8,4 +8,6 @@ mod calls;
 #[cfg(test)]
 mod radios;
 #[cfg(test)]
+mod tallies;
+#[cfg(test)]
 mod tunnels;

@@ -4,5 +4,3 @@
 
 pub mod callee;
 pub mod caller;
-#[cfg(test)]
-mod tests;

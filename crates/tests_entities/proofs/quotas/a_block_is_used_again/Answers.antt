@@ -5,8 +5,8 @@ use Rattle.tables.specs.Tables.{find}
 use Rattle.pool_defs.specs.Pools.{PoolState, packet_of, with_packet}
 use Rattle.pool_defs.proofs.PoolLaws.{put_held, new_other}
 use Rattle.packet_pool.specs.declared.accounts.QuotaUsed.{QuotaUsed}
-use Rattle.packet_pool.proofs.TestLemmas.{no_quota, no_other_quota, beside, spared}
-use Rattle.packet_pool.proofs.tests.a_block_is_used_again.Goals as goal
+use Rattle.tests_entities.proofs.QuotaLemmas.{no_quota, no_other_quota, beside, spared}
+use Rattle.tests_entities.proofs.quotas.a_block_is_used_again.Goals as goal
 
 pub reserve_quota-requires : goal.reserve_quota-requires
 reserve_quota-requires g c = no_quota _ _ _ c.in_ok-pool.ensures

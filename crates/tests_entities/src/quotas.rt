@@ -1,8 +1,7 @@
 //! Each public call once with ample memory, and a block that is used again beside one that is kept.
 
-use crate::accounts::{QuotaError, QuotaUsed};
-use crate::pool::{Key, Pool};
 use gnb_types::names::{BearerId, Dir, UeId};
+use packet_pool::{Key, Pool, QuotaError, QuotaUsed};
 use std::test::Fail;
 
 const FIRST: Key = Key {

@@ -5,8 +5,8 @@ use Rattle.tables.specs.Tables.{find}
 use Rattle.pool_defs.specs.Pools.{packet_of, packet_at, with_packet}
 use Rattle.pool_defs.proofs.PoolLaws.{put_held, park_parked, unpark_held}
 use Rattle.packet_pool.specs.declared.accounts.QuotaUsed.{QuotaUsed}
-use Rattle.packet_pool.proofs.TestLemmas.{no_quota}
-use Rattle.packet_pool.proofs.tests.a_pool_from_end_to_end.Goals as goal
+use Rattle.tests_entities.proofs.QuotaLemmas.{no_quota}
+use Rattle.tests_entities.proofs.quotas.a_pool_from_end_to_end.Goals as goal
 
 pub reserve_quota-requires : goal.reserve_quota-requires
 reserve_quota-requires g c = no_quota _ _ _ c.in_ok-pool.ensures

@@ -1,9 +1,9 @@
 //! Items come and go; the numbers were counted by hand.
 
-use crate::tallies::Tallies;
 use gnb_types::keys::EntityKey;
 use gnb_types::names::{BearerId, Dir, UeId};
 use gnb_types::octets::Octets;
+use link_tallies::tallies::Tallies;
 use std::collections::VecDeque;
 use std::test::Fail;
 use tables::queue::Queue;

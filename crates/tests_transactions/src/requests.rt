@@ -1,14 +1,14 @@
 //! Each public call once and more. A call that memory stops is made again, and must answer as if it had not been made before: so the
 //! tests also pass where any one allocation fails.
 
-use crate::callee::{Callee, Verdict};
-use crate::caller::{BeginError, Caller, Due, DueList, Reply};
 use gnb_types::items::Memory;
 use gnb_types::keys::Channel;
 use gnb_types::names::{Gnb, NodeId};
 use gnb_types::octets::Octets;
 use std::alloc::Global;
 use std::test::Fail;
+use transactions::callee::{Callee, Verdict};
+use transactions::caller::{BeginError, Caller, Due, DueList, Reply};
 
 const DU: NodeId = NodeId::Du(Gnb::A, 1);
 
