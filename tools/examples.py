@@ -1,5 +1,6 @@
 #!/usr/bin/env python3
-"""Runs each example, and compares what the program prints with the transcript beside it (`NAME.script` or `NAME.check`, and `NAME.out`).
+"""Runs each example, and compares what the program prints with the transcript beside it (`NAME.script`, `NAME.check` or `NAME.words`, and
+`NAME.out`). A script is the input of `run`, a check that of `check`; words are those of a call that reads nothing.
 
 The last line of a transcript has the status: it is `stop STATUS ..`, or the status is 0. Standard error has one line that begins with `gnb: `
 where the status isn't 0, and else nothing.
@@ -12,12 +13,18 @@ import subprocess
 import sys
 
 TOP = pathlib.Path(__file__).resolve().parents[1]
-WORDS = {".script": "run", ".check": "check"}
+WORDS = {".script": "run", ".check": "check", ".words": None}
 
 
 def status_of(transcript):
     last = transcript.decode().splitlines()[-1].split()
     return int(last[1]) if last[0] == "stop" else 0
+
+
+def call_of(path):
+    """The words of an example's call, and its input."""
+    word = WORDS[path.suffix]
+    return ([word], path.read_bytes()) if word else (path.read_text().split(), b"")
 
 
 def is_explained(ran):
@@ -30,7 +37,8 @@ def main():
     paths = sorted(path for path in (TOP / "examples").iterdir() if path.suffix in WORDS)
     for path in paths:
         expected = path.with_suffix(".out").read_bytes()
-        ran = subprocess.run([TOP / "gnb", WORDS[path.suffix]], input=path.read_bytes(), capture_output=True, check=False)
+        words, given = call_of(path)
+        ran = subprocess.run([TOP / "gnb", *words], input=given, capture_output=True, check=False)
         if ran.stdout != expected or ran.returncode != status_of(expected):
             print(f"{path.name}: status {ran.returncode}, and this in place of {path.stem}.out:\n{ran.stdout.decode()}")
             return 1

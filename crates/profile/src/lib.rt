@@ -3,6 +3,8 @@
 
 mod text;
 mod text_2;
+mod version;
 
 pub use text::PROFILE_TEXT;
 pub use text_2::PROFILE_TEXT_2;
+pub use version::Version;

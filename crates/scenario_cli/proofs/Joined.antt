@@ -20,9 +20,12 @@ use Rattle.command_run.specs.Whole.{RunsWholly}
 use Rattle.command_check.specs.declared.end.CheckEnd.{CheckEnd}
 use Rattle.command_check.specs.Report.{check_status, CheckMeets}
 use Rattle.command_check.specs.Whole.{ChecksWholly}
+use Rattle.profile.specs.declared.version.Version.{Version}
+use Rattle.command_profile.specs.Written.{PrintsProfile, ProfileMeets, WritesWholly}
+use Rattle.command_profile.specs.Written as written
 use Rattle.scenario_cli.specs.declared.top.Form.{Form}
-use Rattle.scenario_cli.specs.declared.top.Form.TheVariants.{Run, Check, Other}
-use Rattle.scenario_cli.specs.Gnb.{FormMeets}
+use Rattle.scenario_cli.specs.declared.top.Form.TheVariants.{Run, Check, Profile, Other}
+use Rattle.scenario_cli.specs.Gnb.{FormMeets, WritesProfile}
 
 -- ---- with words that are no form
 
@@ -82,6 +85,7 @@ pub record Holds (form : Form) (before after : OutsideAt) (status : Status) : Ty
   pub near : StopsAtLine before.source after.source status
   pub complete : form ≡ Run → RunsWholly before after status
   pub checks : form ≡ Check → ChecksWholly before after status
+  pub writes : WritesProfile form before after status
 
 read_rose : {before after : SourceAt} {code : ℕ} → ReadsTo before after code → code ≡ 6 → Rose before.faults after.faults
 read_rose (AllRead h other) e = absurd (other e)
@@ -102,6 +106,7 @@ run_holds before after end meets near complete = record {
   near = near;
   complete = λ (e : Run ≡ Run). complete;
   checks = λ (e : Run ≡ Check). absurd (cc);
+  writes = tt;
 }
 
 check_holds : (before after : OutsideAt) (end : CheckEnd) → CheckMeets before after end
@@ -115,6 +120,7 @@ check_holds before after end meets near complete = record {
   near = near;
   complete = λ (e : Check ≡ Run). absurd (cc);
   checks = λ (e : Check ≡ Check). complete;
+  writes = tt;
 }
 
 usage_holds : (before after : OutsideAt) (status : Status) → UsageMeets before after status → Holds Other before after status
@@ -128,6 +134,47 @@ usage_holds before after status u =
       near = λ bytes known stop. absurd (other_code status.code 4 (usage_code _ _ status u.prints) (inl refl) stop);
       complete = λ (e : Other ≡ Run). absurd (cc);
       checks = λ (e : Other ≡ Check). absurd (cc);
+      writes = tt;
+    }
+
+-- ---- with the word `profile`
+
+code_of : {status is : Status} → status ≡ is → status.code ≡ is.code
+code_of e = ap (λ (s : Status). s.code) e
+
+profile_writes : (a b : SinkAt) (version : Version) (status : Status) → PrintsProfile a b version status → WritesTo a b status.code
+profile_writes a b version status (written.Written same all none) = AllWritten none (λ (e : status.code ≡ 7). (let clash : 0 ≡ 7 = sym (code_of same) ∙ e in omega arith))
+profile_writes a b version status (written.Cut same part last) = WriteStopped last (code_of same)
+
+profile_code : (a b : SinkAt) (version : Version) (status : Status) → PrintsProfile a b version status → (status.code ≡ 0) ⊎ (status.code ≡ 7)
+profile_code a b version status (written.Written same all none) = inl (code_of same)
+profile_code a b version status (written.Cut same part last) = inr (code_of same)
+
+no_code : (code n : ℕ) → (code ≡ 0) ⊎ (code ≡ 7) → (n ≡ 4) ⊎ (n ≡ 6) → code ≡ n → ⊥
+no_code code n (inl e) (inl f) g = omega arith
+no_code code n (inl e) (inr f) g = omega arith
+no_code code n (inr e) (inl f) g = omega arith
+no_code code n (inr e) (inr f) g = omega arith
+
+profile_holds : (version : Version) (before after : OutsideAt) (status : Status) → ProfileMeets version before after status
+    → WritesWholly version before after status
+    → Holds (Profile version) before after status
+profile_holds version before after status p complete =
+    let other = profile_code _ _ version status p.prints in
+    let calls : CallsTo before after status.code = record {
+      reads = subst (λ (s : SourceAt). ReadsTo before.source s status.code) (sym p.unread)
+          (AllRead (no_read_failed before.source) (no_code status.code 6 other (inr refl)));
+      writes = profile_writes _ _ version status p.prints;
+    } in
+    record {
+      headline = p;
+      read = read_rose calls.reads;
+      write = write_rose calls.writes;
+      calls = calls;
+      near = λ bytes known stop. absurd (no_code status.code 4 other (inl refl) stop);
+      complete = λ (e : Profile version ≡ Run). absurd (cc);
+      checks = λ (e : Profile version ≡ Check). absurd (cc);
+      writes = complete;
     }
 
 -- ---- by the form of the words
@@ -154,3 +201,8 @@ pub reports : {before after : OutsideAt} (form found : Form) (status : Status) �
     → UsageMeets before after status → Holds form before after status
 reports {before = before} {after = after} form found status e f u =
     holds_at form found Other status status e f refl (usage_holds before after status u)
+
+pub prints_at : {before after : OutsideAt} (form found : Form) (version : Version) (status : Status) → found ≡ form → found ≡ Profile version
+    → ProfileMeets version before after status → WritesWholly version before after status → Holds form before after status
+prints_at {before = before} {after = after} form found version status e f p complete =
+    holds_at form found (Profile version) status status e f refl (profile_holds version before after status p complete)

@@ -1,5 +1,5 @@
 -- What a call of the program does, for every input, every list of failing calls, and every status.
-use Rattle.std.specs.Prelude.{◌≡◌, ℕ, List, [], ◌∷◌, if◌then◌else◌, codes}
+use Rattle.std.specs.Prelude.{◌≡◌, ◌&&◌, ℕ, List, [], ◌∷◌, if◌then◌else◌, codes}
 use Rattle.std.specs.Str.{bytes_eq}
 use Rattle.command_defs.specs.declared.Status.{Status}
 use Rattle.command_defs.specs.Ends.{UsageMeets}
@@ -9,13 +9,23 @@ use Rattle.command_run.specs.Ends.{run_status}
 use Rattle.command_run.specs.Run.{RunMeets}
 use Rattle.command_check.specs.declared.end.CheckEnd.{CheckEnd}
 use Rattle.command_check.specs.Report.{check_status, CheckMeets}
+use Rattle.profile.specs.declared.version.Version.TheVariants.{One, Two}
+use Rattle.command_profile.specs.Written.{ProfileMeets, WritesWholly}
 use Rattle.scenario_cli.specs.declared.top.Form.{Form}
 use Rattle.scenario_cli.specs.declared.top.Form.TheVariants as forms
 
--- the words of a form of the program
+-- the one word of a form of the program
+abbrev pub form_of_one : List ℕ → Form
+form_of_one word =
+    if bytes_eq word (codes "run") then forms.Run else (
+    if bytes_eq word (codes "check") then forms.Check else (
+    if bytes_eq word (codes "profile") then forms.Profile One else forms.Other))
+
+-- the words of a form: one, or `profile 2`
 abbrev pub form_of : List (List ℕ) → Form
-form_of (word ∷ []) =
-    if bytes_eq word (codes "run") then forms.Run else (if bytes_eq word (codes "check") then forms.Check else forms.Other)
+form_of (word ∷ []) = form_of_one word
+form_of (word ∷ number ∷ []) =
+    if bytes_eq word (codes "profile") && bytes_eq number (codes "2") then forms.Profile Two else forms.Other
 form_of words = forms.Other
 
 -- with the word `run`
@@ -33,4 +43,12 @@ pub record ChecksModule (before after : OutsideAt) (status : Status) : Type 0 wh
 abbrev pub FormMeets : Form → OutsideAt → OutsideAt → Status → Type 0
 FormMeets forms.Run before after status = RunsScript before after status
 FormMeets forms.Check before after status = ChecksModule before after status
+FormMeets (forms.Profile version) before after status = ProfileMeets version before after status
 FormMeets forms.Other before after status = UsageMeets before after status
+
+-- with the word `profile` all of the text is written, where no write fails
+abbrev pub WritesProfile : Form → OutsideAt → OutsideAt → Status → Type 0
+WritesProfile (forms.Profile version) before after status = WritesWholly version before after status
+WritesProfile forms.Run before after status = Unit {0}
+WritesProfile forms.Check before after status = Unit {0}
+WritesProfile forms.Other before after status = Unit {0}

@@ -40,7 +40,9 @@ pub fn explain(rt: &impl Eprint, status: Status) -> io::Result<()> {
         reason,
     } = status;
     match code {
-        2 => eprintln!(rt; "gnb: usage: gnb run < SCRIPT, or gnb check < MODULE"),
+        2 => eprintln!(rt;
+            "gnb: usage: gnb run < SCRIPT, or gnb check < MODULE, or gnb profile, or gnb profile 2"
+        ),
         3 => {
             let words = module_reason(reason);
             eprintln!(rt; "gnb: line {place} of the module: {words}")

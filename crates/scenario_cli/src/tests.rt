@@ -6,6 +6,7 @@ use crate::top::gnb;
 use command_defs::Status;
 use gnb_base::memory::{MemorySink, MemorySource};
 use gnb_types::octets::Octets;
+use profile::{PROFILE_TEXT, PROFILE_TEXT_2};
 use std::alloc::Global;
 use std::cmp::min;
 use std::process::Abort;
@@ -56,7 +57,7 @@ const HELD: &str =
 
 const MODULE: &str = "module text\nM DEFINITIONS AUTOMATIC TAGS ::= BEGIN\nT ::= BOOLEAN\nEND\n";
 
-/// What a call is given, and the numbers of the reads and writes that fail.
+/// What a call is given, and the numbers of the reads and writes that fail. A space stands between two words.
 #[derive(Clone, Copy)]
 struct Call<'a> {
     word: &'a str,
@@ -72,7 +73,9 @@ impl Call<'_> {
         requires { 0 < self.now.piece }
     {
         let mut words = Vec::new(alloc);
-        words.push(String::from_str(alloc, self.word)?)?;
+        for word in self.word.split(' ') {
+            words.push(String::from_str(alloc, word)?)?;
+        }
         let mut source = MemorySource::new(
             Vec::from_slice(alloc, self.input.as_bytes())?,
             self.piece,
@@ -102,6 +105,8 @@ fn whole_calls(rt: HostRuntime) -> Result<(), Fail> {
     let rows = [
         ("run", SCRIPT, status(0, 0, 0), TRANSCRIPT),
         ("go", SCRIPT, status(2, 0, 0), "stop 2 0 0\n"),
+        ("profile 1", SCRIPT, status(2, 0, 0), "stop 2 0 0\n"),
+        ("profile 2 2", SCRIPT, status(2, 0, 0), "stop 2 0 0\n"),
         ("run", "", status(4, 1, 1), "stop 4 1 1\n"),
         ("run", "module builtin x", status(4, 1, 4), "stop 4 1 4\n"),
         (
@@ -170,6 +175,29 @@ fn whole_calls(rt: HostRuntime) -> Result<(), Fail> {
             assert_eq!(rt; status, answer);
             assert_eq!(rt; held.as_slice(), text.as_bytes());
         }
+    }
+    Ok(())
+}
+
+/// The texts of the profile, for which nothing is read; a front of one stands where a write fails.
+#[test]
+fn profile_texts(rt: HostRuntime) -> Result<(), Fail> {
+    let rows = [
+        ("profile", PROFILE_TEXT, &[] as &[u64], status(0, 0, 0)),
+        ("profile 2", PROFILE_TEXT_2, &[], status(0, 0, 0)),
+        ("profile", &PROFILE_TEXT[..4096], &[2], status(7, 0, 0)),
+    ];
+    for (word, text, failing_writes, answer) in rows {
+        let call = Call {
+            word,
+            input: "not a header",
+            piece: 4096,
+            failing_reads: &[1],
+            failing_writes,
+        };
+        let (status, held, _) = call.answer(rt.alloc())?;
+        assert_eq!(rt; status, answer);
+        assert!(rt; held.as_slice() == text);
     }
     Ok(())
 }

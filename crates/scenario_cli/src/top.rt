@@ -7,13 +7,15 @@ ghost use Rattle.command_defs.specs.Ends.{StopsAtLine, UsageMeets};
 ghost use Rattle.command_defs.specs.Outside.{outside, CallsTo};
 ghost use Rattle.command_run.specs.Whole.{RunsWholly};
 ghost use Rattle.command_check.specs.Whole.{ChecksWholly};
-ghost use Rattle.scenario_cli.specs.Gnb.{form_of as form_of_words, FormMeets};
+ghost use Rattle.scenario_cli.specs.Gnb.{form_of_one, form_of as form_of_words, FormMeets, WritesProfile};
 
 use command_check::check_input;
 use command_defs::{CommonEnd, Status};
 use command_output::{common_status, stop_line, write_lines};
+use command_profile::write_profile;
 use command_run::run_script;
 use gnb_base::outside::{Sink, Source};
+use profile::Version;
 use std::alloc::Global;
 
 /// The forms of the program.
@@ -23,23 +25,37 @@ pub enum Form {
     Run,
     /// A module is checked.
     Check,
+    /// The text of the profile's module in this version is written.
+    Profile(Version),
     /// The words are no form.
     Other,
+}
+
+/// The form that one word is.
+fn form_of_word(word: &str) -> Form
+    ensures { result ≡ form_of_one word.now }
+{
+    if word == "run" {
+        Form::Run
+    } else if word == "check" {
+        Form::Check
+    } else if word == "profile" {
+        Form::Profile(Version::One)
+    } else {
+        Form::Other
+    }
 }
 
 /// The form that the words are.
 fn form_of(words: &[String]) -> Form
     ensures { result ≡ form_of_words (map string_bytes words.now) }
 {
-    let [word] = words else {
-        return Form::Other;
-    };
-    if word.as_str() == "run" {
-        Form::Run
-    } else if word.as_str() == "check" {
-        Form::Check
-    } else {
-        Form::Other
+    match words {
+        [word] => form_of_word(word.as_str()),
+        [word, number] if word.as_str() == "profile" && number.as_str() == "2" => {
+            Form::Profile(Version::Two)
+        }
+        _ => Form::Other,
     }
 }
 
@@ -89,10 +105,16 @@ pub fn gnb<S: Source, K: Sink>(
     ensures checks { form_of_words (map string_bytes words.now) ≡ Form.Check
         → ChecksWholly (outside (S.at input.old) (K.at output.old))
         (outside (S.at input.new) (K.at output.new)) result }
+
+    // All of the profile's text is written, where no write fails.
+    ensures writes { WritesProfile (form_of_words (map string_bytes words.now))
+        (outside (S.at input.old) (K.at output.old))
+        (outside (S.at input.new) (K.at output.new)) result }
 {
     match form_of(words) {
         Form::Run => run_script(alloc, input, output).status(),
         Form::Check => check_input(alloc, input, output).status(),
+        Form::Profile(version) => write_profile(version, input, output),
         Form::Other => report_usage(alloc, input, output),
     }
 }

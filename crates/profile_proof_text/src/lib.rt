@@ -1,8 +1,8 @@
-//! A law: the texts of the profile are those of its types. Its function does nothing: its contract is the law.
+//! A step of proofs: the texts of the profile are those of its types. Its function does nothing: its contract is the step.
 #![tactic(auto)]
 
 ghost use Rattle.profile_defs.specs.Profile.{profile_types};
-ghost use Rattle.law_profile_text.specs.Texts.{IsProfileText};
+ghost use Rattle.profile_proof_text.specs.Texts.{IsProfileText};
 
 use profile::{PROFILE_TEXT, PROFILE_TEXT_2};
 

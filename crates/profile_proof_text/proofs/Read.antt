@@ -11,8 +11,8 @@ use Rattle.asn1_module.specs.Names.{first_unknown}
 use Rattle.profile_defs.specs.Forms.{Form}
 use Rattle.profile_defs.specs.Profile.{module_name}
 use Rattle.profile_defs.specs.Agreement.{differs}
-use Rattle.law_profile_text.specs.Texts.{IsProfileText}
-use Rattle.law_profile_text.proofs.Layers.{is_layered, layers, sound_of}
+use Rattle.profile_proof_text.specs.Texts.{IsProfileText}
+use Rattle.profile_proof_text.proofs.Layers.{is_layered, layers, sound_of}
 
 abbrev pub agreeing : List Form → Syntax → Bool
 agreeing types m = is_none (differs types m) && (is_text m.name module_name && ((length (type_ids m.assignments) == 53)
