@@ -51,12 +51,7 @@ pub fn integer_end(
 }
 
 #[tactic(auto, unfolding(aper_defs::specs::Layouts::layout, aper_defs::specs::Membership::Has))]
-pub fn enumerated_end(
-    names: usize,
-    extensible: bool,
-    value: &Value,
-    place: Place,
-) -> Option<Place>
+pub fn enumerated_end(names: usize, extensible: bool, value: &Value, place: Place) -> Option<Place>
     ensures { ValueMeasured (enumerated names extensible) (view value.now) place result }
 {
     match value {
@@ -92,10 +87,11 @@ pub fn octet_string_end(size: Option<Size>, value: &Value, place: Place) -> Opti
 {
     match value {
         Value::Octets(octets) => {
-            if !is_length_of(size, octets.len()) {
+            let contents = octets.as_slice();
+            if !is_length_of(size, contents.len()) {
                 return None;
             }
-            Some(after_string(place, Units::Octets(octets.as_slice()), size))
+            Some(after_string(place, Units::Octets(contents), size))
         }
         _ => None,
     }

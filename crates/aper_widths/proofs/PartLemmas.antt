@@ -110,23 +110,23 @@ parts_total p content outside (suc turns) before previous place units enough =
     (λ b. total place (cond b here (front ++ others)) ≡ pad_of place + (lengths_width n + units_width content n))
     (λ e. last_part p content outside before previous place units (below n part_units e))
     (λ e.
-        let many : part_units ≤ n = not_below n part_units e in
-        let size : length (take k units) ≡ k = length-take-le k units (omega (arith, many)) in
-        let left : length (drop k units) ≡ n - k = length-drop k units in
-        let first : total place front ≡ pad_of place + (8 + units_width content k) =
-        part_total p content outside before previous place (take k units)
-        ∙ ap (λ (m : ℕ). pad_of place + (extent_width m + units_width content m)) size
-        ∙ ap (λ (w : ℕ). pad_of place + (w + units_width content k)) (whole_width j (omega (arith, many))) in
-        let after = place + (pad_of place + (8 + units_width content k)) in
-        let more : total after others ≡ pad_of after + (lengths_width (n - k) + units_width content (n - k)) =
-        parts_total p content outside turns (before + k) k after (drop k units) (omega (arith, left, many, enough))
-        ∙ ap (λ (m : ℕ). pad_of after + (lengths_width m + units_width content m)) left in
-        total-append place front others
-        ∙ ap (λ (m : ℕ). m + total (place + m) others) first
-        ∙ joined place (units_width content k) (total after others) (lengths_width (n - k)) (units_width content (n - k))
-        (aligned place (units_width content k) (units_whole content j)) more
-        ∙ ap (λ (m : ℕ). pad_of place + (m + (units_width content k + units_width content (n - k)))) (sym (one_more n many))
-        ∙ ap (λ (m : ℕ). pad_of place + (lengths_width n + m)) (units_split content n k (omega arith)))
+    let many : part_units ≤ n = not_below n part_units e in
+    let size : length (take k units) ≡ k = length-take-le k units (omega (arith, many)) in
+    let left : length (drop k units) ≡ n - k = length-drop k units in
+    let first : total place front ≡ pad_of place + (8 + units_width content k) =
+    part_total p content outside before previous place (take k units)
+    ∙ ap (λ (m : ℕ). pad_of place + (extent_width m + units_width content m)) size
+    ∙ ap (λ (w : ℕ). pad_of place + (w + units_width content k)) (whole_width j (omega (arith, many))) in
+    let after = place + (pad_of place + (8 + units_width content k)) in
+    let more : total after others ≡ pad_of after + (lengths_width (n - k) + units_width content (n - k)) =
+    parts_total p content outside turns (before + k) k after (drop k units) (omega (arith, left, many, enough))
+    ∙ ap (λ (m : ℕ). pad_of after + (lengths_width m + units_width content m)) left in
+    total-append place front others
+    ∙ ap (λ (m : ℕ). m + total (place + m) others) first
+    ∙ joined place (units_width content k) (total after others) (lengths_width (n - k)) (units_width content (n - k))
+    (aligned place (units_width content k) (units_whole content j)) more
+    ∙ ap (λ (m : ℕ). pad_of place + (m + (units_width content k + units_width content (n - k)))) (sym (one_more n many))
+    ∙ ap (λ (m : ℕ). pad_of place + (lengths_width n + m)) (units_split content n k (omega arith)))
 
 pub parts_end : (place padded new : ℕ) (content : Content) (outside : Option Size) (units : List ℕ)
     → padded ≡ passed place (pad_of place)

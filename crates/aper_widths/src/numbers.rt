@@ -63,13 +63,7 @@ fn after_outside(place: Place, number: i128) -> Place
 
 /// The place after an INTEGER from `low` to `high`, or where it is extensible another number of 64 bits.
 #[tactic(auto, unfolding(aper_defs::specs::Parts::integer_fields), using(aper_proof_answers::proofs::NumberFacts::in_range_low, aper_proof_answers::proofs::NumberFacts::above_at_most))]
-pub fn after_integer(
-    place: Place,
-    low: i128,
-    high: i128,
-    extensible: bool,
-    number: i128,
-) -> Place
+pub fn after_integer(place: Place, low: i128, high: i128, extensible: bool, number: i128) -> Place
     requires order { le_z low high ≡ true }
     requires span { above low high < 2 ^ 64 }
     requires member { is_number_of low high extensible number ≡ true }
