@@ -5,6 +5,7 @@ ghost use Rattle.std.specs.Prelude.{◌≡◌, ◌<◌, ◌^◌, true, Option};
 ghost use Rattle.std.specs.Int.Signed.{le_z};
 ghost use Rattle.asn1_types.specs.declared.definition.Size.{Size};
 ghost use Rattle.aper_defs.specs.Trees.{boolean, integer, enumerated, bit_string, octet_string, printable_string};
+ghost use Rattle.aper_defs.specs.Values.{octets};
 ghost use Rattle.aper_defs.specs.Numbers.{above};
 ghost use Rattle.aper_values.specs.Views.{view};
 ghost use Rattle.aper_measuring.specs.Measured.{ValueMeasured};
@@ -81,18 +82,23 @@ pub fn bit_string_end(size: Option<Size>, value: &Value, place: Place) -> Option
     }
 }
 
+/// Octets, whether a string of this size has so many.
+#[tactic(auto, unfolding(aper_defs::specs::Layouts::layout, aper_defs::specs::Membership::Has))]
+fn octets_end(size: Option<Size>, contents: &[u8], place: Place) -> Option<Place>
+    ensures { ValueMeasured (octet_string size) (octets contents.now) place result }
+{
+    if !is_length_of(size, contents.len()) {
+        return None;
+    }
+    Some(after_string(place, Units::Octets(contents), size))
+}
+
 #[tactic(auto, unfolding(aper_defs::specs::Layouts::layout, aper_defs::specs::Membership::Has))]
 pub fn octet_string_end(size: Option<Size>, value: &Value, place: Place) -> Option<Place>
     ensures { ValueMeasured (octet_string size) (view value.now) place result }
 {
     match value {
-        Value::Octets(octets) => {
-            let contents = octets.as_slice();
-            if !is_length_of(size, contents.len()) {
-                return None;
-            }
-            Some(after_string(place, Units::Octets(contents), size))
-        }
+        Value::Octets(octets) => octets_end(size, octets.as_slice(), place),
         _ => None,
     }
 }
