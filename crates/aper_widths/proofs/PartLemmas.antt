@@ -3,7 +3,7 @@ use Rattle.std.proofs.Common.{◌≡◌, ℕ, zero, suc, ◌+◌, ◌-◌, ◌*�
 use Rattle.std.proofs.lemmas.List.{length-drop, length-take-le}
 use Rattle.asn1_types.specs.declared.definition.Size.{Size}
 use Rattle.bits_core.specs.Bits.{pad_of}
-use Rattle.aper_defs.specs.Fields.{Path, Field, asked, character}
+use Rattle.aper_defs.specs.Fields.{Path, asked, character}
 use Rattle.aper_defs.specs.Bits.{part_units, extent_width}
 use Rattle.aper_defs.specs.Parts.{Content, of_bits, of_octets, of_characters, unit_fields, next_part, part_of_fields, part_fields, all_part_fields}
 use Rattle.aper_proof_answers.proofs.NumberFacts.{by_cases, below, not_below, is_not_below}

@@ -1,4 +1,4 @@
-use Rattle.std.proofs.Common.{◌*◌, ap, ◌∙◌}
+use Rattle.std.proofs.Common.{ap, ◌∙◌}
 use Rattle.aper_widths.specs.Ends.{passed}
 use Rattle.aper_widths.proofs.EndLemmas.{open_ends, raw_ends}
 use Rattle.aper_widths.proofs.place.after_contents.Goals as goal

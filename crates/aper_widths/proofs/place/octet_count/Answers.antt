@@ -1,4 +1,4 @@
-use Rattle.std.proofs.Common.{ap, ◌∙◌, arith}
+use Rattle.std.proofs.Common.{◌∙◌, arith}
 use Rattle.aper_widths.proofs.EndLemmas.{one_octet, some_octets}
 use Rattle.aper_widths.proofs.place.octet_count.Goals as goal
 
