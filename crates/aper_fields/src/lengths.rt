@@ -12,7 +12,7 @@ use gnb_types::items::Memory;
 pub const PART_UNITS: usize = 16384;
 
 /// The bits of a length determinant.
-fn extent_width(count: u32) -> u32
+pub fn extent_width(count: u32) -> u32
     ensures { result ≡ extent_width count }
 {
     if (128..16384).contains(&count) { 16 } else { 8 }

@@ -71,7 +71,7 @@ pub fn put_number(out: &mut BitWriter, span: u64, number: u64) -> Result<(), Mem
 }
 
 /// A number without its sign's bit: that of -1 is 0.
-fn unsigned_part(number: i128) -> u64
+pub fn unsigned_part(number: i128) -> u64
     requires { is_signed number ≡ true }
     ensures value { result ≡ unsigned_part number }
     ensures small { result < 2 ^ 63 }
@@ -110,7 +110,7 @@ fn put_outside(out: &mut BitWriter, number: i128) -> Result<(), Memory>
 }
 
 /// The range has this number.
-fn in_range(low: i128, high: i128, number: i128) -> bool
+pub fn in_range(low: i128, high: i128, number: i128) -> bool
     ensures { result ≡ in_range low high number }
 {
     low <= number && number <= high
@@ -118,7 +118,7 @@ fn in_range(low: i128, high: i128, number: i128) -> bool
 
 /// How far a number is above another one.
 #[tactic(auto, using(crate::proofs::Signed::difference))]
-fn above(low: i128, number: i128) -> u64
+pub fn above(low: i128, number: i128) -> u64
     requires order { le_z low number ≡ true }
     requires small { above low number < 2 ^ 64 }
     ensures { result ≡ above low number }

@@ -59,7 +59,7 @@ impl<'a> Units<'a> {
     }
 
     /// A string of a fixed size above this one is aligned.
-    fn pad_limit(self) -> u32
+    pub fn pad_limit(self) -> u32
         ensures { result ≡ pad_limit (content_of self.entry) }
     {
         match self {
