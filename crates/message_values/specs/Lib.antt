@@ -1,0 +1,5 @@
+pub mod Elements
+pub mod Parts
+pub mod Written
+pub mod Fitting
+pub mod Hearing
