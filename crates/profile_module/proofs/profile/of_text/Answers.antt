@@ -1,0 +1,18 @@
+use Rattle.std.proofs.Common.{subst}
+use Rattle.asn1_module.specs.declared.error.ModuleError.{ModuleError}
+use Rattle.asn1_module.specs.Module.{RefusedSo}
+use Rattle.profile_module.proofs.Built.{built, never_wrong}
+use Rattle.profile_module.proofs.profile.of_text.Goals as goal
+
+pub invariant_of-result : goal.invariant_of-result
+invariant_of-result c =
+    (built c.args.version c.profile_texts_agree.ensures.one c.profile_texts_agree.ensures.two _ _ _ c.text.ensures c.in-Ok.ensures).agrees
+
+pub unreachable-requires : goal.unreachable-requires
+unreachable-requires c =
+    never_wrong c.args.version c.profile_texts_agree.ensures.one c.profile_texts_agree.ensures.two _ _ _ _ c.text.ensures
+    (subst (λ (e : ModuleError). RefusedSo c.text.result.now e) c.in-Err-Refused.field-0-is c.in-Err-Refused.ensures)
+
+pub returns-in-Ok : goal.returns-in-Ok
+returns-in-Ok c =
+    built c.args.version c.profile_texts_agree.ensures.one c.profile_texts_agree.ensures.two _ _ _ c.text.ensures c.in-Ok.ensures

@@ -1,0 +1,28 @@
+-- The profile's module as a value.
+use Rattle.std.specs.Prelude.{◌≡◌, ℕ, List, length, true}
+use Rattle.asn1_tokens.specs.Words.{is_text}
+use Rattle.asn1_assignments.specs.declared.assignment.Syntax.{Syntax}
+use Rattle.asn1_module.specs.Module.{Reads, type_ids}
+use Rattle.profile.specs.declared.version.Version.{Version}
+use Rattle.profile.specs.Versions.{number_of, text_of}
+use Rattle.profile_defs.specs.Forms.{Form}
+use Rattle.profile_defs.specs.Profile.{profile_types, module_name}
+use Rattle.profile_defs.specs.Agreement.{Agrees}
+
+-- the types of a version
+abbrev pub types_of : Version → List Form
+types_of version = profile_types (number_of version)
+
+-- a module that has exactly the types of a version
+pub record ProfileAt : Type 0 where
+  pub syntax : Syntax
+  pub version : Version
+
+-- the profile of this version, as its text gives it
+pub record IsBuiltin (version : Version) (profile : ProfileAt) : Type 0 where
+  pub version-is : profile.version ≡ version
+  pub octets : ℕ
+  pub reads : Reads (text_of version) octets profile.syntax
+  pub agrees : Agrees (types_of version) profile.syntax
+  pub name : is_text profile.syntax.name module_name ≡ true
+  pub count : length (type_ids profile.syntax.assignments) ≡ 53

@@ -1,0 +1,75 @@
+//! The profile's module as a value.
+
+ghost use Rattle.std.specs.Prelude.{◌≡◌, IfOk};
+ghost use Rattle.profile.specs.declared.version.Version.TheVariants.{One, Two};
+ghost use Rattle.profile.specs.Versions.{number_of};
+ghost use Rattle.profile_defs.specs.Agreement.{Agrees};
+ghost use Rattle.profile_module.specs.Profiles.{types_of, IsBuiltin};
+
+use asn1_module::{Module, ModuleError, read_module};
+use gnb_types::octets::Memory;
+use profile::Version;
+use profile_proof_text::profile_texts_agree;
+use std::alloc::Global;
+use std::marker::Model;
+
+/// A module that has exactly the types of a version of the profile. Contracts see the module as it was written, and the version.
+#[derive(Debug, Drop)]
+pub struct Profile {
+    module: Module,
+    version: Version,
+}
+
+impl Model for Profile {
+    ghost use Rattle.profile_defs.specs.Agreement.{Agrees};
+    ghost use Rattle.profile_module.specs.Profiles.{ProfileAt, types_of};
+
+    ghost Value = { ProfileAt };
+
+    ghost view = { λ p. record { syntax = p.module; version = p.version } };
+
+    ghost invariant = { λ p. Agrees (types_of p.version) p.module };
+}
+
+impl Profile {
+    /// Its module.
+    pub fn module(&self) -> &Module
+        ensures module { result.now ≡ self.now.syntax }
+        ensures agrees { Agrees (types_of self.now.version) self.now.syntax }
+    {
+        &self.module
+    }
+
+    /// The version of the profile, 1 or 2.
+    pub fn version(&self) -> u8
+        ensures { result ≡ number_of self.now.version }
+    {
+        self.version.number()
+    }
+}
+
+/// The profile that the text of a version gives.
+fn of_text(alloc: Global, version: Version) -> Result<Profile, Memory>
+    ensures { IfOk result (λ profile. IsBuiltin version profile) }
+{
+    profile_texts_agree();
+    match read_module(alloc, version.text()) {
+        Ok((module, _)) => Ok(Profile { module, version }),
+        Err(ModuleError::Memory) => Err(Memory),
+        Err(ModuleError::Refused { .. }) => unreachable!(),
+    }
+}
+
+/// The profile, version 1.
+pub fn builtin(alloc: Global) -> Result<Profile, Memory>
+    ensures { IfOk result (λ profile. IsBuiltin One profile) }
+{
+    of_text(alloc, Version::One)
+}
+
+/// Version 2, whose HandoverRequest may have the name of its source.
+pub fn builtin_2(alloc: Global) -> Result<Profile, Memory>
+    ensures { IfOk result (λ profile. IsBuiltin Two profile) }
+{
+    of_text(alloc, Version::Two)
+}
