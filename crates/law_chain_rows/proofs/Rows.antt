@@ -19,14 +19,14 @@ use Rattle.chain_defs.specs.Orders.{forwards, frozen, waits, waits_unless, takes
 use Rattle.law_chain_rows.specs.Shown.{items_of, item_of, pdus_of, pdu_of, plain, without_number, Gives, numbers_all, still_waits, numbered_pdus}
 
 module _ {M P : Type 0} where
-  items-append : (xs ys : List (Output M P)) → items_of (xs ++ ys) ≡ items_of xs ++ items_of ys
+  pub items-append : (xs ys : List (Output M P)) → items_of (xs ++ ys) ≡ items_of xs ++ items_of ys
   unfolding items_of
   items-append [] ys = refl
   items-append (packet to teid ue bearer Dl tag load ∷ xs) ys =
       ap (λ zs. item_of load ++ zs) (items-append xs ys) ∙ sym (append_assoc (item_of load) (items_of xs) (items_of ys))
   items-append (_ ∷ xs) ys = items-append xs ys
 
-  pdus-append : (xs ys : List (Output M P)) → pdus_of (xs ++ ys) ≡ pdus_of xs ++ pdus_of ys
+  pub pdus-append : (xs ys : List (Output M P)) → pdus_of (xs ++ ys) ≡ pdus_of xs ++ pdus_of ys
   unfolding pdus_of
   pdus-append [] ys = refl
   pdus-append (packet to teid ue bearer Dl tag load ∷ xs) ys =

@@ -17,14 +17,14 @@ use Rattle.uplink_defs.specs.Orders.{late, is_hop_up_done}
 use Rattle.law_uplink_rows.specs.Shown.{items_of, item_of, delivered_in, Gives, closed_at}
 
 module _ {M P : Type 0} where
-  items-append : (xs ys : List (Output M P)) → items_of (xs ++ ys) ≡ items_of xs ++ items_of ys
+  pub items-append : (xs ys : List (Output M P)) → items_of (xs ++ ys) ≡ items_of xs ++ items_of ys
   unfolding items_of
   items-append [] ys = refl
   items-append (packet to teid ue bearer Ul tag load ∷ xs) ys =
       ap (λ zs. item_of load ++ zs) (items-append xs ys) ∙ sym (append_assoc (item_of load) (items_of xs) (items_of ys))
   items-append (_ ∷ xs) ys = items-append xs ys
 
-  delivered-append : (xs ys : List (Output M P)) → delivered_in (xs ++ ys) ≡ delivered_in xs ++ delivered_in ys
+  pub delivered-append : (xs ys : List (Output M P)) → delivered_in (xs ++ ys) ≡ delivered_in xs ++ delivered_in ys
   unfolding delivered_in
   delivered-append [] ys = refl
   delivered-append (deliver ue bearer Ul count p ∷ xs) ys = ap (λ zs. (count, p) ∷ zs) (delivered-append xs ys)
@@ -33,12 +33,12 @@ module _ {M P : Type 0} where
 module _ {M C P : Type 0} (way : Way M C P) (at : UpAt) where
   -- ---- what is delivered
 
-  none_goes_on : (es : List (ℕ × List ℕ)) → items_of (delivered way at es) ≡ []
+  pub none_goes_on : (es : List (ℕ × List ℕ)) → items_of (delivered way at es) ≡ []
   unfolding items_of
   none_goes_on [] = refl
   none_goes_on (e ∷ es) = none_goes_on es
 
-  all_delivered : (es : List (ℕ × List ℕ)) → delivered_in (delivered way at es) ≡ es
+  pub all_delivered : (es : List (ℕ × List ℕ)) → delivered_in (delivered way at es) ≡ es
   unfolding delivered_in
   all_delivered [] = refl
   all_delivered (e ∷ es) = ap (λ ys. e ∷ ys) (all_delivered es)
