@@ -1,0 +1,19 @@
+//! Values of aligned PER inside which another one is being read, and what they still ask (ITU-T X.691).
+#![tactic(auto)]
+
+mod flags;
+mod frame;
+mod inside;
+mod parts;
+mod path;
+mod stack;
+
+pub use flags::Flags;
+pub use frame::{
+    AdditionFrame, Additions, AlternativeFrame, BodyFrame, ComponentFrame, Components,
+    ElementFrame, Elements, Frame, Members, Turn,
+};
+pub use inside::ask_inside;
+pub use parts::Addition;
+pub use path::{Step, path_of};
+pub use stack::Stack;
