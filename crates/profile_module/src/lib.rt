@@ -1,6 +1,6 @@
 //! The profile's module as a value: the one that its text gives.
 #![tactic(auto)]
 
-mod profile;
+mod built_in;
 
-pub use profile::{Profile, builtin, builtin_2};
+pub use built_in::{Profile, builtin, builtin_2};

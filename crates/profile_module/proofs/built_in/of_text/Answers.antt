@@ -2,7 +2,7 @@ use Rattle.std.proofs.Common.{subst}
 use Rattle.asn1_module.specs.declared.error.ModuleError.{ModuleError}
 use Rattle.asn1_module.specs.Module.{RefusedSo}
 use Rattle.profile_module.proofs.Built.{built, never_wrong}
-use Rattle.profile_module.proofs.profile.of_text.Goals as goal
+use Rattle.profile_module.proofs.built_in.of_text.Goals as goal
 
 pub invariant_of-result : goal.invariant_of-result
 invariant_of-result c =
