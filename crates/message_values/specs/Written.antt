@@ -11,8 +11,8 @@ use Rattle.message_values.specs.Elements.{element_named}
 
 -- with criticality reject
 abbrev pub one_if_there : ElementName → Option seen.Value → List (Element seen.Value)
-one_if_there name None = []
-one_if_there name (Some v) = (record { id = (element_named name).id; criticality = 0; body = v }) ∷ []
+one_if_there _ None = []
+one_if_there which (Some v) = (record { id = (element_named which).id; criticality = 0; body = v }) ∷ []
 
 abbrev pub put_one : ElementName × Option Value → List (Element seen.Value)
 put_one field = one_if_there field.0 (option_map view field.1)
