@@ -89,4 +89,4 @@ module _ (codec : Codec) where
   given_once_by_units events s t is =
       reached_relates (unit_world codec (tables codec)) GiveOnce give_same give_then
       (λ lengths u v node given outputs e. subst (Stepped u) e (as_step u (tables codec u node (input_of given)) (acted u node (input_of given))))
-      (λ u ue x. give_same u) (λ u plan room teids. placed_gives u plan teids) events s t is
+      (λ u plan. give_same u) (λ u plan free room teids. placed_gives u plan teids) events s t is
