@@ -100,19 +100,19 @@ module _ {M C : Type 0} where
       (with_up_ready a plan.gnb plan.up (up_placed up plan du.next_teid) (with_ue_ready u plan.ue (placed (new_ue plan)) p (placed_is_ready plan))
       (up_ready_placed up plan du.next_teid (p.0 plan.gnb plan.up)))))
 
-  pub first_ready : AreReady (new_units {M = M} {C = C})
-  unfolding at find
-  first_ready = (ups, λ ue u e. absurd cc)
-    where
-      up_by : (g : Gnb) (k : ℕ) (a b c d : Bool) → UpReady (unwrap_or (cond a (Some (new_cu_up {M = M} {C = C} A 1)) (cond b (Some (new_cu_up A 2)) (cond c (Some (new_cu_up B 1))
-          (cond d (Some (new_cu_up B 2)) None)))) (new_cu_up g k))
-      up_by g k true b c d = λ ue x e. absurd cc
-      up_by g k false true c d = λ ue x e. absurd cc
-      up_by g k false false true d = λ ue x e. absurd cc
-      up_by g k false false false true = λ ue x e. absurd cc
-      up_by g k false false false false = λ ue x e. absurd cc
+pub first_ready : (M C : Type 0) → AreReady (new_units {M = M} {C = C})
+unfolding at find
+first_ready M C = (ups, λ ue u e. absurd cc)
+  where
+    up_by : (g : Gnb) (k : ℕ) (a b c d : Bool) → UpReady (unwrap_or (cond a (Some (new_cu_up {M = M} {C = C} A 1)) (cond b (Some (new_cu_up A 2)) (cond c (Some (new_cu_up B 1))
+        (cond d (Some (new_cu_up B 2)) None)))) (new_cu_up g k))
+    up_by g k true b c d = λ ue x e. absurd cc
+    up_by g k false true c d = λ ue x e. absurd cc
+    up_by g k false false true d = λ ue x e. absurd cc
+    up_by g k false false false true = λ ue x e. absurd cc
+    up_by g k false false false false = λ ue x e. absurd cc
 
-      ups : (g : Gnb) (k : ℕ) → UpReady (up_of (new_units {M = M} {C = C}) g k)
-      ups g k =
-          up_by g k (is_at (node_cmp (up_id g k)) (up_id A 1)) (is_at (node_cmp (up_id g k)) (up_id A 2)) (is_at (node_cmp (up_id g k)) (up_id B 1))
-          (is_at (node_cmp (up_id g k)) (up_id B 2))
+    ups : (g : Gnb) (k : ℕ) → UpReady (up_of (new_units {M = M} {C = C}) g k)
+    ups g k =
+        up_by g k (is_at (node_cmp (up_id g k)) (up_id A 1)) (is_at (node_cmp (up_id g k)) (up_id A 2)) (is_at (node_cmp (up_id g k)) (up_id B 1))
+        (is_at (node_cmp (up_id g k)) (up_id B 2))

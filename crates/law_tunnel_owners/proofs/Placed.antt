@@ -47,6 +47,20 @@ uplinks_counted : (first i n : ℕ) → are_from i (bearers_of (uplinks_from fir
 uplinks_counted first i zero = refl
 uplinks_counted first i (suc n) = both_of (i == i) _ (eq-eqb i i refl) (uplinks_counted (first + 2) (i + 1) n)
 
+-- ---- what no unit holds
+
+none_up : (o : Option UpContext) → is_some o ≡ false → o ≡ None
+none_up None h = refl
+none_up (Some c) h = absurd cc
+
+none_du : (o : Option DuContext) → is_some (epoch_in o) ≡ false → o ≡ None
+none_du None h = refl
+none_du (Some c) h = absurd cc
+
+neither : (a b : Bool) → a || b ≡ false → (a ≡ false) × (b ≡ false)
+neither true b h = absurd cc
+neither false b h = (refl, h)
+
 module _ {M C : Type 0} where
   up_owns_placed : (r : CuUp M C) (plan : Plan) (downlink : ℕ) → UpOwns r → up_has_teids r plan ≡ true → find ue_cmp r.contexts plan.ue ≡ None
       → UpOwns (up_placed r plan downlink)
@@ -133,18 +147,6 @@ module _ {M C : Type 0} where
 
   -- ---- a terminal that no unit holds is set up
 
-  none_up : (o : Option UpContext) → is_some o ≡ false → o ≡ None
-  none_up None h = refl
-  none_up (Some c) h = absurd cc
-
-  none_du : (o : Option DuContext) → is_some (epoch_in o) ≡ false → o ≡ None
-  none_du None h = refl
-  none_du (Some c) h = absurd cc
-
-  neither : (a b : Bool) → a || b ≡ false → (a ≡ false) × (b ≡ false)
-  neither true b h = absurd cc
-  neither false b h = (refl, h)
-
   pub placed_owned : (u : Units M C) (plan : Plan) → is_held_by_units plan u ≡ false
       → up_has_teids (up_of u plan.gnb plan.up) plan && du_has_teids (du_of u plan.gnb plan.du) plan ≡ true → AreOwned u → AreOwned (all_set_up (units_placed plan u))
   placed_owned u plan free left p =
@@ -176,32 +178,32 @@ module _ {M C : Type 0} where
       subst (λ (x : List (ℕ × DuTunnel) × List (UeId × DuContext)). AreNamed x.0 (du_names x.1) × DuInOrder x.1 × WereGiven r.next_teid x.0) (λ i. (sym t i, sym c i))
       (record { named = λ q o e. absurd cc; stands = λ q o e. absurd cc }, λ ue d e. absurd cc, λ q o e. absurd cc)
 
-  pub first_owned : AreOwned (new_units {M = M} {C = C})
-  unfolding at find
-  first_owned = (ups, dus)
-    where
-      up_by : (g : Gnb) (k : ℕ) (a b c d : Bool) → UpOwns (unwrap_or (cond a (Some (new_cu_up {M = M} {C = C} A 1)) (cond b (Some (new_cu_up A 2)) (cond c (Some (new_cu_up B 1))
-          (cond d (Some (new_cu_up B 2)) None)))) (new_cu_up g k))
-      up_by g k true b c d = nothing_up (new_cu_up A 1) refl refl
-      up_by g k false true c d = nothing_up (new_cu_up A 2) refl refl
-      up_by g k false false true d = nothing_up (new_cu_up B 1) refl refl
-      up_by g k false false false true = nothing_up (new_cu_up B 2) refl refl
-      up_by g k false false false false = nothing_up (new_cu_up g k) refl refl
+pub first_owned : (M C : Type 0) → AreOwned (new_units {M = M} {C = C})
+unfolding at find
+first_owned M C = (ups, dus)
+  where
+    up_by : (g : Gnb) (k : ℕ) (a b c d : Bool) → UpOwns (unwrap_or (cond a (Some (new_cu_up {M = M} {C = C} A 1)) (cond b (Some (new_cu_up A 2)) (cond c (Some (new_cu_up B 1))
+        (cond d (Some (new_cu_up B 2)) None)))) (new_cu_up g k))
+    up_by g k true b c d = nothing_up (new_cu_up {M = M} {C = C} A 1) refl refl
+    up_by g k false true c d = nothing_up (new_cu_up {M = M} {C = C} A 2) refl refl
+    up_by g k false false true d = nothing_up (new_cu_up {M = M} {C = C} B 1) refl refl
+    up_by g k false false false true = nothing_up (new_cu_up {M = M} {C = C} B 2) refl refl
+    up_by g k false false false false = nothing_up (new_cu_up {M = M} {C = C} g k) refl refl
 
-      ups : (g : Gnb) (k : ℕ) → UpOwns (up_of (new_units {M = M} {C = C}) g k)
-      ups g k =
-          up_by g k (is_at (node_cmp (up_id g k)) (up_id A 1)) (is_at (node_cmp (up_id g k)) (up_id A 2)) (is_at (node_cmp (up_id g k)) (up_id B 1))
-          (is_at (node_cmp (up_id g k)) (up_id B 2))
+    ups : (g : Gnb) (k : ℕ) → UpOwns (up_of (new_units {M = M} {C = C}) g k)
+    ups g k =
+        up_by g k (is_at (node_cmp (up_id g k)) (up_id A 1)) (is_at (node_cmp (up_id g k)) (up_id A 2)) (is_at (node_cmp (up_id g k)) (up_id B 1))
+        (is_at (node_cmp (up_id g k)) (up_id B 2))
 
-      du_by : (g : Gnb) (k : ℕ) (a b c d : Bool) → DuOwns (unwrap_or (cond a (Some (new_du {M = M} {C = C} A 1)) (cond b (Some (new_du A 2)) (cond c (Some (new_du B 1))
-          (cond d (Some (new_du B 2)) None)))) (new_du g k))
-      du_by g k true b c d = nothing_du (new_du A 1) refl refl
-      du_by g k false true c d = nothing_du (new_du A 2) refl refl
-      du_by g k false false true d = nothing_du (new_du B 1) refl refl
-      du_by g k false false false true = nothing_du (new_du B 2) refl refl
-      du_by g k false false false false = nothing_du (new_du g k) refl refl
+    du_by : (g : Gnb) (k : ℕ) (a b c d : Bool) → DuOwns (unwrap_or (cond a (Some (new_du {M = M} {C = C} A 1)) (cond b (Some (new_du A 2)) (cond c (Some (new_du B 1))
+        (cond d (Some (new_du B 2)) None)))) (new_du g k))
+    du_by g k true b c d = nothing_du (new_du {M = M} {C = C} A 1) refl refl
+    du_by g k false true c d = nothing_du (new_du {M = M} {C = C} A 2) refl refl
+    du_by g k false false true d = nothing_du (new_du {M = M} {C = C} B 1) refl refl
+    du_by g k false false false true = nothing_du (new_du {M = M} {C = C} B 2) refl refl
+    du_by g k false false false false = nothing_du (new_du {M = M} {C = C} g k) refl refl
 
-      dus : (g : Gnb) (k : ℕ) → DuOwns (du_of (new_units {M = M} {C = C}) g k)
-      dus g k =
-          du_by g k (is_at (node_cmp (du_id g k)) (du_id A 1)) (is_at (node_cmp (du_id g k)) (du_id A 2)) (is_at (node_cmp (du_id g k)) (du_id B 1))
-          (is_at (node_cmp (du_id g k)) (du_id B 2))
+    dus : (g : Gnb) (k : ℕ) → DuOwns (du_of (new_units {M = M} {C = C}) g k)
+    dus g k =
+        du_by g k (is_at (node_cmp (du_id g k)) (du_id A 1)) (is_at (node_cmp (du_id g k)) (du_id A 2)) (is_at (node_cmp (du_id g k)) (du_id B 1))
+        (is_at (node_cmp (du_id g k)) (du_id B 2))
