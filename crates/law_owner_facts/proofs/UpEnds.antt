@@ -1,23 +1,19 @@
 -- The tunnels of a CU-UP's bearers, as they are named in a list of bearers, and as entries of the table.
-use Rattle.std.proofs.Common.{◌≡◌, ◌≤◌, ◌==◌, ℕ, zero, suc, ◌+◌, Bool, true, false, cond, not, ◌&&◌, ◌||◌, List, [], ◌∷◌, ◌++◌, filter, Option, Some, None, ◌⊎◌, inl, inr, refl, sym, ap, ◌∙◌, subst, arith, eqb-true, eq-eqb}
-use Rattle.std.specs.Ordering.{is_eq, ordering_reverse}
-use Rattle.std.specs.Cmp.{tied_itself}
+use Rattle.std.proofs.Common.{◌≡◌, ◌≤◌, ◌==◌, ℕ, zero, suc, ◌+◌, Bool, true, false, cond, ◌||◌, List, [], ◌∷◌, ◌++◌, Option, Some, None, ◌⊎◌, inl, inr, refl, sym, ap, ◌∙◌, subst, arith, eqb-true, eq-eqb}
 use Rattle.std.specs.List.{flat_map, AllByRecursion}
 use Rattle.std.specs.List.Sorted.{IsStrictlySortedBy}
 use Rattle.std.specs.declared.cmp.Ordering.TheVariants.{Less}
 use Rattle.std.specs.Map.{lookup, keys_of}
 use Rattle.std.specs.BTreeMap.{is_at}
-use Rattle.std.proofs.lemmas.Map.Keys.{sorted_head, sorted_tail}
+use Rattle.std.proofs.lemmas.Map.Keys.{sorted_tail}
 use Rattle.gnb_types.specs.declared.names.UeId.{UeId}
 use Rattle.gnb_types.specs.declared.names.BearerId.{BearerId}
 use Rattle.gnb_types.specs.Orders.{bearer_cmp}
-use Rattle.gnb_types.proofs.OrderLemmas.{bearer_total, bearer_exact}
 use Rattle.tables.specs.Tables.{find, IsSorted}
 use Rattle.unit_defs.specs.UpRecords.{UpBearer, TunnelKind, n3, f1u_uplink, forwarding_down, forwarding_up, UpTunnel}
 use Rattle.unit_defs.specs.UpBearers.{made, teids_of_bearer, teid_in, is_one_of, open_teids}
 use Rattle.unit_defs.specs.CuUp.{entries, entries_of, bearers_from, bearers_made}
 use Rattle.law_teids.proofs.Bearers.{Ends, ends}
-use Rattle.law_teids.proofs.CuUps.{Entry}
 use Rattle.law_owner_facts.specs.Owned.{ends_of, has_end}
 use Rattle.law_owner_facts.proofs.Found.{has_later, has_first, has_either, less}
 use Rattle.law_owner_facts.proofs.Owners.{one_or, IsIn, in_left, in_right, in_either, AreFrom}

@@ -3,7 +3,6 @@ use Rattle.std.specs.Prelude.{ℕ, ◌≡◌, ◌≤◌, ◌==◌, ◌+◌, Bool
 use Rattle.std.specs.Ordering.{nat_cmp}
 use Rattle.gnb_types.specs.declared.names.Gnb.{Gnb}
 use Rattle.gnb_types.specs.declared.names.UeId.{UeId}
-use Rattle.gnb_types.specs.declared.names.BearerId.{BearerId}
 use Rattle.gnb_types.specs.Orders.{ue_cmp, bearer_cmp}
 use Rattle.tables.specs.Tables.{find, IsSorted}
 use Rattle.unit_defs.specs.UpRecords.{UpBearer, UpContext, TunnelKind, n3, f1u_uplink, forwarding_down, forwarding_up, UpTunnel, CuUp}

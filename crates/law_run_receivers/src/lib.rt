@@ -13,8 +13,8 @@ ghost use Rattle.std.specs.Prelude.{List, Some, ℕ, ◌≡◌};
 ghost use Rattle.unit_defs.specs.Ways.{Load, Message, Pdu};
 ghost use Rattle.unit_octet_defs.specs.Codec.{Codec};
 
-/// In every run, at each CU-UP and each terminal, what a receiver stores is above what it awaits, as `law_receivers` says; and so on from any state in which it is so; and in the run of units that
-/// do what the tables say after decoding.
+/// In every run, at each CU-UP and each terminal, what a receiver stores is above what it awaits, as `law_receivers` says; and so
+/// on from any state in which it is so; and in the run of units that do what the tables say after decoding.
 pub fn receivers_store_what_is_above()
     ensures run { (reading : Reading) (events : List Event)
         (t : State (Message Token) Token (Written (Load Pdu)) (Written Pdu))

@@ -1,6 +1,7 @@
 -- What is done within a step, and by an event, to the units: only answers, a terminal that comes, and one that is set up without
 -- messages change them.
-use Rattle.std.proofs.Common.{◌≡◌, ℕ, Bool, true, false, ◌&&◌, ◌||◌, List, [], ◌∷◌, ◌++◌, Option, Some, None, refl, sym, ◌∙◌, subst}
+use Rattle.std.proofs.Common.{◌≡◌, ℕ, Bool, true, false, ◌&&◌, List, [], ◌∷◌, ◌++◌, Option, Some, None, refl, sym, ◌∙◌, subst}
+use Rattle.std.proofs.lemmas.Bool.{or_parts}
 use Rattle.std.specs.Prelude.{if◌then◌else◌}
 use Rattle.std.specs.List.{flat_map}
 use Rattle.gnb_types.specs.declared.names.NodeId.{NodeId}
@@ -30,10 +31,6 @@ use Rattle.law_steps.specs.Causes.{Cause, by_order, by_tick, by_octets, by_octet
 use Rattle.law_steps.specs.Made.{Made, stays, ends, then_made, sets_up, starts, acts, holds_item, holds_pdu, offers, core_takes, core_reads, lands, loses_letter, loses_item, remarks}
 use Rattle.law_steps.specs.Reached.{reached_by, reached}
 use Rattle.law_steps.proofs.Runs.{made_of_steps}
-
-neither : (a b : Bool) → a || b ≡ false → b ≡ false
-neither true b e = absurd cc
-neither false b e = e
 
 module _ {M C L P : Type 0} (world : World M C L P) where
   -- ---- within a step the units are these
@@ -227,7 +224,7 @@ module _ {M C L P : Type 0} (world : World M C L P) where
     made_relates event s e (ends t why) = tt
     made_relates event s e (then_made t d more p q) =
         then_relates t.units d more (made_relates event t d p) (λ x. made_relates event x (more x) (q x))
-    made_relates event s e (sets_up t plan is free room teids) = placed t.units plan (neither (was_attached t plan.ue) _ free) room teids
+    made_relates event s e (sets_up t plan is free room teids) = placed t.units plan (or_parts (was_attached t plan.ue) _ free).1 room teids
     made_relates event s e (starts t d p) = made_relates event (record t { started = true }) d p
     made_relates event s e (acts t cause outputs units stands is fine few) =
         by_units t.units (units_by cause units) _

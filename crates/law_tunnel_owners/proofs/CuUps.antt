@@ -1,7 +1,7 @@
 -- A CU-UP whose open TEIDs are those that its contexts name is such a one after any input.
-use Rattle.std.proofs.Common.{◌≡◌, ◌≤◌, ◌==◌, ℕ, zero, suc, ◌+◌, ◌*◌, Bool, true, false, cond, not, ◌&&◌, ◌||◌, List, [], ◌∷◌, ◌++◌, length, map, filter, Option, Some, None, ◌⊎◌, inl, inr, refl, sym, ap, ◌∙◌, subst, arith, eqb-true, eq-eqb}
+use Rattle.std.proofs.Common.{◌≡◌, ◌≤◌, ◌==◌, ℕ, ◌+◌, ◌*◌, Bool, true, false, cond, not, ◌&&◌, ◌||◌, List, [], ◌∷◌, length, map, filter, Option, Some, None, inl, inr, refl, sym, ap, ◌∙◌, subst, eqb-true, eq-eqb}
 use Rattle.std.specs.Prelude.{if◌then◌else◌}
-use Rattle.std.specs.List.{flat_map, list_all}
+use Rattle.std.specs.List.{list_all}
 use Rattle.std.specs.Ordering.{nat_cmp}
 use Rattle.gnb_types.specs.declared.names.NodeId.{NodeId}
 use Rattle.gnb_types.specs.declared.names.NodeId.TheVariants.{CuCp, Du as du_id}
@@ -15,8 +15,7 @@ use Rattle.gnb_types.specs.declared.plans.SnStatus.{SnStatus}
 use Rattle.gnb_types.specs.declared.inputs.Order.TheVariants as orders
 use Rattle.gnb_types.specs.declared.outputs.Tag.TheVariants.{Absent}
 use Rattle.gnb_types.specs.declared.reasons.HeldReason.{HeldReason}
-use Rattle.gnb_types.specs.declared.reasons.DropReason.{DropReason}
-use Rattle.gnb_types.specs.declared.reasons.DropReason.TheVariants.{NoContext, NoTunnel, Unexpected}
+use Rattle.gnb_types.specs.declared.reasons.DropReason.TheVariants.{Unexpected}
 use Rattle.gnb_types.specs.declared.reasons.RefuseReason.TheVariants.{Empty, NoRadio}
 use Rattle.gnb_types.specs.Names.{node_text}
 use Rattle.gnb_types.specs.Orders.{bearer_cmp}
@@ -25,28 +24,27 @@ use Rattle.unit_defs.specs.UpRecords.{TunnelKind, n3, f1u_uplink, forwarding_dow
 use Rattle.unit_defs.specs.UpBearers.{teid_in, is_one_of, released}
 use Rattle.unit_defs.specs.Teids.{without_each}
 use Rattle.tables.specs.Tables.{find, put}
-use Rattle.transaction_defs.specs.Callers.{close, due}
+use Rattle.transaction_defs.specs.Callers.{close}
 use Rattle.message_types.specs.declared.e1.E1Message.{E1Message}
 use Rattle.message_types.specs.declared.e1.E1Message.TheVariants as e1s
-use Rattle.unit_defs.specs.Ways.{Message, e1, Taken, closed, no, Input, control_input, packet_input, tick_input, order_input, Output, Way, Answer, gives, spent, ◌then◌, nothing, puts, drops, teids_spent}
+use Rattle.unit_defs.specs.Ways.{Message, e1, Taken, no, Input, control_input, packet_input, tick_input, order_input, Output, Way, Answer, gives, spent, ◌then◌, nothing, puts, drops, teids_spent}
 use Rattle.unit_defs.specs.Messages.{cause_busy, cause_quota, mode_uplinks, mode_switch, mode_freeze, mode_status, mode_resume, channel, are_bearers, bearers_of, statuses_of, teid_of}
-use Rattle.unit_defs.specs.Teids.{teids_are_left, teid_after}
+use Rattle.unit_defs.specs.Teids.{teids_are_left}
 use Rattle.unit_defs.specs.Transactions.{Kind, request, reply, transfer, kind_of, no_instance, ask, advance, replied}
 use Rattle.unit_defs.specs.UpRecords.{UpBearer, UpContext, CuUp, TunnelKind, UpTunnel, up_at}
-use Rattle.unit_defs.specs.UpBearers.{made, teids_of_bearer, with_uplink, switched, frozen_to, with_status, resumed, is_over, open_teids, has_downlink, framed}
+use Rattle.unit_defs.specs.UpBearers.{teids_of_bearer, with_uplink, switched, frozen_to, with_status, resumed, is_over, has_downlink, framed}
 use Rattle.unit_defs.specs.UpItems.{held_reason, took}
-use Rattle.unit_defs.specs.CuUp.{bearers_from, bearers_made, entries_of, with_entries, with_context, context_of, with_transactions, up_node, UpStep, steps, stops, step_with, each_bearer, answer_with, ended, ended_if_over, end_where_over, replies, opened_of, new_context, with_new, makes, fits, set_up_for, setup_response, setup_on, setup, modified, uplinks_from, teids_from, uplink_entries, uplinks_given, add_uplinks, as_switched, switch, as_frozen, peer_node, statuses, freeze, as_known, status_each, take_status, as_resumed, resume, names, uplinks_if, switch_if, freeze_if, status_if, resume_if, modify_on, as_released, released_on, release, asked, start, set_up, control_by, ue_in, is_own_cp, control_came, with_bearer, taken_by, taken_in, taken_of, taken_on, take, poll_bearer, poll_on, poll, due_output, tick, cu_up_acts, closed_in}
-use Rattle.law_teids.specs.Given.{below, GrowsTo}
+use Rattle.unit_defs.specs.CuUp.{bearers_from, with_context, context_of, with_transactions, up_node, UpStep, steps, stops, step_with, each_bearer, answer_with, ended, ended_if_over, end_where_over, replies, new_context, with_new, makes, fits, set_up_for, setup_response, setup_on, setup, modified, uplinks_from, teids_from, uplinks_given, add_uplinks, as_switched, switch, as_frozen, peer_node, statuses, freeze, as_known, status_each, take_status, as_resumed, resume, names, switch_if, freeze_if, status_if, resume_if, modify_on, as_released, released_on, release, asked, start, set_up, control_by, ue_in, is_own_cp, control_came, with_bearer, taken_by, taken_in, taken_of, taken_on, take, poll_bearer, poll_on, poll, tick, cu_up_acts}
 use Rattle.law_teids.proofs.Grows.{below_left}
 use Rattle.law_teids.proofs.Bearers.{Ends, Stays, Took, ends, closed_by, without_n3, without_uplink, poll_stays, switched_stays, frozen_stays, status_stays, resumed_stays, item_took}
-use Rattle.law_teids.proofs.CuUps.{Entry, how_many, Gives, cu_up_gives}
-use Rattle.law_owner_facts.specs.Owned.{ends_of, has_end, up_context_names, up_names, AreNamed, WereGiven, UpInOrder, UpOwns}
+use Rattle.law_teids.proofs.CuUps.{Gives, cu_up_gives}
+use Rattle.law_owner_facts.specs.Owned.{ends_of, has_end, WereGiven, UpOwns}
 use Rattle.law_answers.specs.After.{HoldsAfter}
-use Rattle.law_owner_facts.proofs.Owners.{given_then, both_of, first_of, second_of, one_or, put_each, AreFrom, IsIn, named_given}
+use Rattle.law_owner_facts.proofs.Owners.{given_then, second_of}
 use Rattle.law_answers.proofs.Answers.{holds_if, holds_then, any_then, holds_request, holds_reply}
-use Rattle.law_owner_facts.proofs.UpEnds.{Bearers, SameEnds, ends_same, same_has_end, same_order, or_left, or_right, owner_of, found_is_in, IsFound, in_is_found, made_from, made_in_order, all_open}
-use Rattle.law_owner_facts.proofs.UpGiven.{new_named, HaveMore, with_end, more_named}
-use Rattle.law_owner_facts.proofs.UpContexts.{Contexts, Named, names_put, same_ue, ue_tie, order_put, own_names, context_stays, all_close, bearer_stays, bearer_closes}
+use Rattle.law_owner_facts.proofs.UpEnds.{Bearers, SameEnds, same_has_end, same_order, or_left, made_from, made_in_order}
+use Rattle.law_owner_facts.proofs.UpGiven.{new_named, HaveMore, more_named}
+use Rattle.law_owner_facts.proofs.UpContexts.{Named, own_names, context_stays, all_close, bearer_stays, bearer_closes}
 
 module _ {M C P : Type 0} (way : Way M C P) where
   -- what is open is what is named, so far as the step goes

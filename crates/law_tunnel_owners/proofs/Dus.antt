@@ -1,7 +1,7 @@
 -- A DU whose open TEIDs are the downlinks of its contexts is such a one after any input.
-use Rattle.std.proofs.Common.{◌≡◌, ◌≤◌, ◌==◌, ℕ, zero, suc, ◌+◌, Bool, true, false, cond, not, ◌&&◌, ◌||◌, List, [], ◌∷◌, ◌++◌, length, map, Option, Some, None, ◌⊎◌, inl, inr, refl, sym, ap, ◌∙◌, subst, arith, eqb-true, eq-eqb}
-use Rattle.std.specs.Ordering.{eq_by_cmp, is_eq}
-use Rattle.std.specs.Cmp.{tied_itself, Equal-is}
+use Rattle.std.proofs.Common.{◌≡◌, ◌≤◌, ◌==◌, ℕ, ◌+◌, Bool, true, false, cond, not, ◌&&◌, ◌||◌, List, [], ◌∷◌, ◌++◌, length, map, Option, Some, None, ◌⊎◌, inl, inr, refl, sym, ap, ◌∙◌, subst, arith, eqb-true, eq-eqb}
+use Rattle.std.specs.Ordering.{eq_by_cmp}
+use Rattle.std.specs.Cmp.{Equal-is}
 use Rattle.std.specs.List.{AllByRecursion}
 use Rattle.std.specs.List.Sorted.{IsStrictlySortedBy}
 use Rattle.std.specs.declared.cmp.Ordering.TheVariants.{Less}
@@ -19,32 +19,31 @@ use Rattle.gnb_types.specs.declared.keys.Channel.{Channel}
 use Rattle.gnb_types.specs.declared.plans.Peer.{Peer}
 use Rattle.gnb_types.specs.declared.plans.Tunnel.{Tunnel}
 use Rattle.gnb_types.specs.declared.inputs.Order.TheVariants as orders
-use Rattle.gnb_types.specs.declared.outputs.Tag.TheVariants.{Absent, Same}
-use Rattle.gnb_types.specs.declared.reasons.DropReason.{DropReason}
-use Rattle.gnb_types.specs.declared.reasons.DropReason.TheVariants.{NoContext, NoTunnel, Unexpected}
+use Rattle.gnb_types.specs.declared.outputs.Tag.TheVariants.{Same}
+use Rattle.gnb_types.specs.declared.reasons.DropReason.TheVariants.{Unexpected}
 use Rattle.gnb_types.specs.Names.{node_text}
 use Rattle.gnb_types.specs.Orders.{bearer_cmp}
 use Rattle.tables.specs.Tables.{find, put}
-use Rattle.transaction_defs.specs.Callers.{close, due}
+use Rattle.transaction_defs.specs.Callers.{close}
 use Rattle.message_types.specs.declared.f1.F1.{F1}
 use Rattle.message_types.specs.declared.f1.F1.TheVariants as f1s
 use Rattle.message_types.specs.declared.rrc.Token.{Token}
-use Rattle.unit_defs.specs.Ways.{Message, f1, rrc, uplink, status, end_marker, Taken, frame_item, packet, opened, closed, Input, control_input, packet_input, radio_input, confirm_input, offer_input, tick_input, order_input, Way, Answer, gives, spent, ◌then◌, nothing, puts, drops, teids_spent}
+use Rattle.unit_defs.specs.Ways.{Message, f1, rrc, uplink, Taken, frame_item, packet, closed, Input, control_input, packet_input, radio_input, confirm_input, offer_input, tick_input, order_input, Way, Answer, gives, spent, ◌then◌, nothing, puts, drops, teids_spent}
 use Rattle.unit_defs.specs.Messages.{channel, is_same_gnb, bearers_of, are_from, are_first_bearers}
-use Rattle.unit_defs.specs.Teids.{teids_are_left, teid_after, without_each}
+use Rattle.unit_defs.specs.Teids.{teids_are_left, without_each}
 use Rattle.unit_defs.specs.Transactions.{Kind, request, reply, transfer, kind_of, no_instance, ask, advance, replied}
-use Rattle.unit_defs.specs.Du.{DuBearer, DuContext, DuTunnel, Du, du_node, context_of, with_transactions, downlinks_of, downlink_list, with_entries, bearers_made, bearers_anew, replies, closings, openings, old_downlinks, replaced, replaces, context_with, setup, context_anew, modify_on, modify, end_markers, released_on, release, relayed_down, relay_down, relayed_up, relay_up, token_ue, start, set_up, asked, transferred, of_cp, of_terminal, control_came, missing, is_missing, told, gap_after, carried, with_bearer, frame_came, taken_in, taken_of, taken_on, take, of_bearer, of_context, pass_up, confirmed, confirm, due_output, tick, du_acts}
+use Rattle.unit_defs.specs.Du.{DuBearer, DuContext, DuTunnel, Du, du_node, context_of, with_transactions, downlink_list, with_entries, bearers_made, bearers_anew, replies, openings, old_downlinks, replaced, replaces, context_with, setup, context_anew, modify_on, modify, released_on, release, relayed_down, relay_down, relayed_up, relay_up, token_ue, start, set_up, asked, transferred, of_cp, of_terminal, control_came, told, gap_after, carried, with_bearer, frame_came, taken_in, taken_of, taken_on, take, of_bearer, of_context, pass_up, confirmed, confirm, tick, du_acts}
 use Rattle.gnb_types.specs.Orders.{ue_cmp}
 use Rattle.gnb_types.proofs.OrderLemmas.{ue_total, bearer_total, bearer_exact}
 use Rattle.tables.specs.Tables.{without, IsSorted}
 use Rattle.tables.proofs.TableLaws.{find-put, find-without, sorted-put}
 use Rattle.unit_defs.specs.UpBearers.{is_one_of}
-use Rattle.law_teids.specs.Given.{below, count_from}
+use Rattle.law_teids.specs.Given.{count_from}
 use Rattle.law_teids.proofs.Grows.{below_left, fewer_each}
 use Rattle.law_teids.proofs.Dus.{Gives, du_gives, made_counted, anew_counted, AreCounted}
-use Rattle.law_owner_facts.specs.Owned.{has_such, is_downlink, du_context_names, du_names, AreNamed, WereGiven, DuInOrder, DuOwns}
+use Rattle.law_owner_facts.specs.Owned.{is_downlink, du_context_names, du_names, AreNamed, WereGiven, DuInOrder, DuOwns}
 use Rattle.law_answers.specs.After.{HoldsAfter}
-use Rattle.law_owner_facts.proofs.Owners.{given_then, and_true, first_of, second_of, both_of, unless, holds_not, one_or, one_owner, same_names, named_without, put_each, AreFrom, IsIn, named_given}
+use Rattle.law_owner_facts.proofs.Owners.{given_then, first_of, second_of, unless, holds_not, one_or, one_owner, same_names, named_without, put_each, AreFrom, IsIn, named_given}
 use Rattle.law_answers.proofs.Answers.{holds_if, holds_then, any_then, holds_request, holds_reply}
 use Rattle.law_owner_facts.proofs.Found.{has_later, has_first, has_either, less}
 use Rattle.law_owner_facts.proofs.UpEnds.{or_left, or_right}

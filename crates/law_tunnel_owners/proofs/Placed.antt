@@ -1,9 +1,9 @@
 -- A terminal that is set up without messages: its tunnels are its contexts'.
-use Rattle.std.proofs.Common.{◌≡◌, ◌≤◌, ◌==◌, ℕ, zero, suc, ◌+◌, ◌*◌, Bool, true, false, cond, ◌&&◌, ◌||◌, List, [], ◌∷◌, map, Option, Some, None, refl, sym, ap, ◌∙◌, subst, eq-eqb}
+use Rattle.std.proofs.Common.{◌≡◌, ◌≤◌, ◌==◌, ℕ, zero, suc, ◌+◌, ◌*◌, Bool, true, false, cond, ◌&&◌, ◌||◌, List, [], ◌∷◌, Option, Some, None, refl, sym, subst, eq-eqb}
+use Rattle.std.proofs.lemmas.Bool.{or_parts}
 use Rattle.std.specs.Prelude.{unwrap_or, is_some}
 use Rattle.std.specs.Ordering.{nat_cmp, eq_by_cmp}
 use Rattle.std.specs.Option.{option_map}
-use Rattle.std.specs.List.{flat_map}
 use Rattle.std.specs.List.Sorted.{IsStrictlySortedBy}
 use Rattle.std.specs.Map.{keys_of}
 use Rattle.std.specs.BTreeMap.{is_at}
@@ -21,13 +21,13 @@ use Rattle.unit_defs.specs.Messages.{bearers_of, are_from}
 use Rattle.unit_defs.specs.Accessors.{place_of, epoch_in}
 use Rattle.unit_defs.specs.CpRecords.{CuCpRecord}
 use Rattle.unit_defs.specs.UpRecords.{CuUp, UpContext, UpTunnel}
-use Rattle.unit_defs.specs.CuUp.{new_cu_up, entries_of, bearers_from, bearers_made}
+use Rattle.unit_defs.specs.CuUp.{new_cu_up, bearers_from, bearers_made}
 use Rattle.unit_defs.specs.Du.{Du, DuContext, DuTunnel, new_du}
 use Rattle.unit_defs.specs.Static.{with_downlinks, up_context, up_placed, up_has_teids, uplinks_from, du_context, du_placed, du_has_teids, cp_placed, up_set_up, du_set_up}
 use Rattle.run_defs.specs.Units.{Units, new_units, cp_of, with_cp, up_of, with_up, du_of, with_du, with_ue}
 use Rattle.run_defs.specs.Conditions.{is_held_by_units, units_placed, all_set_up}
 use Rattle.law_teids.proofs.Grows.{below_left}
-use Rattle.law_teids.proofs.CuUps.{Entry, how_many}
+use Rattle.law_teids.proofs.CuUps.{Entry}
 use Rattle.law_teids.proofs.Dus.{made_counted}
 use Rattle.law_teids.proofs.Placed.{same_ends, up_grows, du_grows, find_mapped}
 use Rattle.law_owner_facts.specs.Owned.{up_names, du_names, AreNamed, WereGiven, UpInOrder, DuInOrder, UpOwns, DuOwns, AreOwned}
@@ -56,10 +56,6 @@ none_up (Some c) h = absurd cc
 none_du : (o : Option DuContext) → is_some (epoch_in o) ≡ false → o ≡ None
 none_du None h = refl
 none_du (Some c) h = absurd cc
-
-neither : (a b : Bool) → a || b ≡ false → (a ≡ false) × (b ≡ false)
-neither true b h = absurd cc
-neither false b h = (refl, h)
 
 module _ {M C : Type 0} where
   up_owns_placed : (r : CuUp M C) (plan : Plan) (downlink : ℕ) → UpOwns r → up_has_teids r plan ≡ true → find ue_cmp r.contexts plan.ue ≡ None
@@ -155,8 +151,8 @@ module _ {M C : Type 0} where
       let a : Units M C = with_ue u plan.ue _ in
       let b : Units M C = with_up a plan.gnb plan.up (up_placed up plan du.next_teid) in
       let c : Units M C = with_du b plan.gnb plan.du (du_placed du plan (up.next_teid + 1)) in
-      let none = neither (is_some (place_of (cp_of u plan.gnb) plan.ue) || is_some (find ue_cmp up.contexts plan.ue)) (is_some (epoch_in (find ue_cmp du.contexts plan.ue))) free in
-      let ups = neither (is_some (place_of (cp_of u plan.gnb) plan.ue)) (is_some (find ue_cmp up.contexts plan.ue)) none.0 in
+      let none = or_parts (is_some (place_of (cp_of u plan.gnb) plan.ue) || is_some (find ue_cmp up.contexts plan.ue)) (is_some (epoch_in (find ue_cmp du.contexts plan.ue))) free in
+      let ups = or_parts (is_some (place_of (cp_of u plan.gnb) plan.ue)) (is_some (find ue_cmp up.contexts plan.ue)) none.0 in
       set_up_owned (units_placed plan u)
       (with_cp_owned c plan.gnb (cp_placed (cp_of u plan.gnb) plan)
       (with_du_owned b plan.gnb plan.du (du_placed du plan (up.next_teid + 1))

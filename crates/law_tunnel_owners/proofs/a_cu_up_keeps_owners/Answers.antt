@@ -1,4 +1,3 @@
-use Rattle.unit_defs.specs.UpRecords.{CuUp}
 use Rattle.law_owner_facts.specs.Owned.{up_names}
 use Rattle.law_owner_facts.proofs.Owners.{one_owner}
 use Rattle.law_tunnel_owners.proofs.CuUps.{cu_up_owns}

@@ -1,4 +1,3 @@
-use Rattle.unit_defs.specs.Du.{Du}
 use Rattle.law_owner_facts.specs.Owned.{du_names}
 use Rattle.law_owner_facts.proofs.Owners.{one_owner}
 use Rattle.law_tunnel_owners.proofs.Dus.{du_owns}
