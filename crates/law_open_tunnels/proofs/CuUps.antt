@@ -371,9 +371,9 @@ module _ {M C P : Type 0} (way : Way M C P) where
       open_without_each (flat_map closed_in os) r.tunnels q ∙ sym (closes_these q os (is_open_in r.tunnels q) none)
   bearer_fits r ue c bearer (spent k) none = tt
 
-  took_none : (teid : ℕ) (b : UpBearer) (a : Answer M P UpBearer) → Took way teid b a → NoneOpened a
-  took_none teid b (gives os c) p = p.0
-  took_none teid b (spent k) p = tt
+  took_none : (kind : TunnelKind) (teid : ℕ) (b : UpBearer) (a : Answer M P UpBearer) → Took way kind teid b a → NoneOpened a
+  took_none kind teid b (gives os c) p = p.0
+  took_none kind teid b (spent k) p = tt
 
   stays_none : (b : UpBearer) (a : Answer M P UpBearer) → Stays way (ends b) a → NoneOpened a
   stays_none b (gives os c) p = p.0
@@ -386,7 +386,7 @@ module _ {M C P : Type 0} (way : Way M C P) where
       shows_then way tunnels_of r.tunnels
       (with_bearer way r t.ue c t.bearer (took way (up_at t.ue c t.bearer) t.kind teid item b)) (end_where_over way t.ue)
       (bearer_fits r t.ue c t.bearer (took way (up_at t.ue c t.bearer) t.kind teid item b)
-      (took_none teid b _ (item_took way (up_at t.ue c t.bearer) t.kind teid item b)))
+      (took_none t.kind teid b _ (item_took way (up_at t.ue c t.bearer) t.kind teid item b)))
       (over_fits t.ue)
 
   take_fits : (teid : ℕ) (item : Taken P) (r : CuUp M C) → Fits r (take way teid item r)

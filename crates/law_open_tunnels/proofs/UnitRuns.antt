@@ -1,6 +1,6 @@
 -- In every run of units that do what the tables say after decoding, tunnels stand where their TEIDs are open.
 use Rattle.std.proofs.Common.{◌≡◌, ℕ, Bool, List, [], ◌∷◌, map, Option, Some, None, refl, sym, ap, ◌∙◌, subst}
-use Rattle.std.specs.Prelude.{Result, Ok, Err, if◌then◌else◌}
+use Rattle.std.specs.Prelude.{Ok, Err, if◌then◌else◌}
 use Rattle.std.specs.Ordering.{eq_by_cmp}
 use Rattle.gnb_types.specs.declared.names.Gnb.{Gnb}
 use Rattle.gnb_types.specs.declared.names.NodeId.{NodeId}
@@ -18,7 +18,7 @@ use Rattle.unit_octet_defs.specs.Codec.{Codec, octet_way}
 use Rattle.unit_octet_defs.specs.Writing.{outputs_of}
 use Rattle.unit_octet_defs.specs.Reading.{ReadInput, read_at_cu_up, read_at_du}
 use Rattle.unit_octet_defs.specs.Units.{OctetAnswer, acts_on, cu_cp_steps, cu_up_steps, du_steps, ue_steps}
-use Rattle.run_defs.specs.Units.{Units, cp_of, with_cp, up_of, with_up, du_of, with_du, ue_of, with_ue}
+use Rattle.run_defs.specs.Units.{cp_of, with_cp, up_of, with_up, du_of, with_du, ue_of, with_ue}
 use Rattle.run_defs.specs.States.{State, stepped, step_spent}
 use Rattle.run_defs.specs.UnitRuns.{Records, UnitAnswer, unit_gives, unit_spent, OctetPut, OctetStepped, put_of, stepped_by, unit_world, answered_with, ue_answers, input_of, tables}
 use Rattle.law_steps.specs.Reached.{reached}

@@ -1,6 +1,7 @@
 -- What is done within a step, and by an event, to the units: only answers, a terminal that comes, and one that is set up without
 -- messages change them.
 use Rattle.std.proofs.Common.{◌≡◌, ℕ, Bool, true, false, ◌&&◌, List, [], ◌∷◌, ◌++◌, Option, Some, None, refl, sym, ◌∙◌, subst}
+use Rattle.std.proofs.lemmas.Bool.{or_parts}
 use Rattle.std.specs.Prelude.{if◌then◌else◌}
 use Rattle.std.specs.List.{flat_map}
 use Rattle.gnb_types.specs.declared.names.NodeId.{NodeId}
@@ -16,14 +17,14 @@ use Rattle.tables.specs.Tables.{find, at}
 use Rattle.scenario_text.specs.declared.event.Event.{Event}
 use Rattle.unit_defs.specs.Ways.{Put, control, packet, radio, deliver, dropped, held, opened, closed, failed, no}
 use Rattle.unit_defs.specs.Static.{up_has_room, up_has_teids, du_has_teids}
-use Rattle.unit_defs.specs.Ue.{UeNode, new_ue}
+use Rattle.unit_defs.specs.Ue.{new_ue}
 use Rattle.transport_defs.specs.declared.Item.{Item}
 use Rattle.transport_defs.specs.Links.{is_epoch, emptied}
 use Rattle.run_defs.specs.Lines.{RunLine, put_item, lost_items, tunnel_link, radio_link, shown}
 use Rattle.run_defs.specs.Units.{Units, up_of, du_of, with_ue}
-use Rattle.run_defs.specs.States.{State, Given, stepped, World, Lengths, Stop, sn_of, goes, stops, told_before, ◌next◌, goes_on, Ending, Within, Outcome, as_step, entity, radio_of, with_radio}
+use Rattle.run_defs.specs.States.{State, Given, stepped, World, Lengths, Stop, sn_of, goes, stops, told_before, ◌next◌, goes_on, Ending, Within, Outcome, as_step, entity, was_attached, radio_of, with_radio}
 use Rattle.run_defs.specs.Steps.{first_outstanding, entities_of, checked_by, check_spans, noted, count_beside, item_of, on_tunnel, put_on_tunnel, put_on_connected, put_on_radio, put_control, opens, closes, radio_lost, lose_each, lose_radios_of, lose_radios, radios_of, same_epoch, epoch_now, connect_in, reconnect, reconnect_node, put_out, put_out_all, carried_out}
-use Rattle.run_defs.specs.Conditions.{units_placed, all_set_up}
+use Rattle.run_defs.specs.Conditions.{is_held_by_units, units_placed, all_set_up}
 use Rattle.run_defs.specs.Events.{landed_as, leaves}
 use Rattle.run_defs.specs.Runs.{happens}
 use Rattle.law_steps.specs.Causes.{Cause, by_order, by_tick, by_octets, by_octets_on, by_attach, by_release, by_offer, by_item, by_air, by_ack, by_letter, node_of, given_of, count_of, first_of}
@@ -185,8 +186,8 @@ module _ {M C L P : Type 0} (world : World M C L P) where
       (joined : (u v w : Units M C) → R u v → R v w → R u w)
       (answered : (lengths : Lengths) (u v : Units M C) (node : NodeId) (given : Given M L P) (outputs : List (Put M L P))
       → world.answer lengths u node given ≡ stepped outputs v → R u v)
-      (came : (u : Units M C) (ue : UeId) (x : UeNode) → R u (with_ue u ue x))
-      (placed : (u : Units M C) (plan : Plan) → up_has_room (up_of u plan.gnb plan.up) plan ≡ true
+      (came : (u : Units M C) (plan : Plan) → R u (with_ue u plan.ue (new_ue plan)))
+      (placed : (u : Units M C) (plan : Plan) → is_held_by_units plan u ≡ false → up_has_room (up_of u plan.gnb plan.up) plan ≡ true
       → up_has_teids (up_of u plan.gnb plan.up) plan && du_has_teids (du_of u plan.gnb plan.du) plan ≡ true → R u (all_set_up (units_placed plan u))) where
     abbrev pub Relates : {X : Type 0} → Units M C → Ending X (State M C L P) → Type 0
     Relates u (goes told t) = R u t.units
@@ -197,7 +198,7 @@ module _ {M C L P : Type 0} (world : World M C L P) where
     by_units u v (stops told why) p q = tt
 
     with_terminals : (cause : Cause M L P) (u : Units M C) → R u (units_by cause u)
-    with_terminals (by_attach plan) u = came u plan.ue (new_ue plan)
+    with_terminals (by_attach plan) u = came u plan
     with_terminals (by_order node order) u = same u
     with_terminals (by_tick node) u = same u
     with_terminals (by_octets from to octets) u = same u
@@ -223,7 +224,7 @@ module _ {M C L P : Type 0} (world : World M C L P) where
     made_relates event s e (ends t why) = tt
     made_relates event s e (then_made t d more p q) =
         then_relates t.units d more (made_relates event t d p) (λ x. made_relates event x (more x) (q x))
-    made_relates event s e (sets_up t plan is free room teids) = placed t.units plan room teids
+    made_relates event s e (sets_up t plan is free room teids) = placed t.units plan (or_parts (was_attached t plan.ue) _ free).1 room teids
     made_relates event s e (starts t d p) = made_relates event (record t { started = true }) d p
     made_relates event s e (acts t cause outputs units stands is fine few) =
         by_units t.units (units_by cause units) _

@@ -67,24 +67,24 @@ module _ {M C P : Type 0} (way : Way M C P) where
   stays_if e true x y p q = p
   stays_if e false x y p q = q
 
-  -- an item is taken: nothing is opened, and at most N3, or this tunnel, is closed
-  abbrev pub Took : ℕ → UpBearer → Answer M P UpBearer → Type 0
-  Took teid b (gives os c) =
+  -- an item of a tunnel of this kind is taken: nothing is opened, and at most N3, or this uplink, is closed
+  abbrev pub Took : TunnelKind → ℕ → UpBearer → Answer M P UpBearer → Type 0
+  Took kind teid b (gives os c) =
       (opened_by os ≡ [])
       × (((closed_by os ≡ []) × (ends c ≡ ends b))
       ⊎ (((t : ℕ) × (b.n3 ≡ Some t) × (closed_by os ≡ t ∷ []) × (ends c ≡ without_n3 (ends b)))
-      ⊎ ((closed_by os ≡ teid ∷ []) × (ends c ≡ without_uplink teid (ends b)))))
-  Took teid b (spent k) = Unit {0}
+      ⊎ ((kind ≡ f1u_uplink) × (closed_by os ≡ teid ∷ []) × (ends c ≡ without_uplink teid (ends b)))))
+  Took kind teid b (spent k) = Unit {0}
 
-  just_took : (teid : ℕ) (b : UpBearer) (a : Answer M P UpBearer) → Stays (ends b) a → Took teid b a
-  just_took teid b (gives os c) p = (p.0, inl (p.1, p.2))
-  just_took teid b (spent k) p = tt
+  just_took : (kind : TunnelKind) (teid : ℕ) (b : UpBearer) (a : Answer M P UpBearer) → Stays (ends b) a → Took kind teid b a
+  just_took kind teid b (gives os c) p = (p.0, inl (p.1, p.2))
+  just_took kind teid b (spent k) p = tt
 
-  stays_took : (teid : ℕ) (b : UpBearer) (a : Answer M P UpBearer) (f : UpBearer → Answer M P UpBearer) → Stays (ends b) a
-      → ((c : UpBearer) → Took teid c (f c)) → Took teid b (a then f)
-  stays_took teid b (gives os c) f p q = by (f c) (q c)
+  stays_took : (kind : TunnelKind) (teid : ℕ) (b : UpBearer) (a : Answer M P UpBearer) (f : UpBearer → Answer M P UpBearer) → Stays (ends b) a
+      → ((c : UpBearer) → Took kind teid c (f c)) → Took kind teid b (a then f)
+  stays_took kind teid b (gives os c) f p q = by (f c) (q c)
     where
-      by : (a : Answer M P UpBearer) → Took teid c a → Took teid b (with_outputs os a)
+      by : (a : Answer M P UpBearer) → Took kind teid c a → Took kind teid b (with_outputs os a)
       by (gives more d) (none, inl same) = (both opened_in os more p.0 none, inl (both closed_in os more p.1 same.0, same.1 ∙ p.2))
       by (gives more d) (none, inr (inl n)) = (
         both opened_in os more p.0 none,
@@ -92,16 +92,16 @@ module _ {M C P : Type 0} (way : Way M C P) where
       )
       by (gives more d) (none, inr (inr u)) = (
         both opened_in os more p.0 none,
-        inr (inr (first_none closed_in os more p.1 ∙ u.0, u.1 ∙ ap (without_uplink teid) p.2)),
+        inr (inr (u.0, first_none closed_in os more p.1 ∙ u.1, u.2 ∙ ap (without_uplink teid) p.2)),
       )
       by (spent k) next = tt
-  stays_took teid b (spent k) f p q = tt
+  stays_took kind teid b (spent k) f p q = tt
 
-  took_stays : (teid : ℕ) (b : UpBearer) (a : Answer M P UpBearer) (f : UpBearer → Answer M P UpBearer) → Took teid b a
-      → ((c : UpBearer) → Stays (ends c) (f c)) → Took teid b (a then f)
-  took_stays teid b (gives os c) f p q = by p (f c) (q c)
+  took_stays : (kind : TunnelKind) (teid : ℕ) (b : UpBearer) (a : Answer M P UpBearer) (f : UpBearer → Answer M P UpBearer) → Took kind teid b a
+      → ((c : UpBearer) → Stays (ends c) (f c)) → Took kind teid b (a then f)
+  took_stays kind teid b (gives os c) f p q = by p (f c) (q c)
     where
-      by : Took teid b (gives os c) → (a : Answer M P UpBearer) → Stays (ends c) a → Took teid b (with_outputs os a)
+      by : Took kind teid b (gives os c) → (a : Answer M P UpBearer) → Stays (ends c) a → Took kind teid b (with_outputs os a)
       by (none, inl same) (gives more d) next = (both opened_in os more none next.0, inl (both closed_in os more same.0 next.1, next.2 ∙ same.1))
       by (none, inr (inl n)) (gives more d) next = (
         both opened_in os more none next.0,
@@ -109,10 +109,10 @@ module _ {M C P : Type 0} (way : Way M C P) where
       )
       by (none, inr (inr u)) (gives more d) next = (
         both opened_in os more none next.0,
-        inr (inr (last_none closed_in os more next.1 ∙ u.0, next.2 ∙ u.1)),
+        inr (inr (u.0, last_none closed_in os more next.1 ∙ u.1, next.2 ∙ u.2)),
       )
       by p (spent k) next = tt
-  took_stays teid b (spent k) f p q = tt
+  took_stays kind teid b (spent k) f p q = tt
 
   -- ---- packets to the DU and to the target, and deliveries
 
@@ -256,15 +256,15 @@ module _ {M C P : Type 0} (way : Way M C P) where
       (stays_if (ends b) at.flags.frozen (forwarded_down way at Absent (fresh p) on) (number_waiting way at on) (down_stays at Absent (fresh p) on) (number_waiting_stays at on))
 
   -- the End Marker of N3: it is closed, if it was open
-  module _ (teid : ℕ) where
-    closed_took : (b : UpBearer) (t : Option ℕ) → b.n3 ≡ t → Took teid b (closed_n3 way b t)
+  module _ (kind : TunnelKind) (teid : ℕ) where
+    closed_took : (b : UpBearer) (t : Option ℕ) → b.n3 ≡ t → Took kind teid b (closed_n3 way b t)
     closed_took b None is = (refl, inl (refl, refl))
     closed_took b (Some t) is = (refl, inr (inl (t, is, refl, refl)))
 
-    n3_took : (at : UpAt) (b : UpBearer) (h : Option SourceHop) → Took teid b (n3_ended way at b h)
+    n3_took : (at : UpAt) (b : UpBearer) (h : Option SourceHop) → Took kind teid b (n3_ended way at b h)
     n3_took at b None = (refl, inl (refl, refl))
     n3_took at b (Some h) =
-        stays_took teid b (forwarded_down way at Absent end_marker b) (λ c. closed_n3 way c c.n3) (down_stays at Absent end_marker b)
+        stays_took kind teid b (forwarded_down way at Absent end_marker b) (λ c. closed_n3 way c c.n3) (down_stays at Absent end_marker b)
         (λ c. closed_took c c.n3 refl)
 
   took_numbered_stays : (at : UpAt) (count : Option ℕ) (p : List ℕ) (b : UpBearer) → Stays (ends b) (took_numbered way at count p b)
@@ -311,29 +311,29 @@ module _ {M C P : Type 0} (way : Way M C P) where
       (forwarded_up way at Absent end_marker (record b { hop = Some (record h { up_ended = true }) })) (nothing b)
       (up_stays at Absent end_marker (record b { hop = Some (record h { up_ended = true }) })) (refl, refl, refl)
 
-  uplink_took : (at : UpAt) (teid : ℕ) (b : UpBearer) → Took teid b (uplink_ended way at teid b)
+  uplink_took : (at : UpAt) (teid : ℕ) (b : UpBearer) → Took f1u_uplink teid b (uplink_ended way at teid b)
   unfolding uplink_ended
   uplink_took at teid b =
       let on : UpBearer = record b { uplinks = filter (λ t. not (t == teid)) b.uplinks } in
-      took_stays teid b (puts (closed teid) on) (λ c. up_hop_ends_if way at c.hop c) (refl, inr (inr (refl, refl))) (λ c. hop_stays at c.hop c)
+      took_stays f1u_uplink teid b (puts (closed teid) on) (λ c. up_hop_ends_if way at c.hop c) (refl, inr (inr (refl, refl, refl))) (λ c. hop_stays at c.hop c)
 
-  pub item_took : (at : UpAt) (kind : TunnelKind) (teid : ℕ) (item : Taken P) (b : UpBearer) → Took teid b (took way at kind teid item b)
+  pub item_took : (at : UpAt) (kind : TunnelKind) (teid : ℕ) (item : Taken P) (b : UpBearer) → Took kind teid b (took way at kind teid item b)
   unfolding took took_delivery_status up_ended
-  item_took at n3 teid (fresh_item p) b = just_took teid b _ (took_fresh_stays at p b)
-  item_took at n3 teid end_item b = n3_took teid at b b.hop
-  item_took at forwarding_down teid (fresh_item p) b = just_took teid b _ (took_fresh_stays at p b)
-  item_took at forwarding_down teid (numbered_item count p) b = just_took teid b _ (took_numbered_stays at count p b)
+  item_took at n3 teid (fresh_item p) b = just_took n3 teid b _ (took_fresh_stays at p b)
+  item_took at n3 teid end_item b = n3_took n3 teid at b b.hop
+  item_took at forwarding_down teid (fresh_item p) b = just_took forwarding_down teid b _ (took_fresh_stays at p b)
+  item_took at forwarding_down teid (numbered_item count p) b = just_took forwarding_down teid b _ (took_numbered_stays at count p b)
   item_took at forwarding_down teid end_item b =
-      just_took teid b (down_ended way b)
+      just_took forwarding_down teid b (down_ended way b)
       (stays_if (ends b) b.down_ended (drops Unexpected b) (nothing (record b { down_ended = true })) (refl, refl, refl) (refl, refl, refl))
-  item_took at f1u_uplink teid (uplink_item content) b = just_took teid b _ (took_content_stays at content b)
+  item_took at f1u_uplink teid (uplink_item content) b = just_took f1u_uplink teid b _ (took_content_stays at content b)
   item_took at f1u_uplink teid (status_item lost delivered) b =
-      just_took teid b _
+      just_took f1u_uplink teid b _
       (stays_then (ends b) (lost_frames way at lost (confirmed_if way delivered b)) (number_waiting way at) (lost_confirmed at lost delivered b) (number_waiting_stays at))
   item_took at f1u_uplink teid end_item b = uplink_took at teid b
-  item_took at forwarding_up teid (numbered_item count p) b = just_took teid b _ (took_uplink_stays at count p b)
+  item_took at forwarding_up teid (numbered_item count p) b = just_took forwarding_up teid b _ (took_uplink_stays at count p b)
   item_took at forwarding_up teid end_item b =
-      just_took teid b _
+      just_took forwarding_up teid b _
       (stays_if (ends b) b.up_ended (drops Unexpected b) (up_hop_ends_if way at b.hop (record b { up_ended = true })) (refl, refl, refl)
       (hop_stays at b.hop (record b { up_ended = true })))
   item_took at kind teid item b = (refl, inl (refl, refl))

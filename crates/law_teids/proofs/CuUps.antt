@@ -28,7 +28,7 @@ use Rattle.unit_defs.specs.Ways.{Message, e1, Taken, closed, no, Input, control_
 use Rattle.unit_defs.specs.Messages.{cause_busy, cause_quota, mode_uplinks, mode_switch, mode_freeze, mode_status, mode_resume, channel, are_bearers, bearers_of, statuses_of, teid_of}
 use Rattle.unit_defs.specs.Teids.{teids_are_left, teid_after}
 use Rattle.unit_defs.specs.Transactions.{Kind, request, reply, transfer, kind_of, no_instance, ask, advance, replied}
-use Rattle.unit_defs.specs.UpRecords.{UpBearer, UpContext, CuUp, UpTunnel, up_at}
+use Rattle.unit_defs.specs.UpRecords.{UpBearer, UpContext, CuUp, TunnelKind, UpTunnel, up_at}
 use Rattle.unit_defs.specs.UpBearers.{made, teids_of_bearer, with_uplink, switched, frozen_to, with_status, resumed, is_over, open_teids, has_downlink, framed}
 use Rattle.unit_defs.specs.UpItems.{held_reason, took}
 use Rattle.unit_defs.specs.CuUp.{bearers_from, bearers_made, entries_of, with_entries, with_context, context_of, with_transactions, up_node, UpStep, steps, stops, step_with, each_bearer, answer_with, ended, ended_if_over, end_where_over, replies, opened_of, new_context, with_new, makes, fits, set_up_for, setup_response, setup_on, setup, modified, uplinks_from, teids_from, uplink_entries, uplinks_given, add_uplinks, as_switched, switch, as_frozen, peer_node, statuses, freeze, as_known, status_each, take_status, as_resumed, resume, names, uplinks_if, switch_if, freeze_if, status_if, resume_if, modify_on, as_released, released_on, release, asked, start, set_up, control_by, ue_in, is_own_cp, control_came, with_bearer, taken_by, taken_in, taken_of, taken_on, take, poll_bearer, poll_on, poll, due_output, tick, cu_up_acts, closed_in}
@@ -452,9 +452,9 @@ module _ {M C P : Type 0} (way : Way M C P) where
   bearer_rests r ue c bearer (gives os b) none = (none, refl, fewer_each (flat_map closed_in os) r.tunnels)
   bearer_rests r ue c bearer (spent k) none = tt
 
-  took_none : (teid : ℕ) (b : UpBearer) (a : Answer M P UpBearer) → Took way teid b a → OpensNone a
-  took_none teid b (gives os c) p = p.0
-  took_none teid b (spent k) p = tt
+  took_none : (kind : TunnelKind) (teid : ℕ) (b : UpBearer) (a : Answer M P UpBearer) → Took way kind teid b a → OpensNone a
+  took_none kind teid b (gives os c) p = p.0
+  took_none kind teid b (spent k) p = tt
 
   stays_none : (b : UpBearer) (a : Answer M P UpBearer) → Stays way (ends b) a → OpensNone a
   stays_none b (gives os c) p = p.0
@@ -467,7 +467,7 @@ module _ {M C P : Type 0} (way : Way M C P) where
       still_then way next_of tunnels_of r.next_teid r.tunnels
       (with_bearer way r t.ue c t.bearer (took way (up_at t.ue c t.bearer) t.kind teid item b)) (end_where_over way t.ue)
       (bearer_rests r t.ue c t.bearer (took way (up_at t.ue c t.bearer) t.kind teid item b)
-      (took_none teid b _ (item_took way (up_at t.ue c t.bearer) t.kind teid item b)))
+      (took_none t.kind teid b _ (item_took way (up_at t.ue c t.bearer) t.kind teid item b)))
       (over_rests t.ue)
 
   take_rests : (teid : ℕ) (item : Taken P) (r : CuUp M C) → Rests r (take way teid item r)

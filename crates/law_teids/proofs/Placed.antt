@@ -25,7 +25,7 @@ use Rattle.law_teids.proofs.Dus.{made_counted, grows_downlinks}
 
 -- ---- CU-UP: downlinks change no end
 
-same_ends : (ue : UeId) (context : ℕ) (gnb : Gnb) (du next : ℕ) (es : List (BearerId × UpBearer))
+pub same_ends : (ue : UeId) (context : ℕ) (gnb : Gnb) (du next : ℕ) (es : List (BearerId × UpBearer))
     → flat_map (entries_of ue context) (with_downlinks gnb du next es) ≡ flat_map (entries_of ue context) es
 same_ends ue context gnb du next [] = refl
 same_ends ue context gnb du next (e ∷ es) = ap (λ (l : List Entry). entries_of ue context e ++ l) (same_ends ue context gnb du (next + 1) es)

@@ -227,4 +227,4 @@ module _ (reading : Reading) where
       reached_relates (plain_world reading) GiveOnce give_same give_then
       (λ lengths u v node given outputs e. subst (AnsweredWell u) e
       (written lengths u (plain_by reading u node given (input_of reading given)) (answered u node given (input_of reading given))))
-      (λ u ue x. give_same u) (λ u plan room teids. placed_gives u plan teids) events s t is
+      (λ u plan. give_same u) (λ u plan free room teids. placed_gives u plan teids) events s t is

@@ -1,6 +1,6 @@
 -- In every run of units that do what the tables say after decoding, each CU-UP and DU gives each TEID once.
-use Rattle.std.proofs.Common.{◌≡◌, ℕ, List, [], ◌∷◌, Option, Some, None, subst}
-use Rattle.std.specs.Prelude.{Result, Ok, Err}
+use Rattle.std.proofs.Common.{◌≡◌, ℕ, List, Option, Some, None, subst}
+use Rattle.std.specs.Prelude.{Ok, Err}
 use Rattle.gnb_types.specs.declared.names.Gnb.{Gnb}
 use Rattle.gnb_types.specs.declared.names.NodeId.{NodeId}
 use Rattle.gnb_types.specs.declared.names.NodeId.TheVariants.{CuCp, CuUp as up_id, Du as du_id, Core, Ue}
@@ -15,7 +15,7 @@ use Rattle.unit_defs.specs.CpRecords.{CuCpRecord}
 use Rattle.unit_octet_defs.specs.Codec.{Codec, octet_way}
 use Rattle.unit_octet_defs.specs.Reading.{ReadInput, read_at_cu_up, read_at_du}
 use Rattle.unit_octet_defs.specs.Units.{OctetAnswer, acts_on, cu_cp_steps, cu_up_steps, du_steps, ue_steps}
-use Rattle.run_defs.specs.Units.{Units, cp_of, with_cp, up_of, with_up, du_of, with_du, ue_of, with_ue}
+use Rattle.run_defs.specs.Units.{cp_of, with_cp, up_of, with_up, du_of, with_du, ue_of, with_ue}
 use Rattle.run_defs.specs.States.{State, stepped, step_spent}
 use Rattle.run_defs.specs.UnitRuns.{Records, UnitAnswer, unit_gives, unit_spent, OctetStepped, stepped_by, unit_world, answered_with, ue_answers, input_of, tables}
 use Rattle.law_steps.specs.Reached.{reached}
@@ -89,4 +89,4 @@ module _ (codec : Codec) where
   given_once_by_units events s t is =
       reached_relates (unit_world codec (tables codec)) GiveOnce give_same give_then
       (λ lengths u v node given outputs e. subst (Stepped u) e (as_step u (tables codec u node (input_of given)) (acted u node (input_of given))))
-      (λ u ue x. give_same u) (λ u plan room teids. placed_gives u plan teids) events s t is
+      (λ u plan. give_same u) (λ u plan free room teids. placed_gives u plan teids) events s t is
