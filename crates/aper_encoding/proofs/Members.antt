@@ -36,7 +36,7 @@ part_below n (suc i) (c ∷ parts) h = part_below n i parts h.1
 abbrev no_components : List Component
 no_components = []
 
-further : {A : Type 0} (i : ℕ) (x : A) (xs : List A) → drop (suc i + 1) (x ∷ xs) ≡ drop (i + 1) xs
+pub further : {A : Type 0} (i : ℕ) (x : A) (xs : List A) → drop (suc i + 1) (x ∷ xs) ≡ drop (i + 1) xs
 further i x xs = let e : suc i + 1 ≡ suc (i + 1) = omega arith in ap (λ n. drop n (x ∷ xs)) e
 
 module _ (of : ℕ → Tree) where

@@ -5,11 +5,13 @@ use Rattle.bits_core.specs.Writing.{Written}
 use Rattle.aper_defs.specs.Trees.{Tree}
 use Rattle.aper_defs.specs.Values.{Value as SeenValue}
 use Rattle.aper_defs.specs.Fields.{Path, Field}
-use Rattle.aper_defs.specs.Bits.{put_all, closed, open_fields}
+use Rattle.aper_defs.specs.Bits.{put_all, closed, octet_count, open_fields}
 use Rattle.aper_defs.specs.Layouts.{layout}
+use Rattle.aper_defs.specs.Membership.{Has}
+use Rattle.aper_defs.specs.Spelling.{Spells, spelling_limit, whole_layout}
 use Rattle.aper_members.specs.Membership.{IsValue, FitsInside}
 use Rattle.aper_members.specs.Followed.{ValueFollows, OpenFollows}
-use Rattle.aper_members.proofs.SpelledLemmas.{put_alone, fits_inside}
+use Rattle.aper_members.proofs.SpelledLemmas.{put_alone, spelled, fits_inside}
 
 pub value_inside : (t : Tree) (v : SeenValue) → FitsInside t v → IsValue t v
 value_inside t v h = record { path = h.path; has = h.has }
@@ -31,3 +33,7 @@ module _ (begun written : Written) (t : Tree) (v : SeenValue) (octets : List ℕ
       → put_all old.bits (open_fields p inside fields ++ rest) ≡ put_all new.bits rest)
       → OpenFollows old new t v
   contents_follow old new none follows all opened p inside rest = opened p inside (layout inside t v) rest (completed_as none follows all inside)
+
+  pub spelled_by : begun.bits ≡ [] → ValueFollows begun written t v → Completes written octets
+      → Has [] t v → octet_count (whole_layout t v) ≤ spelling_limit → Spells t v octets
+  spelled_by none follows all has short = spelled t v octets has short (completed_as none follows all [])

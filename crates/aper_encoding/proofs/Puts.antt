@@ -38,6 +38,9 @@ bounded_of t u e h = subst IsBounded e h
 pub follows_of : (old new : Written) (t u : Tree) (v : SeenValue) → t ≡ u → ValueFollows old new u v → ValueFollows old new t v
 follows_of old new t u v e h = subst (λ x. ValueFollows old new x v) (sym e) h
 
+pub follows_as : (old new : Written) (t u : Tree) (v w : SeenValue) → t ≡ u → v ≡ w → ValueFollows old new u w → ValueFollows old new t v
+follows_as old new t u v w e f h = subst (λ x. ValueFollows old new t x) (sym f) (follows_of old new t u w e h)
+
 -- ---- lists
 pub list_follows : (size : Option Size) (t : Tree) (vs : List Value) (old mid new : Written)
     → Follows old mid (λ p. count_fields p size (length vs)) → MembersFollow t mid new vs
@@ -51,6 +54,9 @@ list_follows size t vs old mid new counted members p rest =
 
 module _ (of : ℕ → Tree) where
   -- ---- containers
+  pub elements_none : (rows : List IeRow) (new : Written) → ElementsFollow of rows new new []
+  elements_none rows new known left p rest = refl
+
   pub container_follows : (rows : List IeRow) (es : List (Element Value)) (count : ℕ) (old padded counted new : Written) → count ≡ length es
       → Follows old padded (λ p. asked p pad 0 ∷ [])
       → ((least : ℕ) → Follows padded counted (λ p. asked p (fields.ie_count least) count ∷ []))

@@ -32,6 +32,7 @@ invariant-put_list-loop-member l = record {
 
 abbrev pub invariant-put_container-loop-ie : goal.invariant-put_container-loop-ie
 invariant-put_container-loop-ie l = record {
+  going : l.out.failed ≡ false;
   bodies : AreBodies (rows_of (tree l.m) l.rows) (ies_view (drop l.ie-index l.ie-items));
   follows : (new : Written) → ElementsFollow (tree l.m) l.rows l.out new (drop l.ie-index l.ie-items)
       → ElementsFollow (tree l.m) l.rows l.initial.out new l.ie-items;
