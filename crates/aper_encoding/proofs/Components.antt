@@ -8,7 +8,7 @@ use Rattle.aper_values.specs.declared.value.Value.{Value}
 use Rattle.aper_values.specs.Views.{view, options_view}
 use Rattle.aper_members.specs.Membership.{IsValue, AreComponents}
 use Rattle.aper_members.specs.Followed.{ValueFollows, ComponentsFollow}
-use Rattle.aper_members.proofs.Turns.{item_at, component_absent, component_present, component_value, components_left, component_there}
+use Rattle.aper_members.proofs.Turns.{item_at, component_absent, component_present, component_value, components_left}
 use Rattle.aper_encoding.proofs.Members.{further}
 
 module _ (of : ℕ → Tree) where

@@ -1,5 +1,5 @@
 -- Parts by their places, and how many members there are.
-use Rattle.std.proofs.Common.{◌≡◌, ℕ, zero, suc, ◌+◌, ◌-◌, ◌<◌, ◌≤◌, List, [], ◌∷◌, ◌++◌, length, drop, Option, Some, None, refl, sym, ap, subst, ◌∙◌, arith}
+use Rattle.std.proofs.Common.{◌≡◌, ℕ, zero, suc, ◌+◌, ◌≤◌, List, [], ◌∷◌, ◌++◌, length, drop, Option, Some, None, refl, sym, ap, subst, arith}
 use Rattle.std.proofs.lemmas.List.{drop_all}
 use Rattle.bits_core.specs.Writing.{Written}
 use Rattle.asn1_types.specs.declared.definition.Component.{Component}
@@ -10,7 +10,7 @@ use Rattle.aper_defs.specs.Fields.{Path, Field}
 use Rattle.aper_defs.specs.Fields as fields
 use Rattle.aper_defs.specs.Bits.{put_all}
 use Rattle.aper_defs.specs.Layouts.{added_fields}
-use Rattle.aper_defs.specs.Membership.{HasComponents, HasAdded, HasAdditions}
+use Rattle.aper_defs.specs.Membership.{HasComponents, HasAdded}
 use Rattle.aper_types.specs.Types.{parts_of}
 use Rattle.aper_values.specs.declared.value.Value.{Value}
 use Rattle.aper_values.specs.declared.value.Element.{Element}

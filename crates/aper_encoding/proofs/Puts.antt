@@ -1,5 +1,5 @@
 -- Values that were put, by the form of their type.
-use Rattle.std.proofs.Common.{◌≡◌, ℕ, suc, ◌-◌, ◌<◌, ◌≤◌, cond, Bool, true, false, List, [], ◌∷◌, ◌++◌, length, Option, refl, sym, ap, subst, ◌∙◌, arith}
+use Rattle.std.proofs.Common.{◌≡◌, ℕ, ◌-◌, ◌<◌, ◌≤◌, cond, Bool, List, [], ◌∷◌, ◌++◌, length, Option, refl, sym, ap, subst, ◌∙◌, arith}
 use Rattle.std.specs.Prelude.{nat_lt}
 use Rattle.bits_core.specs.Writing.{Written}
 use Rattle.asn1_types.specs.declared.definition.Size.{Size}
@@ -10,7 +10,6 @@ use Rattle.aper_defs.specs.Values.{Value as SeenValue, chosen, list, elements, m
 use Rattle.aper_defs.specs.Fields.{Path, Field, asked, pad}
 use Rattle.aper_defs.specs.Fields as fields
 use Rattle.aper_defs.specs.Bits.{put_all}
-use Rattle.aper_defs.specs.Bounds.{IsBounded}
 use Rattle.aper_defs.specs.Parts.{index_fields, count_fields}
 use Rattle.aper_defs.specs.Layouts.{layout, alternative_fields, added_fields, ie_fields, row_fields, body_fields, message_head}
 use Rattle.aper_defs.specs.Membership.{Has, HasAdded}
@@ -19,7 +18,7 @@ use Rattle.aper_fields.specs.Following.{Follows}
 use Rattle.aper_types.specs.Types.{parts_of, rows_of}
 use Rattle.aper_values.specs.declared.value.Value.{Value}
 use Rattle.aper_values.specs.declared.value.Element.{Element}
-use Rattle.aper_values.specs.Views.{view, values_view, ies_view}
+use Rattle.aper_values.specs.Views.{values_view, ies_view}
 use Rattle.aper_members.specs.Membership.{IsValue, IsInside}
 use Rattle.aper_members.specs.Followed.{ValueFollows, InsideFollows, MembersFollow, ElementsFollow, past_fields}
 use Rattle.aper_members.proofs.ChoiceLemmas.{parts_count}
@@ -29,12 +28,6 @@ use Rattle.aper_encoding.specs.Parts.{part_type}
 use Rattle.aper_encoding.proofs.Members.{values_count, elements_count, added_inside, added_follows}
 
 -- ---- a type as its form
-pub value_of : (t u : Tree) (v : SeenValue) → t ≡ u → IsValue t v → IsValue u v
-value_of t u v e h = subst (λ x. IsValue x v) e h
-
-pub bounded_of : (t u : Tree) → t ≡ u → IsBounded t → IsBounded u
-bounded_of t u e h = subst IsBounded e h
-
 pub follows_of : (old new : Written) (t u : Tree) (v : SeenValue) → t ≡ u → ValueFollows old new u v → ValueFollows old new t v
 follows_of old new t u v e h = subst (λ x. ValueFollows old new x v) (sym e) h
 

@@ -8,9 +8,6 @@ ghost use Rattle.aper_defs.specs.Spelling.{Spells, spelling_limit, whole_layout}
 ghost use Rattle.aper_types.specs.Types.{tree};
 ghost use Rattle.aper_values.specs.Views.{view};
 
-// Unproved: its calls of `encode` show no member yet. It runs by `rt try --test`.
-#[cfg(test)]
-mod tests;
 mod values;
 
 use crate::values::put_value;

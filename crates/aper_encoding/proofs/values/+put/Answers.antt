@@ -40,8 +40,6 @@ use Rattle.aper_encoding.proofs.Open.{Completes, contents_fit, contents_follow}
 use Rattle.aper_encoding.proofs.Puts.{follows_of, follows_as, list_follows, elements_none, container_follows, chosen_inside, added_follow, message_known_follows, message_past_follows}
 use Rattle.aper_encoding.proofs.values.+put.Goals as goal
 
--- src/values.rt:166:5
--- the value is None: Turns.addition_absent at the whole list of parts, Members.additions_next; `item_at` of Turns for the item
 pub put_additions-loop-i-preserved-in_default : goal.put_additions-loop-i-preserved-in_default
 put_additions-loop-i-preserved-in_default t c =
     let l = c.loop-i in
@@ -58,8 +56,6 @@ put_additions-loop-i-preserved-in_default t c =
           (addition_absent of l.out new ps l.i (drop (l.i + 1) vs) more));
     }
 
--- src/values.rt:170:9
--- inside: Members.part_below; member: Members.addition_inside of the invariant `member` at `item_at`; each rewritten by the result of part_type
 pub put_additions-put_body-requires : goal.put_additions-put_body-requires
 put_additions-put_body-requires t c =
     let l = c.loop-i in
@@ -77,8 +73,6 @@ put_additions-put_body-requires t c =
     subst (λ (x : Option TypeId). IsInside of x (view v)) (sym c.part_type.ensures) (addition_inside of ps l.i v (drop (l.i + 1) vs) member) in
     (search (rules, the_lemmas), (below, has))
 
--- src/values.rt:166:5
--- follows: Members.addition_turn and the invariant; member: Members.additions_next; both after `item_at`, as heads/put_flags of aper_members
 pub put_additions-loop-i-preserved : goal.put_additions-loop-i-preserved
 put_additions-loop-i-preserved t c =
     let l = c.loop-i in
@@ -98,8 +92,6 @@ put_additions-loop-i-preserved t c =
           (addition_turn of l.out c.put_body.new.out new ps l.i v (drop (l.i + 1) vs) here more));
     }
 
--- src/values.rt:151:1
--- drop_all on the values, Turns.additions_none, then the invariant `follows`
 pub put_additions-returns-clause-follows : goal.put_additions-returns-clause-follows
 put_additions-returns-clause-follows t c =
     let l = c.loop-i in
@@ -109,8 +101,6 @@ put_additions-returns-clause-follows t c =
     l.invariant.follows l.out (subst (λ (ws : List (Option Value)). AdditionsFollow of l.out l.out (drop l.i ps) ws)
     (sym (drop_all l.i vs (omega arith))) (additions_none of l.out (drop l.i ps)))
 
--- src/values.rt:122:8
--- Open.contents_fit, begun = the new writer (its bits are [])
 pub put_body-put_contents-requires : goal.put_body-put_contents-requires
 put_body-put_contents-requires t c =
     let of = tree c.args.m.now in
@@ -122,8 +112,6 @@ put_body-put_contents-requires t c =
     let fits : FitsInside type v = subst (λ (x : Option TypeId). IsInside of x v) c.in-Some.is c.requires.member in
     contents_fit c.new-contents.result c.put_value.new.out type v c.as_slice.result.now none c.in_ok-put_value.ensures.follows all fits
 
--- src/values.rt:102:1
--- by cases on id: Some: Open.contents_follow with `opened` of put_contents; None: `follows` of put_raw
 pub put_body-returns-clause-follows : goal.put_body-returns-clause-follows
 put_body-returns-clause-follows t c =
     let of = tree c.args.m.now in
@@ -136,8 +124,6 @@ put_body-returns-clause-follows t c =
     (contents_follow c.new-contents.result c.put_value.new.out type v c.as_slice.result.now c.args.out.now c.put_contents.new.out none
     c.in_ok-put_value.ensures.follows all c.in_ok-put_contents.ensures.opened)
 
--- src/values.rt:225:13
--- Shapes.choice_index, then ChoiceLemmas.parts_count
 pub put_choice-put_index-requires-clause-member : goal.put_choice-put_index-requires-clause-member
 put_choice-put_index-requires-clause-member t c =
     let of = tree c.args.m.now in
@@ -152,8 +138,6 @@ put_choice-put_index-requires-clause-member t c =
     subst (λ (n : ℕ). is_index_of n c.is_some.result i ≡ true) (parts_count of root)
     (choice_index c.is_some.result (parts_of of root) (parts_of of additions) i (view c.in-Choice.body.value) (as_of _ _ _ _ type seen c.requires.member))
 
--- src/values.rt:227:27
--- inside: Turns.below_at; member: ChoiceLemmas.chosen_root
 pub put_choice-put_value-requires : goal.put_choice-put_value-requires
 put_choice-put_value-requires t c =
     let of = tree c.args.m.now in
@@ -180,8 +164,6 @@ put_choice-put_value-requires t c =
     (chosen_root of c.is_some.result root additions i v q c.if-index-root.true c.index-root-index.is member) in
     (search (rules, the_lemmas), (below, (has, c.in_ok-put_index-in-Choice.ensures.going)))
 
--- src/values.rt:227:17
--- ChoiceLemmas.root_follows
 pub put_choice-returns-then-index-root-clause-follows :
     goal.put_choice-returns-then-index-root-clause-follows
 put_choice-returns-then-index-root-clause-follows t c =
@@ -204,8 +186,6 @@ put_choice-returns-then-index-root-clause-follows t c =
     (root_follows of c.is_some.result root additions i v c.args.out.now c.put_index.new.out c.put_value.new.out q c.if-index-root.true
     c.index-root-index.is c.in_ok-put_index-in-Choice.ensures.follows here)
 
--- src/values.rt:230:16
--- inside: Members.part_below; member: Puts.chosen_inside
 pub put_choice-put_body-requires : goal.put_choice-put_body-requires
 put_choice-put_body-requires t c =
     let of = tree c.args.m.now in
@@ -233,8 +213,6 @@ put_choice-put_body-requires t c =
     (chosen_inside of c.is_some.result root additions i v past member) in
     (search (rules, the_lemmas), (below, has))
 
--- src/values.rt:205:1
--- Puts.added_follow
 pub put_choice-returns-clause-follows : goal.put_choice-returns-clause-follows
 put_choice-returns-clause-follows t c =
     let of = tree c.args.m.now in
@@ -257,8 +235,6 @@ put_choice-returns-clause-follows t c =
     (added_follow of c.is_some.result root additions i v c.args.out.now c.put_index.new.out c.put_body.new.out past
     c.in_ok-put_index-in-Choice.ensures.follows here)
 
--- src/values.rt:141:5
--- the value is None: Turns.component_there for the bound, component_absent, components_left
 pub put_components-loop-i-preserved-in_default : goal.put_components-loop-i-preserved-in_default
 put_components-loop-i-preserved-in_default t c =
     let l = c.loop-i in
@@ -276,8 +252,6 @@ put_components-loop-i-preserved-in_default t c =
           (components_absent of l.out new ps l.i (drop (l.i + 1) vs) less more));
     }
 
--- src/values.rt:145:34
--- Turns.component_there of the invariant `member` at `item_at`
 pub put_components-bounds-parts-i : goal.put_components-bounds-parts-i
 put_components-bounds-parts-i t c =
     let l = c.loop-i in
@@ -290,8 +264,6 @@ put_components-bounds-parts-i t c =
     let member = subst (λ (ws : List (Option Value)). AreComponents (parts_of of (drop l.i ps)) (options_view ws)) value l.invariant.member in
     component_there of ps l.i (Some v) (drop (l.i + 1) vs) member
 
--- src/values.rt:145:34
--- the same
 pub put_components-bounds-parts-i-in-Some : goal.put_components-bounds-parts-i-in-Some
 put_components-bounds-parts-i-in-Some t c =
     let l = c.loop-i in
@@ -304,8 +276,6 @@ put_components-bounds-parts-i-in-Some t c =
     let member = subst (λ (ws : List (Option Value)). AreComponents (parts_of of (drop l.i ps)) (options_view ws)) value l.invariant.member in
     component_there of ps l.i (Some v) (drop (l.i + 1) vs) member
 
--- src/values.rt:145:9
--- inside: Turns.below_at; member: Turns.component_value of the invariant `member`, both lists at `item_at`
 pub put_components-put_value-requires : goal.put_components-put_value-requires
 put_components-put_value-requires t c =
     let l = c.loop-i in
@@ -326,8 +296,6 @@ put_components-put_value-requires t c =
     (component_at of ps l.i q v (drop (l.i + 1) vs) less c.index-parts-i.is member) in
     (search (rules, the_lemmas), (below, (has, l.invariant.going)))
 
--- src/values.rt:141:5
--- follows: Turns.component_present and the invariant; member: components_left
 pub put_components-loop-i-preserved : goal.put_components-loop-i-preserved
 put_components-loop-i-preserved t c =
     let l = c.loop-i in
@@ -350,8 +318,6 @@ put_components-loop-i-preserved t c =
           (component_turn of l.out c.put_value.new.out new ps l.i q v (drop (l.i + 1) vs) less c.index-parts-i.is here more));
     }
 
--- src/values.rt:126:1
--- drop_all on the values, Turns.components_none, then the invariant `follows`
 pub put_components-returns-clause-follows : goal.put_components-returns-clause-follows
 put_components-returns-clause-follows t c =
     let l = c.loop-i in
@@ -361,8 +327,6 @@ put_components-returns-clause-follows t c =
     l.invariant.follows l.out (subst (λ (ws : List (Option Value)). ComponentsFollow of l.out l.out (drop l.i ps) ws)
     (sym (drop_all l.i vs (omega arith))) (components_none of l.out (drop l.i ps)))
 
--- src/values.rt:284:31
--- Shapes.element_count, then Members.elements_count
 pub put_container-overflow_cast-len : goal.put_container-overflow_cast-len
 put_container-overflow_cast-len t c =
     let of = tree c.args.m.now in
@@ -373,8 +337,6 @@ put_container-overflow_cast-len t c =
     let few : ie_count (ies_view es) < 65536 = element_count (rows_of of rows) (ies_view es) member in
     omega (arith, few, elements_count es, c.len.ensures, c.in-Ies.ies.ok.0)
 
--- src/values.rt:285:13
--- bodies: Shapes.element_bodies; follows: the identity
 pub put_container-loop-ie-init : goal.put_container-loop-ie-init
 put_container-loop-ie-init t c =
     let of = tree c.args.m.now in
@@ -389,8 +351,6 @@ put_container-loop-ie-init t c =
       follows = λ new more. more;
     }
 
--- src/values.rt:289:17
--- inside: RowLemmas.body_below; member: RowLemmas.element_inside of the invariant `bodies` at `item_at`
 pub put_container-put_body-requires : goal.put_container-put_body-requires
 put_container-put_body-requires t c =
     let l = c.loop-ie in
@@ -407,8 +367,6 @@ put_container-put_body-requires t c =
     element_inside of e.id rows c.row_type.result (view e.body) c.row_type.ensures bodies.1 in
     (search (rules, the_lemmas), (below, has))
 
--- src/values.rt:285:13
--- follows: RowLemmas.element_next with body_follows, then the invariant; bodies: the rest of the invariant
 pub put_container-loop-ie-preserved : goal.put_container-loop-ie-preserved
 put_container-loop-ie-preserved t c =
     let l = c.loop-ie in
@@ -436,14 +394,10 @@ put_container-loop-ie-preserved t c =
           c.in_ok-put_pad-in-Ies-2.ensures.follows c.in_ok-put_ie_id-in-Ies.ensures.follows judgement here more));
     }
 
--- src/values.rt:267:1
--- put `going` into the invariant (out.failed is false, by put_ie_count at first and put_body in a turn)
 pub put_container-returns-clause-going : goal.put_container-returns-clause-going
 put_container-returns-clause-going t c =
     c.loop-ie.invariant.going
 
--- src/values.rt:267:1
--- Puts.container_follows, with the invariant at no elements left (drop_all)
 pub put_container-returns-clause-follows : goal.put_container-returns-clause-follows
 put_container-returns-clause-follows t c =
     let of = tree c.args.m.now in
@@ -462,8 +416,6 @@ put_container-returns-clause-follows t c =
     (container_follows of rows es c.len.result c.args.out.now c.put_pad.new.out counted l.out (c.len.ensures ∙ c.in-Ies.ies.ok.0)
     c.in_ok-put_pad-in-Ies.ensures.follows c.in_ok-put_ie_count-in-Ies.ensures.follows all)
 
--- src/values.rt:64:1
--- bridge the casts of the two i128 by a typed `let`, as simple/put_whole_number of aper_writing (IntegerLayouts)
 pub put_form-returns-in_ok-put_whole_number-in-Integer-clause-follows :
     goal.put_form-returns-in_ok-put_whole_number-in-Integer-clause-follows
 put_form-returns-in_ok-put_whole_number-in-Integer-clause-follows t c =
@@ -480,8 +432,6 @@ put_form-returns-in_ok-put_whole_number-in-Integer-clause-follows t c =
     (subst (λ (z : ℤ). ValueFollows old new (integer z (cast_signed w128 (cast_unsigned w128 i.high)) i.extensible) v) low
     c.in_ok-put_whole_number-in-Integer.ensures.follows))
 
--- src/values.rt:256:13
--- Shapes.list_count, then Members.values_count
 pub put_list-put_count-requires-clause-most : goal.put_list-put_count-requires-clause-most
 put_list-put_count-requires-clause-most t c =
     let element : Tree = tree c.args.m.now c.args.element.number in
@@ -491,8 +441,6 @@ put_list-put_count-requires-clause-most t c =
     let few : value_count (values_view vs) < 65536 = list_count c.args.size element (values_view vs) c.requires.bounded member in
     omega (arith, few, values_count vs, c.len.ensures, c.in-List.members.ok.0)
 
--- src/values.rt:257:13
--- members: Shapes.list_members; follows: the identity
 pub put_list-loop-member-init : goal.put_list-loop-member-init
 put_list-loop-member-init t c =
     let element : Tree = tree c.args.m.now c.args.element.number in
@@ -506,8 +454,6 @@ put_list-loop-member-init t c =
       follows = λ new more. more;
     }
 
--- src/values.rt:237:1
--- Puts.list_follows, with the invariant at no members left (drop_all)
 pub put_list-returns-clause-follows : goal.put_list-returns-clause-follows
 put_list-returns-clause-follows t c =
     let element : Tree = tree c.args.m.now c.args.element.number in
@@ -525,8 +471,6 @@ put_list-returns-clause-follows t c =
     c.in_ok-put_count-in-List.ensures.follows in
     follows_as c.args.out.now l.out _ _ _ _ refl seen (list_follows c.args.size element vs c.args.out.now mid l.out counted all)
 
--- src/values.rt:320:27
--- Shapes.message_past
 pub put_message-put_past-requires-clause-outcome :
     goal.put_message-put_past-requires-clause-outcome
 put_message-put_past-requires-clause-outcome t c =
@@ -543,8 +487,6 @@ put_message-put_past-requires-clause-outcome t c =
     let past = message_past (procedures_of of rows) outcome code criticality v (omega arith) member in
     (omega arith, past.0)
 
--- src/values.rt:320:27
--- Shapes.message_past
 pub put_message-put_past-requires-clause-body : goal.put_message-put_past-requires-clause-body
 put_message-put_past-requires-clause-body t c =
     let of = tree c.args.m.now in
@@ -560,8 +502,6 @@ put_message-put_past-requires-clause-body t c =
     let past = message_past (procedures_of of rows) outcome code criticality v (omega arith) member in
     past.1
 
--- src/values.rt:320:17
--- Puts.message_past_follows
 pub put_message-returns-then-outcome-ge3-clause-follows :
     goal.put_message-returns-then-outcome-ge3-clause-follows
 put_message-returns-then-outcome-ge3-clause-follows t c =
@@ -578,8 +518,6 @@ put_message-returns-then-outcome-ge3-clause-follows t c =
     (message_past_follows (procedures_of of rows) outcome code criticality v c.args.out.now c.put_past.new.out (omega arith)
     c.in_ok-put_past-in-Pdu.ensures.follows)
 
--- src/values.rt:322:13
--- Shapes.message_known
 pub put_message-put_head-requires-clause-criticality :
     goal.put_message-put_head-requires-clause-criticality
 put_message-put_head-requires-clause-criticality t c =
@@ -592,8 +530,6 @@ put_message-put_head-requires-clause-criticality t c =
     (message_known (procedures_of of rows) outcome code criticality (view c.in-Pdu.body.value) (omega arith)
     (as_of _ _ _ _ refl seen c.requires.member)).0
 
--- src/values.rt:323:16
--- inside: MessageLemmas.messages_below; member: MessageLemmas.message_inside of Shapes.message_known
 pub put_message-put_body-requires : goal.put_message-put_body-requires
 put_message-put_body-requires t c =
     let of = tree c.args.m.now in
@@ -613,8 +549,6 @@ put_message-put_body-requires t c =
     message_inside of outcome code rows c.message_type.result v c.message_type.ensures known.1 in
     (search (rules, the_lemmas), (below, has))
 
--- src/values.rt:298:1
--- Puts.message_known_follows with MessageLemmas.message_follows
 pub put_message-returns-clause-follows : goal.put_message-returns-clause-follows
 put_message-returns-clause-follows t c =
     let of = tree c.args.m.now in
@@ -632,8 +566,6 @@ put_message-returns-clause-follows t c =
     (message_follows of outcome code rows c.message_type.result c.put_head.new.out c.put_body.new.out v c.message_type.ensures
     c.in_ok-put_body-in-Pdu.ensures.follows))
 
--- src/values.rt:195:13
--- Members.components_fit of Shapes.sequence_root
 pub put_sequence-put_flags-requires-clause-size : goal.put_sequence-put_flags-requires-clause-size
 put_sequence-put_flags-requires-clause-size t c =
     let of = tree c.args.m.now in
@@ -646,8 +578,6 @@ put_sequence-put_flags-requires-clause-size t c =
     let few : length vs ≤ length members.root = components_fit of members.root vs root in
     rw c.deref.ensures.value (rw c.as_slice-parts.ensures few)
 
--- src/values.rt:196:13
--- Shapes.sequence_root
 pub put_sequence-put_components-requires : goal.put_sequence-put_components-requires
 put_sequence-put_components-requires t c =
     let of = tree c.args.m.now in
@@ -664,8 +594,6 @@ put_sequence-put_components-requires t c =
     (subst (λ (ws : List (Option Value)). AreComponents (parts_of of members.root) (options_view ws)) (sym c.deref-in-Seq.ensures.value) root) in
     (search (rules, the_lemmas), (below, (has, c.in_ok-put_flags-in-Seq.ensures.going)))
 
--- src/values.rt:197:13
--- Shapes.sequence_few, then HeadLemmas.presence_count
 pub put_sequence-put_marks-requires-clause-size : goal.put_sequence-put_marks-requires-clause-size
 put_sequence-put_marks-requires-clause-size t c =
     let of = tree c.args.m.now in
@@ -677,8 +605,6 @@ put_sequence-put_marks-requires-clause-size t c =
     let few : length (presence (options_view more)) ≤ 64 = sequence_few _ _ _ (options_view vs) (options_view more) member in
     omega (arith, few, presence_count more, ap (λ (ws : List (Option Value)). length ws) c.deref-in-Seq-2.ensures.value)
 
--- src/values.rt:198:16
--- Shapes.sequence_named, at named
 pub put_sequence-put_additions-requires : goal.put_sequence-put_additions-requires
 put_sequence-put_additions-requires t c =
     let of = tree c.args.m.now in
@@ -695,8 +621,6 @@ put_sequence-put_additions-requires t c =
     (sym c.deref-in-Seq-3.ensures.value) (sequence_named _ _ _ (options_view vs) (options_view more) member)) in
     (search (rules, the_lemmas), (below, (has, c.in_ok-put_marks-in-Seq.ensures.going)))
 
--- src/values.rt:176:1
--- SequenceLemmas.sequence_follows, with has_any for the extension bit
 pub put_sequence-returns-clause-follows : goal.put_sequence-returns-clause-follows
 put_sequence-returns-clause-follows t c =
     let of = tree c.args.m.now in
