@@ -1,0 +1,4 @@
+mod Components
+mod Members
+mod Open
+mod Puts
