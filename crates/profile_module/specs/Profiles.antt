@@ -1,13 +1,16 @@
--- The profile's module as a value.
-use Rattle.std.specs.Prelude.{◌≡◌, ℕ, List, length, true}
+-- The profile's module as a value, and what `agrees` says of a module.
+use Rattle.std.specs.Prelude.{◌≡◌, ℕ, List, length, true, Some, Result, Ok, Err}
 use Rattle.asn1_tokens.specs.Words.{is_text}
 use Rattle.asn1_assignments.specs.declared.assignment.Syntax.{Syntax}
 use Rattle.asn1_module.specs.Module.{Reads, type_ids}
 use Rattle.profile.specs.declared.version.Version.{Version}
+use Rattle.profile.specs.declared.version.Version.TheVariants.{One}
 use Rattle.profile.specs.Versions.{number_of, text_of}
 use Rattle.profile_defs.specs.Forms.{Form}
 use Rattle.profile_defs.specs.Profile.{profile_types, module_name}
-use Rattle.profile_defs.specs.Agreement.{Agrees}
+use Rattle.profile_defs.specs.Agreement.{differs, Agrees}
+use Rattle.profile_module.specs.declared.agreement.AgreeError.{AgreeError}
+use Rattle.profile_module.specs.declared.agreement.AgreeError.TheVariants.{Differs, Memory}
 
 -- the types of a version
 abbrev pub types_of : Version → List Form
@@ -26,3 +29,9 @@ pub record IsBuiltin (version : Version) (profile : ProfileAt) : Type 0 where
   pub agrees : Agrees (types_of version) profile.syntax
   pub name : is_text profile.syntax.name module_name ≡ true
   pub count : length (type_ids profile.syntax.assignments) ≡ 53
+
+-- A module agrees, and is version 1 of the profile; or this is the first name by which it differs. Out of memory is free.
+abbrev pub AgreesSo : Syntax → Result ProfileAt AgreeError → Type 0
+AgreesSo m (Ok profile) = (profile ≡ record { syntax = m; version = One }) × Agrees (profile_types 1) m
+AgreesSo m (Err (Differs name)) = differs (profile_types 1) m ≡ Some name
+AgreesSo m (Err Memory) = Unit {0}

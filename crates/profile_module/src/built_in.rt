@@ -32,9 +32,20 @@ impl Model for Profile {
 }
 
 impl Profile {
+    /// A module that has exactly these types.
+    pub(crate) fn of(read: Module, version: Version) -> Profile
+        requires { Agrees (types_of version) read }
+        ensures { result ≡ record { syntax = read; version = version } }
+    {
+        Profile {
+            module: read,
+            version,
+        }
+    }
+
     /// Its module.
     pub fn module(&self) -> &Module
-        ensures module { result.now ≡ self.now.syntax }
+        ensures syntax { result.now ≡ self.now.syntax }
         ensures agrees { Agrees (types_of self.now.version) self.now.syntax }
     {
         &self.module
@@ -54,7 +65,7 @@ fn of_text(alloc: Global, version: Version) -> Result<Profile, Memory>
 {
     profile_texts_agree();
     match read_module(alloc, version.text()) {
-        Ok((module, _)) => Ok(Profile { module, version }),
+        Ok((module, _)) => Ok(Profile::of(module, version)),
         Err(ModuleError::Memory) => Err(Memory),
         Err(ModuleError::Refused { .. }) => unreachable!(),
     }

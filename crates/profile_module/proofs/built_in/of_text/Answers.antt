@@ -1,11 +1,12 @@
-use Rattle.std.proofs.Common.{subst}
+use Rattle.std.proofs.Common.{subst, sym}
 use Rattle.asn1_module.specs.declared.error.ModuleError.{ModuleError}
 use Rattle.asn1_module.specs.Module.{RefusedSo}
+use Rattle.profile_module.specs.Profiles.{IsBuiltin}
 use Rattle.profile_module.proofs.Built.{built, never_wrong}
 use Rattle.profile_module.proofs.built_in.of_text.Goals as goal
 
-pub invariant_of-result : goal.invariant_of-result
-invariant_of-result c =
+pub of-requires : goal.of-requires
+of-requires c =
     (built c.args.version c.profile_texts_agree.ensures.one c.profile_texts_agree.ensures.two _ _ _ c.text.ensures c.in-Ok.ensures).agrees
 
 pub unreachable-requires : goal.unreachable-requires
@@ -15,4 +16,5 @@ unreachable-requires c =
 
 pub returns-in-Ok : goal.returns-in-Ok
 returns-in-Ok c =
-    built c.args.version c.profile_texts_agree.ensures.one c.profile_texts_agree.ensures.two _ _ _ c.text.ensures c.in-Ok.ensures
+    subst (IsBuiltin c.args.version) (sym c.of.ensures)
+    (built c.args.version c.profile_texts_agree.ensures.one c.profile_texts_agree.ensures.two _ _ _ c.text.ensures c.in-Ok.ensures)

@@ -1,0 +1,2 @@
+-- Internal: what ties the functions of a comparison together.
+pub mod Same

@@ -1,0 +1,62 @@
+//! Which modules are the profile's.
+
+ghost use Rattle.std.specs.Prelude.{◌≡◌, option_map};
+ghost use Rattle.profile_defs.specs.Profile.{profile_types};
+ghost use Rattle.profile_defs.specs.Agreement.{Agrees, differs};
+ghost use Rattle.profile_module.specs.Profiles.{AgreesSo};
+ghost use Rattle.profile_module.specs.declared.agreement.AgreeError.TheVariants.{Memory};
+
+use crate::built_in::{Profile, builtin};
+use crate::names::type_names;
+use crate::types::{first_new, first_other};
+use asn1_module::Module;
+use gnb_types::octets;
+use gnb_types::octets::Octets;
+use profile::Version;
+use std::alloc::Global;
+
+/// Why a module isn't the profile's.
+#[derive(Debug, Drop)]
+pub enum AgreeError {
+    /// The first type of the profile, by the order of names octet by octet, that the module lacks or has otherwise; or else the
+    /// module's first further type.
+    Differs { name: Octets },
+    /// Out of memory.
+    Memory,
+}
+
+impl From<octets::Memory> for AgreeError {
+    ghost from_gives = { λ _ error. error ≡ Memory };
+
+    fn from(_error: octets::Memory) -> AgreeError {
+        AgreeError::Memory
+    }
+}
+
+/// The first name by which a module differs from the profile.
+fn differing<'a>(profile: &Module, module: &'a Module) -> Option<&'a [u8]>
+    requires { Agrees (profile_types 1) profile.now }
+    ensures { option_map (λ name. name.now) result ≡ differs (profile_types 1) module.now }
+{
+    // By the contract of its name, a module was read.
+    let _ = module.name();
+    let names = type_names();
+    match first_other(names, profile, module) {
+        Some(name) => Some(name),
+        None => first_new(names, module),
+    }
+}
+
+/// The profile, version 1, of a module that has its types and no further ones.
+pub fn agrees(alloc: Global, read: Module) -> Result<Profile, AgreeError>
+    ensures { AgreesSo read result }
+{
+    let profile = builtin(alloc)?;
+    let own = profile.module();
+    if let Some(name) = differing(own, &read) {
+        return Err(AgreeError::Differs {
+            name: Octets::from_slice(alloc, name)?,
+        });
+    }
+    Ok(Profile::of(read, Version::One))
+}
