@@ -4,8 +4,6 @@
 mod lengths;
 mod numbers;
 mod steps;
-#[cfg(test)]
-mod tests;
 
 pub use lengths::{ask_count, ask_index};
 pub use numbers::{ask_extension, ask_integer, ask_number};

@@ -7,11 +7,10 @@ mod lengths;
 mod numbers;
 mod questions;
 mod rows;
-#[cfg(test)]
-mod tests;
 
 pub use cursor::Cursor;
 pub use error::Unanswered;
 pub use lengths::Extent;
 pub use numbers::{bits_for, octets_for, signed_number};
 pub use questions::{Question, Range, Role, RunUnit};
+pub use rows::{find_row, mandatory_count};

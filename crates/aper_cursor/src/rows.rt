@@ -41,7 +41,7 @@ pub fn find_row(rows: &[IeRow], id: u64) -> Option<usize>
 }
 
 /// How many of these are mandatory.
-fn mandatory_count(rows: &[IeRow]) -> u64
+pub fn mandatory_count(rows: &[IeRow]) -> u64
     ensures { result ≡ mandatory_count (slots_of rows.now) }
 {
     let mut count = 0;

@@ -2,8 +2,6 @@
 #![tactic(auto)]
 
 mod strings;
-#[cfg(test)]
-mod tests;
 mod units;
 
 pub use strings::ask_string;

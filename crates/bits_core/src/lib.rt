@@ -4,6 +4,4 @@
 pub mod laws;
 pub mod low;
 pub mod reader;
-#[cfg(test)]
-mod tests;
 pub mod writer;

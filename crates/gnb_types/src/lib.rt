@@ -11,5 +11,3 @@ pub mod octets;
 pub mod outputs;
 pub mod plans;
 pub mod reasons;
-#[cfg(test)]
-mod tests;

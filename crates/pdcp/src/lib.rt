@@ -7,6 +7,3 @@ pub mod pdu;
 
 pub use counts::near;
 pub use pdu::{PACKET_LIMIT, Pdu, PduError, read_pdu, write_pdu, write_report};
-
-#[cfg(test)]
-mod tests;

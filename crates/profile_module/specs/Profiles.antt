@@ -31,7 +31,7 @@ pub record IsBuiltin (version : Version) (profile : ProfileAt) : Type 0 where
   pub count : length (type_ids profile.syntax.assignments) ≡ 53
 
 -- A module agrees, and is version 1 of the profile; or this is the first name by which it differs. Out of memory is free.
-abbrev pub AgreesSo : Syntax → Result ProfileAt AgreeError → Type 0
-AgreesSo m (Ok profile) = (profile ≡ record { syntax = m; version = One }) × Agrees (profile_types 1) m
-AgreesSo m (Err (Differs name)) = differs (profile_types 1) m ≡ Some name
-AgreesSo m (Err Memory) = Unit {0}
+abbrev pub IsAgreementOf : Syntax → Result ProfileAt AgreeError → Type 0
+IsAgreementOf m (Ok profile) = (profile ≡ record { syntax = m; version = One }) × Agrees (profile_types 1) m
+IsAgreementOf m (Err (Differs name)) = differs (profile_types 1) m ≡ Some name
+IsAgreementOf m (Err Memory) = Unit {0}

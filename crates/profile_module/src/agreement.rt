@@ -3,7 +3,7 @@
 ghost use Rattle.std.specs.Prelude.{◌≡◌, option_map};
 ghost use Rattle.profile_defs.specs.Profile.{profile_types};
 ghost use Rattle.profile_defs.specs.Agreement.{Agrees, differs};
-ghost use Rattle.profile_module.specs.Profiles.{AgreesSo};
+ghost use Rattle.profile_module.specs.Profiles.{IsAgreementOf};
 ghost use Rattle.profile_module.specs.declared.agreement.AgreeError.TheVariants.{Memory};
 
 use crate::built_in::{Profile, builtin};
@@ -49,7 +49,7 @@ fn differing<'a>(profile: &Module, module: &'a Module) -> Option<&'a [u8]>
 
 /// The profile, version 1, of a module that has its types and no further ones.
 pub fn agrees(alloc: Global, read: Module) -> Result<Profile, AgreeError>
-    ensures { AgreesSo read result }
+    ensures { IsAgreementOf read result }
 {
     let profile = builtin(alloc)?;
     let own = profile.module();

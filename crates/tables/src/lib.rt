@@ -4,5 +4,3 @@
 pub mod queue;
 pub mod shelf;
 pub mod table;
-#[cfg(test)]
-mod tests;

@@ -7,3 +7,5 @@ mod frames;
 mod gtpu_packets;
 #[cfg(test)]
 mod links;
+#[cfg(test)]
+mod pdus;

@@ -1,14 +1,14 @@
 //! Vectors from outside, and each public call once.
 
-use crate::bits::Bits;
-use crate::hex::{HexError, hex_bytes, hex_text};
-use crate::inputs::{Input, Order};
-use crate::items::Items;
-use crate::names::{BearerId, Dir, Gnb, NodeId, SnBits, UeId};
-use crate::octets::{Memory, Octets};
-use crate::outputs::{Output, Outputs, Tag};
-use crate::plans::{Peer, Plan, SnStatus, StatusList, Tunnel, TunnelList};
-use crate::reasons::{CauseName, DropReason, HeldReason, RefuseReason};
+use gnb_types::bits::Bits;
+use gnb_types::hex::{HexError, hex_bytes, hex_text};
+use gnb_types::inputs::{Input, Order};
+use gnb_types::items::Items;
+use gnb_types::names::{BearerId, Dir, Gnb, NodeId, SnBits, UeId};
+use gnb_types::octets::{Memory, Octets};
+use gnb_types::outputs::{Output, Outputs, Tag};
+use gnb_types::plans::{Peer, Plan, SnStatus, StatusList, Tunnel, TunnelList};
+use gnb_types::reasons::{CauseName, DropReason, HeldReason, RefuseReason};
 use std::alloc::Global;
 use std::test::Fail;
 

@@ -3,9 +3,7 @@
 ghost use Rattle.std.specs.Prelude.{◌<◌, ◌≤◌, length, IsTrue};
 ghost use Rattle.aper_cursor.specs.Questions.{IsAskable};
 
-use crate::cursor::Cursor;
-use crate::lengths::Extent;
-use crate::questions::{Question, Range, Role};
+use aper_cursor::{Cursor, Extent, Question, Range, Role};
 use aper_defs::Reason;
 use asn1_assignments::{Criticality, IeRow, Presence};
 use asn1_types::{Size, TypeId};

@@ -1,7 +1,7 @@
 //! Bits of examples of ITU-T X.691, annex A.2, and each public call once.
 
-use crate::reader::{BitError, BitReader};
-use crate::writer::BitWriter;
+use bits_core::reader::{BitError, BitReader};
+use bits_core::writer::BitWriter;
 use std::alloc::Global;
 use std::process::Abort;
 use std::test::Fail;

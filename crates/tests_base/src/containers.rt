@@ -1,10 +1,10 @@
 //! Each public call once, at keys and values with heap inside.
 
-use crate::queue::Queue;
-use crate::shelf::Shelf;
-use crate::table::Table;
 use gnb_types::octets::Octets;
 use std::test::Fail;
+use tables::queue::Queue;
+use tables::shelf::Shelf;
+use tables::table::Table;
 
 #[test]
 fn a_table_from_end_to_end(rt: HostRuntime) -> Result<(), Fail> {

@@ -2,8 +2,7 @@
 
 ghost use Rattle.std.specs.Prelude.{◌<◌, length};
 
-use crate::lengths::{ask_count, ask_index};
-use crate::numbers::{ask_integer, ask_number};
+use aper_asking::{ask_count, ask_index, ask_integer, ask_number};
 use aper_cursor::{Cursor, Range, Role};
 use aper_defs::Reason;
 use asn1_types::Size;

@@ -3,10 +3,9 @@
 ghost use Rattle.std.specs.Prelude.{◌<◌, length};
 ghost use Rattle.aper_defs.specs.Bounds.{IsSizeBounded};
 
-use crate::strings::ask_string;
-use crate::units::Content;
 use aper_cursor::{Cursor, Unanswered};
 use aper_defs::Reason;
+use aper_strings::{Content, ask_string};
 use asn1_types::Size;
 use gnb_types::octets::Octets;
 use std::alloc::Global;

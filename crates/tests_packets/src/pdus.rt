@@ -1,9 +1,9 @@
 //! Octets of packets on the links of a worked network, and refusals written by hand.
 
-use crate::{PACKET_LIMIT, Pdu, PduError, near, read_pdu, write_pdu, write_report};
 use gnb_types::bits::Bits;
 use gnb_types::hex::hex_bytes;
 use gnb_types::names::SnBits;
+use pdcp::{PACKET_LIMIT, Pdu, PduError, near, read_pdu, write_pdu, write_report};
 use std::test::Fail;
 
 #[derive(Drop)]

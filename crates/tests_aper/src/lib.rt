@@ -1,0 +1,9 @@
+//! Tests of aligned PER as it is asked at a place, by public calls alone.
+#![tactic(auto)]
+
+#[cfg(test)]
+mod asked;
+#[cfg(test)]
+mod cursors;
+#[cfg(test)]
+mod strings;

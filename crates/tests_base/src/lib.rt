@@ -1,0 +1,9 @@
+//! Tests of the plain types, of the containers, and of bits, by public calls alone.
+#![tactic(auto)]
+
+#[cfg(test)]
+mod bits;
+#[cfg(test)]
+mod containers;
+#[cfg(test)]
+mod types;
