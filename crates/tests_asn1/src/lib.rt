@@ -6,8 +6,6 @@ mod assignments;
 #[cfg(test)]
 mod module;
 #[cfg(test)]
-mod profile;
-#[cfg(test)]
 mod tokens;
 #[cfg(test)]
 mod types;

@@ -1,7 +1,7 @@
 //! Texts that are modules, and texts that are none with their first faults.
 
-use crate::profile::PROFILE;
 use asn1_module::*;
+use profile::PROFILE_TEXT;
 use std::alloc::{AllocError, Global};
 use std::test::Fail;
 
@@ -344,8 +344,11 @@ fn full_lists_take_no_more(rt: HostRuntime) -> Result<(), Fail> {
 
 #[test]
 fn profile_is_read_whole(rt: HostRuntime) -> Result<(), Fail> {
-    let (module, octets) = read_module(rt.alloc(), PROFILE).ok().ok_or("a module")?;
-    assert_eq!(rt; octets, PROFILE.len());
+    let (module, octets) = read_module(rt.alloc(), PROFILE_TEXT)
+        .ok()
+        .ok_or("a module")?;
+    // the text ends with a line's end
+    assert_eq!(rt; octets.checked_add(1), Some(PROFILE_TEXT.len()));
     assert_eq!(rt; module.name(), b"SplitGNB".as_slice());
     assert_eq!(rt; module.len(), 53);
     assert_eq!(rt; module.type_name(module.at(0)), b"UE".as_slice());

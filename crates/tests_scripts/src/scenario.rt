@@ -8,6 +8,7 @@ use scenario_text::line::{Item, Link, Message, OutLine};
 use scenario_text::print::print_line;
 use scenario_text::read::{TextError, is_skipped, read_event, read_header};
 use std::alloc::Global;
+use std::process::Abort;
 use std::test::Fail;
 
 /// Plans: lines with a wrong word, and the reason of the first.
@@ -158,44 +159,37 @@ const OTHERS: [(&str, TextReason); 27] = [
     ("; a remark", TextReason::Word),
 ];
 
-#[test]
-fn wrong_plans(rt: HostRuntime) {
-    for (line, reason) in PLANS {
-        let read = read_event(rt.alloc(), line.as_bytes());
+/// Each of these lines is refused for its reason.
+fn are_refused(rt: &impl Abort, alloc: Global, lines: &[(&str, TextReason)]) {
+    for &(line, reason) in lines {
+        let read = read_event(alloc, line.as_bytes());
         assert!(rt; read == Err(TextError::Refused(reason)), "{line}");
     }
+}
+
+#[test]
+fn wrong_plans(rt: HostRuntime) {
+    are_refused(&rt, rt.alloc(), &PLANS);
 }
 
 #[test]
 fn wrong_radios(rt: HostRuntime) {
-    for (line, reason) in RADIOS {
-        let read = read_event(rt.alloc(), line.as_bytes());
-        assert!(rt; read == Err(TextError::Refused(reason)), "{line}");
-    }
+    are_refused(&rt, rt.alloc(), &RADIOS);
 }
 
 #[test]
 fn wrong_links(rt: HostRuntime) {
-    for (line, reason) in LINKS {
-        let read = read_event(rt.alloc(), line.as_bytes());
-        assert!(rt; read == Err(TextError::Refused(reason)), "{line}");
-    }
+    are_refused(&rt, rt.alloc(), &LINKS);
 }
 
 #[test]
 fn wrong_terminals(rt: HostRuntime) {
-    for (line, reason) in UES {
-        let read = read_event(rt.alloc(), line.as_bytes());
-        assert!(rt; read == Err(TextError::Refused(reason)), "{line}");
-    }
+    are_refused(&rt, rt.alloc(), &UES);
 }
 
 #[test]
 fn wrong_others(rt: HostRuntime) {
-    for (line, reason) in OTHERS {
-        let read = read_event(rt.alloc(), line.as_bytes());
-        assert!(rt; read == Err(TextError::Refused(reason)), "{line}");
-    }
+    are_refused(&rt, rt.alloc(), &OTHERS);
 }
 
 /// Header lines, and the reason of one that isn't.
@@ -232,14 +226,19 @@ const FIRST_EVENTS: [(&str, &str); 11] = [
     ("inject A.du1 A.cp 0aF0", "> inject A.du1 A.cp 0AF0"),
 ];
 
-#[test]
-fn first_events(rt: HostRuntime) -> Result<(), Fail> {
-    for (line, text) in FIRST_EVENTS {
-        let event = read_event(rt.alloc(), line.as_bytes())?;
-        let shown = print_line(rt.alloc(), &OutLine::Happens { event })?;
+/// Each of these lines is read, and its event has its text.
+fn are_shown(rt: &impl Abort, alloc: Global, lines: &[(&str, &str)]) -> Result<(), Fail> {
+    for &(line, text) in lines {
+        let event = read_event(alloc, line.as_bytes())?;
+        let shown = print_line(alloc, &OutLine::Happens { event })?;
         assert!(rt; shown.as_slice() == text.as_bytes(), "{line}");
     }
     Ok(())
+}
+
+#[test]
+fn first_events(rt: HostRuntime) -> Result<(), Fail> {
+    are_shown(&rt, rt.alloc(), &FIRST_EVENTS)
 }
 
 /// Events that are read, and how their line shows them again.
@@ -259,12 +258,7 @@ const SECOND_EVENTS: [(&str, &str); 11] = [
 
 #[test]
 fn second_events(rt: HostRuntime) -> Result<(), Fail> {
-    for (line, text) in SECOND_EVENTS {
-        let event = read_event(rt.alloc(), line.as_bytes())?;
-        let shown = print_line(rt.alloc(), &OutLine::Happens { event })?;
-        assert!(rt; shown.as_slice() == text.as_bytes(), "{line}");
-    }
-    Ok(())
+    are_shown(&rt, rt.alloc(), &SECOND_EVENTS)
 }
 
 /// Events that are read, and how their line shows them again.
@@ -283,12 +277,7 @@ const THIRD_EVENTS: [(&str, &str); 10] = [
 
 #[test]
 fn third_events(rt: HostRuntime) -> Result<(), Fail> {
-    for (line, text) in THIRD_EVENTS {
-        let event = read_event(rt.alloc(), line.as_bytes())?;
-        let shown = print_line(rt.alloc(), &OutLine::Happens { event })?;
-        assert!(rt; shown.as_slice() == text.as_bytes(), "{line}");
-    }
-    Ok(())
+    are_shown(&rt, rt.alloc(), &THIRD_EVENTS)
 }
 
 fn shows(rt: &HostRuntime, line: &OutLine, text: &str) -> Result<bool, Fail> {
@@ -300,6 +289,8 @@ const UP: Link = Link::Tunnel {
     end: NodeId::CuUp(Gnb::A, 1),
     teid: 1,
 };
+
+const CP: NodeId = NodeId::CuCp(Gnb::A);
 
 const RADIO: Link = Link::Radio {
     ue: UeId(1),
@@ -383,106 +374,94 @@ fn messages(rt: HostRuntime) -> Result<(), Fail> {
     Ok(())
 }
 
-/// A line of each other kind.
+/// Lines of each other kind, and their texts.
+const OTHER_LINES: [(OutLine, &str); 14] = [
+    (
+        OutLine::Lost {
+            link: RADIO,
+            items: 2,
+        },
+        "lost r/u1/b1/dl/1 2",
+    ),
+    (OutLine::Lost { link: UP, items: 1 }, "lost A.up1/1 1"),
+    (
+        OutLine::Drop {
+            node: CP,
+            reason: DropReason::Criticality,
+        },
+        "drop A.cp Criticality",
+    ),
+    (
+        OutLine::Drop {
+            node: NodeId::Ue(1),
+            reason: DropReason::Duplicate,
+        },
+        "drop u1 Duplicate",
+    ),
+    (
+        OutLine::Held {
+            link: UP,
+            reason: HeldReason::Early,
+        },
+        "held A.up1/1 Early",
+    ),
+    (
+        OutLine::Failed {
+            node: CP,
+            ue: UeId(1),
+            cause: CauseName::Timeout,
+        },
+        "failed A.cp u1 timeout",
+    ),
+    (
+        OutLine::Quiet {
+            ue: UeId(1),
+            bearer: BearerId(1),
+            downlink: 1,
+            uplink: 0,
+        },
+        "quiet u1 b1 1 0",
+    ),
+    (
+        OutLine::Busy {
+            ue: UeId(1),
+            bearer: BearerId(1),
+        },
+        "busy u1 b1",
+    ),
+    (OutLine::Settled { rounds: 2 }, "settled 2"),
+    (OutLine::Unsettled { rounds: 100 }, "unsettled 100"),
+    (
+        OutLine::Refused {
+            reason: RefuseReason::NotAllowed,
+        },
+        "refused NotAllowed",
+    ),
+    (
+        OutLine::Outstanding {
+            ue: UeId(1),
+            bearer: BearerId(1),
+            dir: Dir::Ul,
+            span: 2049,
+            window: 2048,
+        },
+        "outstanding u1 b1 ul 2049 2048",
+    ),
+    (OutLine::End { events: 5 }, "end 5"),
+    (
+        OutLine::Stop {
+            code: 4,
+            place: 1,
+            reason: 1,
+        },
+        "stop 4 1 1",
+    ),
+];
+
 #[test]
 fn other_lines(rt: HostRuntime) -> Result<(), Fail> {
-    let (ue, bearer, dir) = (UeId(1), BearerId(1), Dir::Ul);
-    let cp = NodeId::CuCp(Gnb::A);
-    assert!(rt;
-        shows(
-            &rt,
-            &OutLine::Lost {
-                link: RADIO,
-                items: 2,
-            },
-            "lost r/u1/b1/dl/1 2",
-        )?
-    );
-    assert!(rt; shows(&rt, &OutLine::Lost { link: UP, items: 1 }, "lost A.up1/1 1")?);
-    assert!(rt;
-        shows(
-            &rt,
-            &OutLine::Drop {
-                node: cp,
-                reason: DropReason::Criticality,
-            },
-            "drop A.cp Criticality",
-        )?
-    );
-    assert!(rt;
-        shows(
-            &rt,
-            &OutLine::Drop {
-                node: NodeId::Ue(1),
-                reason: DropReason::Duplicate,
-            },
-            "drop u1 Duplicate",
-        )?
-    );
-    assert!(rt;
-        shows(
-            &rt,
-            &OutLine::Held {
-                link: UP,
-                reason: HeldReason::Early,
-            },
-            "held A.up1/1 Early",
-        )?
-    );
-    assert!(rt;
-        shows(
-            &rt,
-            &OutLine::Failed {
-                node: cp,
-                ue,
-                cause: CauseName::Timeout,
-            },
-            "failed A.cp u1 timeout",
-        )?
-    );
-    assert!(rt;
-        shows(
-            &rt,
-            &OutLine::Quiet {
-                ue,
-                bearer,
-                downlink: 1,
-                uplink: 0,
-            },
-            "quiet u1 b1 1 0",
-        )?
-    );
-    assert!(rt; shows(&rt, &OutLine::Busy { ue, bearer }, "busy u1 b1")?);
-    assert!(rt; shows(&rt, &OutLine::Settled { rounds: 2 }, "settled 2")?);
-    assert!(rt; shows(&rt, &OutLine::Unsettled { rounds: 100 }, "unsettled 100")?);
-    assert!(rt;
-        shows(
-            &rt,
-            &OutLine::Refused {
-                reason: RefuseReason::NotAllowed,
-            },
-            "refused NotAllowed",
-        )?
-    );
-    let outstanding = OutLine::Outstanding {
-        ue,
-        bearer,
-        dir,
-        span: 2049,
-        window: 2048,
-    };
-    assert!(rt; shows(&rt, &outstanding, "outstanding u1 b1 ul 2049 2048")?);
-    assert!(rt; shows(&rt, &OutLine::End { events: 5 }, "end 5")?);
-    assert!(rt;
-        shows(
-            &rt,
-            &OutLine::Stop {
-                code: 4,
-                place: 1,
-                reason: 1,
-            },
-            "stop 4 1 1",
-        )?
-    );
+    for (line, text) in &OTHER_LINES {
+        assert!(rt; shows(&rt, line, text)?, "{text}");
+    }
     Ok(())
 }
