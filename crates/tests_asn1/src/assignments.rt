@@ -11,48 +11,64 @@ S PROTOCOL-IES ::= {{ID 7 CRITICALITY notify TYPE A PRESENCE optional} |\n\
 P ELEMENTARY-PROCEDURE ::= {{INITIATING MESSAGE A UNSUCCESSFUL OUTCOME B PROCEDURE CODE 255 CRITICALITY reject}, ...}\n\
 END and no more";
 
+/// The name of each assignment, its place, whether it is a type's, and how many types stand before its end.
+const ASSIGNMENTS: [(&[u8], usize, bool, usize); 3] = [
+    (b"A", 39, true, 2),
+    (b"S", 65, false, 4),
+    (b"P", 202, false, 6),
+];
+
+/// The first row of the set `S`.
+const ROW: IeRow = IeRow {
+    id: 7,
+    criticality: Criticality::Notify,
+    definition: TypeId { number: 2 },
+    presence: Presence::Optional,
+};
+
+/// The procedure of the set `P`.
+const PROCEDURE: ProcedureRow = ProcedureRow {
+    initiating: TypeId { number: 4 },
+    successful: None,
+    unsuccessful: Some(TypeId { number: 5 }),
+    code: 255,
+    criticality: Criticality::Reject,
+};
+
+fn is_placed(assignment: &Assignment, expected: &(&[u8], usize, bool, usize)) -> bool {
+    let (name, place, is_type, end) = expected;
+    assignment.name.as_slice() == *name
+        && assignment.place == *place
+        && assignment.is_type() == *is_type
+        && assignment.end == *end
+}
+
+fn first_row(assignment: &Assignment) -> Option<&IeRow> {
+    match &assignment.body {
+        Body::IeSet(rows) => rows.as_slice().first(),
+        _ => None,
+    }
+}
+
+fn first_procedure(assignment: &Assignment) -> Option<&ProcedureRow> {
+    match &assignment.body {
+        Body::ProcedureSet(rows) => rows.as_slice().first(),
+        _ => None,
+    }
+}
+
 #[test]
 fn assignments_of_each_kind(rt: HostRuntime) -> Result<(), Fail> {
     let syntax = read_syntax(rt.alloc(), TEXT).ok().ok_or("a module")?;
-    assert_eq!(rt; syntax.name.as_slice(), b"M".as_slice());
-    assert_eq!(rt; syntax.end, 323);
-    assert_eq!(rt; syntax.nodes.len(), 6);
+    assert!(rt;
+        syntax.name.as_slice() == b"M".as_slice() && syntax.end == 323 && syntax.nodes.len() == 6
+    );
     let assignments = syntax.assignments.as_slice();
     assert_eq!(rt; assignments.len(), 3);
-    // the name, its place, whether it is a type's, and how many types stand before its end
-    let table = [
-        (b"A", 39, true, 2),
-        (b"S", 65, false, 4),
-        (b"P", 202, false, 6),
-    ];
-    for (assignment, (name, place, is_type, end)) in assignments.iter().zip(&table) {
-        assert_eq!(rt; assignment.name.as_slice(), name.as_slice());
-        assert_eq!(rt; assignment.place, *place);
-        assert_eq!(rt; assignment.is_type(), *is_type);
-        assert_eq!(rt; assignment.end, *end);
+    for (assignment, expected) in assignments.iter().zip(&ASSIGNMENTS) {
+        assert!(rt; is_placed(assignment, expected));
     }
-    let rows = match &assignments[1].body {
-        Body::IeSet(rows) => Some(rows.as_slice()),
-        _ => None,
-    };
-    let row = IeRow {
-        id: 7,
-        criticality: Criticality::Notify,
-        definition: TypeId { number: 2 },
-        presence: Presence::Optional,
-    };
-    assert!(rt; rows.ok_or("a set")?.first() == Some(&row));
-    let procedures = match &assignments[2].body {
-        Body::ProcedureSet(rows) => Some(rows.as_slice()),
-        _ => None,
-    };
-    let procedure = ProcedureRow {
-        initiating: TypeId { number: 4 },
-        successful: None,
-        unsuccessful: Some(TypeId { number: 5 }),
-        code: 255,
-        criticality: Criticality::Reject,
-    };
-    assert!(rt; procedures.ok_or("a set")?.first() == Some(&procedure));
+    assert!(rt; first_row(&assignments[1]) == Some(&ROW));
+    assert!(rt; first_procedure(&assignments[2]) == Some(&PROCEDURE));
     Ok(())
 }

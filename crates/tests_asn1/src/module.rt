@@ -342,22 +342,27 @@ fn full_lists_take_no_more(rt: HostRuntime) -> Result<(), Fail> {
     Ok(())
 }
 
+/// The module of the profile, with its types by name, and two of its sets.
+fn is_the_profile(module: &Module) -> bool {
+    let elements = module.ie_rows(b"HandoverRequestIEs");
+    let procedures = module.procedure_rows(b"XnProcedures");
+    module.name() == b"SplitGNB".as_slice()
+        && module.len() == 53
+        && module.type_name(module.at(0)) == b"UE".as_slice()
+        && module.find(b"UE") == Some(module.at(0))
+        && module.find(b"UEs").is_none()
+        && module.find(b"U").is_none()
+        && elements.is_some_and(|rows| rows.len() == 8)
+        && procedures.is_some_and(|rows| rows.len() == 5)
+}
+
 #[test]
 fn profile_is_read_whole(rt: HostRuntime) -> Result<(), Fail> {
     let (module, octets) = read_module(rt.alloc(), PROFILE_TEXT)
         .ok()
         .ok_or("a module")?;
-    // the text ends with a line's end
+    // The text ends with a line's end.
     assert_eq!(rt; octets.checked_add(1), Some(PROFILE_TEXT.len()));
-    assert_eq!(rt; module.name(), b"SplitGNB".as_slice());
-    assert_eq!(rt; module.len(), 53);
-    assert_eq!(rt; module.type_name(module.at(0)), b"UE".as_slice());
-    assert_eq!(rt; module.find(b"UE"), Some(module.at(0)));
-    assert_eq!(rt; module.find(b"UEs"), None);
-    assert!(rt; module.find(b"U").is_none());
-    let rows = module.ie_rows(b"HandoverRequestIEs").ok_or("a set")?;
-    assert_eq!(rt; rows.len(), 8);
-    let procedures = module.procedure_rows(b"XnProcedures").ok_or("a set")?;
-    assert_eq!(rt; procedures.len(), 5);
+    assert!(rt; is_the_profile(&module));
     Ok(())
 }

@@ -2,6 +2,8 @@
 
 use asn1_tokens::{Sign, Word};
 use asn1_types::*;
+use gnb_types::octets::Octets;
+use std::alloc::Global;
 use std::test::Fail;
 
 /// A type, with how many types stand inside it.
@@ -39,31 +41,46 @@ fn types_are_read_whole(rt: HostRuntime) -> Result<(), Fail> {
     Ok(())
 }
 
+/// Two names, two numbers and a comma.
+fn are_words(reader: &mut Reader) -> Result<bool, ReadError> {
+    let upper = reader.upper()?;
+    let lower = reader.lower()?;
+    let are_numbers = reader.number()? == 7 && reader.natural(0, 8)? == 8;
+    reader.sign(Sign::Comma)?;
+    Ok(
+        are_numbers
+            && upper.as_slice() == b"Upper".as_slice()
+            && lower.as_slice() == b"lower".as_slice(),
+    )
+}
+
+/// Names of which the second is `b`, and which take one more past them.
+fn are_names(alloc: Global, reader: &mut Reader) -> Result<bool, ReadError> {
+    let mut names = reader.names(2)?;
+    let are_two = has_name(b"b", names.root.as_slice()) && names.can_extend(2);
+    names.extend(alloc);
+    names.put(Octets::one(alloc, b'c')?)?;
+    Ok(are_two && !names.is_full())
+}
+
+/// The word `END` up to this place, and nothing that is a token.
+fn is_end(reader: &mut Reader, place: usize) -> Result<bool, ReadError> {
+    let is_placed = reader.first_word() == Some(Word::End) && reader.end() == place;
+    reader.word(Word::End)?;
+    let fault = ReadError::Fault(Fault {
+        place: 28,
+        reason: ModuleReason::Token,
+    });
+    Ok(is_placed && reader.unexpected() == fault)
+}
+
 #[test]
 fn items_are_taken(rt: HostRuntime) -> Result<(), Fail> {
     let mut reader = Reader::new(rt.alloc(), b"Upper lower 7 8 , a, b} END $")
         .ok()
         .ok_or("memory")?;
-    let upper = reader.upper().ok().ok_or("a name")?;
-    assert_eq!(rt; upper.as_slice(), b"Upper".as_slice());
-    let lower = reader.lower().ok().ok_or("a name")?;
-    assert_eq!(rt; lower.as_slice(), b"lower".as_slice());
-    assert!(rt; reader.number() == Ok(7));
-    assert!(rt; reader.natural(0, 8) == Ok(8));
-    assert!(rt; reader.sign(Sign::Comma).is_ok());
-    let mut names = reader.names(2).ok().ok_or("names")?;
-    assert!(rt; has_name(b"b", names.root.as_slice()));
-    assert!(rt; names.can_extend(2));
-    names.extend(rt.alloc());
-    assert!(rt; names.put(upper).is_ok());
-    assert!(rt; !names.is_full());
-    assert!(rt; reader.first_word() == Some(Word::End));
-    assert_eq!(rt; reader.end(), 27);
-    assert!(rt; reader.word(Word::End).is_ok());
-    let fault = ReadError::Fault(Fault {
-        place: 28,
-        reason: ModuleReason::Token,
-    });
-    assert!(rt; reader.unexpected() == fault);
+    assert!(rt; are_words(&mut reader) == Ok(true));
+    assert!(rt; are_names(rt.alloc(), &mut reader) == Ok(true));
+    assert!(rt; is_end(&mut reader, 27) == Ok(true));
     Ok(())
 }
