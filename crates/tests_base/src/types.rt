@@ -39,45 +39,70 @@ fn hexadecimal_text(rt: HostRuntime) -> Result<(), Fail> {
     Ok(())
 }
 
-#[test]
-fn a_list_from_end_to_end(rt: HostRuntime) -> Result<(), Fail> {
-    let alloc = rt.alloc();
+/// The octets 1 to 4.
+fn four(alloc: Global) -> Result<Octets, Memory> {
     let mut octets = Octets::new(alloc);
-    assert!(rt; octets.is_empty());
     octets.push(1)?;
     octets.append(&[2, 3])?;
     octets.extend(Octets::one(alloc, 4)?)?;
-    assert_eq!(rt; octets.as_slice(), [1, 2, 3, 4].as_slice());
-    assert_eq!(rt; octets.len(), 4);
-    assert_eq!(rt; octets.get(3), Some(&4));
-    assert_eq!(rt; octets.get(4), None);
-    assert!(rt; octets == Octets::from_slice(alloc, &[1, 2, 3, 4])?);
-    assert!(rt; octets != Octets::from_vec(vec![in alloc; 1, 2, 3]?));
-    let copy = octets.clone()?;
-    let mut shown = Octets::new(alloc);
+    Ok(octets)
+}
+
+/// Whether these are the octets 1 to 4, by each call that looks at them.
+fn is_four(octets: &Octets) -> bool {
+    octets.as_slice() == [1, 2, 3, 4].as_slice()
+        && octets.len() == 4
+        && !octets.is_empty()
+        && octets.get(3) == Some(&4)
+        && octets.get(4).is_none()
+}
+
+#[test]
+fn a_list_is_filled(rt: HostRuntime) -> Result<(), Fail> {
+    assert!(rt; Octets::new(rt.alloc()).is_empty());
+    assert!(rt; is_four(&four(rt.alloc())?));
+    Ok(())
+}
+
+#[test]
+fn lists_are_compared(rt: HostRuntime) -> Result<(), Fail> {
+    let octets = four(rt.alloc())?;
+    assert!(rt; octets == Octets::from_slice(rt.alloc(), &[1, 2, 3, 4])?);
+    assert!(rt; octets != Octets::from_vec(vec![in rt.alloc(); 1, 2, 3]?));
+    assert_eq!(rt; octets.into_vec().as_slice(), [1, 2, 3, 4].as_slice());
+    Ok(())
+}
+
+/// A list is copied, walked, and taken apart.
+#[test]
+fn a_list_is_walked(rt: HostRuntime) -> Result<(), Fail> {
+    let copy = four(rt.alloc())?.clone()?;
+    let mut shown = Octets::new(rt.alloc());
     for octet in &copy {
         shown.push(*octet)?;
     }
-    assert!(rt; shown == octets);
+    assert!(rt; shown == copy);
     let mut sum: u32 = 0;
     for octet in copy {
         sum = sum.wrapping_add(u32::from(octet));
     }
     assert_eq!(rt; sum, 10);
-    assert_eq!(rt; octets.into_vec().as_slice(), [1, 2, 3, 4].as_slice());
-    assert_eq!(rt;
-        format!(in alloc; "{:?}", Bits::one(alloc, true)?)?.as_str(),
-        "Items { items: [true] }"
-    );
     Ok(())
 }
 
-/// How each word of a transcript reads.
 #[test]
-fn printed_words(rt: HostRuntime) -> Result<(), Fail> {
-    let alloc = rt.alloc();
+fn a_list_is_shown(rt: HostRuntime) -> Result<(), Fail> {
+    let bits = Bits::one(rt.alloc(), true)?;
+    let shown = format!(in rt.alloc(); "{bits:?}")?;
+    assert_eq!(rt; shown.as_str(), "Items { items: [true] }");
+    Ok(())
+}
+
+/// How names of a transcript read.
+#[test]
+fn printed_names(rt: HostRuntime) -> Result<(), Fail> {
     let gnb = Gnb::B;
-    let names = format!(in alloc;
+    let names = format!(in rt.alloc();
         "{} {} {} {} {} {} {} {} {} {}",
         Gnb::A,
         UeId(16),
@@ -91,7 +116,13 @@ fn printed_words(rt: HostRuntime) -> Result<(), Fail> {
         Dir::Ul,
     )?;
     assert_eq!(rt; names.as_str(), "A u16 b8 B.cp B.up1 B.du2 core u1 dl ul");
-    let reasons = format!(in alloc;
+    Ok(())
+}
+
+/// How reasons of a transcript read.
+#[test]
+fn printed_reasons(rt: HostRuntime) -> Result<(), Fail> {
+    let reasons = format!(in rt.alloc();
         "{} {} {} {} {} {} {} {}",
         DropReason::Undecodable,
         DropReason::NoContext,
@@ -109,50 +140,66 @@ fn printed_words(rt: HostRuntime) -> Result<(), Fail> {
     Ok(())
 }
 
-/// What units take and give is copied, compared and told apart.
+const PLAN: Plan = Plan {
+    ue: UeId(1),
+    gnb: Gnb::A,
+    up: 1,
+    du: 2,
+    sn: SnBits::Len12,
+    bearers: 1,
+    quota: 64,
+};
+
+/// What units take is copied, compared and told apart.
 #[test]
-fn inputs_and_outputs(rt: HostRuntime) -> Result<(), Fail> {
-    let alloc = rt.alloc();
-    let plan = Plan {
-        ue: UeId(1),
-        gnb: Gnb::A,
-        up: 1,
-        du: 2,
-        sn: SnBits::Len12,
-        bearers: 1,
-        quota: 64,
-    };
+fn inputs(rt: HostRuntime) -> Result<(), Fail> {
     let input = Input::Packet {
         teid: 1,
-        bytes: Octets::one(alloc, 9)?,
+        bytes: Octets::one(rt.alloc(), 9)?,
     };
     assert!(rt; input.clone()? == input);
-    assert!(rt; Input::Order(Order::Attach(plan)) != Input::Tick);
+    assert!(rt; Input::Order(Order::Attach(PLAN)) != Input::Tick);
+    Ok(())
+}
+
+/// What units give is copied and compared.
+#[test]
+fn outputs(rt: HostRuntime) -> Result<(), Fail> {
     let put = Output::Packet {
         to: NodeId::CuUp(Gnb::A, 1),
         teid: 1,
-        ue: plan.ue,
+        ue: UeId(1),
         bearer: BearerId(1),
         dir: Dir::Dl,
         count: Tag::Own(0),
-        bytes: Octets::one(alloc, 9)?,
+        bytes: Octets::one(rt.alloc(), 9)?,
     };
-    let mut outputs = Outputs::one(alloc, put)?;
+    let mut outputs = Outputs::one(rt.alloc(), put)?;
     outputs.push(Output::Opened(2))?;
     assert!(rt; outputs.clone()? == outputs);
+    Ok(())
+}
+
+#[test]
+fn statuses(rt: HostRuntime) -> Result<(), Fail> {
     let status = SnStatus {
         bearer: BearerId(1),
         dl_next: 5,
         ul_first: 3,
-        ul_received: Some(Bits::one(alloc, true)?),
+        ul_received: Some(Bits::one(rt.alloc(), true)?),
     };
-    let statuses = StatusList::one(alloc, status)?;
+    let statuses = StatusList::one(rt.alloc(), status)?;
     assert!(rt; statuses.clone()? == statuses);
+    Ok(())
+}
+
+#[test]
+fn tunnels_and_peers(rt: HostRuntime) -> Result<(), Fail> {
     let tunnel = Tunnel {
         bearer: BearerId(1),
         teid: 7,
     };
-    let tunnels = TunnelList::from_slice(alloc, &[tunnel])?;
+    let tunnels = TunnelList::from_slice(rt.alloc(), &[tunnel])?;
     assert_eq!(rt; tunnels.get(0), Some(&tunnel));
     assert!(rt; Peer { gnb: Gnb::A, up: 2 } < Peer { gnb: Gnb::B, up: 1 });
     Ok(())

@@ -1,7 +1,8 @@
 //! Octets written out by hand: what they say on their link, and some that no link has.
 
 use gnb_types::bits::Bits;
-use gnb_types::names::SnBits::{Len12, Len18};
+use gnb_types::names::SnBits::{self, Len12, Len18};
+use gnb_types::octets::{Memory, Octets};
 use link_packets::*;
 use nr_user_plane::ranges::Ranges;
 use pdcp::pdu::Pdu;
@@ -29,11 +30,27 @@ const NUMBERED: &[u8] = b"\x34\xFF\x00\x09\x00\x00\x00\x03\x00\x00\x00\xC0\x01\x
 const LONG_NUMBER: &[u8] =
     b"\x34\xFF\x00\x0D\x00\x00\x00\x03\x00\x00\x00\x82\x02\x03\xFF\xFF\x00\x00\x00\x00\x03";
 
+/// On N3 a packet and an End Marker; a sequence number, no packet, and a header of another link are none of its.
 #[test]
-fn octets_of_the_links(rt: HostRuntime) {
-    assert_eq!(rt; read_n3(N3_PACKET), Some(N3::Packet(b"\x45")));
-    assert_eq!(rt; read_n3(END), Some(N3::End));
+fn octets_of_n3(rt: HostRuntime) {
+    let table: [(&[u8], Option<N3>); 5] = [
+        (N3_PACKET, Some(N3::Packet(b"\x45"))),
+        (END, Some(N3::End)),
+        (
+            b"\x32\xFF\x00\x05\x00\x00\x00\x01\x00\x00\x00\x00\x45",
+            None,
+        ),
+        (b"\x30\xFF\x00\x00\x00\x00\x00\x01", None),
+        (NUMBERED, None),
+    ];
+    for (octets, read) in &table {
+        assert!(rt; read_n3(octets) == *read, "{octets:?}");
+    }
+}
 
+/// To a DU a packet and a poll; an End Marker, a status, a poll with a PDU, and a data frame without one are none of its.
+#[test]
+fn octets_to_a_du(rt: HostRuntime) {
     let content = Pdu::Packet {
         sn: 0,
         packet: b"\x01",
@@ -44,159 +61,161 @@ fn octets_of_the_links(rt: HostRuntime) {
         content,
         octets: b"\x80\x00\x01",
     };
-    assert_eq!(rt; read_f1u_downlink(Len12, DATA), Some(data));
-    assert_eq!(rt;
-        read_f1u_downlink(Len12, POLL),
-        Some(F1uDownlink::Poll {
-            restart: false,
-            number: 1
-        })
-    );
+    let poll = F1uDownlink::Poll {
+        restart: false,
+        number: 1,
+    };
+    let table: [(&[u8], Option<F1uDownlink>); 6] = [
+        (DATA, Some(data)),
+        (POLL, Some(poll)),
+        (END, None),
+        (STATUS, None),
+        (
+            b"\x34\xFF\x00\x0F\x00\x00\x00\x01\x00\x00\x00\x84\x02\x01\x00\x00\x00\x01\x00\x00\x80\x00\x01",
+            None,
+        ),
+        (
+            b"\x34\xFF\x00\x0C\x00\x00\x00\x01\x00\x00\x00\x84\x02\x00\x00\x00\x00\x01\x00\x00",
+            None,
+        ),
+    ];
+    for (octets, read) in &table {
+        assert!(rt; read_f1u_downlink(Len12, octets) == *read, "{octets:?}");
+    }
+}
 
-    let content = Pdu::Packet {
-        sn: 0,
-        packet: b"\x45",
+/// From a DU a packet, a report, a status and an End Marker; a frame for the way down, and a status with a payload are none of
+/// its.
+#[test]
+fn octets_from_a_du(rt: HostRuntime) {
+    let packet = F1uUplink::Pdu {
+        content: Pdu::Packet {
+            sn: 0,
+            packet: b"\x45",
+        },
+        octets: b"\x80\x00\x45",
     };
-    assert_eq!(rt;
-        read_f1u_uplink(Len12, UPLINK),
-        Some(F1uUplink::Pdu {
-            content,
-            octets: b"\x80\x00\x45"
-        })
-    );
-    let content = Pdu::Report {
-        fmc: 5,
-        bits: b"\x60",
+    let report = F1uUplink::Pdu {
+        content: Pdu::Report {
+            fmc: 5,
+            bits: b"\x60",
+        },
+        octets: b"\x00\x00\x00\x00\x05\x60",
     };
-    assert_eq!(rt;
-        read_f1u_uplink(Len18, REPORT),
-        Some(F1uUplink::Pdu {
-            content,
-            octets: b"\x00\x00\x00\x00\x05\x60"
-        })
-    );
     let status = F1uUplink::Status {
         room: 65536,
         lost: Ranges::new(),
         delivered: Some(0),
     };
-    assert_eq!(rt; read_f1u_uplink(Len12, STATUS), Some(status));
-    assert_eq!(rt; read_f1u_uplink(Len12, END), Some(F1uUplink::End));
+    let table: [(SnBits, &[u8], Option<F1uUplink>); 6] = [
+        (Len12, UPLINK, Some(packet)),
+        (Len18, REPORT, Some(report)),
+        (Len12, STATUS, Some(status)),
+        (Len12, END, Some(F1uUplink::End)),
+        (Len12, DATA, None),
+        (
+            Len12,
+            b"\x34\xFF\x00\x0D\x00\x00\x00\x02\x00\x00\x00\x84\x02\x10\x00\x00\x01\x00\x00\x00\x45",
+            None,
+        ),
+    ];
+    for (sn, octets, read) in &table {
+        assert!(rt; read_f1u_uplink(*sn, octets) == *read, "{octets:?}");
+    }
+}
 
-    // A number is read modulo the sequence space.
+/// Between two CU-UPs downwards a packet with its number, read modulo the sequence space, and one without; the header of the
+/// other length of numbers, and two headers are none of its.
+#[test]
+fn octets_forwarded_down(rt: HostRuntime) {
     let numbered = Forwarded::Numbered {
         number: 2,
         packet: b"\x03",
     };
-    assert_eq!(rt; read_forwarding_down(Len12, NUMBERED), Some(numbered));
-    let long_number = Forwarded::Numbered {
+    let table: [(SnBits, &[u8], Option<Forwarded>); 4] = [
+        (Len12, NUMBERED, Some(numbered)),
+        (Len12, N3_PACKET, Some(Forwarded::Fresh(b"\x45"))),
+        (Len18, NUMBERED, None),
+        (
+            Len12,
+            b"\x34\xFF\x00\x0D\x00\x00\x00\x03\x00\x00\x00\xC0\x01\x00\x02\xC0\x01\x00\x02\x00\x03",
+            None,
+        ),
+    ];
+    for (sn, octets, read) in &table {
+        assert!(rt; read_forwarding_down(*sn, octets) == *read, "{octets:?}");
+    }
+}
+
+/// Upwards a packet with its number, and an End Marker; the header of the other length of numbers, and no header are none of its.
+#[test]
+fn octets_forwarded_up(rt: HostRuntime) {
+    let numbered = Forwarded::Numbered {
         number: 0x3_FFFF,
         packet: b"\x03",
     };
-    assert_eq!(rt; read_forwarding_up(Len18, LONG_NUMBER), Some(long_number));
-    assert_eq!(rt;
-        read_forwarding_down(Len12, N3_PACKET),
-        Some(Forwarded::Fresh(b"\x45"))
-    );
-    assert_eq!(rt; read_forwarding_up(Len12, END), Some(Forwarded::End));
-    assert_eq!(rt;
-        read_radio(Len12, b"\x80\x00\x45"),
-        Some(Pdu::Packet {
-            sn: 0,
-            packet: b"\x45"
-        })
-    );
+    let table: [(SnBits, &[u8], Option<Forwarded>); 4] = [
+        (Len18, LONG_NUMBER, Some(numbered)),
+        (Len12, END, Some(Forwarded::End)),
+        (Len12, LONG_NUMBER, None),
+        (Len12, N3_PACKET, None),
+    ];
+    for (sn, octets, read) in &table {
+        assert!(rt; read_forwarding_up(*sn, octets) == *read, "{octets:?}");
+    }
 }
 
 #[test]
-fn octets_of_no_link(rt: HostRuntime) {
-    // a sequence number, and no packet
-    assert_eq!(rt;
-        read_n3(b"\x32\xFF\x00\x05\x00\x00\x00\x01\x00\x00\x00\x00\x45"),
-        None
-    );
-    assert_eq!(rt; read_n3(b"\x30\xFF\x00\x00\x00\x00\x00\x01"), None);
-    assert_eq!(rt; read_n3(NUMBERED), None);
-    // an End Marker, a status, a poll with a PDU, and a data frame without one
-    assert_eq!(rt; read_f1u_downlink(Len12, END), None);
-    assert_eq!(rt; read_f1u_downlink(Len12, STATUS), None);
-    assert_eq!(rt;
-        read_f1u_downlink(
-            Len12,
-            b"\x34\xFF\x00\x0F\x00\x00\x00\x01\x00\x00\x00\x84\x02\x01\x00\x00\x00\x01\x00\x00\x80\x00\x01"
-        ),
-        None
-    );
-    assert_eq!(rt;
-        read_f1u_downlink(
-            Len12,
-            b"\x34\xFF\x00\x0C\x00\x00\x00\x01\x00\x00\x00\x84\x02\x00\x00\x00\x00\x01\x00\x00"
-        ),
-        None
-    );
-    // a frame for the way down, and a status with a payload
-    assert_eq!(rt; read_f1u_uplink(Len12, DATA), None);
-    assert_eq!(rt;
-        read_f1u_uplink(
-            Len12,
-            b"\x34\xFF\x00\x0D\x00\x00\x00\x02\x00\x00\x00\x84\x02\x10\x00\x00\x01\x00\x00\x00\x45"
-        ),
-        None
-    );
-    // the header of the other length of numbers, two headers, and no header on the way up
-    assert_eq!(rt; read_forwarding_down(Len18, NUMBERED), None);
-    assert_eq!(rt; read_forwarding_up(Len12, LONG_NUMBER), None);
-    assert_eq!(rt;
-        read_forwarding_down(
-            Len12,
-            b"\x34\xFF\x00\x0D\x00\x00\x00\x03\x00\x00\x00\xC0\x01\x00\x02\xC0\x01\x00\x02\x00\x03"
-        ),
-        None
-    );
-    assert_eq!(rt; read_forwarding_up(Len12, N3_PACKET), None);
+fn octets_of_a_radio(rt: HostRuntime) {
+    let packet = Pdu::Packet {
+        sn: 0,
+        packet: b"\x45",
+    };
+    assert!(rt; read_radio(Len12, b"\x80\x00\x45") == Some(packet));
+}
+
+/// Whether a call wrote these octets.
+fn has(written: Result<Octets, Memory>, octets: &[u8]) -> bool {
+    match written {
+        Ok(written) => written.as_slice() == octets,
+        Err(_) => false,
+    }
 }
 
 #[test]
-fn written_octets(rt: HostRuntime) -> Result<(), Fail> {
+fn written_octets(rt: HostRuntime) {
     let alloc = rt.alloc();
-    assert_eq!(rt; write_n3(alloc, 1, b"\x45")?.as_slice(), N3_PACKET);
-    assert_eq!(rt;
-        write_f1u_downlink_packet(alloc, Len12, 1, true, 2, 0, b"\x01")?.as_slice(),
-        DATA
-    );
-    assert_eq!(rt; write_f1u_downlink_poll(alloc, 1, 1)?.as_slice(), POLL);
-    let report = write_f1u_downlink_report(
-        alloc,
-        1,
-        0,
-        5,
-        &Bits::from_slice(alloc, &[false, true, true])?,
-    )?;
+    assert!(rt; has(write_n3(alloc, 1, b"\x45"), N3_PACKET));
+    let data = write_f1u_downlink_packet(alloc, Len12, 1, true, 2, 0, b"\x01");
+    assert!(rt; has(data, DATA));
+    assert!(rt; has(write_f1u_downlink_poll(alloc, 1, 1), POLL));
+    assert!(rt; has(write_f1u_uplink_pdu(alloc, 2, b"\x80\x00\x45"), UPLINK));
+    let status = write_delivery_status(alloc, 2, Ranges::new(), Some(0));
+    assert!(rt; has(status, STATUS));
+    assert!(rt; has(write_end_marker(alloc, 3), END));
+}
+
+#[test]
+fn written_reports(rt: HostRuntime) -> Result<(), Fail> {
+    let bits = Bits::from_slice(rt.alloc(), &[false, true, true])?;
     let octets =
         b"\x34\xFF\x00\x12\x00\x00\x00\x01\x00\x00\x00\x84\x02\x00\x00\x00\x00\x00\x00\x00\x00\x00\x00\x00\x05\x60".as_slice();
-    assert_eq!(rt; report.as_slice(), octets);
-    assert_eq!(rt;
-        write_f1u_uplink_pdu(alloc, 2, b"\x80\x00\x45")?.as_slice(),
-        UPLINK
+    assert!(rt;
+        has(
+            write_f1u_downlink_report(rt.alloc(), 1, 0, 5, &bits),
+            octets
+        )
     );
-    assert_eq!(rt;
-        write_delivery_status(alloc, 2, Ranges::new(), Some(0))?.as_slice(),
-        STATUS
-    );
-    let numbered =
-        b"\x34\xFF\x00\x09\x00\x00\x00\x03\x00\x00\x00\xC0\x01\x00\x02\x00\x03".as_slice();
-    assert_eq!(rt;
-        write_forwarded_numbered(alloc, Len12, 3, 0x1002, b"\x03")?.as_slice(),
-        numbered
-    );
-    assert_eq!(rt;
-        write_forwarded_numbered(alloc, Len18, 3, 0x7_FFFF, b"\x03")?.as_slice(),
-        LONG_NUMBER
-    );
-    assert_eq!(rt;
-        write_forwarded_fresh(alloc, 1, b"\x45")?.as_slice(),
-        N3_PACKET
-    );
-    assert_eq!(rt; write_end_marker(alloc, 3)?.as_slice(), END);
     Ok(())
+}
+
+#[test]
+fn written_forwarded_octets(rt: HostRuntime) {
+    let alloc = rt.alloc();
+    let octets = b"\x34\xFF\x00\x09\x00\x00\x00\x03\x00\x00\x00\xC0\x01\x00\x02\x00\x03".as_slice();
+    let numbered = write_forwarded_numbered(alloc, Len12, 3, 0x1002, b"\x03");
+    assert!(rt; has(numbered, octets));
+    let numbered = write_forwarded_numbered(alloc, Len18, 3, 0x7_FFFF, b"\x03");
+    assert!(rt; has(numbered, LONG_NUMBER));
+    assert!(rt; has(write_forwarded_fresh(alloc, 1, b"\x45"), N3_PACKET));
 }
