@@ -1,3 +1,5 @@
 pub mod Before
 pub mod Skipped
 pub mod Opened
+pub mod Ways
+pub mod Onward
