@@ -3,3 +3,4 @@ pub mod Skipped
 pub mod Opened
 pub mod Ways
 pub mod Onward
+pub mod Lighter

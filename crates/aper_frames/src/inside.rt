@@ -1,7 +1,9 @@
 //! Open types around values that are read.
 
+ghost use Rattle.std.specs.Prelude.{◌+◌, Some, None};
 ghost use Rattle.aper_frames.specs.Frames.{asked_inside, asked_unknown, asked_contents};
 ghost use Rattle.aper_frames.specs.Steps.{Steps};
+ghost use Rattle.aper_frames.specs.Weights.{contents_weight, frame_weight, frames_weight, Lighter};
 
 use crate::frame::{Frame, Turn};
 use crate::stack::Stack;
@@ -18,7 +20,8 @@ pub fn ask_inside<'m>(
     frame: Frame<'m>,
     id: TypeId,
 ) -> Result<Turn, Unanswered>
-    ensures { Steps (λ of. asked_inside of frame.entry id frames.old) cursor.old cursor.new frames.new result }
+    ensures asked { Steps (λ of. asked_inside of frame.entry id frames.old) cursor.old cursor.new frames.new result }
+    ensures lighter { Lighter (λ w. contents_weight w (Some id) + frame_weight w frame.entry + frames_weight w frames.old) frames.new result }
 {
     ask_opening(cursor)?;
     frames.push(frame)?;
@@ -33,7 +36,8 @@ pub fn ask_unknown<'m>(
     frames: &mut Stack<'m>,
     frame: Frame<'m>,
 ) -> Result<Turn, Unanswered>
-    ensures { Steps (λ of. asked_unknown of frame.entry frames.old) cursor.old cursor.new frames.new result }
+    ensures asked { Steps (λ of. asked_unknown of frame.entry frames.old) cursor.old cursor.new frames.new result }
+    ensures lighter { Lighter (λ w. contents_weight w None + frame_weight w frame.entry + frames_weight w frames.old) frames.new result }
 {
     match ask_raw(alloc, cursor) {
         Ok(value) => {
@@ -57,7 +61,8 @@ pub fn ask_contents<'m>(
     frame: Frame<'m>,
     known: Option<TypeId>,
 ) -> Result<Turn, Unanswered>
-    ensures { Steps (λ of. asked_contents of frame.entry known frames.old) cursor.old cursor.new frames.new result }
+    ensures asked { Steps (λ of. asked_contents of frame.entry known frames.old) cursor.old cursor.new frames.new result }
+    ensures lighter { Lighter (λ w. contents_weight w known + frame_weight w frame.entry + frames_weight w frames.old) frames.new result }
 {
     match known {
         None => ask_unknown(alloc, cursor, frames, frame),

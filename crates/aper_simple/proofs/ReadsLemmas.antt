@@ -15,7 +15,7 @@ use Rattle.aper_cursor.specs.declared.error.Unanswered.TheVariants.{Wrong, Memor
 use Rattle.aper_asking.specs.Going.{GoesOn, GoesOnOrMemory}
 use Rattle.aper_values.specs.declared.value.Value.{Value}
 use Rattle.aper_values.specs.Views.{view}
-use Rattle.aper_reading.specs.Reads.{Reads}
+use Rattle.aper_simple.specs.Reads.{Reads}
 
 module _ {A : Type 0} (question : Path → (seen.Value → Prog) → Prog) (inner : Path → (A → Prog) → Prog) (f : A → seen.Value)
     (same : (p : Path) (K : seen.Value → Prog) → question p K ≡ inner p (λ x. K (f x))) (old new : Cursor) where

@@ -6,7 +6,7 @@ ghost use Rattle.aper_defs.specs.Numbers.{above};
 ghost use Rattle.aper_defs.specs.Bounds.{IsSizeBounded};
 ghost use Rattle.aper_defs.specs.Trees as trees;
 ghost use Rattle.aper_defs.specs.Asking.{asks};
-ghost use Rattle.aper_reading.specs.Reads.{Reads};
+ghost use Rattle.aper_simple.specs.Reads.{Reads};
 
 use aper_asking::{ask_flag, ask_index, ask_integer};
 use aper_cursor::{Cursor, Range, Unanswered};

@@ -5,8 +5,8 @@ use Rattle.aper_defs.specs.Values.{truth}
 use Rattle.aper_defs.specs.Fields.{flag}
 use Rattle.aper_defs.specs.Questions.{ask}
 use Rattle.aper_defs.specs.Asking.{asks}
-use Rattle.aper_reading.proofs.ReadsLemmas.{reads_on, reads_wrong, boolean_as}
-use Rattle.aper_reading.proofs.simple.read_boolean.Goals as goal
+use Rattle.aper_simple.proofs.ReadsLemmas.{reads_on, reads_wrong, boolean_as}
+use Rattle.aper_simple.proofs.simple.read_boolean.Goals as goal
 
 pub returns-in_err-bit : goal.returns-in_err-bit
 returns-in_err-bit c =
