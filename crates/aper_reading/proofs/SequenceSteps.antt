@@ -1,6 +1,5 @@
 -- Steps of a SEQUENCE: its flags and components, and the marks of its additions.
-use Rattle.std.proofs.Common.{◌≡◌, ℕ, List, [], ◌∷◌, Bool, Result, Ok, Err, refl, sym, ap, ◌∙◌}
-use Rattle.std.specs.Prelude.{Option}
+use Rattle.std.proofs.Common.{◌≡◌, ℕ, List, [], Bool, Result, Err, refl, sym, ap, ◌∙◌}
 use Rattle.asn1_types.specs.declared.definition.Component.{Component}
 use Rattle.aper_defs.specs.declared.reason.Reason.{Reason}
 use Rattle.aper_defs.specs.Trees.{Tree, sequence}

@@ -1,15 +1,14 @@
 -- The turns of a decoder, and the end of a whole value.
-use Rattle.std.proofs.Common.{◌≡◌, ℕ, ◌+◌, ◌*◌, ◌<◌, ◌≤◌, ◌==◌, cond, List, [], ◌∷◌, length, Bool, true, false, Result, Ok, Err, refl, sym, ap, ◌∙◌, arith}
+use Rattle.std.proofs.Common.{◌≡◌, ℕ, ◌+◌, ◌*◌, ◌<◌, ◌≤◌, ◌==◌, cond, List, [], length, Bool, true, false, Ok, Err, sym, ap, ◌∙◌, arith}
 use Rattle.asn1_types.specs.declared.definition.TypeId.{TypeId}
 use Rattle.asn1_assignments.specs.declared.assignment.Syntax.{Syntax}
 use Rattle.aper_defs.specs.declared.reason.Reason.{Reason}
 use Rattle.aper_defs.specs.declared.reason.Reason.TheVariants as reasons
 use Rattle.aper_defs.specs.Trees.{Tree}
-use Rattle.aper_defs.specs.Values as seen
-use Rattle.aper_defs.specs.Fields.{Path, closing}
-use Rattle.aper_defs.specs.Questions.{Prog, ask, done}
-use Rattle.aper_defs.specs.Asking.{asks, asks_whole}
-use Rattle.aper_defs.specs.Reading.{Cursor, Fault, run, read, goes_on, answered_at, only}
+use Rattle.aper_defs.specs.Fields.{closing}
+use Rattle.aper_defs.specs.Questions.{ask, done}
+use Rattle.aper_defs.specs.Asking.{asks_whole}
+use Rattle.aper_defs.specs.Reading.{Cursor, run, read, goes_on, answered_at, only}
 use Rattle.aper_proof_answers.proofs.Standing.{answered}
 use Rattle.aper_cursor.specs.declared.error.Unanswered.{Unanswered}
 use Rattle.aper_cursor.specs.declared.error.Unanswered.TheVariants.{Wrong, Memory}
@@ -22,9 +21,8 @@ use Rattle.aper_types.specs.Forms.{form_tree, IsFormInside}
 use Rattle.aper_frames.specs.declared.frame.Frame.{Frame}
 use Rattle.aper_frames.specs.declared.frame.Turn.{Turn}
 use Rattle.aper_frames.specs.declared.frame.Turn.TheVariants as turns
-use Rattle.aper_frames.specs.Frames.{path_of, next_of, after}
-use Rattle.aper_frames.specs.Steps.{Steps, left}
-use Rattle.aper_frames.specs.Weights.{frame_weight, frames_weight, turn_weight}
+use Rattle.aper_frames.specs.Steps.{left}
+use Rattle.aper_frames.specs.Weights.{frames_weight, turn_weight}
 use Rattle.aper_reading.specs.Forms.{form_weight}
 use Rattle.aper_reading.specs.Heavy.{heavy, weighed}
 use Rattle.aper_reading.specs.Decoding.{IsTurnInside, TakesTurn, ReadsValue}

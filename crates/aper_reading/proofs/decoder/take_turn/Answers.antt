@@ -14,7 +14,9 @@ begin-requires c =
 
 pub returns-in_ok-begin-in-Read-clause-lighter : goal.returns-in_ok-begin-in-Read-clause-lighter
 returns-in_ok-begin-in-Read-clause-lighter c = λ other. omega (
-  arith, ap (turn_weight (weighed c.args.m.now other)) c.in-Read.is,
+  arith,
+  ap (turn_weight (weighed c.args.m.now other)) c.in-Read.is,
   begun_lighter c.args.m.now c.in-Read.id c.form_of.result c.form_of.ensures.tree c.in_ok-begin-in-Read.field-0 c.args.frames.now c.begin.new.frames
-  (subst (IsTurnInside (length c.args.m.now.nodes)) c.in-Read.is c.requires) c.form_of.ensures.inside
-  (c.in_ok-begin-in-Read.ensures {u = tt}).lighter other)
+      (subst (IsTurnInside (length c.args.m.now.nodes)) c.in-Read.is c.requires) c.form_of.ensures.inside
+      (c.in_ok-begin-in-Read.ensures {u = tt}).lighter other,
+)
