@@ -1,0 +1,3 @@
+pub mod FlagTurns
+pub mod RawTurns
+pub mod Slots
