@@ -5,7 +5,9 @@ use Rattle.aper_heads.proofs.FlagTurns.{bits_turn, bits_none}
 use Rattle.aper_heads.proofs.flags.bits_of.Goals as goal
 
 pub loop-done-preserved : goal.loop-done-preserved
-loop-done-preserved c = ?
+loop-done-preserved c =
+    let l = c.loop-done in
+    ?
 
 pub returns-clause-bits : goal.returns-clause-bits
 returns-clause-bits c =

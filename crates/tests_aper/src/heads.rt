@@ -1,13 +1,13 @@
-//! Heads of ITU-T X.691.
+//! Flags, marks and heads of ITU-T X.691.
 
 ghost use Rattle.std.specs.Prelude.{◌<◌, length};
 
-use crate::elements::{ElementHead, ask_element_count, ask_element_head, rows_left};
-use crate::flags::{ask_flags, ask_marks};
-use crate::messages::{MessageHead, ask_message_head};
-use crate::raw::{RawError, ask_raw};
 use aper_cursor::{Cursor, Unanswered};
 use aper_defs::Reason;
+use aper_heads::{
+    ElementHead, MessageHead, RawError, ask_element_count, ask_element_head, ask_flags, ask_marks,
+    ask_message_head, ask_raw, rows_left,
+};
 use aper_values::value::Value;
 use asn1_assignments::{Criticality, IeRow, Presence};
 use asn1_types::{Component, TypeId};
