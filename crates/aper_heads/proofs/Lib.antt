@@ -1,3 +1,4 @@
 pub mod FlagTurns
+pub mod HeadTurns
 pub mod RawTurns
 pub mod Slots

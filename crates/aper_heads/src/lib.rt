@@ -6,8 +6,6 @@ mod elements;
 mod flags;
 mod messages;
 mod raw;
-#[cfg(test)]
-mod tests;
 
 pub use elements::{ElementHead, ask_element_count, ask_element_head, rows_left};
 pub use flags::{ask_flags, ask_marks};
