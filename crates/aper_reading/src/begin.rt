@@ -1,22 +1,22 @@
 //! The beginning of a value.
 
+ghost use Rattle.std.specs.Prelude.{◌+◌};
 ghost use Rattle.aper_defs.specs.Asking.{asks};
 ghost use Rattle.aper_types.specs.Forms.{form_tree};
 ghost use Rattle.aper_frames.specs.Frames.{path_of, next_of};
 ghost use Rattle.aper_frames.specs.Steps.{Steps};
-ghost use Rattle.aper_reading.specs.Forms.{IsFormBounded};
+ghost use Rattle.aper_frames.specs.Weights.{frames_weight, Lighter};
+ghost use Rattle.aper_reading.specs.Forms.{IsFormBounded, form_weight};
 
-use crate::choice::begin_choice;
-use crate::container::begin_container;
 use crate::list::begin_list;
-use crate::message::begin_message;
 use crate::sequence::begin_sequence;
-use crate::simple::{
+use aper_cursor::{Cursor, Range, Unanswered};
+use aper_elements::{begin_choice, begin_container, begin_message};
+use aper_frames::{Stack, Turn};
+use aper_simple::{
     read_bit_string, read_boolean, read_enumerated, read_integer, read_octet_string,
     read_printable_string,
 };
-use aper_cursor::{Cursor, Range, Unanswered};
-use aper_frames::{Stack, Turn};
 use aper_types::Form;
 use std::alloc::Global;
 
@@ -28,7 +28,8 @@ pub fn begin<'m>(
     form: Form<'m>,
 ) -> Result<Turn, Unanswered>
     requires { IsFormBounded form }
-    ensures { Steps (λ of. asks (path_of frames.old) (form_tree of form.entry) (next_of of frames.old)) cursor.old cursor.new frames.new result }
+    ensures asked { Steps (λ of. asks (path_of frames.old) (form_tree of form.entry) (next_of of frames.old)) cursor.old cursor.new frames.new result }
+    ensures lighter { Lighter (λ w. form_weight w form.entry + frames_weight w frames.old) frames.new result }
 {
     match form {
         Form::Boolean => Ok(Turn::Made(read_boolean(cursor)?)),

@@ -1,8 +1,9 @@
 //! Whole values.
 
-ghost use Rattle.std.specs.Prelude.{◌≡◌, ◌<◌, ◌^◌, length};
-ghost use Rattle.aper_defs.specs.Reading.{decoded};
+ghost use Rattle.std.specs.Prelude.{◌≡◌, ◌<◌, ◌^◌, [], length};
 ghost use Rattle.aper_types.specs.Types.{tree};
+ghost use Rattle.aper_frames.specs.Frames.{path_of};
+ghost use Rattle.aper_reading.specs.Decoding.{Decodes, ReadsWhole, ReadsValue, IsRefusal};
 
 use crate::begin::begin;
 use crate::error::DecodeError;
@@ -24,6 +25,7 @@ pub fn decode<'m>(
 ) -> Result<Value, DecodeError<'m>>
     requires inside { id.number < length m.now.nodes }
     requires short { length octets.now < 2 ^ 61 }
+    ensures { Decodes (tree m.now id.number) octets.now result }
 {
     let mut cursor = Cursor::new(alloc, octets);
     let mut frames = Stack::new(alloc);
@@ -35,7 +37,9 @@ pub fn decode<'m>(
 }
 
 /// The refusal at this place.
-fn refused<'m>(alloc: Global, bit: u64, frames: &Stack<'m>, reason: Reason) -> DecodeError<'m> {
+fn refused<'m>(alloc: Global, bit: u64, frames: &Stack<'m>, reason: Reason) -> DecodeError<'m>
+    ensures { IsRefusal bit reason (path_of frames.now) result }
+{
     match path_of(alloc, frames) {
         Ok(path) => DecodeError::Refused { bit, reason, path },
         Err(_) => DecodeError::Memory,
@@ -51,6 +55,8 @@ fn read_whole<'m>(
     frames: &mut Stack<'m>,
 ) -> Result<Value, Unanswered>
     requires inside { id.number < length m.now.nodes }
+    requires first { frames.old ≡ [] }
+    ensures { ReadsWhole (tree m.now id.number) cursor.old cursor.new frames.new result }
 {
     let value = read_value(alloc, m, id, cursor, frames)?;
     cursor.closing()?;
@@ -69,6 +75,8 @@ fn read_value<'m>(
     frames: &mut Stack<'m>,
 ) -> Result<Value, Unanswered>
     requires inside { id.number < length m.now.nodes }
+    requires first { frames.old ≡ [] }
+    ensures { ReadsValue (tree m.now id.number) cursor.old cursor.new frames.new result }
 {
     let mut turn = Turn::Read(id);
     loop {

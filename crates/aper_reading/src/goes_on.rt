@@ -1,14 +1,16 @@
 //! What comes after a value inside another one.
 
+ghost use Rattle.std.specs.Prelude.{◌+◌};
 ghost use Rattle.aper_values.specs.Views.{view};
 ghost use Rattle.aper_frames.specs.Frames.{path_of, next_of, after};
 ghost use Rattle.aper_frames.specs.Steps.{Steps};
+ghost use Rattle.aper_frames.specs.Weights.{frame_weight, frames_weight, Lighter};
 
-use crate::container::after_element;
 use crate::list::after_member;
 use crate::sequence::{after_addition, after_component};
 use aper_asking::ask_closing;
 use aper_cursor::{Cursor, Unanswered};
+use aper_elements::after_element;
 use aper_frames::{Frame, Stack, Turn};
 use aper_values::make::{chosen, message};
 use aper_values::value::Value;
@@ -22,7 +24,8 @@ pub fn go_on<'m>(
     frame: Frame<'m>,
     value: Value,
 ) -> Result<Turn, Unanswered>
-    ensures { Steps (λ of. after of frame.entry (path_of frames.old) (next_of of frames.old) (view value)) cursor.old cursor.new frames.new result }
+    ensures asked { Steps (λ of. after of frame.entry (path_of frames.old) (next_of of frames.old) (view value)) cursor.old cursor.new frames.new result }
+    ensures lighter { Lighter (λ w. frame_weight w frame.entry + frames_weight w frames.old) frames.new result }
 {
     match frame {
         Frame::Component(frame) => after_component(alloc, cursor, frames, frame.others, value),

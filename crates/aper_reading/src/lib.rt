@@ -2,17 +2,11 @@
 #![tactic(auto)]
 
 mod begin;
-mod choice;
-mod container;
 mod decoder;
 mod error;
 mod goes_on;
 mod list;
-mod message;
 mod sequence;
-mod simple;
-#[cfg(test)]
-mod tests;
 
 pub use decoder::decode;
 pub use error::DecodeError;

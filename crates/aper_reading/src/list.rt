@@ -1,12 +1,13 @@
 //! SEQUENCE OF.
 
-ghost use Rattle.std.specs.Prelude.{ℕ, ◌≡◌, ◌∷◌, ◌<◌, IfOk, OnOk};
+ghost use Rattle.std.specs.Prelude.{ℕ, ◌≡◌, ◌+◌, ◌<◌, IfOk};
 ghost use Rattle.aper_defs.specs.Bounds.{IsSizeBounded};
 ghost use Rattle.aper_defs.specs.Trees.{Tree, sequence_of};
 ghost use Rattle.aper_defs.specs.Asking.{asks};
 ghost use Rattle.aper_values.specs.Views.{view};
 ghost use Rattle.aper_frames.specs.Frames.{members_left, member_after, path_of, next_of};
 ghost use Rattle.aper_frames.specs.Steps.{Steps, left};
+ghost use Rattle.aper_frames.specs.Weights.{list_weight, members_weight, frames_weight, turn_weight, Lighter};
 
 use aper_asking::ask_count;
 use aper_cursor::{Cursor, Unanswered};
@@ -26,7 +27,8 @@ pub fn begin_list<'m>(
     element: TypeId,
 ) -> Result<Turn, Unanswered>
     requires { IsSizeBounded size }
-    ensures { Steps (λ of. asks (path_of frames.old) (sequence_of size (of element.number)) (next_of of frames.old)) cursor.old cursor.new frames.new result }
+    ensures asked { Steps (λ of. asks (path_of frames.old) (sequence_of size (of element.number)) (next_of of frames.old)) cursor.old cursor.new frames.new result }
+    ensures lighter { Lighter (λ w. list_weight w 65535 element + frames_weight w frames.old) frames.new result }
 {
     let left = ask_count(cursor, size)?;
     let members = Members {
@@ -44,7 +46,8 @@ pub fn after_member<'m>(
     members: Members,
     value: Value,
 ) -> Result<Turn, Unanswered>
-    ensures { Steps (λ of. member_after of members (path_of frames.old) (next_of of frames.old) (view value)) cursor.now cursor.now frames.new result }
+    ensures asked { Steps (λ of. member_after of members (path_of frames.old) (next_of of frames.old) (view value)) cursor.now cursor.now frames.new result }
+    ensures lighter { Lighter (λ w. members_weight w members + frames_weight w frames.old) frames.new result }
 {
     let mut members = members;
     members.made.push(value)?;
@@ -53,7 +56,8 @@ pub fn after_member<'m>(
 
 /// The next member, or the list where none is left.
 fn next_member<'m>(frames: &mut Stack<'m>, members: Members) -> Result<Turn, Memory>
-    ensures { IfOk result (λ turn. (of : ℕ → Tree) → members_left of members (path_of frames.old) (next_of of frames.old) ≡ left of turn frames.new) }
+    ensures asked { IfOk result (λ turn. (of : ℕ → Tree) → members_left of members (path_of frames.old) (next_of of frames.old) ≡ left of turn frames.new) }
+    ensures lighter { IfOk result (λ turn. (w : ℕ → ℕ) → turn_weight w turn + frames_weight w frames.new < members_weight w members + frames_weight w frames.old) }
 {
     if members.left == 0 {
         return Ok(Turn::Made(listed(members.made)));

@@ -1,12 +1,14 @@
 //! SEQUENCE.
 
-ghost use Rattle.std.specs.Prelude.{ℕ, ◌≡◌, ◌∷◌};
+ghost use Rattle.std.specs.Prelude.{◌+◌};
+ghost use Rattle.asn1_types.specs.Members.{additions_of};
 ghost use Rattle.aper_defs.specs.Asking.{asks};
 ghost use Rattle.aper_defs.specs.Trees.{sequence};
 ghost use Rattle.aper_types.specs.Types.{sequence_tree, parts_of};
 ghost use Rattle.aper_values.specs.Views.{view};
 ghost use Rattle.aper_frames.specs.Frames.{components_left, component_after, additions_left, addition_after, path_of, next_of, after_components, options_before};
 ghost use Rattle.aper_frames.specs.Steps.{Steps};
+ghost use Rattle.aper_frames.specs.Weights.{sequence_weight, components_weight, additions_weight, frames_weight, Lighter};
 ghost use Rattle.aper_defs.specs.Values as seen;
 
 use aper_asking::ask_extension;
@@ -28,7 +30,8 @@ pub fn begin_sequence<'m>(
     frames: &mut Stack<'m>,
     members: &'m Extensible<Component>,
 ) -> Result<Turn, Unanswered>
-    ensures { Steps (λ of. asks (path_of frames.old) (sequence_tree of members.now) (next_of of frames.old)) cursor.old cursor.new frames.new result }
+    ensures asked { Steps (λ of. asks (path_of frames.old) (sequence_tree of members.now) (next_of of frames.old)) cursor.old cursor.new frames.new result }
+    ensures lighter { Lighter (λ w. sequence_weight w members.now.root (additions_of members.now.additions) + frames_weight w frames.old) frames.new result }
 {
     let extensible = members.additions.is_some();
     let additions = named(&members.additions);
@@ -52,8 +55,9 @@ fn begin_components<'m>(
     root: &'m [Component],
     additions: &'m [Component],
 ) -> Result<Turn, Unanswered>
-    ensures { Steps (λ of. asks (path_of frames.old) (sequence extensible (parts_of of root.now) (parts_of of additions.now)) (next_of of frames.old))
+    ensures asked { Steps (λ of. asks (path_of frames.old) (sequence extensible (parts_of of root.now) (parts_of of additions.now)) (next_of of frames.old))
         cursor.old cursor.new frames.new result }
+    ensures lighter { Lighter (λ w. sequence_weight w root.now additions.now + frames_weight w frames.old) frames.new result }
 {
     let extended = ask_extension(cursor, extensible)?;
     let there = ask_flags(alloc, cursor, root)?;
@@ -75,7 +79,8 @@ pub fn after_component<'m>(
     components: Components<'m>,
     value: Value,
 ) -> Result<Turn, Unanswered>
-    ensures { Steps (λ of. component_after of components.entry (path_of frames.old) (next_of of frames.old) (view value)) cursor.old cursor.new frames.new result }
+    ensures asked { Steps (λ of. component_after of components.entry (path_of frames.old) (next_of of frames.old) (view value)) cursor.old cursor.new frames.new result }
+    ensures lighter { Lighter (λ w. components_weight w components.entry + frames_weight w frames.old) frames.new result }
 {
     let mut components = components;
     components.made.push(Some(value))?;
@@ -89,7 +94,8 @@ fn next_component<'m>(
     frames: &mut Stack<'m>,
     components: Components<'m>,
 ) -> Result<Turn, Unanswered>
-    ensures { Steps (λ of. components_left of components.entry (path_of frames.old) (next_of of frames.old)) cursor.old cursor.new frames.new result }
+    ensures asked { Steps (λ of. components_left of components.entry (path_of frames.old) (next_of of frames.old)) cursor.old cursor.new frames.new result }
+    ensures lighter { Lighter (λ w. components_weight w components.entry + frames_weight w frames.old) frames.new result }
 {
     let mut others = components;
     match others.next()? {
@@ -109,7 +115,8 @@ fn begin_additions<'m>(
     frames: &mut Stack<'m>,
     components: Components<'m>,
 ) -> Result<Turn, Unanswered>
-    ensures { Steps (λ of. options_before components.entry.made.items (after_components of components.entry (path_of frames.old) (next_of of frames.old)) seen.no_options) cursor.old cursor.new frames.new result }
+    ensures asked { Steps (λ of. options_before components.entry.made.items (after_components of components.entry (path_of frames.old) (next_of of frames.old)) seen.no_options) cursor.old cursor.new frames.new result }
+    ensures lighter { Lighter (λ w. components_weight w components.entry + frames_weight w frames.old) frames.new result }
 {
     let there = ask_marks(alloc, cursor, components.extended)?;
     let additions = Additions {
@@ -129,7 +136,8 @@ pub fn after_addition<'m>(
     additions: Additions<'m>,
     value: Value,
 ) -> Result<Turn, Unanswered>
-    ensures { Steps (λ of. addition_after of additions.entry (path_of frames.old) (next_of of frames.old) (view value)) cursor.old cursor.new frames.new result }
+    ensures asked { Steps (λ of. addition_after of additions.entry (path_of frames.old) (next_of of frames.old) (view value)) cursor.old cursor.new frames.new result }
+    ensures lighter { Lighter (λ w. additions_weight w additions.entry + frames_weight w frames.old) frames.new result }
 {
     let mut additions = additions;
     additions.made.push(Some(value))?;
@@ -143,7 +151,8 @@ fn next_addition<'m>(
     frames: &mut Stack<'m>,
     additions: Additions<'m>,
 ) -> Result<Turn, Unanswered>
-    ensures { Steps (λ of. additions_left of additions.entry (path_of frames.old) (next_of of frames.old)) cursor.old cursor.new frames.new result }
+    ensures asked { Steps (λ of. additions_left of additions.entry (path_of frames.old) (next_of of frames.old)) cursor.old cursor.new frames.new result }
+    ensures lighter { Lighter (λ w. additions_weight w additions.entry + frames_weight w frames.old) frames.new result }
 {
     let mut others = additions;
     match others.next()? {

@@ -29,5 +29,7 @@ loop-is_there-preserved c = record {
 pub returns : goal.returns
 returns c = record {
   asked = λ of p K. c.loop-is_there.invariant.same of p K ∙ additions_over of p K c.loop-is_there.self (c.in_default.ensures {u = tt}).0;
-  lighter = c.loop-is_there.invariant.lighter;
+  lighter = λ w. omega (
+    arith, c.loop-is_there.invariant.lighter w,
+    ap length (c.in_default.ensures {u = tt}).0, ap length (c.in_default.ensures {u = tt}).1);
 }
