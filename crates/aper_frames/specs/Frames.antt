@@ -1,5 +1,5 @@
 -- What a value that is read asks after the value inside it, and on which way that value lies.
-use Rattle.std.specs.Prelude.{◌≡◌, ℕ, suc, List, [], ◌∷◌, length, Option, Some, None, option_copied, nat_lt, if◌then◌else◌}
+use Rattle.std.specs.Prelude.{◌≡◌, ℕ, suc, ◌+◌, List, [], ◌∷◌, length, Bool, Option, Some, None, option_copied, nat_lt, if◌then◌else◌}
 use Rattle.asn1_types.specs.declared.definition.Component.{Component}
 use Rattle.asn1_types.specs.declared.definition.TypeId.{TypeId}
 use Rattle.aper_defs.specs.Trees.{Tree}
@@ -113,7 +113,7 @@ inside_of (frames.Component f) p = fields.component f.name.now ∷ p
 inside_of (frames.Addition f) p = named_inside (option_copied f.name) p
 inside_of (frames.Alternative f) p = named_inside (option_copied f.name) p
 inside_of (frames.Member m) p = fields.member (length m.made.items) ∷ p
-inside_of (frames.Element f) p = fields.element f.id ∷ p
+inside_of (frames.Element f) p = fields.element f.head.id ∷ p
 inside_of (frames.Body f) p = body_inside f.outcome p
 inside_of frames.Open p = p
 
@@ -123,7 +123,7 @@ after of (frames.Component f) p K v = component_after of f.others p K v
 after of (frames.Addition f) p K v = addition_after of f.others p K v
 after of (frames.Alternative f) p K v = K (seen.chosen f.index v)
 after of (frames.Member m) p K v = member_after of m p K v
-after of (frames.Element f) p K v = element_after of f.others f.id f.criticality p K v
+after of (frames.Element f) p K v = element_after of f.others f.head.id f.head.criticality p K v
 after of (frames.Body f) p K v = K (seen.message f.outcome f.code f.criticality v)
 after of frames.Open p K v = ask p closing (λ m. ask p end (λ z. K v))
 
@@ -136,6 +136,13 @@ abbrev pub next_of : (ℕ → Tree) → List Frame → seen.Value → Prog
 next_of of [] v = ask [] closing (λ m. done v)
 next_of of (f ∷ fs) v = after of f (path_of fs) (next_of of fs) v
 
--- an open type inside a value, around a value of a type
+-- an open type inside a value, around a value of a type, or of contents that aren't known
 abbrev pub asked_inside : (ℕ → Tree) → Frame → TypeId → List Frame → Prog
 asked_inside of f id fs = ask_open (path_of fs) (inside_of f (path_of fs)) (asks (inside_of f (path_of fs)) (of id.number)) (after of f (path_of fs) (next_of of fs))
+
+abbrev pub asked_unknown : (ℕ → Tree) → Frame → List Frame → Prog
+asked_unknown of f fs = ask_raw (path_of fs) (inside_of f (path_of fs)) (after of f (path_of fs) (next_of of fs))
+
+abbrev pub asked_contents : (ℕ → Tree) → Frame → Option TypeId → List Frame → Prog
+asked_contents of f None fs = asked_unknown of f fs
+asked_contents of f (Some id) fs = asked_inside of f id fs

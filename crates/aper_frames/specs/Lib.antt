@@ -1,3 +1,4 @@
 pub mod Frames
 pub mod Steps
 pub mod Paths
+pub mod Weights

@@ -1,6 +1,7 @@
 //! Values inside which another one is being read.
 
 use crate::flags::Flags;
+use aper_heads::ElementHead;
 use aper_values::value::{Ies, OptValues, Value, Values};
 use asn1_assignments::IeRow;
 use asn1_types::{Component, TypeId};
@@ -71,11 +72,10 @@ pub struct AlternativeFrame<'m> {
     pub index: u32,
 }
 
-/// An information element with this id and criticality is read, then the others.
+/// The information element of this head is read, then the others.
 #[derive(Drop)]
 pub struct ElementFrame<'m> {
-    pub id: u16,
-    pub criticality: u8,
+    pub head: ElementHead,
     pub others: Elements<'m>,
 }
 

@@ -10,10 +10,10 @@ mod stack;
 
 pub use flags::Flags;
 pub use frame::{
-    AdditionFrame, Additions, AlternativeFrame, BodyFrame, ComponentFrame, Components,
-    ElementFrame, Elements, Frame, Members, Turn,
+    Additions, AdditionFrame, AlternativeFrame, BodyFrame, ComponentFrame, Components, ElementFrame,
+    Elements, Frame, Members, Turn,
 };
-pub use inside::ask_inside;
+pub use inside::{ask_contents, ask_inside, ask_unknown};
 pub use parts::Addition;
 pub use path::{Step, path_of};
 pub use stack::Stack;

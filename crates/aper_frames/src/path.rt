@@ -33,7 +33,7 @@ impl<'m> Frame<'m> {
             Frame::Addition(frame) => named(frame.name),
             Frame::Alternative(frame) => named(frame.name),
             Frame::Member(members) => Some(Step::Member(members.made.len() as u64)),
-            Frame::Element(frame) => Some(Step::Element(frame.id)),
+            Frame::Element(frame) => Some(Step::Element(frame.head.id)),
             Frame::Body(frame) => outcome(frame.outcome),
             Frame::Open => None,
         }

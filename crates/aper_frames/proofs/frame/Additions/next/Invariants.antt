@@ -1,13 +1,17 @@
-use Rattle.std.proofs.Common.{◌≡◌, ℕ, length}
+use Rattle.std.proofs.Common.{◌≡◌, ℕ, ◌≤◌, length}
 use Rattle.aper_defs.specs.Trees.{Tree}
 use Rattle.aper_defs.specs.Values as seen
 use Rattle.aper_defs.specs.Fields.{Path}
 use Rattle.aper_defs.specs.Questions.{Prog}
 use Rattle.aper_frames.specs.Frames.{additions_left}
+use Rattle.aper_frames.specs.Weights.{additions_weight}
 use Rattle.aper_frames.proofs.frame.Additions.next.Given as goal
 
 abbrev pub invariant-loop-is_there : goal.invariant-loop-is_there
-invariant-loop-is_there l = (of : ℕ → Tree) (p : Path) (K : seen.Value → Prog) → additions_left of l.fn.self p K ≡ additions_left of l.self p K
+invariant-loop-is_there l = record {
+  same : (of : ℕ → Tree) (p : Path) (K : seen.Value → Prog) → additions_left of l.fn.self p K ≡ additions_left of l.self p K;
+  lighter : (w : ℕ → ℕ) → additions_weight w l.self ≤ additions_weight w l.fn.self;
+}
 
 abbrev pub decreases-loop-is_there : goal.decreases-loop-is_there
 decreases-loop-is_there l = length l.self.there

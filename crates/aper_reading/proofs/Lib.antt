@@ -1,0 +1,5 @@
+pub mod ListLemmas
+pub mod SequenceLemmas
+pub mod FormBounds
+pub mod Heavy
+pub mod Turns

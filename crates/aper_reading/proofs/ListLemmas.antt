@@ -1,0 +1,51 @@
+-- Members of a SEQUENCE OF, one at a time.
+use Rattle.std.proofs.Common.{◌≡◌, ℕ, zero, suc, ◌+◌, List, [], ◌∷◌, ◌++◌, length, Option, refl, sym, ap, ◌∙◌, arith, length-append}
+use Rattle.asn1_types.specs.declared.definition.TypeId.{TypeId}
+use Rattle.asn1_types.specs.declared.definition.Size.{Size}
+use Rattle.aper_defs.specs.Trees.{Tree, sequence_of}
+use Rattle.aper_defs.specs.Values as seen
+use Rattle.aper_defs.specs.Fields.{Path}
+use Rattle.aper_defs.specs.Fields as fields
+use Rattle.aper_defs.specs.Questions.{Prog, ask_count, ask_members}
+use Rattle.aper_defs.specs.Asking.{asks}
+use Rattle.aper_values.specs.declared.value.Value.{Value}
+use Rattle.aper_values.specs.Views.{view, values_view}
+use Rattle.aper_frames.specs.declared.frame.Members.{Members}
+use Rattle.aper_frames.specs.declared.frame.Frame.{Frame}
+use Rattle.aper_frames.specs.declared.frame.Frame.TheVariants as frames
+use Rattle.aper_frames.specs.declared.frame.Turn.TheVariants as turns
+use Rattle.aper_frames.specs.Frames.{values_before, ask_member, members_left, member_after, path_of, next_of}
+use Rattle.aper_frames.specs.Steps.{left}
+use Rattle.aper_frames.proofs.Before.{values_more, values_end}
+
+pub list_as : (of : ℕ → Tree) (size : Option Size) (element : TypeId) (p : Path) (K : seen.Value → Prog)
+    → asks p (sequence_of size (of element.number)) K
+    ≡ ask_count p size (λ n. ask_members (λ i. asks (fields.member i ∷ p) (of element.number)) 0 n (λ vs. K (seen.list vs)))
+unfolding asks
+list_as of size element p K = refl
+
+-- a member more
+pub member_put : (one : ℕ → (seen.Value → Prog) → Prog) (n : ℕ) (made more : List Value) (v : Value) (K : seen.Values → Prog)
+    → more ≡ made ++ v ∷ []
+    → ask_members one (suc (length made)) n (λ vs. values_before made K (seen.value (view v) vs))
+    ≡ ask_members one (length more) n (values_before more K)
+member_put one n made more v K e =
+    let count : suc (length made) ≡ length (made ++ v ∷ []) = omega (arith, length-append made (v ∷ [])) in
+    ap (λ (J : seen.Values → Prog). ask_members one (suc (length made)) n J) (sym (values_more made v K))
+    ∙ ap (λ (i : ℕ). ask_members one i n (values_before (made ++ v ∷ []) K)) count
+    ∙ ap (λ (ms : List Value). ask_members one (length ms) n (values_before ms K)) (sym e)
+
+module _ (of : ℕ → Tree) (m : Members) (fs : List Frame) where
+  pub members_last : (v : Value) → m.left ≡ 0 → view v ≡ seen.list (values_view m.made.items)
+      → members_left of m (path_of fs) (next_of of fs) ≡ left of (turns.Made v) fs
+  members_last v none e =
+      ap (λ (n : ℕ). ask_members (ask_member of m (path_of fs)) (length m.made.items) n
+      (values_before m.made.items (λ vs. next_of of fs (seen.list vs)))) none
+      ∙ values_end m.made.items (λ vs. next_of of fs (seen.list vs)) ∙ ap (next_of of fs) (sym e)
+
+  pub members_next : (k : ℕ) (gs : List Frame) → m.left ≡ suc k → gs ≡ frames.Member (record { element = m.element; left = k; made = m.made }) ∷ fs
+      → members_left of m (path_of fs) (next_of of fs) ≡ left of (turns.Read m.element) gs
+  members_next k gs some e =
+      ap (λ (n : ℕ). ask_members (ask_member of m (path_of fs)) (length m.made.items) n
+      (values_before m.made.items (λ vs. next_of of fs (seen.list vs)))) some
+      ∙ ap (λ hs. left of (turns.Read m.element) hs) (sym e)

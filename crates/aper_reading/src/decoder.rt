@@ -1,0 +1,91 @@
+//! Whole values.
+
+ghost use Rattle.std.specs.Prelude.{◌≡◌, ◌<◌, ◌^◌, [], length};
+ghost use Rattle.aper_types.specs.Types.{tree};
+ghost use Rattle.aper_frames.specs.Frames.{path_of};
+ghost use Rattle.aper_reading.specs.Decoding.{Decodes, ReadsWhole, ReadsValue, IsRefusal};
+
+use crate::begin::begin;
+use crate::error::DecodeError;
+use crate::goes_on::go_on;
+use aper_cursor::{Cursor, Unanswered};
+use aper_defs::Reason;
+use aper_frames::{Stack, Turn, path_of};
+use aper_types::form_of;
+use aper_values::value::Value;
+use asn1_module::{Module, TypeId};
+use std::alloc::Global;
+
+/// The value of a type of a module that these octets spell.
+pub fn decode<'m>(
+    alloc: Global,
+    m: &'m Module,
+    id: TypeId,
+    octets: &[u8],
+) -> Result<Value, DecodeError<'m>>
+    requires inside { id.number < length m.now.nodes }
+    requires short { length octets.now < 2 ^ 61 }
+    ensures { Decodes (tree m.now id.number) octets.now result }
+{
+    let mut cursor = Cursor::new(alloc, octets);
+    let mut frames = Stack::new(alloc);
+    match read_whole(alloc, m, id, &mut cursor, &mut frames) {
+        Ok(value) => Ok(value),
+        Err(Unanswered::Memory) => Err(DecodeError::Memory),
+        Err(Unanswered::Wrong(reason)) => Err(refused(alloc, cursor.place(), &frames, reason)),
+    }
+}
+
+/// The refusal at this place.
+fn refused<'m>(alloc: Global, bit: u64, frames: &Stack<'m>, reason: Reason) -> DecodeError<'m>
+    ensures { IsRefusal bit reason (path_of frames.now) result }
+{
+    match path_of(alloc, frames) {
+        Ok(path) => DecodeError::Refused { bit, reason, path },
+        Err(_) => DecodeError::Memory,
+    }
+}
+
+/// A value, and its end.
+fn read_whole<'m>(
+    alloc: Global,
+    m: &'m Module,
+    id: TypeId,
+    cursor: &mut Cursor,
+    frames: &mut Stack<'m>,
+) -> Result<Value, Unanswered>
+    requires inside { id.number < length m.now.nodes }
+    requires first { frames.old ≡ [] }
+    ensures { ReadsWhole (tree m.now id.number) cursor.old cursor.new frames.new result }
+{
+    let value = read_value(alloc, m, id, cursor, frames)?;
+    cursor.closing()?;
+    if !cursor.is_at_end() {
+        return Err(Unanswered::Wrong(Reason::Tail));
+    }
+    Ok(value)
+}
+
+/// A value.
+fn read_value<'m>(
+    alloc: Global,
+    m: &'m Module,
+    id: TypeId,
+    cursor: &mut Cursor,
+    frames: &mut Stack<'m>,
+) -> Result<Value, Unanswered>
+    requires inside { id.number < length m.now.nodes }
+    requires first { frames.old ≡ [] }
+    ensures { ReadsValue (tree m.now id.number) cursor.old cursor.new frames.new result }
+{
+    let mut turn = Turn::Read(id);
+    loop {
+        turn = match turn {
+            Turn::Read(id) => begin(alloc, cursor, frames, form_of(m, id))?,
+            Turn::Made(value) => match frames.pop() {
+                None => return Ok(value),
+                Some(frame) => go_on(alloc, cursor, frames, frame, value)?,
+            },
+        };
+    }
+}

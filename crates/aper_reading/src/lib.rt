@@ -1,0 +1,12 @@
+//! A decoder of aligned PER (ITU-T X.691), in small turns over a stack of the values that are being read.
+#![tactic(auto)]
+
+mod begin;
+mod decoder;
+mod error;
+mod goes_on;
+mod list;
+mod sequence;
+
+pub use decoder::decode;
+pub use error::DecodeError;

@@ -1,0 +1,170 @@
+//! SEQUENCE.
+
+ghost use Rattle.std.specs.Prelude.{◌+◌};
+ghost use Rattle.asn1_types.specs.Members.{additions_of};
+ghost use Rattle.aper_defs.specs.Asking.{asks};
+ghost use Rattle.aper_defs.specs.Trees.{sequence};
+ghost use Rattle.aper_types.specs.Types.{sequence_tree, parts_of};
+ghost use Rattle.aper_values.specs.Views.{view};
+ghost use Rattle.aper_frames.specs.Frames.{components_left, component_after, additions_left, addition_after, path_of, next_of, after_components, options_before};
+ghost use Rattle.aper_frames.specs.Steps.{Steps};
+ghost use Rattle.aper_frames.specs.Weights.{sequence_weight, components_weight, additions_weight, frames_weight, Lighter};
+ghost use Rattle.aper_defs.specs.Values as seen;
+
+use aper_asking::ask_extension;
+use aper_cursor::{Cursor, Unanswered};
+use aper_frames::{
+    Addition, AdditionFrame, Additions, ComponentFrame, Components, Flags, Frame, Stack, Turn,
+    ask_inside, ask_unknown,
+};
+use aper_heads::{ask_flags, ask_marks};
+use aper_members::rows::named;
+use aper_values::make::components;
+use aper_values::value::Value;
+use asn1_types::{Component, Extensible};
+use std::alloc::Global;
+
+pub fn begin_sequence<'m>(
+    alloc: Global,
+    cursor: &mut Cursor,
+    frames: &mut Stack<'m>,
+    members: &'m Extensible<Component>,
+) -> Result<Turn, Unanswered>
+    ensures asked { Steps (λ of. asks (path_of frames.old) (sequence_tree of members.now) (next_of of frames.old)) cursor.old cursor.new frames.new result }
+    ensures lighter { Lighter (λ w. sequence_weight w members.now.root (additions_of members.now.additions) + frames_weight w frames.old) frames.new result }
+{
+    let extensible = members.additions.is_some();
+    let additions = named(&members.additions);
+    begin_components(
+        alloc,
+        cursor,
+        frames,
+        extensible,
+        members.root.as_slice(),
+        additions,
+    )
+}
+
+/// A SEQUENCE of these components and additions.
+#[tactic(auto, unfolding(aper_defs::specs::Asking::asks))]
+fn begin_components<'m>(
+    alloc: Global,
+    cursor: &mut Cursor,
+    frames: &mut Stack<'m>,
+    extensible: bool,
+    root: &'m [Component],
+    additions: &'m [Component],
+) -> Result<Turn, Unanswered>
+    ensures asked { Steps (λ of. asks (path_of frames.old) (sequence extensible (parts_of of root.now) (parts_of of additions.now)) (next_of of frames.old))
+        cursor.old cursor.new frames.new result }
+    ensures lighter { Lighter (λ w. sequence_weight w root.now additions.now + frames_weight w frames.old) frames.new result }
+{
+    let extended = ask_extension(cursor, extensible)?;
+    let there = ask_flags(alloc, cursor, root)?;
+    let components = Components {
+        left: root,
+        there: Flags::new(there),
+        made: Vec::new(alloc),
+        additions,
+        extended,
+    };
+    next_component(alloc, cursor, frames, components)
+}
+
+/// After a component.
+pub fn after_component<'m>(
+    alloc: Global,
+    cursor: &mut Cursor,
+    frames: &mut Stack<'m>,
+    components: Components<'m>,
+    value: Value,
+) -> Result<Turn, Unanswered>
+    ensures asked { Steps (λ of. component_after of components.entry (path_of frames.old) (next_of of frames.old) (view value)) cursor.old cursor.new frames.new result }
+    ensures lighter { Lighter (λ w. components_weight w components.entry + frames_weight w frames.old) frames.new result }
+{
+    let mut components = components;
+    components.made.push(Some(value))?;
+    next_component(alloc, cursor, frames, components)
+}
+
+/// The next component, or what comes after the last one.
+fn next_component<'m>(
+    alloc: Global,
+    cursor: &mut Cursor,
+    frames: &mut Stack<'m>,
+    components: Components<'m>,
+) -> Result<Turn, Unanswered>
+    ensures asked { Steps (λ of. components_left of components.entry (path_of frames.old) (next_of of frames.old)) cursor.old cursor.new frames.new result }
+    ensures lighter { Lighter (λ w. components_weight w components.entry + frames_weight w frames.old) frames.new result }
+{
+    let mut others = components;
+    match others.next()? {
+        None => begin_additions(alloc, cursor, frames, others),
+        Some(component) => {
+            let name = component.name.as_slice();
+            frames.push(Frame::Component(ComponentFrame { name, others }))?;
+            Ok(Turn::Read(component.definition))
+        }
+    }
+}
+
+/// The additions after all components.
+fn begin_additions<'m>(
+    alloc: Global,
+    cursor: &mut Cursor,
+    frames: &mut Stack<'m>,
+    components: Components<'m>,
+) -> Result<Turn, Unanswered>
+    ensures asked { Steps (λ of. options_before components.entry.made.items (after_components of components.entry (path_of frames.old) (next_of of frames.old)) seen.no_options) cursor.old cursor.new frames.new result }
+    ensures lighter { Lighter (λ w. components_weight w components.entry + frames_weight w frames.old) frames.new result }
+{
+    let there = ask_marks(alloc, cursor, components.extended)?;
+    let additions = Additions {
+        left: components.additions,
+        there: Flags::new(there),
+        made: Vec::new(alloc),
+        root: components.made,
+    };
+    next_addition(alloc, cursor, frames, additions)
+}
+
+/// After an addition.
+pub fn after_addition<'m>(
+    alloc: Global,
+    cursor: &mut Cursor,
+    frames: &mut Stack<'m>,
+    additions: Additions<'m>,
+    value: Value,
+) -> Result<Turn, Unanswered>
+    ensures asked { Steps (λ of. addition_after of additions.entry (path_of frames.old) (next_of of frames.old) (view value)) cursor.old cursor.new frames.new result }
+    ensures lighter { Lighter (λ w. additions_weight w additions.entry + frames_weight w frames.old) frames.new result }
+{
+    let mut additions = additions;
+    additions.made.push(Some(value))?;
+    next_addition(alloc, cursor, frames, additions)
+}
+
+/// The next addition, or the value where none is left.
+fn next_addition<'m>(
+    alloc: Global,
+    cursor: &mut Cursor,
+    frames: &mut Stack<'m>,
+    additions: Additions<'m>,
+) -> Result<Turn, Unanswered>
+    ensures asked { Steps (λ of. additions_left of additions.entry (path_of frames.old) (next_of of frames.old)) cursor.old cursor.new frames.new result }
+    ensures lighter { Lighter (λ w. additions_weight w additions.entry + frames_weight w frames.old) frames.new result }
+{
+    let mut others = additions;
+    match others.next()? {
+        Addition::End => Ok(Turn::Made(components(others.root, others.made))),
+        Addition::Unnamed => {
+            let frame = Frame::Addition(AdditionFrame { name: None, others });
+            ask_unknown(alloc, cursor, frames, frame)
+        }
+        Addition::Named(component) => {
+            let name = Some(component.name.as_slice());
+            let frame = Frame::Addition(AdditionFrame { name, others });
+            ask_inside(cursor, frames, frame, component.definition)
+        }
+    }
+}
