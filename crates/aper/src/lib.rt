@@ -8,7 +8,7 @@ mod path;
 
 pub use aper_defs::Reason;
 pub use aper_encoding::encode;
-pub use aper_measuring::{is_value, spelled_length};
+pub use aper_value_checks::{is_value, spelled_length};
 pub use aper_values::value::{Element, Ie, Ies, OptValues, Value, Values};
 pub use decoder::decode;
 pub use error::DecodeError;

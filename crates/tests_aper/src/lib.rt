@@ -1,4 +1,4 @@
-//! Tests of aligned PER as it is asked at a place, by public calls alone.
+//! Tests of aligned PER, whole values and what is asked at a place, by public calls alone.
 #![tactic(auto)]
 
 #[cfg(test)]
@@ -8,4 +8,10 @@ mod cursors;
 #[cfg(test)]
 mod heads;
 #[cfg(test)]
+mod refusals;
+#[cfg(test)]
+mod spellings;
+#[cfg(test)]
 mod strings;
+#[cfg(test)]
+mod vectors;
