@@ -51,14 +51,6 @@ module _ (of : ℕ → Tree) where
   after_index root adds p K i = cond (nat_lt i (length root)) (ask_alternative p (parts_of of root) i (λ v. K (seen.chosen i v)))
       (ask_added p (parts_of of adds) (i - length root) (λ v. K (seen.chosen i v)))
 
-  pub choice_same : (ms : Extensible Component) (e : Bool) (root adds : List Component)
-      → e ≡ is_some ms.additions → root ≡ ms.root → adds ≡ additions_of ms.additions
-      → choice_tree of ms ≡ choice e (parts_of of root) (parts_of of adds)
-  choice_same ms e root adds ext rooted added =
-      ap (λ (b : Bool). choice b (parts_of of ms.root) (parts_of of (additions_of ms.additions))) (sym ext)
-      ∙ ap (λ (cs : List Component). choice e (parts_of of cs) (parts_of of (additions_of ms.additions))) (sym rooted)
-      ∙ ap (λ (cs : List Component). choice e (parts_of of root) (parts_of of cs)) (sym added)
-
   pub choice_as : (e : Bool) (root adds : List Component) (p : Path) (K : seen.Value → Prog)
       → asks p (choice e (parts_of of root) (parts_of of adds)) K ≡ ask_index p (length root) e (after_index root adds p K)
   unfolding asks

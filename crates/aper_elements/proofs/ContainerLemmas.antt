@@ -175,7 +175,11 @@ module _ (e : Elements) (fs : List Frame) where
             ≤ elements_weight w e + frames_weight w fs
         less w =
             let contents : contents_weight w known ≤ 2 + rows_weight w e.rows.now = omega (
-              arith, contents_weighs w known, ap (outcome_weight w) is, row_weighs w head.id e.rows.now) in
+              arith,
+              contents_weighs w known,
+              ap (outcome_weight w) is,
+              row_weighs w head.id e.rows.now,
+            ) in
             let after : others.left * (4 + rows_weight w others.rows.now) ≡ others.left * (4 + rows_weight w e.rows.now) =
             ap (λ (rs : List IeRow). others.left * (4 + rows_weight w rs)) rows in
             let whole : e.left * (4 + rows_weight w e.rows.now) ≡ suc others.left * (4 + rows_weight w e.rows.now) =

@@ -1,5 +1,5 @@
 -- Steps that leave less to be read.
-use Rattle.std.proofs.Common.{◌≡◌, ℕ, ◌+◌, ◌*◌, ◌<◌, ◌≤◌, List, [], ◌∷◌, length, Bool, Option, Some, None, Result, Ok, Err, refl, sym, ap, ◌∙◌, arith}
+use Rattle.std.proofs.Common.{◌≡◌, ℕ, ◌+◌, ◌<◌, ◌≤◌, List, [], ◌∷◌, length, Bool, Some, Result, Ok, Err, ap, ◌∙◌, arith}
 use Rattle.asn1_types.specs.declared.definition.TypeId.{TypeId}
 use Rattle.asn1_types.specs.declared.definition.Component.{Component}
 use Rattle.aper_cursor.specs.declared.error.Unanswered.{Unanswered}
@@ -13,7 +13,7 @@ use Rattle.aper_frames.specs.declared.frame.Turn.TheVariants as turns
 use Rattle.aper_frames.specs.declared.parts.Addition.{Addition}
 use Rattle.aper_frames.specs.declared.parts.Addition.TheVariants as additions
 use Rattle.aper_frames.specs.Frames.{IsNamed}
-use Rattle.aper_frames.specs.Weights.{part_weight, parts_weight, components_weight, additions_weight, addition_weight, frame_weight, frames_weight, turn_weight, contents_weight, Lighter}
+use Rattle.aper_frames.specs.Weights.{part_weight, parts_weight, components_weight, additions_weight, addition_weight, frame_weight, frames_weight, contents_weight, Lighter}
 
 -- ---- a value inside one more frame, or in an open type inside one
 pub read_lighter : (f : Frame) (fs more : List Frame) (id : TypeId) (weight : (ℕ → ℕ) → ℕ) → more ≡ f ∷ fs

@@ -1,11 +1,9 @@
 -- Open types inside values.
-use Rattle.std.proofs.Common.{◌≡◌, ℕ, List, ◌∷◌, Result, Ok, Err, refl, sym, ap, ◌∙◌}
+use Rattle.std.proofs.Common.{◌≡◌, ℕ, List, ◌∷◌, Ok, Err, sym, ap, ◌∙◌}
 use Rattle.asn1_types.specs.declared.definition.TypeId.{TypeId}
 use Rattle.aper_defs.specs.declared.reason.Reason.{Reason}
-use Rattle.aper_defs.specs.Trees.{Tree}
-use Rattle.aper_defs.specs.Values as seen
 use Rattle.aper_defs.specs.Fields.{Path, opening, closing, end}
-use Rattle.aper_defs.specs.Questions.{Prog, ask, ask_aligned, ask_raw}
+use Rattle.aper_defs.specs.Questions.{Prog, ask, ask_aligned}
 use Rattle.aper_defs.specs.Asking.{asks}
 use Rattle.aper_defs.specs.Reading.{Cursor, run}
 use Rattle.aper_cursor.specs.declared.error.Unanswered.{Unanswered}
@@ -14,7 +12,6 @@ use Rattle.aper_asking.specs.Going.{fault_at, GoesOnOrMemory}
 use Rattle.aper_heads.specs.declared.raw.RawError.TheVariants as errors
 use Rattle.aper_heads.specs.Raw.{GoesOnRaw}
 use Rattle.aper_values.specs.declared.value.Value.{Value}
-use Rattle.aper_values.specs.Views.{view}
 use Rattle.aper_frames.specs.declared.frame.Frame.{Frame}
 use Rattle.aper_frames.specs.declared.frame.Frame.TheVariants as frames
 use Rattle.aper_frames.specs.declared.frame.Turn.TheVariants as turns

@@ -1,5 +1,5 @@
 -- What a value that is read asks after the value inside it, and on which way that value lies.
-use Rattle.std.specs.Prelude.{◌≡◌, ℕ, suc, ◌+◌, List, [], ◌∷◌, length, Bool, Option, Some, None, option_copied, nat_lt, if◌then◌else◌}
+use Rattle.std.specs.Prelude.{◌≡◌, ℕ, suc, List, [], ◌∷◌, length, Option, Some, None, option_copied, nat_lt, if◌then◌else◌}
 use Rattle.asn1_types.specs.declared.definition.Component.{Component}
 use Rattle.asn1_types.specs.declared.definition.TypeId.{TypeId}
 use Rattle.aper_defs.specs.Trees.{Tree}

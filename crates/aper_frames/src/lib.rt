@@ -10,8 +10,8 @@ mod stack;
 
 pub use flags::Flags;
 pub use frame::{
-    Additions, AdditionFrame, AlternativeFrame, BodyFrame, ComponentFrame, Components, ElementFrame,
-    Elements, Frame, Members, Turn,
+    AdditionFrame, Additions, AlternativeFrame, BodyFrame, ComponentFrame, Components,
+    ElementFrame, Elements, Frame, Members, Turn,
 };
 pub use inside::{ask_contents, ask_inside, ask_unknown};
 pub use parts::Addition;

@@ -12,20 +12,20 @@ returns-in_err-index c =
     let p = err_from_is_err_and c.from_residual.result c.from_residual.ensures.1 in
     rw (p.1, p.2) (record {
       asked = choice_wrong c.args.extensible c.args.root.now c.args.additions.now c.args.frames.now c.args.cursor.now c.ask_index.new.cursor
-        c.in_err-index.field-0.0 (c.in_err-index.ensures {u = tt}).asked;
+          c.in_err-index.field-0.0 (c.in_err-index.ensures {u = tt}).asked;
       lighter = tt;
     })
 
 pub returns-then-index-count : goal.returns-then-index-count
 returns-then-index-count c = record {
   asked = choice_root c.args.extensible c.args.root.now c.args.additions.now c.args.frames.now c.args.cursor.now c.ask_index.new.cursor
-    c.ask_index.new.cursor c.begin_root.new.frames c.begin_root.result c.in_ok-index.index (c.in_ok-index.ensures {u = tt}).asked
-    c.index-root-index.result c.if-index-count.true c.index-root-index.is (c.begin_root.ensures.asked c.ask_index.new.cursor);
+      c.ask_index.new.cursor c.begin_root.new.frames c.begin_root.result c.in_ok-index.index (c.in_ok-index.ensures {u = tt}).asked
+      c.index-root-index.result c.if-index-count.true c.index-root-index.is (c.begin_root.ensures.asked c.ask_index.new.cursor);
   lighter = lighter_than c.begin_root.result c.begin_root.new.frames
-    (λ w. part_weight w (Some c.index-root-index.result) + frames_weight w c.args.frames.now)
-    (λ w. choice_weight w c.args.root.now c.args.additions.now + frames_weight w c.args.frames.now)
-    (λ w. omega (arith, part_at w c.args.root.now c.in_ok-index.index c.index-root-index.result c.if-index-count.true c.index-root-index.is))
-    c.begin_root.ensures.lighter;
+      (λ w. part_weight w (Some c.index-root-index.result) + frames_weight w c.args.frames.now)
+      (λ w. choice_weight w c.args.root.now c.args.additions.now + frames_weight w c.args.frames.now)
+      (λ w. omega (arith, part_at w c.args.root.now c.in_ok-index.index c.index-root-index.result c.if-index-count.true c.index-root-index.is))
+      c.begin_root.ensures.lighter;
 }
 
 pub returns-else-index-count : goal.returns-else-index-count
@@ -34,10 +34,10 @@ returns-else-index-count c =
     let at = got c.args.additions.now i c.get.result c.get.ensures.lookup.0 c.get.ensures.lookup.1 in
     record {
       asked = choice_added c.args.extensible c.args.root.now c.args.additions.now c.args.frames.now c.args.cursor.now c.ask_index.new.cursor
-        c.begin_added.new.cursor c.begin_added.new.frames c.begin_added.result c.in_ok-index.index (c.in_ok-index.ensures {u = tt}).asked
-        (option_copied c.get.result) c.if-index-count.false at c.begin_added.ensures.asked;
+          c.begin_added.new.cursor c.begin_added.new.frames c.begin_added.result c.in_ok-index.index (c.in_ok-index.ensures {u = tt}).asked
+          (option_copied c.get.result) c.if-index-count.false at c.begin_added.ensures.asked;
       lighter = lighter_than c.begin_added.result c.begin_added.new.frames
-        (λ w. part_weight w (option_copied c.get.result) + 3 + frames_weight w c.args.frames.now)
-        (λ w. choice_weight w c.args.root.now c.args.additions.now + frames_weight w c.args.frames.now)
-        (λ w. omega (arith, part_got w c.args.additions.now i (option_copied c.get.result) at)) c.begin_added.ensures.lighter;
+          (λ w. part_weight w (option_copied c.get.result) + 3 + frames_weight w c.args.frames.now)
+          (λ w. choice_weight w c.args.root.now c.args.additions.now + frames_weight w c.args.frames.now)
+          (λ w. omega (arith, part_got w c.args.additions.now i (option_copied c.get.result) at)) c.begin_added.ensures.lighter;
     }

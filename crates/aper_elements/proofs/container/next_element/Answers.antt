@@ -21,8 +21,8 @@ returns c =
     let some : c.args.elements.left ≡ suc (c.args.elements.left - 1) = omega arith in
     record {
       asked = element_steps c.args.elements c.args.frames.now others c.in_ok-head.head c.row_type-known.result c.ask_contents.new.frames
-        c.ask_contents.result some refl c.row_type-known.ensures c.args.cursor.now c.ask_element_head.new.cursor c.ask_contents.new.cursor
-        refl c.rows_left-others.ensures (c.in_ok-head.ensures {u = tt}).asked c.ask_contents.ensures.asked;
+          c.ask_contents.result some refl c.row_type-known.ensures c.args.cursor.now c.ask_element_head.new.cursor c.ask_contents.new.cursor
+          refl c.rows_left-others.ensures (c.in_ok-head.ensures {u = tt}).asked c.ask_contents.ensures.asked;
       lighter = element_lighter c.args.elements c.args.frames.now others c.in_ok-head.head c.row_type-known.result c.ask_contents.new.frames
-        c.ask_contents.result some refl c.row_type-known.ensures c.ask_contents.ensures.lighter;
+          c.ask_contents.result some refl c.row_type-known.ensures c.ask_contents.ensures.lighter;
     }
