@@ -2,6 +2,10 @@
 #![tactic(auto)]
 
 pub mod bounds;
+pub mod contents;
+pub mod heads;
+pub mod order;
 pub mod simple;
 #[cfg(test)]
 mod tests;
+pub mod values;
