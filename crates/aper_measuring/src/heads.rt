@@ -1,15 +1,15 @@
 //! What stands before the members of a value, and which may be there.
 
-ghost use Rattle.std.specs.Prelude.{◌≡◌, ◌↔◌, IsTrue, drop, length};
+ghost use Rattle.std.specs.Prelude.{◌≡◌, ◌↔◌, IsTrue};
 ghost use Rattle.aper_defs.specs.Layouts.{mark_fields};
 ghost use Rattle.aper_defs.specs.Membership.{AreAdditions, some_present};
 ghost use Rattle.aper_values.specs.Views.{options_view};
 ghost use Rattle.aper_widths.specs.Ends.{Ends};
-ghost use Rattle.aper_measuring.specs.Heads.{optional_count, first_type};
+ghost use Rattle.aper_measuring.specs.Heads.{optional_count};
 
 use aper_values::value::Value;
 use aper_widths::place::{Place, passed};
-use asn1_types::{Component, TypeId};
+use asn1_types::Component;
 
 /// How many components are OPTIONAL: each has a bit that says whether it is there.
 pub fn optional_count(parts: &[Component]) -> usize
@@ -28,7 +28,13 @@ pub fn optional_count(parts: &[Component]) -> usize
 pub fn are_additions(extensible: bool, additions: &[Option<Value>]) -> bool
     ensures { IsTrue result ↔ AreAdditions extensible (options_view additions.now) }
 {
-    additions.is_empty() || (extensible && additions.len() <= 64 && is_some_there(additions))
+    if additions.is_empty() {
+        return true;
+    }
+    if !extensible || additions.len() > 64 {
+        return false;
+    }
+    is_some_there(additions)
 }
 
 fn is_some_there(additions: &[Option<Value>]) -> bool
@@ -50,14 +56,4 @@ pub fn after_marks(place: Place, additions: &[Option<Value>]) -> Place
         return place;
     }
     passed(place, 7 + additions.len() as u128)
-}
-
-/// The type of the part at a place.
-pub fn definition_at(parts: &[Component], place: usize) -> Option<TypeId>
-    ensures { result ≡ first_type (drop place parts.now) }
-{
-    match parts.get(place) {
-        Some(part) => Some(part.definition),
-        None => None,
-    }
 }

@@ -1,4 +1,5 @@
-//! Whether values are of a type, and where their fields end (BASIC-PER aligned, ITU-T X.691).
+//! Values of types without types inside: whether they are of a type, and where their fields end; and what stands around the members of
+//! the others (BASIC-PER aligned, ITU-T X.691).
 #![tactic(auto)]
 
 pub mod bounds;
@@ -6,6 +7,3 @@ pub mod contents;
 pub mod heads;
 pub mod order;
 pub mod simple;
-#[cfg(test)]
-mod tests;
-pub mod values;

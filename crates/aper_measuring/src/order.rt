@@ -1,16 +1,29 @@
 //! The order of information elements.
 
-ghost use Rattle.std.specs.Prelude.{◌≡◌, ℕ, nat_lt, option_map};
-ghost use Rattle.aper_defs.specs.Trees.{Tree, slots, mandatory_count};
+ghost use Rattle.std.specs.Prelude.{◌≡◌, ℕ, List, nat_lt, option_map};
+ghost use Rattle.aper_defs.specs.Trees.{Tree, Slot, slots, has_slot, mandatory_count};
 ghost use Rattle.aper_types.specs.Types.{rows_of, is_mandatory};
-ghost use Rattle.aper_measuring.specs.Order.{LeavesRows};
+ghost use Rattle.aper_measuring.specs.Order.{LeavesRows, LeavesKnown};
 
 use asn1_assignments::{IeRow, Presence};
 
-/// The rows that may still come after an element of this id, of those that may come; none where no row has it, or where it passes over a
-/// mandatory one.
-pub fn rows_after(left: &[IeRow], id: u16) -> Option<&[IeRow]>
-    ensures { (of : ℕ → Tree) → LeavesRows id (slots (rows_of of left.now)) (option_map (λ rows. slots (rows_of of rows.now)) result) }
+/// The rows that may still come after an element with this id, where these may still come. None where the element itself may not come:
+/// one that a row of its set has comes among these, and passes over no mandatory one; any other one comes anywhere.
+pub fn rows_left<'m>(is_known: bool, left: &'m [IeRow], id: u16) -> Option<&'m [IeRow]>
+    ensures { (of : ℕ → Tree) (known : List Slot) → has_slot id known ≡ is_known
+        → LeavesRows known id (slots (rows_of of left.now))
+        (option_map (λ rows. slots (rows_of of rows.now)) result) }
+{
+    if !is_known {
+        return Some(left);
+    }
+    rows_after(left, id)
+}
+
+/// The rows after the one with this id; none where there is none, or where a mandatory one comes before it.
+fn rows_after(left: &[IeRow], id: u16) -> Option<&[IeRow]>
+    ensures { (of : ℕ → Tree)
+        → LeavesKnown id (slots (rows_of of left.now)) (option_map (λ rows. slots (rows_of of rows.now)) result) }
 {
     for (i, row) in left.iter().enumerate() {
         if row.id == id {

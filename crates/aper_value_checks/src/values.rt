@@ -1,22 +1,21 @@
 //! Values: whether they are of a type, and where their fields end.
 
-ghost use Rattle.std.specs.Prelude.{◌≡◌, ◌↔◌, ◌<◌, ◌^◌, ◌-◌, IsTrue, [], length, min, Option};
+ghost use Rattle.std.specs.Prelude.{◌≡◌, ◌<◌, length, Option};
 ghost use Rattle.asn1_types.specs.declared.definition.Size.{Size};
 ghost use Rattle.asn1_module.specs.Links.{AreBelow, OptionBelow, PartsBelow, IesBelow, ProceduresBelow};
+ghost use Rattle.aper_defs.specs.Bounds.{IsBounded, IsSizeBounded};
 ghost use Rattle.aper_defs.specs.Trees.{container, pdu, sequence_of};
-ghost use Rattle.aper_defs.specs.Bits.{octet_count};
-ghost use Rattle.aper_defs.specs.Membership.{Has};
-ghost use Rattle.aper_defs.specs.Bounds.{IsSizeBounded};
-ghost use Rattle.aper_defs.specs.Spelling.{whole_layout};
+ghost use Rattle.aper_types.specs.Forms.{form_tree, IsFormInside};
 ghost use Rattle.aper_types.specs.Types.{tree, rows_of, procedures_of, sequence_tree, choice_tree};
 ghost use Rattle.aper_values.specs.Views.{view};
 ghost use Rattle.aper_measuring.specs.Measured.{ValueMeasured, InsideMeasured, ComponentsMeasured, AdditionsMeasured};
+ghost use Rattle.aper_encoding.specs.Parts.{part_type};
 
-use crate::bounds::{is_index_of, is_member_count_of};
-use crate::contents::{opened_end, raw_end};
-use crate::heads::{after_marks, are_additions, definition_at, optional_count};
-use crate::order::{has_mandatory, rows_after};
-use crate::simple::{
+use aper_measuring::bounds::{is_index_of, is_member_count_of};
+use aper_measuring::contents::{opened_end, raw_end};
+use aper_measuring::heads::{after_marks, are_additions, optional_count};
+use aper_measuring::order::{has_mandatory, rows_left};
+use aper_measuring::simple::{
     bit_string_end, boolean_end, enumerated_end, integer_end, octet_string_end,
     printable_string_end,
 };
@@ -24,19 +23,40 @@ use aper_members::rows::{message_type, named, row_type};
 use aper_types::{Form, form_of};
 use aper_values::value::Value;
 use aper_widths::numbers::{after_extension, after_index};
-use aper_widths::place::{Place, octet_count, padded, passed};
+use aper_widths::place::{Place, padded, passed};
 use aper_widths::strings::after_count;
 use asn1_assignments::{IeRow, ProcedureRow};
 use asn1_module::Module;
 use asn1_types::{Component, Extensible, Size, TypeId};
 
+/// The type of the part at a place, counted from 0.
+fn part_type(parts: &[Component], place: usize) -> Option<TypeId>
+    ensures { result ≡ part_type place parts.now }
+{
+    match parts.get(place) {
+        Some(part) => Some(part.definition),
+        None => None,
+    }
+}
+
 /// The place after a value's fields, where they are put from a place on; none where it isn't one of the type.
 #[cycle(measure)]
-fn value_end(m: &Module, id: TypeId, value: &Value, place: Place) -> Option<Place>
+pub(crate) fn value_end(m: &Module, id: TypeId, value: &Value, place: Place) -> Option<Place>
     requires { id.number < length m.now.nodes }
     ensures { ValueMeasured (tree m.now id.number) (view value.now) place result }
 {
-    match form_of(m, id) {
+    form_end(m, form_of(m, id), value, place)
+}
+
+/// The place after a value of a type of a form.
+#[cycle(measure)]
+#[tactic(auto, unfolding(aper_defs::specs::Bounds::IsBounded))]
+fn form_end(m: &Module, form: Form<'_>, value: &Value, place: Place) -> Option<Place>
+    requires inside { IsFormInside (length m.now.nodes) form }
+    requires bounded { IsBounded (form_tree (tree m.now) form) }
+    ensures { ValueMeasured (form_tree (tree m.now) form.entry) (view value.now) place result }
+{
+    match form {
         Form::Boolean => boolean_end(value, place),
         Form::Integer {
             low,
@@ -113,12 +133,13 @@ fn additions_end(
         let Some(addition) = addition else {
             continue;
         };
-        place = inside_end(m, definition_at(parts, i), addition, place)?;
+        place = inside_end(m, part_type(parts, i), addition, place)?;
     }
     Some(place)
 }
 
 #[cycle(measure)]
+#[tactic(auto, unfolding(aper_defs::specs::Membership::Has))]
 fn sequence_end(
     m: &Module,
     members: &Extensible<Component>,
@@ -146,6 +167,7 @@ fn sequence_end(
 }
 
 #[cycle(measure)]
+#[tactic(auto, unfolding(aper_defs::specs::Membership::Has))]
 fn choice_end(
     m: &Module,
     members: &Extensible<Component>,
@@ -168,11 +190,12 @@ fn choice_end(
     if index < root.len() {
         return value_end(m, root[index].definition, body, begin);
     }
-    let addition = definition_at(named(&members.additions), index - root.len());
+    let addition = part_type(named(&members.additions), index - root.len());
     inside_end(m, addition, body, begin)
 }
 
 #[cycle(measure)]
+#[tactic(auto, unfolding(aper_defs::specs::Membership::Has))]
 fn list_end(
     m: &Module,
     size: Option<Size>,
@@ -198,6 +221,7 @@ fn list_end(
 }
 
 #[cycle(measure)]
+#[tactic(auto, unfolding(aper_defs::specs::Membership::Has))]
 fn container_end(m: &Module, rows: &[IeRow], value: &Value, place: Place) -> Option<Place>
     requires { IesBelow (length m.now.nodes) rows.now }
     ensures { ValueMeasured (container (rows_of (tree m.now) rows.now)) (view value.now) place result }
@@ -215,9 +239,7 @@ fn container_end(m: &Module, rows: &[IeRow], value: &Value, place: Place) -> Opt
             return None;
         }
         let definition = row_type(ie.id, rows);
-        if definition.is_some() {
-            left = rows_after(left, ie.id)?;
-        }
+        left = rows_left(definition.is_some(), left, ie.id)?;
         place = inside_end(m, definition, &ie.body, passed(padded(place), 18))?;
     }
     if has_mandatory(left) {
@@ -227,6 +249,7 @@ fn container_end(m: &Module, rows: &[IeRow], value: &Value, place: Place) -> Opt
 }
 
 #[cycle(measure)]
+#[tactic(auto, unfolding(aper_defs::specs::Membership::Has))]
 fn message_end(m: &Module, rows: &[ProcedureRow], value: &Value, place: Place) -> Option<Place>
     requires { ProceduresBelow (length m.now.nodes) rows.now }
     ensures { ValueMeasured (pdu (procedures_of (tree m.now) rows.now)) (view value.now) place result }
@@ -251,24 +274,4 @@ fn message_end(m: &Module, rows: &[ProcedureRow], value: &Value, place: Place) -
     }
     let head = passed(padded(passed(place, 3)), 10);
     inside_end(m, message_type(*outcome, *code, rows), body, head)
-}
-
-/// Whether a value is one of a type.
-pub fn is_value(m: &Module, id: TypeId, value: &Value) -> bool
-    requires { id.number < length m.now.nodes }
-    ensures { IsTrue result ↔ Has [] (tree m.now id.number) (view value.now) }
-{
-    value_end(m, id, value, 0).is_some()
-}
-
-/// How many octets a value's spelling has, or 2^64 - 1 where they are more.
-pub fn spelled_length(m: &Module, id: TypeId, value: &Value) -> u64
-    requires inside { id.number < length m.now.nodes }
-    requires member { Has [] (tree m.now id.number) (view value.now) }
-    ensures { result ≡ min (octet_count (whole_layout (tree m.now id.number) (view value.now))) (2 ^ 64 - 1) }
-{
-    match value_end(m, id, value, 0) {
-        Some(end) => octet_count(end).min(u128::from(u64::MAX)) as u64,
-        None => unreachable!(),
-    }
 }
