@@ -36,7 +36,7 @@ pub fn decode(
 
 /// The same error with its way as text.
 fn printed(alloc: Global, error: Undecoded) -> DecodeError
-    ensures { IsPrinted error result }
+    ensures { IsPrinted error.entry result }
 {
     match error {
         Undecoded::Memory => DecodeError::Memory,
