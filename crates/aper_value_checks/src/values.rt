@@ -9,7 +9,7 @@ ghost use Rattle.aper_types.specs.Forms.{form_tree, IsFormInside};
 ghost use Rattle.aper_types.specs.Types.{tree, rows_of, procedures_of, sequence_tree, choice_tree};
 ghost use Rattle.aper_values.specs.Views.{view};
 ghost use Rattle.aper_measuring.specs.Measured.{ValueMeasured, InsideMeasured, ComponentsMeasured, AdditionsMeasured};
-ghost use Rattle.aper_encoding.specs.Parts.{part_type};
+ghost use Rattle.aper_value_checks.specs.Parts.{part_type};
 
 use aper_measuring::bounds::{is_index_of, is_member_count_of};
 use aper_measuring::contents::{opened_end, raw_end};

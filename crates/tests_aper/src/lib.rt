@@ -1,4 +1,5 @@
-//! Tests of aligned PER, whole values and what is asked at a place, by public calls alone.
+//! Tests of aligned PER by public calls alone: whole values, whether they are of their types and how long they are, and what is asked
+//! at a place.
 #![tactic(auto)]
 
 #[cfg(test)]
@@ -7,6 +8,8 @@ mod asked;
 mod cursors;
 #[cfg(test)]
 mod heads;
+#[cfg(test)]
+mod measuring;
 #[cfg(test)]
 mod refusals;
 #[cfg(test)]
