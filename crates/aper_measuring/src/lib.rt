@@ -1,7 +1,9 @@
-//! Whether values are of a type, and where their fields end (BASIC-PER aligned, ITU-T X.691).
+//! Values of types without types inside: whether they are of a type, and where their fields end; and what stands around the members of
+//! the others (BASIC-PER aligned, ITU-T X.691).
 #![tactic(auto)]
 
 pub mod bounds;
+pub mod contents;
+pub mod heads;
+pub mod order;
 pub mod simple;
-#[cfg(test)]
-mod tests;

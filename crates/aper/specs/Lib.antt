@@ -1,0 +1,3 @@
+pub mod PathText
+pub mod Refusals
+pub mod inside

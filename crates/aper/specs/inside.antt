@@ -1,0 +1,2 @@
+-- Internal: what ties the functions of the decoder together.
+pub mod Printed
