@@ -15,8 +15,8 @@ use Rattle.command_defs.specs.Statuses.{done_status, line_status, common_status,
 use Rattle.command_check.specs.declared.end.CheckEnd.{CheckEnd}
 use Rattle.command_check.specs.declared.end.CheckEnd.TheVariants.{Checked, NoModule, Script, Common}
 use Rattle.command_check.specs.declared.input.CheckedModule.{CheckedModule}
-use Rattle.command_check.specs.declared.input.CheckStop.{CheckStop}
-use Rattle.command_check.specs.declared.input.CheckStop.TheVariants as stops
+use Rattle.input_module.specs.declared.stop.ModuleStop.{ModuleStop}
+use Rattle.input_module.specs.declared.stop.ModuleStop.TheVariants as stops
 use Rattle.command_check.specs.Check.{ChecksInput}
 
 -- ---- how it ends
@@ -51,7 +51,7 @@ check_last_lines (Common end) = common_last_lines end
 
 -- ---- what is written
 
-abbrev pub end_of : Result CheckedModule CheckStop → CheckEnd
+abbrev pub end_of : Result CheckedModule ModuleStop → CheckEnd
 end_of (Ok checked) = Checked
 end_of (Err (stops.NoModule line column reason)) = NoModule line reason
 end_of (Err (stops.Script place reason)) = Script place reason
@@ -67,19 +67,19 @@ fault_line line column reason =
     codes "module" then decimal line then decimal column then decimal (module_reason_code reason) ++ 10 ∷ []
 
 -- the line of a module or of its fault; another end has none
-unfoldable pub report_of : Result CheckedModule CheckStop → List ℕ
+unfoldable pub report_of : Result CheckedModule ModuleStop → List ℕ
 report_of (Ok checked) = module_line checked.name checked.types
 report_of (Err (stops.NoModule line column reason)) = fault_line line column reason
 report_of (Err (stops.Script place reason)) = []
 report_of (Err (stops.Input end)) = []
 
 -- that line, and the `stop` line of an end that has one
-abbrev pub check_text : Result CheckedModule CheckStop → List ℕ
+abbrev pub check_text : Result CheckedModule ModuleStop → List ℕ
 check_text answer = report_of answer ++ print (check_last_lines (end_of answer))
 
 -- The text of the answer was written; or a front of it where a write failed; or nothing, out of
 -- memory.
-pub data PrintsAnswer (before after : SinkAt) (answer : Result CheckedModule CheckStop) (end : CheckEnd) : Type 0 where
+pub data PrintsAnswer (before after : SinkAt) (answer : Result CheckedModule ModuleStop) (end : CheckEnd) : Type 0 where
   Written : end ≡ end_of answer → Prints before after (check_text answer)
       → PrintsAnswer before after answer end
   Cut : end ≡ Common WriteFault → PrintsFront before after (check_text answer)
@@ -88,7 +88,7 @@ pub data PrintsAnswer (before after : SinkAt) (answer : Result CheckedModule Che
 
 -- what the input is, that it was reported, and where a call failed
 pub record CheckMeets (before after : OutsideAt) (end : CheckEnd) : Type 0 where
-  pub answer : Result CheckedModule CheckStop
+  pub answer : Result CheckedModule ModuleStop
   pub checks : ChecksInput before.source after.source answer
   pub prints : PrintsAnswer before.sink after.sink answer end
   pub calls : CallsTo before after (check_status end).code

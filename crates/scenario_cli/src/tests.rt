@@ -133,7 +133,24 @@ fn whole_calls(rt: HostRuntime) -> Result<(), Fail> {
         ("check", "", status(4, 1, 1), "stop 4 1 1\n"),
         ("check", "module", status(4, 1, 1), "stop 4 1 1\n"),
         ("check", "module x\n", status(4, 1, 1), "stop 4 1 1\n"),
-        ("check", "module builtin\n", status(4, 1, 1), "stop 4 1 1\n"),
+        (
+            "check",
+            "module builtin\n",
+            status(0, 0, 0),
+            "module SplitGNB 53\n",
+        ),
+        (
+            "check",
+            "module builtin 2",
+            status(0, 0, 0),
+            "module SplitGNB 53\n",
+        ),
+        (
+            "check",
+            "module builtin\n\n",
+            status(4, 2, 4),
+            "stop 4 2 4\n",
+        ),
         ("check", "module text x\n", status(4, 1, 4), "stop 4 1 4\n"),
         ("check", MODULE, status(0, 0, 0), "module M 1\n"),
         (
