@@ -6,11 +6,11 @@ ghost use Rattle.command_defs.specs.Outside.{outside};
 ghost use Rattle.command_check.specs.Report.{end_of as end_of_result, module_line as module_text, report_of as report_text, check_text, check_status, CheckMeets};
 ghost use Rattle.command_check.specs.Whole.{ChecksWholly};
 
-use crate::end::{CheckEnd, module_code_of};
+use crate::end::CheckEnd;
 use crate::input::CheckedModule;
 use crate::module::check_module;
 use command_defs::CommonEnd;
-use command_output::{end_of_input, text_of, write_all};
+use command_output::{end_of_input, fault_text, text_of, write_all};
 use gnb_base::outside::{Sink, Source};
 use gnb_types::octets::{Memory, Octets};
 use input_module::ModuleStop;
@@ -56,11 +56,7 @@ fn report_of(alloc: Global, answer: &Result<CheckedModule, ModuleStop>) -> Resul
                 column,
                 reason,
             },
-        ) => {
-            let code = module_code_of(*reason);
-            let text = format!(in alloc; "module {line} {column} {code}\n")?;
-            Ok(Octets::from_vec(text.into_bytes()))
-        }
+        ) => fault_text(alloc, *line, *column, *reason),
         Err(_) => Ok(Octets::new(alloc)),
     }
 }

@@ -1,5 +1,6 @@
 -- The text so far, one line more, and each end.
-use Rattle.std.proofs.Common.{◌≡◌, ℕ, ◌+◌, List, [], ◌∷◌, ◌++◌, length, true, false, Option, Some, None, Result, Ok, Err, refl, sym, ap, ◌∙◌, subst, inl, inr, length-append, arith}
+use Rattle.std.proofs.Common.{◌≡◌, ℕ, ◌+◌, ◌-◌, take, List, [], ◌∷◌, ◌++◌, length, true, false, Option, Some, None, Result, Ok, Err, refl, sym, ap, ◌∙◌, subst, inl, inr, length-append, arith}
+use Rattle.gnb_types.proofs.Choices.{by_test}
 use Rattle.gnb_base.specs.declared.lines.Line.{Line}
 use Rattle.gnb_base.specs.declared.lines.ReadPhase.TheVariants.{Going}
 use Rattle.gnb_base.specs.Lines.{line_feed}
@@ -26,7 +27,7 @@ use Rattle.input_module.specs.declared.text.Gathered.{Gathered}
 use Rattle.input_module.specs.declared.text.Taken.{Taken}
 use Rattle.input_module.specs.Header.{header_of}
 use Rattle.input_module.specs.Text.{IsUnclosed, is_end}
-use Rattle.input_module.specs.Module.{StopsModule, IsUnfinished, AtHeader, InText, Empty, NoHeader}
+use Rattle.input_module.specs.Module.{StopsModule, IsUnfinished, AtHeader, InText, IsPart, Unfinished, Whole, Empty, NoHeader}
 use Rattle.input_module.specs.Taking.{StopsTaking}
 use Rattle.input_module.specs.inside.Steps.{HasHeader, HeaderStops, HeaderUnread, NoLine, WrongLine, TextAt, text_at, TakesLine, TakesNone, TurnStops, Unread, NoRoom, TakesText, TakesProfile, TurnMeets, TakenMeets}
 
@@ -40,7 +41,7 @@ stops_input : (newest : Version) (left : Option (List ℕ)) (split : InputSplit)
     → EndsReading split why → StopsModule newest left split (Input why)
 stops_input newest left split (inputs.ReadFault taken) passes h = (passes, h)
 stops_input newest left split inputs.TooLong passes h = (passes, h)
-stops_input newest left split inputs.Memory passes h = tt
+stops_input newest left split inputs.Memory passes h = Unfinished passes
 
 unread : {newest : Version} {s0 s1 s2 : SourceAt} {old new : Reading} {taken : List ℕ} {lines : List (List ℕ)} (why : InputEnd) (stop : ModuleStop)
     → StandsAfter s0 s1 old taken lines
@@ -174,6 +175,22 @@ module _ {newest : Version} {s0 : SourceAt} {old : TextAt} (new : TextAt) {size 
     last = s.last-is;
   }
 
+-- the lines with one more, which may be the last one
+part_more : {newest : Version} {left : Option (List ℕ)} {split : InputSplit} (header : List ℕ) (body : List (List ℕ)) (line : List ℕ)
+    → split.lines ≡ header ∷ body ++ line ∷ [] → header_of newest header ≡ Ok Text → IsUnclosed body
+    → IsPart newest left split
+part_more {newest = newest} {left = left} {split = split} header body line parts is others =
+    by_test (IsPart newest left split) (is_end line)
+    (λ last. Whole (take (length split.taken - (length header + 1)) (joined (body ++ line ∷ []))) (record {
+      header = header;
+      body = body ++ line ∷ [];
+      parts = parts;
+      is_header = is;
+      whole = inl (record { front = body; last = line; parts = refl; others = others; end = last });
+      octets = refl;
+    }))
+    (λ still. Unfinished (InText header (body ++ line ∷ []) parts is (each_more (λ (l : List ℕ). is_end l ≡ false) body line others still)))
+
 pub turn_stops : {newest : Version} {s0 : SourceAt} {old : TextAt} (new : TextAt) {size last : ℕ} (stop : ModuleStop)
     → SoFar newest s0 old size last → TurnStops old new stop
     → StopsTaking newest s0 new.source stop
@@ -181,7 +198,7 @@ turn_stops new stop s (Unread why u e) = unread why stop s.stands (λ going more
 turn_stops {newest = newest} {s0 = s0} new stop s (NoRoom line m e) =
     let stands = line_stands line s.stands m in
     subst (λ (x : ModuleStop). StopsTaking newest s0 new.source x) (sym e)
-    (record { split = split_of new.reading (s.taken ++ m.taken) (s.header ∷ s.body ++ line.text ∷ []); input = takes_of stands; stops = tt; reads = stands.reads })
+    (record { split = split_of new.reading (s.taken ++ m.taken) (s.header ∷ s.body ++ line.text ∷ []); input = takes_of stands; stops = part_more s.header s.body line.text refl s.is_header s.others; reads = stands.reads })
 
 -- ---- at the exits of the code
 

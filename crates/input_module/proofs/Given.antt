@@ -18,7 +18,7 @@ use Rattle.input_module.specs.declared.stop.ModuleStop.{ModuleStop}
 use Rattle.input_module.specs.declared.stop.ModuleStop.TheVariants.{NoModule, Script, Input}
 use Rattle.input_module.specs.declared.text.Gathered.{Gathered}
 use Rattle.input_module.specs.Text.{IsUnclosed, IsClosed, IsOneModule}
-use Rattle.input_module.specs.Module.{IsUpToEnd, HasText, NamesProfile, GivesModule, StopsModule, Unended}
+use Rattle.input_module.specs.Module.{IsUpToEnd, HasText, NamesProfile, GivesModule, StopsModule, Whole, Unended}
 use Rattle.input_module.specs.Taking.{FaultsOfStop, StillGives, TakesModule}
 use Rattle.input_module.specs.declared.text.Taken.{Taken}
 use Rattle.input_module.specs.declared.text.Taken.TheVariants as takes
@@ -119,7 +119,7 @@ module _ {newest : Version} {s0 s1 : SourceAt} {reading : Reading} {gathered : G
   )
   stops_so (Input (inputs.ReadFault taken)) h = absurd h
   stops_so (Input inputs.TooLong) h = absurd h
-  stops_so (Input inputs.Memory) h = (tt, t.stands.reads)
+  stops_so (Input inputs.Memory) h = (Whole text has_text, t.stands.reads)
 
   pub module_stops : (stop : ModuleStop) (result : Result GivenModule ModuleStop) → result ≡ Err stop → AloneMeets text gathered.last (Err stop)
       → TakesModule newest s0 s1 reading result
@@ -146,7 +146,7 @@ profile_given {newest = newest} {s0 = s0} {s1 = s1} reading found version e h =
 
 -- where it has ended, it makes no difference when it was found to have
 pub gives_at_end : (newest : Version) (left left1 : Option (List ℕ)) (split split1 : InputSplit) (lines : List (List ℕ)) (found : GivenModule)
-    → split1.taken ≡ split.taken → split1.lines ≡ lines
+    → split1.taken ≡ split.taken → split1.lines ≡ split.lines
     → IsReadToEnd left1 split1 → GivesModule newest left split lines found → GivesModule newest left1 split1 lines found
 gives_at_end newest left left1 split split1 lines (given.Text m) e same all h = record {
   text = h.text;
@@ -163,5 +163,5 @@ gives_at_end newest left left1 split split1 lines (given.Text m) e same all h = 
   where
     by_end : IsClosed h.has.body ⊎ IsUpToEnd left split lines h.has.body → IsClosed h.has.body ⊎ IsUpToEnd left1 split1 lines h.has.body
     by_end (inl closed) = inl closed
-    by_end (inr rest) = inr (record { others = rest.others; alone = same; all = all })
+    by_end (inr rest) = inr (record { others = rest.others; alone = same ∙ rest.alone; all = all })
 gives_at_end newest left left1 split split1 lines (given.Builtin version) e same all h = h

@@ -93,10 +93,15 @@ pub data IsUnfinished (newest : Version) (split : InputSplit) : Type 0 where
   InText : (header : List ℕ) (body : List (List ℕ)) → split.lines ≡ header ∷ body → header_of newest header ≡ Ok Text → IsUnclosed body
       → IsUnfinished newest split
 
--- out of memory is unspecified
+-- these lines are no more than a header and a text: the text hasn't ended, or it was taken whole
+pub data IsPart (newest : Version) (left : Option (List ℕ)) (split : InputSplit) : Type 0 where
+  Unfinished : IsUnfinished newest split → IsPart newest left split
+  Whole : (text : List ℕ) → HasText newest left split split.lines text → IsPart newest left split
+
+-- memory may run out at any part of it
 abbrev pub StopsModule : (newest : Version) → Option (List ℕ) → InputSplit → ModuleStop → Type 0
 StopsModule newest left split (stops.NoModule line column reason) = IsNoModule newest left split line column reason
 StopsModule newest left split (stops.Script place reason) = IsWrongModule newest left split place reason
 StopsModule newest left split (stops.Input (inputs.ReadFault taken)) = IsUnfinished newest split × IsReadFault split taken
 StopsModule newest left split (stops.Input inputs.TooLong) = IsUnfinished newest split × IsTooLong split
-StopsModule newest left split (stops.Input inputs.Memory) = Unit {0}
+StopsModule newest left split (stops.Input inputs.Memory) = IsPart newest left split

@@ -20,7 +20,10 @@ pub enum ModuleStop {
     },
     /// The line at `place` is no header or one too many, or it is the last one of a text that goes
     /// on after its module.
-    Script { place: u64, reason: TextReason },
+    Script {
+        place: u64,
+        reason: TextReason,
+    },
     /// No further line could be read, or out of memory.
     Input(InputEnd),
 }
