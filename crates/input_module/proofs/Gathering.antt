@@ -5,23 +5,20 @@ use Rattle.gnb_base.specs.declared.lines.Line.{Line}
 use Rattle.gnb_base.specs.declared.lines.ReadPhase.TheVariants.{Going}
 use Rattle.gnb_base.specs.Lines.{line_feed}
 use Rattle.gnb_base.specs.Outside.{SourceAt}
-use Rattle.gnb_base.specs.Reading.{Reading, fresh, NextMeets}
+use Rattle.gnb_base.specs.Reading.{Reading, fresh}
 use Rattle.input_defs.specs.declared.InputEnd.{InputEnd}
 use Rattle.input_defs.specs.declared.InputEnd.TheVariants as inputs
 use Rattle.input_defs.specs.Ends.{EndsReading}
-use Rattle.input_defs.specs.Faults.{NoReadFailed}
 use Rattle.input_defs.specs.Split.{InputSplit, input_split, rest_of, joined}
 use Rattle.input_defs.specs.Standing.{StandsAfter, split_of}
 use Rattle.input_lines.specs.ReadsLine.{StopsReading}
-use Rattle.input_lines.proofs.Sources.{none_then_none}
 use Rattle.input_lines.proofs.Standing.{stands_first, takes_of, line_stands, comes_next, ends_at, end_stands, joined-more, each_more}
-use Rattle.input_lines.proofs.Stopped.{Stops, stops_at, going_at, takes_on}
-use Rattle.script_words.specs.declared.reason.TextReason.TheVariants.{Word}
+use Rattle.input_lines.proofs.Stopped.{stops_at, going_at, takes_on}
 use Rattle.profile.specs.declared.version.Version.{Version}
 use Rattle.input_module.specs.declared.header.ModuleHeader.{ModuleHeader}
 use Rattle.input_module.specs.declared.header.ModuleHeader.TheVariants.{Text, Builtin}
 use Rattle.input_module.specs.declared.stop.ModuleStop.{ModuleStop}
-use Rattle.input_module.specs.declared.stop.ModuleStop.TheVariants.{Script, Input}
+use Rattle.input_module.specs.declared.stop.ModuleStop.TheVariants.{Input}
 use Rattle.input_module.specs.declared.text.FirstLine.{FirstLine}
 use Rattle.input_module.specs.declared.text.Gathered.{Gathered}
 use Rattle.input_module.specs.declared.text.Taken.{Taken}
