@@ -196,6 +196,8 @@ def module_input(chance):
         text += "\n"
     elif behind < 0.6:
         text += chance.choice(["\n\n", "\nmore\n", " \n", " -- a remark\n", " -- a remark", "\r\n", " END\n", "\nEND\n", " x\nEND\n", "\n-- END\n", "\n  END\n", "--", " -\n"])
+    if chance.random() < 0.03:
+        return chance.choice(["module builtin", "module builtin 2"]) + chance.choice(["", "\n", "\n\n", "\nmore", " ", " 2\n", " 3\n", "\r\n"])
     header = "module text\n" if chance.random() < 0.97 else chance.choice(["module\n", "module x\n", "module text x\n", "module text ", "module text\r\n", "", "\n", " module text\n"])
     return header + text
 

@@ -7,6 +7,9 @@ said, and the check passes.
 Usage: tools/random_scripts.py [--count N] [--seed S] [COMMAND ..]
 """
 
+import functools
+import re
+import subprocess
 import sys
 
 import other_reading
@@ -39,9 +42,39 @@ def event(chance, quota):
     return f"static u1 A 1 1 12 1 {quota}"
 
 
+@functools.cache
+def profile():
+    """The lines of the profile's module."""
+    return subprocess.run([*other_reading.PROGRAM, "profile"], stdout=subprocess.PIPE, check=True).stdout.decode().splitlines()
+
+
+def text(chance):
+    """The header of a text, and the profile's module, with one change or none."""
+    lines, place = list(profile()), chance.randrange(len(profile()))
+    kind = chance.random()
+    if kind < 0.2:
+        lines[place] = re.sub("[0-9]+", lambda _: str(chance.choice([0, 1, 2, 5, 4095])), lines[place], count=1)
+    elif kind < 0.3:
+        del lines[place]
+    elif kind < 0.4:
+        lines.insert(chance.randrange(1, len(lines)), chance.choice(["T ::= BOOLEAN", "-- a remark", "Flag ::= BOOLEAN", ""]))
+    elif kind < 0.45:
+        lines[-1] += chance.choice([" x", " -- a remark", "\nEND"])
+    return ["module text", *lines]
+
+
+def header(chance):
+    kind = chance.random()
+    if kind < 0.9:
+        return ["module builtin"]
+    if kind < 0.97:
+        return text(chance)
+    return [chance.choice(["module", "module builtin ", "module builtin 2", "module builtin 3", "module text x", "builtin", ""])]
+
+
 def script(chance):
     quota = chance.choice(QUOTAS)
-    lines = ["module builtin" if chance.random() < 0.97 else chance.choice(["module", "module builtin ", "builtin", ""])]
+    lines = header(chance)
     if chance.random() < 0.9:
         lines.append(f"static u1 A 1 1 12 1 {quota}")
     lines += [event(chance, quota) for _ in range(chance.randint(1, 60))]

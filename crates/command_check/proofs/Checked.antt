@@ -1,195 +1,117 @@
--- The text is read, and the input ends after it.
-use Rattle.std.proofs.Common.{◌≡◌, ◌⊎◌, ◌<◌, ◌≤◌, ℕ, ◌+◌, ◌-◌, List, [], ◌∷◌, ◌++◌, length, take, drop, Option, None, Result, Ok, Err, refl, sym, ap, ◌∙◌, subst, inl, inr, append-nil, arith}
-use Rattle.std.specs.Io.KnownBytes.{IsAtEnd}
-use Rattle.gnb_base.specs.declared.lines.ReadPhase.TheVariants.{Going, Ended}
+-- The module is taken, and the input ends after it.
+use Rattle.std.proofs.Common.{◌≡◌, ℕ, ◌+◌, List, [], ◌∷◌, ◌++◌, length, Option, None, Result, Ok, Err, refl, sym, ap, ◌∙◌, subst, append-nil, arith}
 use Rattle.gnb_base.specs.Outside.{SourceAt}
 use Rattle.gnb_base.specs.Reading.{Reading, fresh, NextMeets}
+use Rattle.input_defs.specs.declared.InputEnd.{InputEnd}
 use Rattle.input_defs.specs.declared.InputEnd.TheVariants as inputs
-use Rattle.input_defs.specs.Ends.{IsReadToEnd}
+use Rattle.input_defs.specs.Ends.{EndsReading, IsReadToEnd}
 use Rattle.input_defs.specs.Split.{InputSplit, input_split, rest_of}
-use Rattle.input_defs.specs.Standing.{Stands, Within, AtEnd, split_of}
+use Rattle.input_defs.specs.Standing.{split_of}
 use Rattle.input_lines.proofs.Sources.{none_then_none}
-use Rattle.input_lines.proofs.Standing.{stands_first, takes_of, within, comes_next, ends_at, both_nil}
-use Rattle.input_lines.proofs.Stopped.{takes_on}
+use Rattle.input_lines.proofs.Standing.{stands_first, takes_of, comes_next, ends_at, both_nil}
+use Rattle.input_lines.proofs.Stopped.{stops_at, going_at, takes_on}
+use Rattle.profile.specs.declared.version.Version.TheVariants.{Two}
+use Rattle.input_module.specs.declared.module.GivenModule.{GivenModule}
+use Rattle.input_module.specs.declared.stop.ModuleStop.{ModuleStop}
+use Rattle.input_module.specs.declared.stop.ModuleStop.TheVariants.{NoModule, Script, Input}
+use Rattle.input_module.specs.Module.{StopsModule}
+use Rattle.input_module.specs.Taking.{HasModule, StopsTaking}
+use Rattle.input_module.proofs.Given.{gives_at_end}
 use Rattle.command_check.specs.declared.input.CheckedModule.{CheckedModule}
-use Rattle.command_check.specs.declared.input.CheckStop.{CheckStop}
-use Rattle.command_check.specs.declared.input.CheckStop.TheVariants.{NoModule, Script, Input}
-use Rattle.command_check.specs.declared.text.Gathered.{Gathered}
-use Rattle.command_check.specs.Text.{IsUnclosed, IsClosed}
-use Rattle.command_check.specs.Check.{HasText, CheckAnswers, FaultsOfAnswer, ChecksInput, AfterText, Unended, Further}
-use Rattle.command_check.specs.inside.Steps.{TakesText, ModuleMeets, IsAlone, EndStops, EndUnread, OneMore}
-use Rattle.command_check.proofs.Joining.{cut_at, header_within, drop_more}
-use Rattle.command_check.proofs.Gathering.{unread}
+use Rattle.command_check.specs.Check.{Summarises, CheckAnswers, ChecksInput, Passes, Within, After, NotGiven, Further}
+use Rattle.command_check.specs.inside.Steps.{EndStops, EndUnread, OneMore}
 
--- ---- the text
+-- ---- no module was taken
 
-ended_none : {left : Option (List ℕ)} {reading : Reading} {taken : List ℕ} {lines : List (List ℕ)} → reading.phase ≡ Ended
-    → Stands left reading taken lines → IsReadToEnd left (split_of reading taken lines)
-ended_none ended (Within going e) = absurd (cc)
-ended_none ended (AtEnd same none at_end divides) = record { nothing = none; at_end = at_end }
+stops_so : (left : Option (List ℕ)) (split : InputSplit) (stop : ModuleStop) → StopsModule Two left split stop → CheckAnswers left split (Err stop)
+stops_so left split (NoModule line column reason) h = h
+stops_so left split (Script place reason) h = NotGiven h
+stops_so left split (Input (inputs.ReadFault taken)) h = (Within h.0, h.1)
+stops_so left split (Input inputs.TooLong) h = (Within h.0, h.1)
+stops_so left split (Input inputs.Memory) h = tt
 
-whole_at : {left : Option (List ℕ)} {reading : Reading} {taken : List ℕ} {lines : List (List ℕ)} (body : List (List ℕ))
-    → Stands left reading taken lines
-    → IsClosed body ⊎ (IsUnclosed body × (reading.phase ≡ Ended))
-    → IsClosed body ⊎ (IsUnclosed body × IsReadToEnd left (split_of reading taken lines))
-whole_at body stands (inl closed) = inl closed
-whole_at body stands (inr rest) = inr (rest.0, ended_none rest.1 stands)
+pub not_given : (s0 s1 : SourceAt) (stop : ModuleStop) (result : Result CheckedModule ModuleStop) → result ≡ Err stop → StopsTaking Two s0 s1 stop
+    → ChecksInput s0 s1 result
+not_given s0 s1 stop result e h =
+    subst (λ (x : Result CheckedModule ModuleStop). ChecksInput s0 s1 x) (sym e)
+    (record { split = h.split; input = h.input; answers = stops_so (rest_of s0 s1) h.split stop h.stops; reads = h.reads })
 
--- the bytes of the text that were gathered
-abbrev pub IsGathered : Reading → Gathered → List ℕ → Type 0
-IsGathered reading gathered text = text ≡ take (reading.taken - (gathered.header + 1)) gathered.octets
-
-pub has_text : {s0 s1 : SourceAt} {reading : Reading} {gathered : Gathered} (text : List ℕ) (t : TakesText s0 s1 reading gathered)
-    → IsGathered reading gathered text
-    → HasText (rest_of s0 s1) (split_of reading t.taken (t.header ∷ t.body)) text
-has_text {s0 = s0} {s1 = s1} {reading = reading} {gathered = gathered} text t e = record {
-  header = t.header;
-  body = t.body;
-  parts = refl;
-  is_header = t.is_header;
-  whole = whole_at t.body t.stands.stands t.whole;
-  octets = (cut_at (rest_of s0 s1) reading t.taken t.header t.body gathered.octets t.octets t.stands.stands).after
-      ∙ ap (λ (bytes : List ℕ). bytes ++ reading.kept)
-      (ap (λ (n : ℕ). take (n - (length t.header + 1)) gathered.octets) (sym t.stands.bytes) ∙ ap (λ (n : ℕ). take (reading.taken - (n + 1)) gathered.octets) (sym t.size) ∙ sym e);
-}
-
-still_closed : (reading : Reading) (body : List (List ℕ)) (X : Type 0) → reading.phase ≡ Going
-    → IsClosed body ⊎ (IsUnclosed body × (reading.phase ≡ Ended)) → IsClosed body ⊎ (IsUnclosed body × X)
-still_closed reading body X going (inl closed) = inl closed
-still_closed reading body X going (inr rest) = let ended = rest.1 in absurd (cc)
-
--- after the text further bytes were taken
-has_more : {s0 s1 : SourceAt} {reading : Reading} {gathered : Gathered} (left : Option (List ℕ)) (text more : List ℕ) (t : TakesText s0 s1 reading gathered)
-    → IsGathered reading gathered text
-    → reading.phase ≡ Going → HasText left (input_split (t.taken ++ more) (t.header ∷ t.body) (reading.kept ++ more)) text
-unfolding has_text
-has_more {reading = reading} left text more t e going =
-    let h = has_text text t e in
-    record {
-      header = t.header;
-      body = t.body;
-      parts = refl;
-      is_header = t.is_header;
-      whole = still_closed reading t.body _ going t.whole;
-      octets = drop_more (length t.header + 1) t.taken more text reading.kept (header_within t.taken t.header t.body reading.kept (within going t.stands.stands)) h.octets;
-    }
-
--- ---- the module
-
-refusal_ends : {s0 s1 : SourceAt} {reading : Reading} {gathered : Gathered} (text : List ℕ) (stop : CheckStop) (t : TakesText s0 s1 reading gathered)
-    → IsGathered reading gathered text → ModuleMeets text gathered.last (Err stop)
-    → CheckAnswers (rest_of s0 s1) (split_of reading t.taken (t.header ∷ t.body)) (Err stop) × FaultsOfAnswer s0 s1 (Err stop)
-refusal_ends text (NoModule line column reason) t e h =
-    (record { text = text; line_of_text = h.line_of_text; has = has_text text t e; wrong = h.wrong; at = h.at }, t.stands.reads)
-refusal_ends text (Script place reason) t e h = (
-  Unended (record {
-    text = text;
-    octets = h.octets;
-    m = h.m;
-    has = has_text text t e;
-    reads = h.reads;
-    more = h.more;
-    at = h.at ∙ t.last ∙ omega arith;
-    few = t.stands.few;
-    extra = h.extra;
-  }),
-  t.stands.reads,
-)
-refusal_ends text (Input (inputs.ReadFault taken)) t e h = absurd h
-refusal_ends text (Input inputs.TooLong) t e h = absurd h
-refusal_ends text (Input inputs.Memory) t e h = (tt, t.stands.reads)
-
-taken_text : (reading : Reading) (gathered : Gathered) (text : List ℕ) (taken : ℕ) → taken ≡ reading.taken
-    → text ≡ take (taken - (gathered.header + 1)) gathered.octets → IsGathered reading gathered text
-taken_text reading gathered text taken n e = e ∙ ap (λ (k : ℕ). take (k - (gathered.header + 1)) gathered.octets) n
-
-pub module_stops : {s0 s1 : SourceAt} {reading : Reading} {gathered : Gathered} (text : List ℕ) (taken : ℕ) (stop : CheckStop) (result : Result CheckedModule CheckStop)
-    → result ≡ Err stop
-    → TakesText s0 s1 reading gathered → taken ≡ reading.taken → text ≡ take (taken - (gathered.header + 1)) gathered.octets
-    → ModuleMeets text gathered.last (Err stop) → ChecksInput s0 s1 result
-module_stops {s0 = s0} {s1 = s1} {reading = reading} {gathered = gathered} text taken stop result r t n e h =
-    let ends = refusal_ends text stop t (taken_text reading gathered text taken n e) h in
-    subst (λ (x : Result CheckedModule CheckStop). ChecksInput s0 s1 x) (sym r)
-    (record { split = split_of reading t.taken (t.header ∷ t.body); input = takes_of t.stands; answers = ends.0; reads = ends.1 })
+-- out of memory before the first read
+pub no_reader : (s : SourceAt) (stop : ModuleStop) (result : Result CheckedModule ModuleStop) → result ≡ Err stop → stop ≡ Input inputs.Memory
+    → ChecksInput s s result
+no_reader s stop result e same =
+    subst (λ (x : Result CheckedModule ModuleStop). ChecksInput s s x) (sym (e ∙ ap (λ (x : ModuleStop). Err x) same))
+    (record { split = split_of fresh [] []; input = takes_of (stands_first s); answers = tt; reads = (stands_first s).reads })
 
 -- ---- the end
 
-further : {s0 s1 s2 : SourceAt} {old : Reading} {gathered : Gathered} (new : Reading) (text : List ℕ) (checked : CheckedModule) (stop : CheckStop)
-    → TakesText s0 s1 old gathered
-    → IsGathered old gathered text → IsAlone text checked → EndStops old new s1 s2 stop → ChecksInput s0 s2 (Err stop)
-further {s0 = s0} {s2 = s2} new text checked stop t e h (EndUnread why u f) =
-    unread why stop t.stands (λ going more. AfterText text h.m (has_more (rest_of s0 s2) text more t e going) h.is) u f
-further {s0 = s0} {s2 = s2} {old = old} new text checked stop t e h (OneMore line m same) =
-    subst (λ (x : CheckStop). ChecksInput s0 s2 (Err x)) (sym same)
-    (record {
-      split = input_split (t.taken ++ m.taken) (t.header ∷ t.body) (old.kept ++ m.taken);
-      input = takes_on t.stands m.answers.going m;
-      answers = Further (record {
-        text = text;
-        m = h.m;
-        line = line.text;
-        has = has_more (rest_of s0 s2) text m.taken t e m.answers.going;
-        is = h.is;
-        next = comes_next s0 line m;
-        at = m.answers.number ∙ ap (λ (n : ℕ). n + 1) t.stands.count;
-        extra = refl;
-      });
-      reads = none_then_none t.stands.reads (record { faults = m.faults; failed = m.failed });
-    })
+stops_input : (left : Option (List ℕ)) (split : InputSplit) (why : InputEnd) → Passes left split → EndsReading split why
+    → CheckAnswers left split (Err (Input why))
+stops_input left split (inputs.ReadFault taken) passes h = (passes, h)
+stops_input left split inputs.TooLong passes h = (passes, h)
+stops_input left split inputs.Memory passes h = tt
 
-pub end_stops : {s0 s1 s2 : SourceAt} {old : Reading} {gathered : Gathered} (new : Reading) (text : List ℕ) (taken : ℕ) (checked : CheckedModule) (stop why : CheckStop)
-    (result : Result CheckedModule CheckStop) → result ≡ Err stop → stop ≡ why → TakesText s0 s1 old gathered → taken ≡ old.taken
-    → text ≡ take (taken - (gathered.header + 1)) gathered.octets
-    → IsAlone text checked → EndStops old new s1 s2 why → ChecksInput s0 s2 result
-end_stops {s0 = s0} {s2 = s2} {old = old} {gathered = gathered} new text taken checked stop why result r f t n e h s =
-    subst (λ (x : Result CheckedModule CheckStop). ChecksInput s0 s2 x) (sym (r ∙ ap (λ (x : CheckStop). Err x) f))
-    (further new text checked why t (taken_text old gathered text taken n e) h s)
+module _ {s0 s1 s2 : SourceAt} {old : Reading} (new : Reading) (found : GivenModule) (h : HasModule Two s0 s1 old found) where
+  further : (stop : ModuleStop) → EndStops old new s1 s2 stop → ChecksInput s0 s2 (Err stop)
+  further stop (EndUnread why s e) =
+      let end = stops_at h.stands why s in
+      let gives = h.later (going_at h.stands s.error s.meets) (rest_of s0 s2) (input_split (h.taken ++ s.meets.taken) h.lines (old.kept ++ s.meets.taken)) s.meets.taken refl in
+      subst (λ (x : ModuleStop). ChecksInput s0 s2 (Err x)) (sym e)
+      (record {
+        split = input_split (h.taken ++ s.meets.taken) h.lines (old.kept ++ s.meets.taken);
+        input = end.takes;
+        answers = stops_input (rest_of s0 s2) _ why (After found gives) end.ends;
+        reads = end.reads;
+      })
+  further stop (OneMore line m e) =
+      subst (λ (x : ModuleStop). ChecksInput s0 s2 (Err x)) (sym e)
+      (record {
+        split = input_split (h.taken ++ m.taken) h.lines (old.kept ++ m.taken);
+        input = takes_on h.stands m.answers.going m;
+        answers = Further (record {
+          found = found;
+          line = line.text;
+          gives = h.later m.answers.going (rest_of s0 s2) (input_split (h.taken ++ m.taken) h.lines (old.kept ++ m.taken)) m.taken refl;
+          next = comes_next s0 line m;
+          at = m.answers.number ∙ ap (λ (n : ℕ). n + 1) h.stands.count;
+          extra = refl;
+        });
+        reads = none_then_none h.stands.reads (record { faults = m.faults; failed = m.failed });
+      })
 
-whole_end : (body : List (List ℕ)) (X Y : Type 0) → Y → IsClosed body ⊎ (IsUnclosed body × X) → IsClosed body ⊎ (IsUnclosed body × Y)
-whole_end body X Y y (inl closed) = inl closed
-whole_end body X Y y (inr rest) = inr (rest.0, y)
+  pub end_stops : (stop why : ModuleStop) (result : Result CheckedModule ModuleStop) → result ≡ Err stop → stop ≡ why
+      → EndStops old new s1 s2 why → ChecksInput s0 s2 result
+  end_stops stop why result r f s =
+      subst (λ (x : Result CheckedModule ModuleStop). ChecksInput s0 s2 x) (sym (r ∙ ap (λ (x : ModuleStop). Err x) f)) (further why s)
 
-pub end_done : {s0 s1 s2 : SourceAt} {old : Reading} {gathered : Gathered} (new : Reading) (text : List ℕ) (taken : ℕ) (checked : CheckedModule)
-    → TakesText s0 s1 old gathered → taken ≡ old.taken → text ≡ take (taken - (gathered.header + 1)) gathered.octets → IsAlone text checked
-    → NextMeets old new s1 s2 (Ok None)
-    → ChecksInput s0 s2 (Ok checked)
-unfolding has_text
-end_done {s0 = s0} {s1 = s1} {s2 = s2} {old = old} {gathered = gathered} new text taken checked t n e h m =
-    let end = ends_at t.stands m in
-    let none = both_nil old.kept m.taken m.answers.nothing in
-    let has = has_text text t (taken_text old gathered text taken n e) in
-    let all : IsReadToEnd (rest_of s0 s2) (input_split (t.taken ++ m.taken) (t.header ∷ t.body) []) = record { nothing = refl; at_end = end.at_end } in
-    record {
-      split = input_split (t.taken ++ m.taken) (t.header ∷ t.body) [];
-      input = end.takes;
-      answers = record {
-        text = text;
-        m = h.m;
-        has = record {
-          header = t.header;
-          body = t.body;
-          parts = refl;
-          is_header = t.is_header;
-          whole = whole_end t.body _ _ all t.whole;
-          octets = ap (λ (bytes : List ℕ). drop (length t.header + 1) bytes) (ap (λ (bytes : List ℕ). t.taken ++ bytes) none.1 ∙ append-nil t.taken)
-              ∙ has.octets ∙ ap (λ (bytes : List ℕ). text ++ bytes) none.0;
+  -- out of memory, with the end found
+  pub no_summary : (m : NextMeets old new s1 s2 (Ok None)) (stop : ModuleStop) (result : Result CheckedModule ModuleStop) → result ≡ Err stop
+      → stop ≡ Input inputs.Memory
+      → ChecksInput s0 s2 result
+  no_summary m stop result r f =
+      let end = ends_at h.stands m in
+      subst (λ (x : Result CheckedModule ModuleStop). ChecksInput s0 s2 x) (sym (r ∙ ap (λ (x : ModuleStop). Err x) f))
+      (record {
+        split = input_split (h.taken ++ m.taken) h.lines [];
+        input = end.takes;
+        answers = tt;
+        reads = none_then_none h.stands.reads (record { faults = m.faults; failed = m.failed });
+      })
+
+  pub end_done : (m : NextMeets old new s1 s2 (Ok None)) (checked : CheckedModule) → Summarises found checked → ChecksInput s0 s2 (Ok checked)
+  end_done m checked sums =
+      let end = ends_at h.stands m in
+      let none = both_nil old.kept m.taken m.answers.nothing in
+      let all : IsReadToEnd (rest_of s0 s2) (input_split (h.taken ++ m.taken) h.lines []) = record { nothing = refl; at_end = end.at_end } in
+      record {
+        split = input_split (h.taken ++ m.taken) h.lines [];
+        input = end.takes;
+        answers = record {
+          found = found;
+          gives = gives_at_end Two (rest_of s0 s1) (rest_of s0 s2) (split_of old h.taken h.lines) (input_split (h.taken ++ m.taken) h.lines []) h.lines found
+              (ap (λ (bytes : List ℕ). h.taken ++ bytes) none.1 ∙ append-nil h.taken) refl all h.gives;
+          all = all;
+          summarises = sums;
         };
-        is = h.is;
-        all = all;
-        name = h.name;
-        types = h.types;
-      };
-      reads = none_then_none t.stands.reads (record { faults = m.faults; failed = m.failed });
-    }
-
--- out of memory before the first read
-pub no_reader : (s : SourceAt) (stop : CheckStop) (result : Result CheckedModule CheckStop) → result ≡ Err stop → stop ≡ Input inputs.Memory
-    → ChecksInput s s result
-no_reader s stop result e same =
-    subst (λ (x : Result CheckedModule CheckStop). ChecksInput s s x) (sym (e ∙ ap (λ (x : CheckStop). Err x) same))
-    (record { split = split_of fresh [] []; input = takes_of (stands_first s); answers = tt; reads = (stands_first s).reads })
-
--- the text could not be taken
-pub text_unread : (s0 s1 : SourceAt) (stop : CheckStop) (result : Result CheckedModule CheckStop) → result ≡ Err stop
-    → ChecksInput s0 s1 (Err stop) → ChecksInput s0 s1 result
-text_unread s0 s1 stop result e h = subst (λ (x : Result CheckedModule CheckStop). ChecksInput s0 s1 x) (sym e) h
+        reads = none_then_none h.stands.reads (record { faults = m.faults; failed = m.failed });
+      }

@@ -1,11 +1,11 @@
 -- The octets of a text, as they stand in the bytes that were taken.
-use Rattle.std.proofs.Common.{◌≡◌, ◌≤◌, ℕ, ◌+◌, ◌-◌, List, [], ◌∷◌, ◌++◌, length, take, drop, Option, sym, ap, ◌∙◌, subst, append_assoc, append-nil, length-append, arith}
-use Rattle.std.proofs.lemmas.List.{take_all, take_at, drop_at, drop-append-le, drop_all}
+use Rattle.std.proofs.Common.{◌≡◌, ℕ, ◌+◌, ◌-◌, List, [], ◌∷◌, ◌++◌, length, take, drop, Option, refl, sym, ap, ◌∙◌, subst, append_assoc, append-nil, length-append, arith}
+use Rattle.std.proofs.lemmas.List.{take_all, take_at, drop_at, drop_all}
 use Rattle.gnb_base.specs.Lines.{line_feed}
-use Rattle.gnb_base.specs.Reading.{Reading}
-use Rattle.input_defs.specs.Split.{input_split, joined, Divides, Whole, Bare}
-use Rattle.input_defs.specs.Standing.{Stands}
-use Rattle.input_lines.proofs.Standing.{divides_of, joined-more}
+use Rattle.input_defs.specs.Split.{InputSplit, input_split, joined, Divides, Whole, Bare}
+use Rattle.input_lines.proofs.Standing.{joined-more}
+use Rattle.profile.specs.declared.version.Version.{Version}
+use Rattle.input_module.specs.Module.{HasText}
 
 -- what a text is of the octets of its lines, and that it stands after the header
 pub record IsCut (taken header octets kept : List ℕ) : Type 0 where
@@ -66,23 +66,10 @@ by_division left taken header body octets kept g (Whole e) =
 by_division left taken header body octets kept g (Bare front last e some bytes none at_end) =
     subst (λ (k : List ℕ). IsCut taken header octets k) (sym none) (same_lines front header last body taken octets e bytes g)
 
-pub cut_at : (left : Option (List ℕ)) (reading : Reading) (taken header : List ℕ) (body : List (List ℕ)) (octets : List ℕ)
-    → octets ≡ joined body → Stands left reading taken (header ∷ body)
-    → IsCut taken header octets reading.kept
-cut_at left reading taken header body octets g stands = by_division left taken header body octets reading.kept g (divides_of stands)
-
--- after a header with its LF further bytes change nothing
-pub header_within : (taken header : List ℕ) (body : List (List ℕ)) (kept : List ℕ) → taken ≡ joined (header ∷ body) ++ kept
-    → length header + 1 ≤ length taken
-header_within taken header body kept e =
-    let size : length taken ≡ (length header + 1) + length (joined body ++ kept) =
-    ap length (e ∙ append_assoc (header ++ line_feed ∷ []) (joined body) kept)
-    ∙ length-append (header ++ line_feed ∷ []) (joined body ++ kept)
-    ∙ ap (λ (n : ℕ). n + length (joined body ++ kept)) (header_size header)
-    in
-    omega (arith, size)
-
-pub drop_more : (n : ℕ) (taken more text kept : List ℕ) → n ≤ length taken → drop n taken ≡ text ++ kept
-    → drop n (taken ++ more) ≡ text ++ (kept ++ more)
-drop_more n taken more text kept le e =
-    drop-append-le n taken more le ∙ ap (λ (bytes : List ℕ). bytes ++ more) e ∙ append_assoc text kept more
+-- the text that was handed out is what was taken after the header, and before the bytes kept
+pub text_stands : {newest : Version} {left : Option (List ℕ)} {split : InputSplit} {text : List ℕ} → (has : HasText newest left split split.lines text)
+    → Divides left split → drop (length has.header + 1) split.taken ≡ text ++ split.kept
+text_stands {left = left} {split = split} has d =
+    (by_division left split.taken has.header has.body (joined has.body) split.kept refl
+    (subst (λ (ls : List (List ℕ)). Divides left (input_split split.taken ls split.kept)) has.parts d)).after
+    ∙ ap (λ (bytes : List ℕ). bytes ++ split.kept) (sym has.octets)

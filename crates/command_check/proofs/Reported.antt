@@ -6,7 +6,6 @@ use Rattle.input_defs.specs.declared.InputEnd.TheVariants as inputs
 use Rattle.input_defs.specs.Split.{InputSplit, rest_of, TakesInput}
 use Rattle.input_defs.specs.Near.{StopsNear}
 use Rattle.input_lines.proofs.Near.{near_handed, near_empty, near_next}
-use Rattle.asn1_assignments.specs.declared.assignment.Syntax.{Syntax}
 use Rattle.script_words.specs.declared.reason.TextReason.{TextReason}
 use Rattle.command_defs.specs.declared.CommonEnd.TheVariants.{WriteFault, Memory}
 use Rattle.command_defs.specs.Ends.{StopsAtLine}
@@ -17,16 +16,18 @@ use Rattle.command_output.proofs.Written.{none_failed}
 use Rattle.command_check.specs.declared.end.CheckEnd.{CheckEnd}
 use Rattle.command_check.specs.declared.end.CheckEnd.TheVariants.{Common}
 use Rattle.command_check.specs.declared.input.CheckedModule.{CheckedModule}
-use Rattle.command_check.specs.declared.input.CheckStop.{CheckStop}
-use Rattle.command_check.specs.declared.input.CheckStop.TheVariants.{NoModule, Script, Input}
-use Rattle.command_check.specs.Check.{ChecksInput, FaultsOfAnswer, IsWrongInput, Empty, NoHeader, Unended, Further, IsWrongHeader}
+use Rattle.profile.specs.declared.version.Version.TheVariants.{Two}
+use Rattle.input_module.specs.declared.stop.ModuleStop.{ModuleStop}
+use Rattle.input_module.specs.declared.stop.ModuleStop.TheVariants.{NoModule, Script, Input}
+use Rattle.input_module.specs.Module.{IsWrongModule, Empty, NoHeader, Unended}
+use Rattle.command_check.specs.Check.{ChecksInput, FaultsOfAnswer, IsWrongInput, NotGiven, Further}
 use Rattle.command_check.specs.Report.{end_of, check_status, module_line, report_of, check_text, PrintsAnswer, Written, Cut, Unwritten, CheckMeets}
 use Rattle.command_check.specs.Whole.{IsWhole, FindsModule, ReportsModule, ChecksWholly}
 use Rattle.command_check.proofs.Whole.{finds_module}
 
 -- ---- the status of the reads and of the writes
 
-reads_end : (a b : SourceAt) (answer : Result CheckedModule CheckStop) → FaultsOfAnswer a b answer
+reads_end : (a b : SourceAt) (answer : Result CheckedModule ModuleStop) → FaultsOfAnswer a b answer
     → ReadsTo a b (check_status (end_of answer)).code
 reads_end a b (Ok checked) h = AllRead h (λ (e : 0 ≡ 6). omega arith)
 reads_end a b (Err (NoModule line column reason)) h = AllRead h (λ (e : 3 ≡ 6). omega arith)
@@ -35,7 +36,7 @@ reads_end a b (Err (Input (inputs.ReadFault taken))) h = ReadStopped h (inl refl
 reads_end a b (Err (Input inputs.TooLong)) h = AllRead h (λ (e : 11 ≡ 6). omega arith)
 reads_end a b (Err (Input inputs.Memory)) h = AllRead h (λ (e : 9 ≡ 6). omega arith)
 
-reads_cut : (a b : SourceAt) (answer : Result CheckedModule CheckStop) → FaultsOfAnswer a b answer → ReadsTo a b 7
+reads_cut : (a b : SourceAt) (answer : Result CheckedModule ModuleStop) → FaultsOfAnswer a b answer → ReadsTo a b 7
 reads_cut a b (Ok checked) h = AllRead h (λ (e : 7 ≡ 6). omega arith)
 reads_cut a b (Err (NoModule line column reason)) h = AllRead h (λ (e : 7 ≡ 6). omega arith)
 reads_cut a b (Err (Script place reason)) h = AllRead h (λ (e : 7 ≡ 6). omega arith)
@@ -43,7 +44,7 @@ reads_cut a b (Err (Input (inputs.ReadFault taken))) h = ReadStopped h (inr (inl
 reads_cut a b (Err (Input inputs.TooLong)) h = AllRead h (λ (e : 7 ≡ 6). omega arith)
 reads_cut a b (Err (Input inputs.Memory)) h = AllRead h (λ (e : 7 ≡ 6). omega arith)
 
-reads_out : (a b : SourceAt) (answer : Result CheckedModule CheckStop) → FaultsOfAnswer a b answer → ReadsTo a b 9
+reads_out : (a b : SourceAt) (answer : Result CheckedModule ModuleStop) → FaultsOfAnswer a b answer → ReadsTo a b 9
 reads_out a b (Ok checked) h = AllRead h (λ (e : 9 ≡ 6). omega arith)
 reads_out a b (Err (NoModule line column reason)) h = AllRead h (λ (e : 9 ≡ 6). omega arith)
 reads_out a b (Err (Script place reason)) h = AllRead h (λ (e : 9 ≡ 6). omega arith)
@@ -51,7 +52,7 @@ reads_out a b (Err (Input (inputs.ReadFault taken))) h = ReadStopped h (inr (inr
 reads_out a b (Err (Input inputs.TooLong)) h = AllRead h (λ (e : 9 ≡ 6). omega arith)
 reads_out a b (Err (Input inputs.Memory)) h = AllRead h (λ (e : 9 ≡ 6). omega arith)
 
-not_seven : (answer : Result CheckedModule CheckStop) → (check_status (end_of answer)).code ≡ 7 → ⊥
+not_seven : (answer : Result CheckedModule ModuleStop) → (check_status (end_of answer)).code ≡ 7 → ⊥
 not_seven (Ok checked) e = omega arith
 not_seven (Err (NoModule line column reason)) e = omega arith
 not_seven (Err (Script place reason)) e = omega arith
@@ -61,7 +62,7 @@ not_seven (Err (Input inputs.Memory)) e = omega arith
 
 -- ---- the three ends of the output
 
-pub unwritten : {a b : SourceAt} (sink : SinkAt) (answer : Result CheckedModule CheckStop) → ChecksInput a b answer
+pub unwritten : {a b : SourceAt} (sink : SinkAt) (answer : Result CheckedModule ModuleStop) → ChecksInput a b answer
     → CheckMeets (outside a sink) (outside b sink) (Common Memory)
 unwritten sink answer h = record {
   answer = answer;
@@ -70,7 +71,7 @@ unwritten sink answer h = record {
   calls = record { reads = reads_out _ _ answer h.reads; writes = AllWritten (none_failed sink) (λ (e : 9 ≡ 7). omega arith) };
 }
 
-pub cut : {a b : SourceAt} {c d : SinkAt} (answer : Result CheckedModule CheckStop) (text : List ℕ) → ChecksInput a b answer
+pub cut : {a b : SourceAt} {c d : SinkAt} (answer : Result CheckedModule ModuleStop) (text : List ℕ) → ChecksInput a b answer
     → text ≡ check_text answer → WritesFront c d text
     → CheckMeets (outside a c) (outside b d) (Common WriteFault)
 cut {c = c} {d = d} answer text h e w = record {
@@ -80,7 +81,7 @@ cut {c = c} {d = d} answer text h e w = record {
   calls = record { reads = reads_cut _ _ answer h.reads; writes = WriteStopped w.last refl };
 }
 
-pub written : {a b : SourceAt} {c d : SinkAt} (answer : Result CheckedModule CheckStop) (text : List ℕ) (end : CheckEnd)
+pub written : {a b : SourceAt} {c d : SinkAt} (answer : Result CheckedModule ModuleStop) (text : List ℕ) (end : CheckEnd)
     → ChecksInput a b answer → text ≡ check_text answer → WritesAll c d text
     → end ≡ end_of answer → CheckMeets (outside a c) (outside b d) end
 written {a = a} {b = b} {c = c} {d = d} answer text end h e w same =
@@ -94,47 +95,52 @@ written {a = a} {b = b} {c = c} {d = d} answer text end h e w same =
 
 -- ---- a whole module
 
-found_reported : (c d : SinkAt) (m : Syntax) (answer : Result CheckedModule CheckStop) → Prints c d (check_text answer)
-    → FindsModule m answer → ReportsModule c d m (check_status (end_of answer))
+found_reported : (c d : SinkAt) (name : List ℕ) (types : ℕ) (answer : Result CheckedModule ModuleStop) → Prints c d (check_text answer)
+    → FindsModule name types answer → ReportsModule c d name types (check_status (end_of answer))
 unfolding report_of
-found_reported c d m (Ok checked) all found =
+found_reported c d name types (Ok checked) all found =
     inl (
       refl,
       subst (λ (text : List ℕ). Prints c d text)
-          (append-nil (module_line checked.name checked.types) ∙ ap (λ (name : List ℕ). module_line name checked.types) found.0 ∙ ap (λ (types : ℕ). module_line m.name types) found.1) all,
+          (append-nil (module_line checked.name checked.types) ∙ ap (λ (n : List ℕ). module_line n checked.types) found.0 ∙ ap (λ (k : ℕ). module_line name k) found.1) all,
     )
-found_reported c d m (Err stop) all found = inr (ap (λ (x : CheckStop). (check_status (end_of (Err x))).code) found)
+found_reported c d name types (Err stop) all found = inr (ap (λ (x : ModuleStop). (check_status (end_of (Err x))).code) found)
 
 by_prints : (before after : OutsideAt) (end : CheckEnd) (c : CheckMeets before after end) → PrintsAnswer before.sink after.sink c.answer end
-    → (input text : List ℕ) (m : Syntax)
-    → before.source.left ≡ Some input → IsWhole input text m → NoneFailed before after
-    → ReportsModule before.sink after.sink m (check_status end)
-by_prints before after end c (Written same all) input text m known w none =
-    subst (λ (x : CheckEnd). ReportsModule before.sink after.sink m (check_status x)) (sym same)
-    (found_reported before.sink after.sink m c.answer all
-    (finds_module before.source after.source c.answer c.checks input text m known w
+    → (input name : List ℕ) (types : ℕ)
+    → before.source.left ≡ Some input → IsWhole input name types → NoneFailed before after
+    → ReportsModule before.sink after.sink name types (check_status end)
+by_prints before after end c (Written same all) input name types known w none =
+    subst (λ (x : CheckEnd). ReportsModule before.sink after.sink name types (check_status x)) (sym same)
+    (found_reported before.sink after.sink name types c.answer all
+    (finds_module before.source after.source c.answer c.checks input name types known w
     (λ (taken : ℕ) (e : c.answer ≡ Err (Input (inputs.ReadFault taken))).
     no_read_fault (ap (λ (x : CheckEnd). (check_status x).code) (same ∙ ap end_of e)) none.reads c.calls.reads)))
-by_prints before after end c (Cut same part) input text m known w none =
+by_prints before after end c (Cut same part) input name types known w none =
     absurd (no_write_fault (ap (λ (x : CheckEnd). (check_status x).code) same) none.writes c.calls.writes)
-by_prints before after end c (Unwritten same kept) input text m known w none = inr (ap (λ (x : CheckEnd). (check_status x).code) same)
+by_prints before after end c (Unwritten same kept) input name types known w none = inr (ap (λ (x : CheckEnd). (check_status x).code) same)
 
 pub complete : (before after : OutsideAt) (end : CheckEnd) → CheckMeets before after end → ChecksWholly before after (check_status end)
-complete before after end c input text m known w none = by_prints before after end c c.prints input text m known w none
+complete before after end c input name types known w none = by_prints before after end c c.prints input name types known w none
 
 -- ---- a stop at a line
+
+by_module : (before after : SourceAt) (split : InputSplit) (place : ℕ) (reason : TextReason) → TakesInput before after split
+    → IsWrongModule Two (rest_of before after) split place reason
+    → (bytes : List ℕ) → before.left ≡ Some bytes → StopsNear bytes after.left place
+by_module before after split place reason t (Empty e word) bytes known = near_empty place t e bytes known
+by_module before after split place reason t (NoHeader e) bytes known =
+    let at : place ≡ length split.lines + 1 = e.at ∙ ap (λ (ls : List (List ℕ)). length ls + 1) (sym e.none) in
+    near_next e.line place t e.next at bytes known
+by_module before after split place reason t (Unended e) bytes known = near_handed place t e.few (sym e.at) bytes known
 
 by_wrong : (before after : SourceAt) (split : InputSplit) (place : ℕ) (reason : TextReason) → TakesInput before after split
     → IsWrongInput (rest_of before after) split place reason
     → (bytes : List ℕ) → before.left ≡ Some bytes → StopsNear bytes after.left place
-by_wrong before after split place reason t (Empty e word) bytes known = near_empty place t e bytes known
-by_wrong before after split place reason t (NoHeader e) bytes known =
-    let at : place ≡ length split.lines + 1 = e.at ∙ ap (λ (ls : List (List ℕ)). length ls + 1) (sym e.none) in
-    near_next e.line place t e.next at bytes known
-by_wrong before after split place reason t (Unended e) bytes known = near_handed place t e.few (sym e.at) bytes known
+by_wrong before after split place reason t (NotGiven e) bytes known = by_module before after split place reason t e bytes known
 by_wrong before after split place reason t (Further e) bytes known = near_next e.line place t e.next e.at bytes known
 
-by_answer : (before after : SourceAt) (answer : Result CheckedModule CheckStop) → ChecksInput before after answer
+by_answer : (before after : SourceAt) (answer : Result CheckedModule ModuleStop) → ChecksInput before after answer
     → StopsAtLine before after (check_status (end_of answer))
 by_answer before after (Ok checked) c bytes known stop = absurd (omega arith)
 by_answer before after (Err (NoModule line column reason)) c bytes known stop = absurd (omega arith)

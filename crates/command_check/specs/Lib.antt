@@ -1,5 +1,3 @@
-pub mod Header
-pub mod Text
 pub mod Check
 pub mod Report
 pub mod Whole

@@ -2,8 +2,6 @@
 use Rattle.std.specs.Prelude.{◌≡◌, ℕ, List, [], ◌∷◌, ◌++◌, Result, Ok, Err, codes}
 use Rattle.std.specs.Fmt.{decimal}
 use Rattle.gnb_base.specs.Outside.{SinkAt}
-use Rattle.asn1_types.specs.declared.fault.ModuleReason.{ModuleReason}
-use Rattle.asn1_types.specs.declared.fault.ModuleReason.TheVariants.{Token, Form, Unknown, Twice, Recursive, OutOfProfile, Bounds, Deep, Truncated}
 use Rattle.scenario_text.specs.declared.line.OutLine.{OutLine}
 use Rattle.scenario_text.specs.Print.{◌then◌, print}
 use Rattle.command_defs.specs.declared.CommonEnd.TheVariants.{WriteFault, Memory}
@@ -11,30 +9,15 @@ use Rattle.command_defs.specs.declared.Status.{Status}
 use Rattle.command_defs.specs.Ends.{end_of_input}
 use Rattle.command_defs.specs.Outside.{OutsideAt, CallsTo}
 use Rattle.command_defs.specs.Output.{Prints, PrintsFront}
-use Rattle.command_defs.specs.Statuses.{done_status, line_status, common_status, stop_line, common_last_lines}
+use Rattle.command_defs.specs.Statuses.{done_status, module_status, fault_line, line_status, common_status, stop_line, common_last_lines}
 use Rattle.command_check.specs.declared.end.CheckEnd.{CheckEnd}
 use Rattle.command_check.specs.declared.end.CheckEnd.TheVariants.{Checked, NoModule, Script, Common}
 use Rattle.command_check.specs.declared.input.CheckedModule.{CheckedModule}
-use Rattle.command_check.specs.declared.input.CheckStop.{CheckStop}
-use Rattle.command_check.specs.declared.input.CheckStop.TheVariants as stops
+use Rattle.input_module.specs.declared.stop.ModuleStop.{ModuleStop}
+use Rattle.input_module.specs.declared.stop.ModuleStop.TheVariants as stops
 use Rattle.command_check.specs.Check.{ChecksInput}
 
 -- ---- how it ends
-
--- the number of a reason why a text is no module
-abbrev pub module_reason_code : ModuleReason → ℕ
-module_reason_code Token = 1
-module_reason_code Form = 2
-module_reason_code Unknown = 3
-module_reason_code Twice = 4
-module_reason_code Recursive = 5
-module_reason_code OutOfProfile = 6
-module_reason_code Bounds = 7
-module_reason_code Deep = 8
-module_reason_code Truncated = 9
-
-abbrev pub module_status : ℕ → ModuleReason → Status
-module_status place reason = record { code = 3; place = place; reason = module_reason_code reason }
 
 abbrev pub check_status : CheckEnd → Status
 check_status Checked = done_status
@@ -51,7 +34,7 @@ check_last_lines (Common end) = common_last_lines end
 
 -- ---- what is written
 
-abbrev pub end_of : Result CheckedModule CheckStop → CheckEnd
+abbrev pub end_of : Result CheckedModule ModuleStop → CheckEnd
 end_of (Ok checked) = Checked
 end_of (Err (stops.NoModule line column reason)) = NoModule line reason
 end_of (Err (stops.Script place reason)) = Script place reason
@@ -61,25 +44,20 @@ end_of (Err (stops.Input end)) = Common (end_of_input end)
 abbrev pub module_line : List ℕ → ℕ → List ℕ
 module_line name types = codes "module" then name then decimal types ++ 10 ∷ []
 
--- `module LINE COLUMN REASON`
-abbrev pub fault_line : ℕ → ℕ → ModuleReason → List ℕ
-fault_line line column reason =
-    codes "module" then decimal line then decimal column then decimal (module_reason_code reason) ++ 10 ∷ []
-
 -- the line of a module or of its fault; another end has none
-unfoldable pub report_of : Result CheckedModule CheckStop → List ℕ
+unfoldable pub report_of : Result CheckedModule ModuleStop → List ℕ
 report_of (Ok checked) = module_line checked.name checked.types
 report_of (Err (stops.NoModule line column reason)) = fault_line line column reason
 report_of (Err (stops.Script place reason)) = []
 report_of (Err (stops.Input end)) = []
 
 -- that line, and the `stop` line of an end that has one
-abbrev pub check_text : Result CheckedModule CheckStop → List ℕ
+abbrev pub check_text : Result CheckedModule ModuleStop → List ℕ
 check_text answer = report_of answer ++ print (check_last_lines (end_of answer))
 
 -- The text of the answer was written; or a front of it where a write failed; or nothing, out of
 -- memory.
-pub data PrintsAnswer (before after : SinkAt) (answer : Result CheckedModule CheckStop) (end : CheckEnd) : Type 0 where
+pub data PrintsAnswer (before after : SinkAt) (answer : Result CheckedModule ModuleStop) (end : CheckEnd) : Type 0 where
   Written : end ≡ end_of answer → Prints before after (check_text answer)
       → PrintsAnswer before after answer end
   Cut : end ≡ Common WriteFault → PrintsFront before after (check_text answer)
@@ -88,7 +66,7 @@ pub data PrintsAnswer (before after : SinkAt) (answer : Result CheckedModule Che
 
 -- what the input is, that it was reported, and where a call failed
 pub record CheckMeets (before after : OutsideAt) (end : CheckEnd) : Type 0 where
-  pub answer : Result CheckedModule CheckStop
+  pub answer : Result CheckedModule ModuleStop
   pub checks : ChecksInput before.source after.source answer
   pub prints : PrintsAnswer before.sink after.sink answer end
   pub calls : CallsTo before after (check_status end).code

@@ -2,11 +2,11 @@
 
 ghost use Rattle.std.specs.Prelude.{◌≡◌};
 ghost use Rattle.std.specs.Option.{option_to_list};
-ghost use Rattle.command_check.specs.Report.{module_reason_code, module_status as status_of_module, check_status, check_last_lines};
+ghost use Rattle.command_check.specs.Report.{check_status, check_last_lines};
 
 use asn1_types::ModuleReason;
 use command_defs::{CommonEnd, Status};
-use command_output::{common_last_line, common_status, line_status, stop_line};
+use command_output::{common_last_line, common_status, line_status, module_status, stop_line};
 use scenario_text::event::TextReason;
 use scenario_text::line::OutLine;
 
@@ -21,34 +21,6 @@ pub enum CheckEnd {
     Script { place: u64, reason: TextReason },
     /// An end that each word has.
     Common(CommonEnd),
-}
-
-/// The number of a reason why a text is no module.
-pub fn module_code_of(reason: ModuleReason) -> u16
-    ensures { result ≡ module_reason_code reason }
-{
-    match reason {
-        ModuleReason::Token => 1,
-        ModuleReason::Form => 2,
-        ModuleReason::Unknown => 3,
-        ModuleReason::Twice => 4,
-        ModuleReason::Recursive => 5,
-        ModuleReason::OutOfProfile => 6,
-        ModuleReason::Bounds => 7,
-        ModuleReason::Deep => 8,
-        ModuleReason::Truncated => 9,
-    }
-}
-
-/// The status of a text that is no module.
-fn module_status(place: u64, reason: ModuleReason) -> Status
-    ensures { result ≡ status_of_module place reason }
-{
-    Status {
-        code: 3,
-        place,
-        reason: module_code_of(reason),
-    }
 }
 
 impl CheckEnd {

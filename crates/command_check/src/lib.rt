@@ -1,4 +1,4 @@
-//! The word `check`: an input is checked that is to be a header and the text of a module, and
+//! The word `check`: an input is checked that is to be a header, with the text of a module where it says so, and
 //! nothing else; what it is is written.
 #![tactic(auto)]
 
@@ -6,9 +6,8 @@ mod end;
 mod input;
 mod module;
 mod report;
-mod text;
 
 pub use end::CheckEnd;
-pub use input::{CheckStop, CheckedModule};
+pub use input::CheckedModule;
 pub use module::check_module;
 pub use report::check_input;

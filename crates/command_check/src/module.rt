@@ -1,75 +1,45 @@
 //! A module is checked.
 
-ghost use Rattle.std.specs.Prelude.{◌≡◌, ◌==◌, IfOk, drop};
-ghost use Rattle.command_check.specs.Check.{ChecksInput};
-ghost use Rattle.command_check.specs.Text.{is_blank as blank};
-ghost use Rattle.command_check.specs.inside.Steps.{ReadsFront, ModuleMeets};
+ghost use Rattle.std.specs.Prelude.{◌≡◌, IfOk};
+ghost use Rattle.command_check.specs.Check.{IsSummary, Summarises, ChecksInput};
 
-use crate::input::{CheckStop, CheckedModule, take_end};
-use crate::text::take_text;
-use asn1_module::{Module, ModuleError, read_module};
-use asn1_tokens::{Token, Tokens};
+use crate::input::{CheckedModule, take_end};
+use asn1_module::Module;
 use gnb_base::lines::LineReader;
 use gnb_base::outside::Source;
 use gnb_types::octets::{Memory, Octets};
-use input_defs::InputEnd;
-use scenario_text::event::TextReason;
+use input_module::{GivenModule, ModuleStop, take_module};
+use profile::Version;
+use profile_module::{builtin, builtin_2};
 use std::alloc::Global;
 
-/// Whether these octets are white space and comments alone.
-fn is_blank(alloc: Global, text: &[u8]) -> Result<bool, Memory>
-    ensures { IfOk result (λ found. found ≡ blank text.now) }
+/// What is reported of a module.
+fn summary_of(alloc: Global, module: &Module) -> Result<CheckedModule, Memory>
+    ensures { IfOk result (λ checked. IsSummary module.now checked) }
 {
-    let tokens = Tokens::new(alloc, text)?;
-    Ok(matches!(tokens.token(), Token::EndOfText))
-}
-
-/// Reads the module of a text, whose lines begin at line 2 of the input.
-fn read_text(alloc: Global, text: &[u8]) -> Result<(Module, usize), CheckStop>
-    ensures { ReadsFront text.now result }
-{
-    match read_module(alloc, text) {
-        Ok(read) => Ok(read),
-        Err(
-            ModuleError::Refused {
-                line,
-                column,
-                reason,
-            },
-        ) => Err(CheckStop::NoModule {
-            line: line + 1,
-            column,
-            reason,
-        }),
-        Err(ModuleError::Memory) => Err(CheckStop::Input(InputEnd::Memory)),
-    }
-}
-
-/// Reads a text that is one module, and whose last line has this number.
-fn read_alone(alloc: Global, text: &[u8], last: u64) -> Result<CheckedModule, CheckStop>
-    ensures { ModuleMeets text.now last result }
-{
-    let (module, end) = read_text(alloc, text)?;
-    if !is_blank(alloc, &text[end.min(text.len())..])? {
-        return Err(CheckStop::Script {
-            place: last,
-            reason: TextReason::Extra,
-        });
-    }
     Ok(CheckedModule {
         name: Octets::from_slice(alloc, module.name())?,
         types: module.len(),
     })
 }
 
-/// Checks that an input is a header and the text of a module, and nothing else.
-pub fn check_module<S: Source>(alloc: Global, input: &mut S) -> Result<CheckedModule, CheckStop>
+/// What is reported of the module that a header names; of the profile it is read of its text.
+fn summary_given(alloc: Global, given: &GivenModule) -> Result<CheckedModule, Memory>
+    ensures { IfOk result (λ checked. Summarises given.now checked) }
+{
+    match given {
+        GivenModule::Text(module) => summary_of(alloc, module),
+        GivenModule::Builtin(Version::One) => summary_of(alloc, builtin(alloc)?.module()),
+        GivenModule::Builtin(Version::Two) => summary_of(alloc, builtin_2(alloc)?.module()),
+    }
+}
+
+/// Checks that an input is a header and the module that it names, and nothing else.
+pub fn check_module<S: Source>(alloc: Global, input: &mut S) -> Result<CheckedModule, ModuleStop>
     ensures { ChecksInput (S.at input.old) (S.at input.new) result }
 {
     let mut reader = LineReader::new(alloc)?;
-    let gathered = take_text(alloc, &mut reader, input)?;
-    let text = gathered.text(reader.read_so_far());
-    let checked = read_alone(alloc, text, gathered.last)?;
+    let given = take_module(alloc, Version::Two, &mut reader, input)?;
     take_end(&mut reader, input)?;
-    Ok(checked)
+    Ok(summary_given(alloc, &given)?)
 }

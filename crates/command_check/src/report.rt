@@ -6,27 +6,28 @@ ghost use Rattle.command_defs.specs.Outside.{outside};
 ghost use Rattle.command_check.specs.Report.{end_of as end_of_result, module_line as module_text, report_of as report_text, check_text, check_status, CheckMeets};
 ghost use Rattle.command_check.specs.Whole.{ChecksWholly};
 
-use crate::end::{CheckEnd, module_code_of};
-use crate::input::{CheckStop, CheckedModule};
+use crate::end::CheckEnd;
+use crate::input::CheckedModule;
 use crate::module::check_module;
 use command_defs::CommonEnd;
-use command_output::{end_of_input, text_of, write_all};
+use command_output::{end_of_input, fault_text, text_of, write_all};
 use gnb_base::outside::{Sink, Source};
 use gnb_types::octets::{Memory, Octets};
+use input_module::ModuleStop;
 use std::alloc::Global;
 
 /// How a check ends that came to this.
-fn end_of(answer: &Result<CheckedModule, CheckStop>) -> CheckEnd
+fn end_of(answer: &Result<CheckedModule, ModuleStop>) -> CheckEnd
     ensures { result ≡ end_of_result answer.now }
 {
     match *answer {
         Ok(_) => CheckEnd::Checked,
-        Err(CheckStop::NoModule { line, reason, .. }) => CheckEnd::NoModule {
+        Err(ModuleStop::NoModule { line, reason, .. }) => CheckEnd::NoModule {
             place: line,
             reason,
         },
-        Err(CheckStop::Script { place, reason }) => CheckEnd::Script { place, reason },
-        Err(CheckStop::Input(end)) => CheckEnd::Common(end_of_input(end)),
+        Err(ModuleStop::Script { place, reason }) => CheckEnd::Script { place, reason },
+        Err(ModuleStop::Input(end)) => CheckEnd::Common(end_of_input(end)),
     }
 }
 
@@ -44,28 +45,24 @@ fn module_line(alloc: Global, checked: &CheckedModule) -> Result<Octets, Memory>
 
 /// The line of a module or of its fault; another end has none.
 #[tactic(auto, unfolding(crate::specs::Report::report_of))]
-fn report_of(alloc: Global, answer: &Result<CheckedModule, CheckStop>) -> Result<Octets, Memory>
+fn report_of(alloc: Global, answer: &Result<CheckedModule, ModuleStop>) -> Result<Octets, Memory>
     ensures { IfOk result (λ text. text ≡ report_text answer.now) }
 {
     match answer {
         Ok(checked) => module_line(alloc, checked),
         Err(
-            CheckStop::NoModule {
+            ModuleStop::NoModule {
                 line,
                 column,
                 reason,
             },
-        ) => {
-            let code = module_code_of(*reason);
-            let text = format!(in alloc; "module {line} {column} {code}\n")?;
-            Ok(Octets::from_vec(text.into_bytes()))
-        }
+        ) => fault_text(alloc, *line, *column, *reason),
         Err(_) => Ok(Octets::new(alloc)),
     }
 }
 
 /// All that is written of an answer.
-fn answer_text(alloc: Global, answer: &Result<CheckedModule, CheckStop>) -> Result<Octets, Memory>
+fn answer_text(alloc: Global, answer: &Result<CheckedModule, ModuleStop>) -> Result<Octets, Memory>
     ensures { IfOk result (λ text. text ≡ check_text answer.now) }
 {
     let mut text = report_of(alloc, answer)?;

@@ -1,9 +1,13 @@
 -- The statuses that each word has, and the line that reports one.
-use Rattle.std.specs.Prelude.{ℕ, List, [], ◌∷◌}
+use Rattle.std.specs.Prelude.{ℕ, List, [], ◌∷◌, ◌++◌, codes}
+use Rattle.std.specs.Fmt.{decimal}
+use Rattle.asn1_types.specs.declared.fault.ModuleReason.{ModuleReason}
+use Rattle.asn1_types.specs.declared.fault.ModuleReason.TheVariants.{Token, Form, Unknown, Twice, Recursive, OutOfProfile, Bounds, Deep, Truncated}
 use Rattle.script_words.specs.declared.reason.TextReason.{TextReason}
 use Rattle.script_words.specs.declared.reason.TextReason.TheVariants.{Word, Number, Hex, Extra, Name}
 use Rattle.scenario_text.specs.declared.line.OutLine.{OutLine}
 use Rattle.scenario_text.specs.declared.line.OutLine.TheVariants as lines
+use Rattle.scenario_text.specs.Print.{◌then◌}
 use Rattle.command_defs.specs.declared.CommonEnd.{CommonEnd}
 use Rattle.command_defs.specs.declared.CommonEnd.TheVariants.{ReadFault, TooLong, WriteFault, Memory}
 use Rattle.command_defs.specs.declared.Status.{Status}
@@ -23,6 +27,27 @@ reason_code Number = 2
 reason_code Hex = 3
 reason_code Extra = 4
 reason_code Name = 5
+
+-- the number of a reason why a text is no module
+abbrev pub module_reason_code : ModuleReason → ℕ
+module_reason_code Token = 1
+module_reason_code Form = 2
+module_reason_code Unknown = 3
+module_reason_code Twice = 4
+module_reason_code Recursive = 5
+module_reason_code OutOfProfile = 6
+module_reason_code Bounds = 7
+module_reason_code Deep = 8
+module_reason_code Truncated = 9
+
+-- the text is no module; its first fault stands in the line at this place
+abbrev pub module_status : ℕ → ModuleReason → Status
+module_status place reason = record { code = 3; place = place; reason = module_reason_code reason }
+
+-- `module LINE COLUMN REASON`
+abbrev pub fault_line : ℕ → ℕ → ModuleReason → List ℕ
+fault_line line column reason =
+    codes "module" then decimal line then decimal column then decimal (module_reason_code reason) ++ 10 ∷ []
 
 -- the line at a place is wrong
 abbrev pub line_status : ℕ → TextReason → Status

@@ -5,5 +5,8 @@
 mod status;
 mod write;
 
-pub use status::{common_last_line, common_status, end_of_input, line_status, stop_line};
+pub use status::{
+    common_last_line, common_status, end_of_input, fault_text, line_status, module_status,
+    stop_line,
+};
 pub use write::{text_of, write_all, write_lines};

@@ -1,14 +1,17 @@
 //! The statuses that each word has, and the line that reports one.
 
-ghost use Rattle.std.specs.Prelude.{◌≡◌};
+ghost use Rattle.std.specs.Prelude.{◌≡◌, IfOk};
 ghost use Rattle.std.specs.Option.{option_to_list};
 ghost use Rattle.command_defs.specs.Ends.{end_of_input as end_of};
-ghost use Rattle.command_defs.specs.Statuses.{reason_code as number_of, line_status as status_of_line, common_status as status_of_end, stop_line as line_of, common_last_lines};
+ghost use Rattle.command_defs.specs.Statuses.{module_reason_code, module_status as status_of_module, fault_line, reason_code as number_of, line_status as status_of_line, common_status as status_of_end, stop_line as line_of, common_last_lines};
 
+use asn1_types::ModuleReason;
 use command_defs::{CommonEnd, Status};
+use gnb_types::octets::{Memory, Octets};
 use input_defs::InputEnd;
 use scenario_text::event::TextReason;
 use scenario_text::line::OutLine;
+use std::alloc::Global;
 
 /// The place of the byte that is one too many.
 const PAST_LIMIT: u64 = 16_777_217;
@@ -24,6 +27,48 @@ fn reason_code(reason: TextReason) -> u16
         TextReason::Extra => 4,
         TextReason::Name => 5,
     }
+}
+
+/// The number of a reason why a text is no module.
+fn module_code(reason: ModuleReason) -> u16
+    ensures { result ≡ module_reason_code reason }
+{
+    match reason {
+        ModuleReason::Token => 1,
+        ModuleReason::Form => 2,
+        ModuleReason::Unknown => 3,
+        ModuleReason::Twice => 4,
+        ModuleReason::Recursive => 5,
+        ModuleReason::OutOfProfile => 6,
+        ModuleReason::Bounds => 7,
+        ModuleReason::Deep => 8,
+        ModuleReason::Truncated => 9,
+    }
+}
+
+/// The status of a text that is no module.
+pub fn module_status(place: u64, reason: ModuleReason) -> Status
+    ensures { result ≡ status_of_module place reason }
+{
+    Status {
+        code: 3,
+        place,
+        reason: module_code(reason),
+    }
+}
+
+/// The line of a module's first fault, with its LF.
+pub fn fault_text(
+    alloc: Global,
+    line: u64,
+    column: u64,
+    reason: ModuleReason,
+) -> Result<Octets, Memory>
+    ensures { IfOk result (λ text. text ≡ fault_line line column reason) }
+{
+    let code = module_code(reason);
+    let text = format!(in alloc; "module {line} {column} {code}\n")?;
+    Ok(Octets::from_vec(text.into_bytes()))
 }
 
 /// The status of a wrong line.

@@ -12,33 +12,55 @@ use Rattle.script_words.specs.declared.reason.TextError.TheVariants as texts
 use Rattle.scenario_text.specs.declared.line.OutLine.{OutLine}
 use Rattle.scenario_text.specs.declared.line.OutLine.TheVariants as lines
 use Rattle.script_words.specs.Answers.{GivesOrMemory}
-use Rattle.scenario_text.specs.Grammar.{header_of, is_skipped}
+use Rattle.scenario_text.specs.Grammar.{is_skipped}
 use Rattle.scenario_text.specs.Print.{print}
 use Rattle.static_runner.specs.declared.runner.Runner.{Runner}
+use Rattle.asn1_assignments.specs.declared.assignment.Syntax.{Syntax}
+use Rattle.profile.specs.declared.version.Version.TheVariants.{One}
+use Rattle.profile_module.specs.declared.agreement.AgreeError.{AgreeError}
+use Rattle.profile_module.specs.declared.agreement.AgreeError.TheVariants as errors
+use Rattle.profile_module.specs.Profiles.{IsAgreementOf}
+use Rattle.input_module.specs.declared.module.GivenModule.{GivenModule}
+use Rattle.input_module.specs.declared.module.GivenModule.TheVariants as given
+use Rattle.input_module.specs.declared.stop.ModuleStop.{ModuleStop}
+use Rattle.input_module.specs.Taking.{HasModule, StopsTaking}
+use Rattle.command_run.specs.inside.Stops.{end_of_stop}
 use Rattle.command_defs.specs.declared.CommonEnd.TheVariants.{WriteFault, Memory}
 use Rattle.command_defs.specs.Ends.{end_of_input}
 use Rattle.command_output.specs.Writes.{WritesAll, WritesFront}
 use Rattle.command_run.specs.declared.end.RunEnd.{RunEnd}
-use Rattle.command_run.specs.declared.end.RunEnd.TheVariants.{Script, Common}
+use Rattle.command_run.specs.declared.end.RunEnd.TheVariants.{Differs, Script, Common}
 use Rattle.command_run.specs.declared.script.Meaning.{Meaning}
 use Rattle.command_run.specs.declared.script.Meaning.TheVariants as meanings
-use Rattle.command_run.specs.inside.Turns.{RunnerAt, runner_at, RunAt, HeaderStops, HeaderUnread, NoHeader, HeaderMeets, LineStops, Refused, IsEvent, GoesOn, Applies, ApplyStops, Faulty, NoRoom, ApplyMeets, TakesLine, Happens, TurnStops, Unread, Unapplied, Unwritten, TurnMeets, Means}
+use Rattle.command_run.specs.inside.Turns.{RunnerAt, runner_at, RunAt, ProfileStops, Untaken, Unlike, Uncompared, ProfileMeets, LineStops, Refused, IsEvent, GoesOn, Applies, ApplyStops, Faulty, NoRoom, ApplyMeets, TakesLine, Happens, TurnStops, Unread, Unapplied, Unwritten, TurnMeets, Means}
 use Rattle.command_run.proofs.Runs.{print-cons}
 use Rattle.run_model.specs.Runnable.{runnable_event_of, whole_event}
 
--- ---- the header
+-- ---- the profile
 
-pub header_unread : (old new : Reading) (before after : SourceAt) (why : InputEnd) (end : RunEnd) (result : Result (Unit {0}) RunEnd)
-    → StopsReading old new before after why
-    → result ≡ Err end → end ≡ Common (end_of_input why) → HeaderMeets old new before after result
-header_unread old new before after why end result s e f =
-    subst (λ (r : Result (Unit {0}) RunEnd). HeaderMeets old new before after r) (sym e) (HeaderUnread why s f)
+pub untaken : {before after : SourceAt} (reading : Reading) (stop : ModuleStop) (end : RunEnd) (result : Result (Unit {0}) RunEnd)
+    → result ≡ Err end → end ≡ end_of_stop stop → StopsTaking One before after stop
+    → ProfileMeets before after reading result
+untaken {before = before} {after = after} reading stop end result e f h =
+    subst (λ (r : Result (Unit {0}) RunEnd). ProfileMeets before after reading r) (sym e) (Untaken stop h f)
 
-pub no_header : (old new : Reading) (before after : SourceAt) (found : Option Line) (line : Line) (text : List ℕ) (reason : TextReason)
-    → found ≡ Some line → NextMeets old new before after (Ok found) → text ≡ line.text → header_of text ≡ Err reason
-    → HeaderStops old new before after (Script 1 reason)
-no_header old new before after found line text reason e m same h =
-    NoHeader line reason (subst (λ (o : Option Line). NextMeets old new before after (Ok o)) e m) (ap header_of (sym same) ∙ h) refl
+-- the module of the text that was taken
+text_module : {before after : SourceAt} {reading : Reading} (found : GivenModule) (m : Syntax) → found ≡ given.Text m
+    → HasModule One before after reading found
+    → HasModule One before after reading (given.Text m)
+text_module {before = before} {after = after} {reading = reading} found m e h =
+    subst (λ (x : GivenModule). HasModule One before after reading x) e h
+
+pub unlike : {before after : SourceAt} {reading : Reading} (found : GivenModule) (m : Syntax) (error : AgreeError) (name : List ℕ)
+    → found ≡ given.Text m → HasModule One before after reading found → error ≡ errors.Differs name → IsAgreementOf m (Err error)
+    → ProfileStops before after reading (Differs name)
+unlike found m error name e h same d =
+    Unlike m name (text_module found m e h) (subst (λ (x : AgreeError). IsAgreementOf m (Err x)) same d) refl
+
+pub uncompared : {before after : SourceAt} {reading : Reading} (found : GivenModule) (m : Syntax) → found ≡ given.Text m
+    → HasModule One before after reading found
+    → ProfileStops before after reading (Common Memory)
+uncompared found m e h = Uncompared m (text_module found m e h) refl
 
 -- ---- a line
 

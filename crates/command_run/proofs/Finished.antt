@@ -11,11 +11,11 @@ use Rattle.command_defs.specs.declared.CommonEnd.{CommonEnd}
 use Rattle.command_defs.specs.declared.CommonEnd.TheVariants.{ReadFault, TooLong, WriteFault, Memory}
 use Rattle.command_defs.specs.Outside.{OutsideAt, outside, ReadsTo, AllRead, ReadStopped, WritesTo, AllWritten, WriteStopped, CallsTo}
 use Rattle.command_defs.specs.Output.{Prints, PrintsFront}
-use Rattle.command_output.specs.Writes.{WritesAll, WritesFront, WritesLines}
+use Rattle.command_output.specs.Writes.{WritesAll, WritesFront}
 use Rattle.command_output.proofs.Written.{none_then_none, none_then_last, prints_more, front_more, front_all}
 use Rattle.command_run.specs.declared.end.RunEnd.{RunEnd}
-use Rattle.command_run.specs.declared.end.RunEnd.TheVariants.{Done, Script, Common}
-use Rattle.command_run.specs.Ends.{run_status, run_last_lines}
+use Rattle.command_run.specs.declared.end.RunEnd.TheVariants.{Done, NoModule, Differs, Script, Common}
+use Rattle.command_run.specs.Ends.{run_status, report_of, run_last_lines, end_text}
 use Rattle.command_run.specs.Run.{RunEndMeets, run_text, PrintsRun, RunMeets}
 use Rattle.command_run.specs.inside.Stops.{RunsTo, PrintsTo, ReadsUntil, WritesUntil, Finishes, Silent, Written, Cut, Unwritten}
 
@@ -23,6 +23,8 @@ use Rattle.command_run.specs.inside.Stops.{RunsTo, PrintsTo, ReadsUntil, WritesU
 
 reads_end : (a b : SourceAt) (end : RunEnd) → ReadsUntil a b end → ReadsTo a b (run_status end).code
 reads_end a b (Done n) h = AllRead h (λ (e : 0 ≡ 6). omega arith)
+reads_end a b (NoModule line column reason) h = AllRead h (λ (e : 3 ≡ 6). omega arith)
+reads_end a b (Differs name) h = AllRead h (λ (e : 3 ≡ 6). omega arith)
 reads_end a b (Script place reason) h = AllRead h (λ (e : 4 ≡ 6). omega arith)
 reads_end a b (Common (ReadFault taken)) h = ReadStopped h (inl refl)
 reads_end a b (Common TooLong) h = AllRead h (λ (e : 11 ≡ 6). omega arith)
@@ -32,6 +34,8 @@ reads_end a b (Common Memory) h = AllRead h (λ (e : 9 ≡ 6). omega arith)
 -- the last line was not written
 reads_cut : (a b : SourceAt) (end : RunEnd) → ReadsUntil a b end → ReadsTo a b 7
 reads_cut a b (Done n) h = AllRead h (λ (e : 7 ≡ 6). omega arith)
+reads_cut a b (NoModule line column reason) h = AllRead h (λ (e : 7 ≡ 6). omega arith)
+reads_cut a b (Differs name) h = AllRead h (λ (e : 7 ≡ 6). omega arith)
 reads_cut a b (Script place reason) h = AllRead h (λ (e : 7 ≡ 6). omega arith)
 reads_cut a b (Common (ReadFault taken)) h = ReadStopped h (inr (inl refl))
 reads_cut a b (Common TooLong) h = AllRead h (λ (e : 7 ≡ 6). omega arith)
@@ -40,6 +44,8 @@ reads_cut a b (Common Memory) h = AllRead h (λ (e : 7 ≡ 6). omega arith)
 
 reads_out : (a b : SourceAt) (end : RunEnd) → ReadsUntil a b end → ReadsTo a b 9
 reads_out a b (Done n) h = AllRead h (λ (e : 9 ≡ 6). omega arith)
+reads_out a b (NoModule line column reason) h = AllRead h (λ (e : 9 ≡ 6). omega arith)
+reads_out a b (Differs name) h = AllRead h (λ (e : 9 ≡ 6). omega arith)
 reads_out a b (Script place reason) h = AllRead h (λ (e : 9 ≡ 6). omega arith)
 reads_out a b (Common (ReadFault taken)) h = ReadStopped h (inr (inr refl))
 reads_out a b (Common TooLong) h = AllRead h (λ (e : 9 ≡ 6). omega arith)
@@ -51,6 +57,8 @@ reads_out a b (Common Memory) h = AllRead h (λ (e : 9 ≡ 6). omega arith)
 -- there is no last line
 silent_writes : (a b : SinkAt) (end : RunEnd) → run_last_lines end ≡ [] → WritesUntil a b end → WritesTo a b (run_status end).code
 silent_writes a b (Done n) e h = absurd (cc)
+silent_writes a b (NoModule line column reason) e h = absurd (cc)
+silent_writes a b (Differs name) e h = absurd (cc)
 silent_writes a b (Script place reason) e h = absurd (cc)
 silent_writes a b (Common (ReadFault taken)) e h = absurd (cc)
 silent_writes a b (Common TooLong) e h = absurd (cc)
@@ -60,6 +68,8 @@ silent_writes a b (Common Memory) e h = AllWritten h (λ (f : 9 ≡ 7). omega ar
 silent_prints : (a b : SinkAt) (Meets : RunEnd → Type 0) (events : List StaticEvent) (end : RunEnd) → run_last_lines end ≡ []
     → PrintsTo a b events end → PrintsRun a b Meets events end
 silent_prints a b Meets events (Done n) e h = absurd (cc)
+silent_prints a b Meets events (NoModule line column reason) e h = absurd (cc)
+silent_prints a b Meets events (Differs name) e h = absurd (cc)
 silent_prints a b Meets events (Script place reason) e h = absurd (cc)
 silent_prints a b Meets events (Common (ReadFault taken)) e h = absurd (cc)
 silent_prints a b Meets events (Common TooLong) e h = absurd (cc)
@@ -70,6 +80,8 @@ silent_prints a b Meets events (Common Memory) e h = h
 text_before : (a b : SinkAt) (events : List StaticEvent) (end : RunEnd) (line : OutLine) → run_last_lines end ≡ line ∷ []
     → PrintsTo a b events end → Prints a b (run_text events)
 text_before a b events (Done n) line e h = h
+text_before a b events (NoModule at column reason) line e h = h
+text_before a b events (Differs name) line e h = h
 text_before a b events (Script place reason) line e h = h
 text_before a b events (Common (ReadFault taken)) line e h = h
 text_before a b events (Common TooLong) line e h = h
@@ -79,6 +91,8 @@ text_before a b events (Common Memory) line e h = absurd (cc)
 none_before : (a b : SinkAt) (end : RunEnd) (line : OutLine) → run_last_lines end ≡ line ∷ [] → WritesUntil a b end
     → WritesUntil a b (Done 0)
 none_before a b (Done n) line e h = h
+none_before a b (NoModule at column reason) line e h = h
+none_before a b (Differs name) line e h = h
 none_before a b (Script place reason) line e h = h
 none_before a b (Common (ReadFault taken)) line e h = h
 none_before a b (Common TooLong) line e h = h
@@ -87,6 +101,8 @@ none_before a b (Common Memory) line e h = h
 
 not_seven : (end : RunEnd) (line : OutLine) → run_last_lines end ≡ line ∷ [] → (run_status end).code ≡ 7 → ⊥
 not_seven (Done n) line e f = omega arith
+not_seven (NoModule at column reason) line e f = omega arith
+not_seven (Differs name) line e f = omega arith
 not_seven (Script place reason) line e f = omega arith
 not_seven (Common (ReadFault taken)) line e f = omega arith
 not_seven (Common TooLong) line e f = omega arith
@@ -95,19 +111,15 @@ not_seven (Common Memory) line e f = omega arith
 
 written_prints : (a b : SinkAt) (Meets : RunEnd → Type 0) (events : List StaticEvent) (end : RunEnd) (line : OutLine)
     → run_last_lines end ≡ line ∷ []
-    → Prints a b (run_text events ++ print (run_last_lines end)) → PrintsRun a b Meets events end
+    → Prints a b (run_text events ++ end_text end) → PrintsRun a b Meets events end
 written_prints a b Meets events (Done n) line e h = h
+written_prints a b Meets events (NoModule at column reason) line e h = h
+written_prints a b Meets events (Differs name) line e h = h
 written_prints a b Meets events (Script place reason) line e h = h
 written_prints a b Meets events (Common (ReadFault taken)) line e h = h
 written_prints a b Meets events (Common TooLong) line e h = h
 written_prints a b Meets events (Common WriteFault) line e h = absurd (cc)
 written_prints a b Meets events (Common Memory) line e h = absurd (cc)
-
-with_line : (a b c : SinkAt) (events : List StaticEvent) (end : RunEnd) (line : OutLine) → run_last_lines end ≡ line ∷ []
-    → Prints a b (run_text events) → Prints b c (print (line ∷ []))
-    → Prints a c (run_text events ++ print (run_last_lines end))
-with_line a b c events end line e h k =
-    prints_more h (subst (λ (ls : List OutLine). Prints b c (print ls)) (sym e) k)
 
 -- ---- with the word `run`
 
@@ -135,7 +147,7 @@ run_meets {first = first} {source = source} {sink = sink} {last = last} end resu
       script = r.script;
       ends = r.ends;
       prints = written_prints first.sink last _ r.events end line some
-          (with_line first.sink sink last r.events end line some (text_before first.sink sink r.events end line some r.prints) written.prints);
+          (prints_more (text_before first.sink sink r.events end line some r.prints) written.prints);
       calls = record {
         reads = reads_end _ _ end r.reads;
         writes = AllWritten (none_then_none (none_before first.sink sink end line some r.writes) written.none) (not_seven end line some);
@@ -152,8 +164,7 @@ run_meets {first = first} {source = source} {sink = sink} {last = last} end resu
       prints = (
         Some end,
         r.ends,
-        front_more (text_before first.sink sink r.events end line some r.prints)
-            (subst (λ (ls : List OutLine). PrintsFront sink last (print ls)) (sym some) cut.prints),
+        front_more (text_before first.sink sink r.events end line some r.prints) cut.prints,
       );
       calls = record {
         reads = reads_cut _ _ end r.reads;
@@ -182,19 +193,23 @@ one_line : (end : RunEnd) (line : OutLine) (found : Option OutLine) → found �
     → run_last_lines end ≡ line ∷ []
 one_line end line found e f = sym f ∙ ap (λ (o : Option OutLine). option_to_list o) e
 
-pub finishes : {a b : SinkAt} (end : RunEnd) (line : OutLine) (found : Option OutLine) → found ≡ Some line
-    → option_to_list found ≡ run_last_lines end → WritesAll a b (print (line ∷ []))
-    → Finishes a b end end
-finishes end line found e f w = Written line (one_line end line found e f) refl w
+-- what was made to be written is all that is to be
+same_text : (end : RunEnd) (line : OutLine) (text : List ℕ) → run_last_lines end ≡ line ∷ [] → text ≡ report_of end ++ print (line ∷ [])
+    → text ≡ end_text end
+same_text end line text e f = f ∙ ap (λ (ls : List OutLine). report_of end ++ print ls) (sym e)
 
-by_fault : (a b : SinkAt) (end : RunEnd) (line : OutLine) (fault : CommonEnd) → run_last_lines end ≡ line ∷ []
-    → WritesLines a b (line ∷ []) (Err fault) → Finishes a b end (Common fault)
-by_fault a b end line (ReadFault taken) e w = absurd w
-by_fault a b end line TooLong e w = absurd w
-by_fault a b end line WriteFault e w = Cut line e refl w
-by_fault a b end line Memory e w = Unwritten line e refl w
+module _ {a b : SinkAt} (end : RunEnd) (line : OutLine) (found : Option OutLine) (some : found ≡ Some line) (lines : option_to_list found ≡ run_last_lines end) where
+  pub finishes : (bytes text : List ℕ) → bytes ≡ text → text ≡ report_of end ++ print (line ∷ []) → WritesAll a b bytes → Finishes a b end end
+  finishes bytes text e f w =
+      let is = one_line end line found some lines in
+      Written line is refl (subst (λ (t : List ℕ). WritesAll a b t) (e ∙ same_text end line text is f) w)
 
-pub finish_stops : (a b : SinkAt) (end : RunEnd) (line : OutLine) (found : Option OutLine) (fault : CommonEnd) → found ≡ Some line
-    → option_to_list found ≡ run_last_lines end
-    → WritesLines a b (line ∷ []) (Err fault) → Finishes a b end (Common fault)
-finish_stops a b end line found fault e f w = by_fault a b end line fault (one_line end line found e f) w
+  pub finish_cut : (bytes text : List ℕ) → bytes ≡ text → text ≡ report_of end ++ print (line ∷ []) → WritesFront a b bytes
+      → Finishes a b end (Common WriteFault)
+  finish_cut bytes text e f w =
+      let is = one_line end line found some lines in
+      Cut line is refl (subst (λ (t : List ℕ). WritesFront a b t) (e ∙ same_text end line text is f) w)
+
+pub finish_out : {a : SinkAt} (end : RunEnd) (line : OutLine) (found : Option OutLine) → found ≡ Some line
+    → option_to_list found ≡ run_last_lines end → Finishes a a end (Common Memory)
+finish_out end line found some lines = Unwritten line (one_line end line found some lines) refl refl

@@ -1,5 +1,5 @@
 -- A run so far, one turn more, and each of its ends.
-use Rattle.std.proofs.Common.{◌≡◌, ◌<◌, ◌≤◌, ℕ, ◌+◌, List, [], ◌∷◌, ◌++◌, length, map, true, Option, Some, None, Ok, Err, refl, sym, ap, ◌∙◌, subst, inl, inr, length-append, arith}
+use Rattle.std.proofs.Common.{◌≡◌, ◌<◌, ◌≤◌, ℕ, ◌+◌, List, [], ◌∷◌, ◌++◌, length, map, true, Option, Some, None, Ok, Err, refl, sym, ap, ◌∙◌, subst, inl, inr, append-nil, append_assoc, length-append, arith}
 use Rattle.std.specs.List.{flat_map}
 use Rattle.gnb_base.specs.declared.lines.Line.{Line}
 use Rattle.gnb_base.specs.declared.lines.ReadError.{ReadError}
@@ -10,20 +10,29 @@ use Rattle.input_defs.specs.declared.InputEnd.{InputEnd}
 use Rattle.input_defs.specs.declared.InputEnd.TheVariants as inputs
 use Rattle.input_defs.specs.Faults.{NoReadFailed, FaultsOfEnd}
 use Rattle.input_defs.specs.Split.{InputSplit, input_split, rest_of, TakesInput}
-use Rattle.input_defs.specs.Ends.{EndsReading}
+use Rattle.input_defs.specs.Ends.{EndsReading, IsReadToEnd}
 use Rattle.input_defs.specs.Standing.{StandsAfter, split_of}
 use Rattle.input_lines.specs.ReadsLine.{StopsReading}
 use Rattle.input_lines.proofs.Sources.{none_failed as no_read_failed, none_then_none as no_read_then}
-use Rattle.input_lines.proofs.Standing.{stands_first, takes_of, line_stands, comes_next, StandsAtEnd, ends_at}
-use Rattle.input_lines.proofs.Stopped.{Stops, stops_at, takes_on}
+use Rattle.input_lines.proofs.Standing.{stands_first, takes_of, line_stands, comes_next, ends_at, both_nil}
+use Rattle.input_lines.proofs.Stopped.{stops_at, going_at, takes_on}
 use Rattle.run_model.specs.declared.event.StaticEvent.{StaticEvent}
-use Rattle.script_words.specs.declared.reason.TextReason.TheVariants.{Word}
+use Rattle.script_words.specs.declared.reason.TextReason.{TextReason}
 use Rattle.scenario_text.specs.declared.line.OutLine.TheVariants as lines
-use Rattle.scenario_text.specs.Grammar.{header_of, is_skipped}
+use Rattle.scenario_text.specs.Grammar.{is_skipped}
 use Rattle.scenario_text.specs.Print.{print}
 use Rattle.run_model.specs.OneBearer.{OneBearer, one_happens, one_run}
 use Rattle.static_runner.specs.declared.runner.Runner.{Runner}
 use Rattle.static_runner.specs.Shows.{Shows, Goes}
+use Rattle.profile.specs.declared.version.Version.{Version}
+use Rattle.profile.specs.declared.version.Version.TheVariants.{One}
+use Rattle.input_module.specs.declared.module.GivenModule.{GivenModule}
+use Rattle.input_module.specs.declared.module.GivenModule.TheVariants as given
+use Rattle.input_module.specs.declared.stop.ModuleStop.{ModuleStop}
+use Rattle.input_module.specs.declared.stop.ModuleStop.TheVariants as stops
+use Rattle.input_module.specs.Module.{GivesModule, StopsModule, IsWrongModule, Empty, NoHeader, Unended, IsPart, Unfinished, Whole, AtHeader}
+use Rattle.input_module.specs.Taking.{FaultsOfStop, StillGives}
+use Rattle.input_module.proofs.Given.{gives_at_end}
 use Rattle.command_defs.specs.declared.CommonEnd.TheVariants.{WriteFault, Memory}
 use Rattle.command_defs.specs.Ends.{end_of_input}
 use Rattle.command_defs.specs.Outside.{OutsideAt, outside, NoWriteFailed, LastWriteFailed}
@@ -31,10 +40,10 @@ use Rattle.command_defs.specs.Output.{Prints, PrintsFront}
 use Rattle.command_output.specs.Writes.{WritesAll, WritesFront}
 use Rattle.command_output.proofs.Written.{none_failed, none_then_last, all_none, all_more, front_none, front_more, front_of, front_all}
 use Rattle.command_run.specs.declared.end.RunEnd.{RunEnd}
-use Rattle.command_run.specs.declared.end.RunEnd.TheVariants.{Done, Script, Common}
-use Rattle.command_run.specs.Run.{meanings, AreScript, RunEndMeets, run_text}
-use Rattle.command_run.specs.inside.Stops.{RunsTo, PrintsTo, ReadsUntil, WritesUntil}
-use Rattle.command_run.specs.inside.Turns.{RunnerAt, runner_at, RunAt, run_at, HeaderStops, HeaderUnread, NoLine, NoHeader, HasHeader, IsEvent, LineStops, Refused, NoMemory, Applies, ApplyStops, Faulty, NoRoom, LineApplies, Skips, Happens, TakesLine, TakesEnd, TurnStops, Unread, Unapplied, Unwritten, TurnMeets}
+use Rattle.command_run.specs.declared.end.RunEnd.TheVariants.{Done, Common}
+use Rattle.command_run.specs.Run.{AreEvents, IsProfile, IsScript, Passes, RunEndMeets, run_text}
+use Rattle.command_run.specs.inside.Stops.{RunsTo, PrintsTo, ReadsUntil, WritesUntil, end_of_stop}
+use Rattle.command_run.specs.inside.Turns.{RunnerAt, runner_at, RunAt, run_at, HasProfile, ProfileStops, Untaken, Unlike, Uncompared, IsEvent, LineStops, Refused, NoMemory, Applies, ApplyStops, Faulty, NoRoom, LineApplies, Skips, Happens, TakesLine, TakesEnd, TurnStops, Unread, Unapplied, Unwritten, TurnMeets}
 use Rattle.command_run.proofs.Runs.{run_begins, no_text, script_skips, script_more, text-more, shows_more}
 use Rattle.run_model.specs.Runnable.{whole_event}
 
@@ -42,123 +51,173 @@ use Rattle.run_model.specs.Runnable.{whole_event}
 abbrev pub outside_of : RunAt → OutsideAt
 outside_of r = outside r.source r.work.sink
 
--- the lines that were handed out are a header, and then these events, whose text was written; the runner shows them
+-- the lines that were handed out give the profile, and then these events, whose text was written; the runner shows them
 pub record SoFar (first : OutsideAt) (now : RunAt) (count : ℕ) : Type 0 where
   pub taken : List ℕ
-  pub header : List ℕ
+  pub front : List (List ℕ)
   pub lines : List (List ℕ)
   pub events : List StaticEvent
-  pub stands : StandsAfter first.source now.source now.reading taken (header ∷ lines)
-  pub is_header : header_of header ≡ Ok tt
-  pub script : flat_map meanings lines ≡ map (λ event. Ok event) events
+  pub found : GivenModule
+  pub stands : StandsAfter first.source now.source now.reading taken (front ++ lines)
+  pub gives : GivesModule One (rest_of first.source now.source) (split_of now.reading taken (front ++ lines)) front found
+  pub later : StillGives One now.reading taken front found
+  pub profile : IsProfile found
+  pub script : AreEvents lines events
   pub writes : WritesAll first.sink now.work.sink (run_text events)
   pub shows : Shows now.work.runner (one_run events).bearer
   pub counted : count ≡ length events
   pub few : count < now.reading.lines
-  pub bounded : now.reading.lines ≤ input_limit
-
--- before the line that comes next
-pub record Before (first : OutsideAt) (reading : Reading) (source : SourceAt) (sink : SinkAt) : Type 0 where
-  pub taken : List ℕ
-  pub lines : List (List ℕ)
-  pub events : List StaticEvent
-  pub stands : StandsAfter first.source source reading taken lines
-  pub script : AreScript lines events
-  pub writes : WritesAll first.sink sink (run_text events)
+  pub bounded : count ≤ input_limit
 
 writes_none : (sink : SinkAt) → WritesAll sink sink (run_text [])
 writes_none sink = subst (λ (text : List ℕ). WritesAll sink sink text) (sym no_text) (all_none sink)
 
-before_header : (source : SourceAt) (sink : SinkAt) → Before (outside source sink) fresh source sink
-before_header source sink =
-    record { taken = []; lines = []; events = []; stands = stands_first source; script = refl; writes = writes_none sink }
-
-before_line : {first : OutsideAt} {now : RunAt} {count : ℕ} → SoFar first now count → Before first now.reading now.source now.work.sink
-before_line s =
-    record { taken = s.taken; lines = s.header ∷ s.lines; events = s.events; stands = s.stands; script = (s.is_header, s.script); writes = s.writes }
-
 -- ---- the begin
 
-begins : (source0 source1 : SourceAt) (sink : SinkAt) (reading : Reading) (runner : Runner) → HasHeader fresh reading source0 source1
+some_line : (newest : Version) (left : Option (List ℕ)) (split : InputSplit) (front : List (List ℕ)) (found : GivenModule)
+    → GivesModule newest left split front found → 0 < length front
+some_line newest left split front (given.Text m) h = omega (arith, ap length h.has.parts)
+some_line newest left split front (given.Builtin version) h = omega (arith, ap length h.parts)
+
+pub begins : {source0 source1 : SourceAt} (sink : SinkAt) {reading : Reading} (runner : Runner) → HasProfile source0 source1 reading
     → Shows runner None
     → SoFar (outside source0 sink) (run_at reading source1 runner sink) 0
-begins source0 source1 sink reading runner h shows = record {
-  taken = h.meets.taken;
-  header = h.line.text;
-  lines = [];
-  events = [];
-  stands = line_stands h.line (stands_first source0) h.meets;
-  is_header = h.header;
-  script = refl;
-  writes = writes_none sink;
-  shows = subst (λ (one : Option OneBearer). Shows runner one) (sym run_begins) shows;
-  counted = refl;
-  few = omega (arith, h.meets.answers.lines, h.meets.answers.number);
-  bounded = omega (arith, h.meets.answers.lines, h.meets.answers.counted, h.meets.answers.within);
-}
+begins {source0 = source0} {source1 = source1} sink {reading = reading} runner p shows =
+    let h = p.has in
+    let one = some_line One (rest_of source0 source1) (split_of reading h.taken h.lines) h.lines p.found h.gives in
+    record {
+      taken = h.taken;
+      front = h.lines;
+      lines = [];
+      events = [];
+      found = p.found;
+      stands = subst (λ (ls : List (List ℕ)). StandsAfter source0 source1 reading h.taken ls) (sym (append-nil h.lines)) h.stands;
+      gives = subst (λ (ls : List (List ℕ)). GivesModule One (rest_of source0 source1) (split_of reading h.taken ls) h.lines p.found) (sym (append-nil h.lines)) h.gives;
+      later = h.later;
+      profile = p.profile;
+      script = refl;
+      writes = writes_none sink;
+      shows = subst (λ (one : Option OneBearer). Shows runner one) (sym run_begins) shows;
+      counted = refl;
+      few = omega (arith, h.stands.count, one);
+      bounded = omega arith;
+    }
 
 -- ---- one turn more
 
-skips : {first : OutsideAt} {old : RunAt} (new : RunAt) {count : ℕ} (line : Line) → SoFar first old count
-    → NextMeets old.reading new.reading old.source new.source (Ok (Some line)) → is_skipped line.text ≡ true → new.work ≡ old.work
-    → SoFar first new count
-skips {first = first} new line s m skip same = record {
-  taken = s.taken ++ m.taken;
-  header = s.header;
-  lines = s.lines ++ line.text ∷ [];
-  events = s.events;
-  stands = line_stands line s.stands m;
-  is_header = s.is_header;
-  script = script_skips s.lines line.text s.events s.script skip;
-  writes = subst (λ (work : RunnerAt). WritesAll first.sink work.sink (run_text s.events)) (sym same) s.writes;
-  shows = subst (λ (work : RunnerAt). Shows work.runner (one_run s.events).bearer) (sym same) s.shows;
-  counted = s.counted;
-  few = omega (arith, s.few, m.answers.lines, m.answers.number);
-  bounded = omega (arith, m.answers.lines, m.answers.counted, m.answers.within);
-}
+module _ {first : OutsideAt} {old : RunAt} {count : ℕ} (s : SoFar first old count) where
+  -- what is taken after these lines leaves them a script
+  script_on : (left : Option (List ℕ)) (more kept : List ℕ) → old.reading.phase ≡ phases.Going
+      → IsScript left (input_split (s.taken ++ more) (s.front ++ s.lines) kept) s.events
+  script_on left more kept going = record {
+    front = s.front;
+    lines = s.lines;
+    found = s.found;
+    parts = refl;
+    gives = s.later going left (input_split (s.taken ++ more) (s.front ++ s.lines) kept) more refl;
+    profile = s.profile;
+    are = s.script;
+  }
 
-happens_more : {first : OutsideAt} {old : RunAt} (new : RunAt) {count : ℕ} (line : Line) (event : StaticEvent) → SoFar first old count
-    → NextMeets old.reading new.reading old.source new.source (Ok (Some line)) → IsEvent line.text event → Applies old.work new.work event
-    → SoFar first new (count + 1)
-happens_more {first = first} new line event s m is applies =
-    let goes : Goes new.work.runner applies.printed (one_happens (one_run s.events).bearer event) = applies.goes (one_run s.events).bearer s.shows in
-    record {
-      taken = s.taken ++ m.taken;
-      header = s.header;
+  module _ (new : RunAt) (line : Line) (m : NextMeets old.reading new.reading old.source new.source (Ok (Some line))) where
+    stands_more : StandsAfter first.source new.source new.reading (s.taken ++ m.taken) (s.front ++ (s.lines ++ line.text ∷ []))
+    stands_more =
+        subst (λ (ls : List (List ℕ)). StandsAfter first.source new.source new.reading (s.taken ++ m.taken) ls) (append_assoc s.front s.lines (line.text ∷ []))
+        (line_stands line s.stands m)
+
+    gives_more : GivesModule One (rest_of first.source new.source) (split_of new.reading (s.taken ++ m.taken) (s.front ++ (s.lines ++ line.text ∷ []))) s.front s.found
+    gives_more =
+        s.later m.answers.going (rest_of first.source new.source) (split_of new.reading (s.taken ++ m.taken) (s.front ++ (s.lines ++ line.text ∷ []))) m.taken refl
+
+    later_more : StillGives One new.reading (s.taken ++ m.taken) s.front s.found
+    later_more going left split more e = s.later m.answers.going left split (m.taken ++ more) (e ∙ append_assoc s.taken m.taken more)
+
+    script_after : (events : List StaticEvent) → AreEvents (s.lines ++ line.text ∷ []) events
+        → IsScript (rest_of first.source new.source) (split_of new.reading (s.taken ++ m.taken) (s.front ++ (s.lines ++ line.text ∷ []))) events
+    script_after events are = record {
+      front = s.front;
       lines = s.lines ++ line.text ∷ [];
-      events = s.events ++ event ∷ [];
-      stands = line_stands line s.stands m;
-      is_header = s.is_header;
-      script = script_more s.lines line.text s.events event s.script is;
-      writes = subst (λ (text : List ℕ). WritesAll first.sink new.work.sink text) (sym (text-more s.events event applies.printed goes.same)) (all_more s.writes applies.writes);
-      shows = shows_more s.events event new.work.runner applies.printed goes;
-      counted = ap (λ (n : ℕ). n + 1) s.counted ∙ sym (length-append s.events (event ∷ []));
-      few = omega (arith, s.few, m.answers.lines, m.answers.number);
-      bounded = omega (arith, m.answers.lines, m.answers.counted, m.answers.within);
+      found = s.found;
+      parts = refl;
+      gives = gives_more;
+      profile = s.profile;
+      are = are;
     }
+
+    skips : is_skipped line.text ≡ true → new.work ≡ old.work → SoFar first new count
+    skips skip same = record {
+      taken = s.taken ++ m.taken;
+      front = s.front;
+      lines = s.lines ++ line.text ∷ [];
+      events = s.events;
+      found = s.found;
+      stands = stands_more;
+      gives = gives_more;
+      later = later_more;
+      profile = s.profile;
+      script = script_skips s.lines line.text s.events s.script skip;
+      writes = subst (λ (work : RunnerAt). WritesAll first.sink work.sink (run_text s.events)) (sym same) s.writes;
+      shows = subst (λ (work : RunnerAt). Shows work.runner (one_run s.events).bearer) (sym same) s.shows;
+      counted = s.counted;
+      few = omega (arith, s.few, m.answers.lines, m.answers.number);
+      bounded = s.bounded;
+    }
+
+    happens_more : (event : StaticEvent) → IsEvent line.text event → Applies old.work new.work event → SoFar first new (count + 1)
+    happens_more event is applies =
+        let goes : Goes new.work.runner applies.printed (one_happens (one_run s.events).bearer event) = applies.goes (one_run s.events).bearer s.shows in
+        record {
+          taken = s.taken ++ m.taken;
+          front = s.front;
+          lines = s.lines ++ line.text ∷ [];
+          events = s.events ++ event ∷ [];
+          found = s.found;
+          stands = stands_more;
+          gives = gives_more;
+          later = later_more;
+          profile = s.profile;
+          script = script_more s.lines line.text s.events event s.script is;
+          writes = subst (λ (text : List ℕ). WritesAll first.sink new.work.sink text) (sym (text-more s.events event applies.printed goes.same)) (all_more s.writes applies.writes);
+          shows = shows_more s.events event new.work.runner applies.printed goes;
+          counted = ap (λ (n : ℕ). n + 1) s.counted ∙ sym (length-append s.events (event ∷ []));
+          few = omega (arith, s.few, m.answers.lines, m.answers.number);
+          bounded = omega (arith, s.few, m.answers.lines, m.answers.number, m.answers.counted, m.answers.within);
+        }
 
 by_line : {first : OutsideAt} {old : RunAt} (new : RunAt) {count : ℕ} (more : ℕ) (line : Line) → SoFar first old count
     → NextMeets old.reading new.reading old.source new.source (Ok (Some line)) → LineApplies old.work new.work line.text more
     → SoFar first new (count + more)
 by_line {first = first} new {count = count} more line s m (Skips none skip same) =
     let e : count ≡ count + more = omega (arith, none) in
-    subst (λ (n : ℕ). SoFar first new n) e (skips new line s m skip same)
+    subst (λ (n : ℕ). SoFar first new n) e (skips s new line m skip same)
 by_line {first = first} new {count = count} more line s m (Happens one event is applies) =
-    subst (λ (n : ℕ). SoFar first new (count + n)) (sym one) (happens_more new line event s m is applies)
+    subst (λ (n : ℕ). SoFar first new (count + n)) (sym one) (happens_more s new line m event is applies)
 
 -- ---- the end of the input
 
 ends_done : {first : OutsideAt} {old : RunAt} (new : RunAt) {count : ℕ} → SoFar first old count → TakesEnd old new
     → RunsTo first (outside_of new) (Done count)
-ends_done {first = first} new s t =
+ends_done {first = first} {old = old} new s t =
     let end = ends_at s.stands t.meets in
+    let none = both_nil old.reading.kept t.meets.taken t.meets.answers.nothing in
+    let all : IsReadToEnd (rest_of first.source new.source) (input_split (s.taken ++ t.meets.taken) (s.front ++ s.lines) []) = record { nothing = refl; at_end = end.at_end } in
     let writes = subst (λ (work : RunnerAt). WritesAll first.sink work.sink (run_text s.events)) (sym t.same) s.writes in
+    let script : IsScript (rest_of first.source new.source) (input_split (s.taken ++ t.meets.taken) (s.front ++ s.lines) []) s.events = record {
+      front = s.front;
+      lines = s.lines;
+      found = s.found;
+      parts = refl;
+      gives = gives_at_end One (rest_of first.source old.source) (rest_of first.source new.source) (split_of old.reading s.taken (s.front ++ s.lines)) (input_split (s.taken ++ t.meets.taken) (s.front ++ s.lines) []) s.front s.found
+          (ap (λ (bytes : List ℕ). s.taken ++ bytes) none.1 ∙ append-nil s.taken) refl all s.gives;
+      profile = s.profile;
+      are = s.script;
+    } in
     record {
-      split = input_split (s.taken ++ t.meets.taken) (s.header ∷ s.lines) [];
+      split = input_split (s.taken ++ t.meets.taken) (s.front ++ s.lines) [];
       events = s.events;
       input = end.takes;
-      script = (s.is_header, s.script);
-      ends = record { header = omega arith; all = record { nothing = refl; at_end = end.at_end }; counted = s.counted };
+      script = inl script;
+      ends = record { script = script; all = all; counted = s.counted };
       prints = writes.prints;
       reads = no_read_then s.stands.reads (record { faults = t.meets.faults; failed = t.meets.failed });
       writes = writes.none;
@@ -171,11 +230,12 @@ reads_input before after (inputs.ReadFault taken) h = h
 reads_input before after inputs.TooLong h = h
 reads_input before after inputs.Memory h = h
 
-meets_input : (left : Option (List ℕ)) (split : InputSplit) (events : List StaticEvent) (why : InputEnd) → EndsReading split why
+meets_input : (left : Option (List ℕ)) (split : InputSplit) (events : List StaticEvent) (why : InputEnd) → Passes left split events
+    → EndsReading split why
     → RunEndMeets left split events (Common (end_of_input why))
-meets_input left split events (inputs.ReadFault taken) h = h
-meets_input left split events inputs.TooLong h = h
-meets_input left split events inputs.Memory h = h
+meets_input left split events (inputs.ReadFault taken) passes h = (passes, h)
+meets_input left split events inputs.TooLong passes h = (passes, h)
+meets_input left split events inputs.Memory passes h = tt
 
 prints_input : {before after : SinkAt} (events : List StaticEvent) (why : InputEnd) → WritesAll before after (run_text events)
     → PrintsTo before after events (Common (end_of_input why))
@@ -189,71 +249,121 @@ writes_input (inputs.ReadFault taken) h = h.none
 writes_input inputs.TooLong h = h.none
 writes_input inputs.Memory h = h.none
 
-unread : {first : OutsideAt} {old : Reading} {source : SourceAt} {sink : SinkAt} (new : Reading) (after : SourceAt) (end : RunEnd) (why : InputEnd)
-    → Before first old source sink
-    → StopsReading old new source after why → end ≡ Common (end_of_input why) → RunsTo first (outside after sink) end
-unread {first = first} {old = old} {source = source} {sink = sink} new after end why b s e =
-    let stop = stops_at b.stands why s in
-    subst (λ (x : RunEnd). RunsTo first (outside after sink) x) (sym e)
+unread : {first : OutsideAt} {old : RunAt} (new : Reading) (after : SourceAt) {count : ℕ} (end : RunEnd) (why : InputEnd)
+    → SoFar first old count
+    → StopsReading old.reading new old.source after why → end ≡ Common (end_of_input why) → RunsTo first (outside after old.work.sink) end
+unread {first = first} {old = old} new after end why s stops e =
+    let stop = stops_at s.stands why stops in
+    let script = script_on s (rest_of first.source after) stops.meets.taken (old.reading.kept ++ stops.meets.taken) (going_at s.stands stops.error stops.meets) in
+    subst (λ (x : RunEnd). RunsTo first (outside after old.work.sink) x) (sym e)
     (record {
-      split = input_split (b.taken ++ s.meets.taken) b.lines (old.kept ++ s.meets.taken);
-      events = b.events;
+      split = input_split (s.taken ++ stops.meets.taken) (s.front ++ s.lines) (old.reading.kept ++ stops.meets.taken);
+      events = s.events;
       input = stop.takes;
-      script = b.script;
-      ends = meets_input (rest_of first.source after) _ b.events why stop.ends;
-      prints = prints_input b.events why b.writes;
+      script = inl script;
+      ends = meets_input (rest_of first.source after) _ s.events why (inr script) stop.ends;
+      prints = prints_input s.events why s.writes;
       reads = reads_input _ _ why stop.reads;
-      writes = writes_input why b.writes;
+      writes = writes_input why s.writes;
     })
 
--- ---- the header
+-- ---- the profile isn't given
 
-header_stops : (source0 source1 : SourceAt) (sink : SinkAt) (new : Reading) (end : RunEnd) → HeaderStops fresh new source0 source1 end
+part_of_wrong : (left : Option (List ℕ)) (split : InputSplit) (place : ℕ) (reason : TextReason) → IsWrongModule One left split place reason
+    → IsPart One left split
+part_of_wrong left split place reason (Empty e word) = Unfinished (AtHeader e.no_line)
+part_of_wrong left split place reason (NoHeader e) = Unfinished (AtHeader e.none)
+part_of_wrong left split place reason (Unended e) = Whole e.text e.has
+
+part_of : (left : Option (List ℕ)) (split : InputSplit) (stop : ModuleStop) → StopsModule One left split stop → IsPart One left split
+part_of left split (stops.NoModule line column reason) h = Whole h.text h.has
+part_of left split (stops.Script place reason) h = part_of_wrong left split place reason h
+part_of left split (stops.Input (inputs.ReadFault taken)) h = Unfinished h.0
+part_of left split (stops.Input inputs.TooLong) h = Unfinished h.0
+part_of left split (stops.Input inputs.Memory) h = h
+
+meets_stop : (left : Option (List ℕ)) (split : InputSplit) (stop : ModuleStop) → StopsModule One left split stop
+    → RunEndMeets left split [] (end_of_stop stop)
+meets_stop left split (stops.NoModule line column reason) h = (refl, h)
+meets_stop left split (stops.Script place reason) h = inl (refl, h)
+meets_stop left split (stops.Input (inputs.ReadFault taken)) h = (inl h.0, h.1)
+meets_stop left split (stops.Input inputs.TooLong) h = (inl h.0, h.1)
+meets_stop left split (stops.Input inputs.Memory) h = tt
+
+prints_stop : (sink : SinkAt) (stop : ModuleStop) → PrintsTo sink sink [] (end_of_stop stop)
+prints_stop sink (stops.NoModule line column reason) = (writes_none sink).prints
+prints_stop sink (stops.Script place reason) = (writes_none sink).prints
+prints_stop sink (stops.Input end) = prints_input [] end (writes_none sink)
+
+reads_stop : (before after : SourceAt) (stop : ModuleStop) → FaultsOfStop before after stop → ReadsUntil before after (end_of_stop stop)
+reads_stop before after (stops.NoModule line column reason) h = h
+reads_stop before after (stops.Script place reason) h = h
+reads_stop before after (stops.Input end) h = reads_input before after end h
+
+writes_stop : (sink : SinkAt) (stop : ModuleStop) → WritesUntil sink sink (end_of_stop stop)
+writes_stop sink (stops.NoModule line column reason) = none_failed sink
+writes_stop sink (stops.Script place reason) = none_failed sink
+writes_stop sink (stops.Input end) = writes_input end (writes_none sink)
+
+pub no_profile : {source0 source1 : SourceAt} {reading : Reading} (sink : SinkAt) (end : RunEnd) → ProfileStops source0 source1 reading end
     → RunsTo (outside source0 sink) (outside source1 sink) end
-header_stops source0 source1 sink new end (HeaderUnread why s e) = unread new source1 end why (before_header source0 sink) s e
-header_stops source0 source1 sink new end (NoLine m e) =
-    let at_end = ends_at (stands_first source0) m in
+no_profile {source0 = source0} {source1 = source1} sink end (Untaken stop h e) =
     subst (λ (x : RunEnd). RunsTo (outside source0 sink) (outside source1 sink) x) (sym e)
     (record {
-      split = input_split m.taken [] [];
+      split = h.split;
       events = [];
-      input = at_end.takes;
-      script = refl;
-      ends = inl (record { no_line = refl; nothing = refl; at_end = at_end.at_end; first = refl }, refl);
+      input = h.input;
+      script = inr (refl, part_of (rest_of source0 source1) h.split stop h.stops);
+      ends = meets_stop (rest_of source0 source1) h.split stop h.stops;
+      prints = prints_stop sink stop;
+      reads = reads_stop source0 source1 stop h.reads;
+      writes = writes_stop sink stop;
+    })
+no_profile {source0 = source0} {source1 = source1} {reading = reading} sink end (Unlike m name h d e) =
+    subst (λ (x : RunEnd). RunsTo (outside source0 sink) (outside source1 sink) x) (sym e)
+    (record {
+      split = split_of reading h.taken h.lines;
+      events = [];
+      input = takes_of h.stands;
+      script = inr (refl, Whole h.gives.text h.gives.has);
+      ends = (refl, record { m = m; gives = h.gives; differs = d });
       prints = (writes_none sink).prints;
-      reads = record { faults = m.faults; failed = m.failed };
+      reads = h.stands.reads;
       writes = none_failed sink;
     })
-header_stops source0 source1 sink new end (NoHeader line reason m wrong e) =
+no_profile {source0 = source0} {source1 = source1} {reading = reading} sink end (Uncompared m h e) =
     subst (λ (x : RunEnd). RunsTo (outside source0 sink) (outside source1 sink) x) (sym e)
     (record {
-      split = input_split m.taken [] m.taken;
+      split = split_of reading h.taken h.lines;
       events = [];
-      input = takes_on (stands_first source0) refl m;
-      script = refl;
-      ends = inr (record { line = line.text; next = comes_next source0 line m; at = refl; wrong = wrong });
-      prints = (writes_none sink).prints;
-      reads = record { faults = m.faults; failed = m.failed };
+      input = takes_of h.stands;
+      script = inr (refl, Whole h.gives.text h.gives.has);
+      ends = tt;
+      prints = front_all (writes_none sink).prints;
+      reads = h.stands.reads;
       writes = none_failed sink;
     })
 
--- ---- a line after it
+-- ---- a line after the module
 
 by_stop : {first : OutsideAt} {old : RunAt} (new : RunAt) {count : ℕ} (line : Line) (end : RunEnd) → SoFar first old count
     → NextMeets old.reading new.reading old.source new.source (Ok (Some line)) → LineStops line end
     → RunsTo first (outside new.source old.work.sink) end
 by_stop {first = first} {old = old} new line end s m (Refused reason skip read e) =
+    let script = script_on s (rest_of first.source new.source) m.taken (old.reading.kept ++ m.taken) m.answers.going in
     subst (λ (x : RunEnd). RunsTo first (outside new.source old.work.sink) x) (sym e)
     (record {
-      split = input_split (s.taken ++ m.taken) (s.header ∷ s.lines) (old.reading.kept ++ m.taken);
+      split = input_split (s.taken ++ m.taken) (s.front ++ s.lines) (old.reading.kept ++ m.taken);
       events = s.events;
       input = takes_on s.stands m.answers.going m;
-      script = (s.is_header, s.script);
+      script = inl script;
       ends = inr (record {
+        before = script;
         line = line.text;
         next = comes_next first.source line m;
         at = m.answers.number ∙ ap (λ (n : ℕ). n + 1) s.stands.count;
-        wrong = (skip, read);
+        skip = skip;
+        wrong = read;
       });
       prints = s.writes.prints;
       reads = no_read_then s.stands.reads (record { faults = m.faults; failed = m.failed });
@@ -262,10 +372,10 @@ by_stop {first = first} {old = old} new line end s m (Refused reason skip read e
 by_stop {first = first} {old = old} new line end s m (NoMemory e) =
     subst (λ (x : RunEnd). RunsTo first (outside new.source old.work.sink) x) (sym e)
     (record {
-      split = input_split (s.taken ++ m.taken) (s.header ∷ s.lines) (old.reading.kept ++ m.taken);
+      split = input_split (s.taken ++ m.taken) (s.front ++ s.lines) (old.reading.kept ++ m.taken);
       events = s.events;
       input = takes_on s.stands m.answers.going m;
-      script = (s.is_header, s.script);
+      script = inl (script_on s (rest_of first.source new.source) m.taken (old.reading.kept ++ m.taken) m.answers.going);
       ends = tt;
       prints = front_all s.writes.prints;
       reads = no_read_then s.stands.reads (record { faults = m.faults; failed = m.failed });
@@ -278,13 +388,13 @@ by_apply : {first : OutsideAt} {old : RunAt} (new : RunAt) {count : ℕ} (line :
     → ApplyStops old.work new.work event end → RunsTo first (outside_of new) end
 by_apply {first = first} {old = old} new line event end s m is (Faulty e printed goes cut) =
     let next = goes (one_run s.events).bearer s.shows in
-    let stands = line_stands line s.stands m in
+    let stands = stands_more s new line m in
     subst (λ (x : RunEnd). RunsTo first (outside_of new) x) (sym e)
     (record {
-      split = split_of new.reading (s.taken ++ m.taken) (s.header ∷ s.lines ++ line.text ∷ []);
+      split = split_of new.reading (s.taken ++ m.taken) (s.front ++ (s.lines ++ line.text ∷ []));
       events = s.events ++ event ∷ [];
       input = takes_of stands;
-      script = (s.is_header, script_more s.lines line.text s.events event s.script is);
+      script = inl (script_after s new line m (s.events ++ event ∷ []) (script_more s.lines line.text s.events event s.script is));
       ends = tt;
       prints = subst (λ (text : List ℕ). PrintsFront first.sink new.work.sink text) (sym (text-more s.events event printed next.same)) (front_more s.writes.prints cut.prints);
       reads = stands.reads;
@@ -292,14 +402,14 @@ by_apply {first = first} {old = old} new line event end s m is (Faulty e printed
     })
 by_apply {first = first} {old = old} new line event end s m is (NoRoom e same) =
     let after = (one_happens (one_run s.events).bearer event).lines in
-    let stands = line_stands line s.stands m in
+    let stands = stands_more s new line m in
     subst (λ (x : RunEnd). RunsTo first (outside_of new) x) (sym e)
     (subst (λ (sink : SinkAt). RunsTo first (outside new.source sink) (Common Memory)) (sym same)
     (record {
-      split = split_of new.reading (s.taken ++ m.taken) (s.header ∷ s.lines ++ line.text ∷ []);
+      split = split_of new.reading (s.taken ++ m.taken) (s.front ++ (s.lines ++ line.text ∷ []));
       events = s.events ++ event ∷ [];
       input = takes_of stands;
-      script = (s.is_header, script_more s.lines line.text s.events event s.script is);
+      script = inl (script_after s new line m (s.events ++ event ∷ []) (script_more s.lines line.text s.events event s.script is));
       ends = tt;
       prints = subst (λ (text : List ℕ). PrintsFront first.sink old.work.sink text) (sym (text-more s.events event after refl))
           (front_of (print (lines.Happens (whole_event event) ∷ after)) (front_all s.writes.prints));
@@ -319,24 +429,12 @@ no_reader source sink = record {
   split = split_of fresh [] [];
   events = [];
   input = takes_of (stands_first source);
-  script = refl;
+  script = inr (refl, Unfinished (AtHeader refl));
   ends = tt;
   prints = front_none sink _;
   reads = no_read_failed source;
   writes = none_failed sink;
 }
-
-pub begins_at : (source0 source1 : SourceAt) (sink : SinkAt) (old reading : Reading) (runner : Runner) → old ≡ fresh
-    → HasHeader old reading source0 source1 → Shows runner None
-    → SoFar (outside source0 sink) (run_at reading source1 runner sink) 0
-begins_at source0 source1 sink old reading runner e h shows =
-    begins source0 source1 sink reading runner (subst (λ (r : Reading). HasHeader r reading source0 source1) e h) shows
-
-pub header_at : (source0 source1 : SourceAt) (sink : SinkAt) (old new : Reading) (end : RunEnd) → old ≡ fresh
-    → HeaderStops old new source0 source1 end
-    → RunsTo (outside source0 sink) (outside source1 sink) end
-header_at source0 source1 sink old new end e h =
-    header_stops source0 source1 sink new end (subst (λ (r : Reading). HeaderStops r new source0 source1 end) e h)
 
 pub turns_at : {first : OutsideAt} {old : RunAt} (new : RunAt) {count : ℕ} (more : ℕ) (found : Option ℕ) → SoFar first old count
     → found ≡ Some more → TurnMeets old new (Ok found)
@@ -353,6 +451,6 @@ ends_at_done {old = old} new found s e t = ends_done new s (subst (λ (o : Optio
 pub turn_stops : {first : OutsideAt} {old : RunAt} (new : RunAt) {count : ℕ} (end : RunEnd) → SoFar first old count → TurnStops old new end
     → RunsTo first (outside_of new) end
 turn_stops {old = old} new end s (Unread why stops e same) =
-    at_work old new end same (unread new.reading new.source end why (before_line s) stops e)
+    at_work old new end same (unread new.reading new.source end why s stops e)
 turn_stops {old = old} new end s (Unapplied line m stops same) = at_work old new end same (by_stop new line end s m stops)
 turn_stops new end s (Unwritten line event m is stops) = by_apply new line event end s m is stops

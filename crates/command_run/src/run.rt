@@ -1,32 +1,49 @@
 //! The word `run`.
 
+ghost use Rattle.std.specs.Prelude.{◌≡◌, ◌++◌, ◌∷◌, [], IfOk};
+ghost use Rattle.scenario_text.specs.Print.{print};
 ghost use Rattle.command_defs.specs.Ends.{StopsAtLine};
 ghost use Rattle.command_defs.specs.Outside.{outside};
-ghost use Rattle.command_run.specs.Ends.{run_status};
+ghost use Rattle.command_run.specs.Ends.{run_status, report_of};
 ghost use Rattle.command_run.specs.Run.{RunMeets};
 ghost use Rattle.command_run.specs.Whole.{RunsWholly};
 ghost use Rattle.command_run.specs.inside.Stops.{Finishes};
 
 use crate::end::RunEnd;
 use crate::script;
-use command_output::write_lines;
+use command_defs::CommonEnd;
+use command_output::{text_of, write_all};
 use gnb_base::outside::{Sink, Source};
+use gnb_types::octets::{Memory, Octets};
+use scenario_text::line::OutLine;
 use std::alloc::Global;
 
-/// Writes the last line, and answers how the run ended in the end.
+/// All that is written at this end, whose last line this is.
+fn text_at(alloc: Global, end: &RunEnd, line: OutLine) -> Result<Octets, Memory>
+    ensures { IfOk result (λ text. text ≡ report_of end.now ++ print (line ∷ [])) }
+{
+    let mut text = end.report(alloc)?;
+    text.append(text_of(alloc, &[line])?.as_slice())?;
+    Ok(text)
+}
+
+/// Writes what is left to write, and answers how the run ended in the end.
 fn finish<K: Sink>(alloc: Global, output: &mut K, end: RunEnd) -> RunEnd
     ensures { Finishes (K.at output.old) (K.at output.new) end result }
 {
     let Some(line) = end.last_line() else {
         return end;
     };
-    match write_lines(alloc, output, &[line]) {
+    let Ok(text) = text_at(alloc, &end, line) else {
+        return RunEnd::Common(CommonEnd::Memory);
+    };
+    match write_all(output, text.as_slice()) {
         Ok(()) => end,
-        Err(fault) => RunEnd::Common(fault),
+        Err(_) => RunEnd::Common(CommonEnd::WriteFault),
     }
 }
 
-/// Runs a script, and writes the last line.
+/// Runs a script, and writes what is left to write at its end.
 pub fn run_script<S: Source, K: Sink>(alloc: Global, input: &mut S, output: &mut K) -> RunEnd
     ensures meets { RunMeets (outside (S.at input.old) (K.at output.old))
         (outside (S.at input.new) (K.at output.new)) result }

@@ -6,7 +6,8 @@ ghost use Rattle.scenario_text.specs.Print.{print};
 ghost use Rattle.run_model.specs.Runnable.{InRange, whole_event};
 ghost use Rattle.command_defs.specs.Outside.{outside};
 ghost use Rattle.command_run.specs.inside.Stops.{RunsTo};
-ghost use Rattle.command_run.specs.inside.Turns.{run_at, runner_at, HeaderMeets, Means, ApplyMeets, TurnMeets};
+ghost use Rattle.command_run.specs.inside.Turns.{run_at, runner_at, ProfileMeets, Means, ApplyMeets, TurnMeets};
+ghost use Rattle.gnb_base.specs.Reading.{fresh};
 
 use crate::end::RunEnd;
 use command_defs::CommonEnd;
@@ -15,26 +16,33 @@ use gnb_base::lines::{Line, LineReader};
 use gnb_base::outside::{Sink, Source};
 use gnb_types::octets::{Memory, Octets};
 use input_lines::next_line;
+use input_module::{GivenModule, take_module};
+use profile::Version;
+use profile_module::{AgreeError, agrees};
 use run_model::event::{StaticEvent, read_runnable};
 use scenario_text::event::TextReason;
 use scenario_text::line::OutLine;
-use scenario_text::read::{TextError, is_skipped, read_header};
+use scenario_text::read::{TextError, is_skipped};
 use static_runner::runner::Runner;
 use std::alloc::Global;
 
-/// Reads the header line, the first of the input.
-fn take_header<S: Source>(reader: &mut LineReader, input: &mut S) -> Result<(), RunEnd>
-    ensures { HeaderMeets reader.old reader.new (S.at input.old) (S.at input.new) result }
+/// Takes the header, and the module that it names, which is to be the profile, version 1. The units
+/// of today need nothing of it, so that it is read only where another module is compared with it.
+fn take_profile<S: Source>(
+    alloc: Global,
+    reader: &mut LineReader,
+    input: &mut S,
+) -> Result<(), RunEnd>
+    requires { reader.old ≡ fresh }
+    ensures { ProfileMeets (S.at input.old) (S.at input.new) reader.new result }
 {
-    let Some(line) = next_line(reader, input)? else {
-        return Err(RunEnd::Script {
-            place: 1,
-            reason: TextReason::Word,
-        });
-    };
-    match read_header(line.text.as_slice()) {
-        Ok(()) => Ok(()),
-        Err(reason) => Err(RunEnd::Script { place: 1, reason }),
+    match take_module(alloc, Version::One, reader, input)? {
+        GivenModule::Builtin(_) => Ok(()),
+        GivenModule::Text(module) => match agrees(alloc, module) {
+            Ok(_) => Ok(()),
+            Err(AgreeError::Differs { name }) => Err(RunEnd::Differs { name }),
+            Err(AgreeError::Memory) => Err(RunEnd::Common(CommonEnd::Memory)),
+        },
     }
 }
 
@@ -44,7 +52,7 @@ enum Meaning {
     Event(StaticEvent),
 }
 
-/// Reads a line after the header.
+/// Reads a line after the module.
 fn meaning_of(alloc: Global, line: &Line) -> Result<Meaning, RunEnd>
     ensures { Means line.now result }
 {
@@ -122,7 +130,8 @@ fn apply_line<S: Source, K: Sink>(
     }
 }
 
-/// Runs a script: its header, and then its events. The last line is left to the caller.
+/// Runs a script: its header with the module, and then its events. What is written at the end is left
+/// to the caller.
 pub fn run<S: Source, K: Sink>(alloc: Global, input: &mut S, output: &mut K) -> RunEnd
     ensures { RunsTo (outside (S.at input.old) (K.at output.old))
         (outside (S.at input.new) (K.at output.new)) result }
@@ -130,7 +139,7 @@ pub fn run<S: Source, K: Sink>(alloc: Global, input: &mut S, output: &mut K) -> 
     let Ok(mut reader) = LineReader::new(alloc) else {
         return RunEnd::Common(CommonEnd::Memory);
     };
-    if let Err(end) = take_header(&mut reader, input) {
+    if let Err(end) = take_profile(alloc, &mut reader, input) {
         return end;
     }
     let mut runner = Runner::new();

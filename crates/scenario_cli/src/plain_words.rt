@@ -43,6 +43,7 @@ pub fn explain(rt: &impl Eprint, status: Status) -> io::Result<()> {
         2 => eprintln!(rt;
             "gnb: usage: gnb run < SCRIPT, or gnb check < MODULE, or gnb profile, or gnb profile 2"
         ),
+        3 if reason == 20 => eprintln!(rt; "gnb: the module is not the profile, version 1"),
         3 => {
             let words = module_reason(reason);
             eprintln!(rt; "gnb: line {place} of the module: {words}")

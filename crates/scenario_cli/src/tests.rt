@@ -129,11 +129,46 @@ fn whole_calls(rt: HostRuntime) -> Result<(), Fail> {
         ),
         ("run", REFUSALS, status(0, 0, 0), REFUSED),
         ("run", FIVE_PACKETS, status(0, 0, 0), HELD),
-        ("run", "module text\n", status(4, 1, 1), "stop 4 1 1\n"),
+        ("run", "module builtin 2\n", status(4, 1, 4), "stop 4 1 4\n"),
+        (
+            "run",
+            "module text\n",
+            status(3, 2, 9),
+            "module 2 1 9\nstop 3 2 9\n",
+        ),
+        (
+            "run",
+            "module text\nM DEFINITIONS AUTOMATIC TAGS ::= BEGIN\nEND\nair u1 b1 dl\n",
+            status(3, 0, 20),
+            "differs Bearer\nstop 3 0 20\n",
+        ),
+        (
+            "run",
+            "module text\nM DEFINITIONS AUTOMATIC TAGS ::= BEGIN END x\nEND\nair u1 b1 dl\n",
+            status(4, 3, 4),
+            "stop 4 3 4\n",
+        ),
         ("check", "", status(4, 1, 1), "stop 4 1 1\n"),
         ("check", "module", status(4, 1, 1), "stop 4 1 1\n"),
         ("check", "module x\n", status(4, 1, 1), "stop 4 1 1\n"),
-        ("check", "module builtin\n", status(4, 1, 1), "stop 4 1 1\n"),
+        (
+            "check",
+            "module builtin\n",
+            status(0, 0, 0),
+            "module SplitGNB 53\n",
+        ),
+        (
+            "check",
+            "module builtin 2",
+            status(0, 0, 0),
+            "module SplitGNB 53\n",
+        ),
+        (
+            "check",
+            "module builtin\n\n",
+            status(4, 2, 4),
+            "stop 4 2 4\n",
+        ),
         ("check", "module text x\n", status(4, 1, 4), "stop 4 1 4\n"),
         ("check", MODULE, status(0, 0, 0), "module M 1\n"),
         (
@@ -198,6 +233,38 @@ fn profile_texts(rt: HostRuntime) -> Result<(), Fail> {
         let (status, held, _) = call.answer(rt.alloc())?;
         assert_eq!(rt; status, answer);
         assert!(rt; held.as_slice() == text);
+    }
+    Ok(())
+}
+
+/// The profile's own text as a script's module, and that of version 2.
+#[test]
+fn scripts_with_a_text(rt: HostRuntime) -> Result<(), Fail> {
+    let alloc = rt.alloc();
+    let rows = [
+        (
+            PROFILE_TEXT,
+            status(0, 0, 0),
+            "> air u1 b1 dl\nrefused NoBearer\nend 1\n",
+        ),
+        (
+            PROFILE_TEXT_2,
+            status(3, 0, 20),
+            "differs HandoverRequest\nstop 3 0 20\n",
+        ),
+    ];
+    for (text, answer, output) in rows {
+        let mut input = Octets::from_slice(alloc, b"module text\n")?;
+        input.append(text)?;
+        input.append(b"air u1 b1 dl\n")?;
+        let mut words = Vec::new(alloc);
+        words.push(String::from_str(alloc, "run")?)?;
+        let octets = Vec::from_slice(alloc, input.as_slice())?;
+        let mut source = MemorySource::new(octets, 4096, Vec::new(alloc));
+        let mut sink = MemorySink::new(alloc, 4096, Vec::new(alloc));
+        let status = gnb(alloc, words.as_slice(), &mut source, &mut sink);
+        assert_eq!(rt; status, answer);
+        assert_eq!(rt; sink.bytes_held(), output.as_bytes());
     }
     Ok(())
 }

@@ -3,9 +3,10 @@
 ghost use Rattle.std.specs.Prelude.{◌<◌};
 
 use asn1_types::ModuleReason;
-use command_check::{CheckStop, check_module};
+use command_check::check_module;
 use gnb_base::memory::MemorySource;
 use input_defs::InputEnd;
+use input_module::ModuleStop;
 use scenario_text::event::TextReason;
 use std::alloc::Global;
 use std::process::Abort;
@@ -15,7 +16,7 @@ use std::test::Fail;
 #[derive(Clone, Copy)]
 enum Expected {
     Module(&'static str, u32),
-    Stop(CheckStop),
+    Stop(ModuleStop),
 }
 
 /// Whether the check of an input that comes in such pieces comes to this.
@@ -43,11 +44,11 @@ fn comes_to(
 }
 
 fn script(place: u64, reason: TextReason) -> Expected {
-    Expected::Stop(CheckStop::Script { place, reason })
+    Expected::Stop(ModuleStop::Script { place, reason })
 }
 
 fn no_module(line: u64, column: u64, reason: ModuleReason) -> Expected {
-    Expected::Stop(CheckStop::NoModule {
+    Expected::Stop(ModuleStop::NoModule {
         line,
         column,
         reason,
@@ -80,7 +81,6 @@ fn whole_inputs(rt: HostRuntime) -> Result<(), Fail> {
         ("\n", script(1, TextReason::Word)),
         ("module", script(1, TextReason::Word)),
         ("module x\n", script(1, TextReason::Word)),
-        ("module builtin\n", script(1, TextReason::Word)),
         (" module text\n", script(1, TextReason::Word)),
         ("module  text\n", script(1, TextReason::Word)),
         ("module text\r\n", script(1, TextReason::Word)),
@@ -145,13 +145,39 @@ fn whole_inputs(rt: HostRuntime) -> Result<(), Fail> {
     Ok(())
 }
 
+/// A version of the profile is named, and nothing may follow.
+#[test]
+fn builtin_headers(rt: HostRuntime) -> Result<(), Fail> {
+    let profile = Expected::Module("SplitGNB", 53);
+    let rows = [
+        ("module builtin\n", profile),
+        ("module builtin", profile),
+        ("module builtin 2\n", profile),
+        ("module builtin 2", profile),
+        ("module builtins\n", script(1, TextReason::Word)),
+        ("module builtin\r\n", script(1, TextReason::Word)),
+        ("module builtin \n", script(1, TextReason::Extra)),
+        ("module builtin 3\n", script(1, TextReason::Extra)),
+        ("module builtin 2 \n", script(1, TextReason::Extra)),
+        ("module builtin\n\n", script(2, TextReason::Extra)),
+        ("module builtin 2\nmore", script(2, TextReason::Extra)),
+    ];
+    for (input, expected) in rows {
+        assert!(rt;
+            comes_to(rt.alloc(), input, 4096, &[], expected)?,
+            "{input}"
+        );
+    }
+    Ok(())
+}
+
 /// A read fault is reported where it comes, unless the text was wrong before it.
 #[test]
 fn failing_reads(rt: HostRuntime) -> Result<(), Fail> {
     let wrong = "module text\nM END\nEND\nmore\n";
     for number in 1..66 {
         let taken = number - 1;
-        let fault = Expected::Stop(CheckStop::Input(InputEnd::ReadFault { taken }));
+        let fault = Expected::Stop(ModuleStop::Input(InputEnd::ReadFault { taken }));
         assert!(rt;
             comes_to(rt.alloc(), ONE_TYPE, 1, &[number], fault)?,
             "{number}"

@@ -5,11 +5,18 @@ use Rattle.gnb_base.specs.Outside.{SourceAt, SinkAt}
 use Rattle.gnb_base.specs.Reading.{Reading, NextMeets}
 use Rattle.input_defs.specs.declared.InputEnd.{InputEnd}
 use Rattle.input_lines.specs.ReadsLine.{StopsReading}
+use Rattle.asn1_assignments.specs.declared.assignment.Syntax.{Syntax}
+use Rattle.profile.specs.declared.version.Version.TheVariants.{One}
+use Rattle.profile_defs.specs.Profile.{profile_types}
+use Rattle.profile_defs.specs.Agreement.{differs}
+use Rattle.input_module.specs.declared.module.GivenModule.{GivenModule}
+use Rattle.input_module.specs.declared.module.GivenModule.TheVariants as given
+use Rattle.input_module.specs.declared.stop.ModuleStop.{ModuleStop}
+use Rattle.input_module.specs.Taking.{StopsTaking, HasModule}
 use Rattle.run_model.specs.declared.event.StaticEvent.{StaticEvent}
-use Rattle.script_words.specs.declared.reason.TextReason.TheVariants.{Word}
 use Rattle.scenario_text.specs.declared.line.OutLine.{OutLine}
 use Rattle.scenario_text.specs.declared.line.OutLine.TheVariants as lines
-use Rattle.scenario_text.specs.Grammar.{header_of, is_skipped}
+use Rattle.scenario_text.specs.Grammar.{is_skipped}
 use Rattle.scenario_text.specs.Print.{print}
 use Rattle.run_model.specs.OneBearer.{OneBearer, one_happens}
 use Rattle.static_runner.specs.declared.runner.Runner.{Runner}
@@ -18,7 +25,9 @@ use Rattle.command_defs.specs.declared.CommonEnd.TheVariants.{WriteFault, Memory
 use Rattle.command_defs.specs.Ends.{end_of_input}
 use Rattle.command_output.specs.Writes.{WritesAll, WritesFront}
 use Rattle.command_run.specs.declared.end.RunEnd.{RunEnd}
-use Rattle.command_run.specs.declared.end.RunEnd.TheVariants.{Script, Common}
+use Rattle.command_run.specs.declared.end.RunEnd.TheVariants.{Differs, Script, Common}
+use Rattle.command_run.specs.Run.{IsProfile}
+use Rattle.command_run.specs.inside.Stops.{end_of_stop}
 use Rattle.command_run.specs.declared.script.Meaning.{Meaning}
 use Rattle.command_run.specs.declared.script.Meaning.TheVariants as meanings
 use Rattle.run_model.specs.Runnable.{InRange, runnable_event_of, whole_event}
@@ -40,27 +49,27 @@ pub record RunAt : Type 0 where
 abbrev pub run_at : Reading → SourceAt → Runner → SinkAt → RunAt
 run_at reading source runner sink = record { reading = reading; source = source; work = runner_at runner sink }
 
--- ---- the header
+-- ---- the profile
 
--- no line, or another one, is there
-pub data HeaderStops (old new : Reading) (before after : SourceAt) (end : RunEnd) : Type 0 where
-  HeaderUnread : (why : InputEnd) → StopsReading old new before after why → end ≡ Common (end_of_input why)
-      → HeaderStops old new before after end
-  NoLine : NextMeets old new before after (Ok None) → end ≡ Script 1 Word → HeaderStops old new before after end
-  NoHeader : (line : Line) (reason : _) → NextMeets old new before after (Ok (Some line)) → header_of line.text ≡ Err reason
-      → end ≡ Script 1 reason
-      → HeaderStops old new before after end
+-- the lines that the reader handed out give the profile
+pub record HasProfile (before after : SourceAt) (reading : Reading) : Type 0 where
+  pub found : GivenModule
+  pub has : HasModule One before after reading found
+  pub profile : IsProfile found
 
-pub record HasHeader (old new : Reading) (before after : SourceAt) : Type 0 where
-  pub line : Line
-  pub meets : NextMeets old new before after (Ok (Some line))
-  pub header : header_of line.text ≡ Ok tt
+-- why they don't: no module is there, or it isn't the profile's, or memory ran out
+pub data ProfileStops (before after : SourceAt) (reading : Reading) (end : RunEnd) : Type 0 where
+  Untaken : (stop : ModuleStop) → StopsTaking One before after stop → end ≡ end_of_stop stop → ProfileStops before after reading end
+  Unlike : (m : Syntax) (name : List ℕ) → HasModule One before after reading (given.Text m) → differs (profile_types 1) m ≡ Some name
+      → end ≡ Differs name
+      → ProfileStops before after reading end
+  Uncompared : (m : Syntax) → HasModule One before after reading (given.Text m) → end ≡ Common Memory → ProfileStops before after reading end
 
-abbrev pub HeaderMeets : Reading → Reading → SourceAt → SourceAt → Result (Unit {0}) RunEnd → Type 0
-HeaderMeets old new before after (Ok done) = HasHeader old new before after
-HeaderMeets old new before after (Err end) = HeaderStops old new before after end
+abbrev pub ProfileMeets : SourceAt → SourceAt → Reading → Result (Unit {0}) RunEnd → Type 0
+ProfileMeets before after reading (Ok done) = HasProfile before after reading
+ProfileMeets before after reading (Err end) = ProfileStops before after reading end
 
--- ---- a line after the header
+-- ---- a line after the module
 
 -- it is an event
 pub record IsEvent (text : List ℕ) (event : StaticEvent) : Type 0 where

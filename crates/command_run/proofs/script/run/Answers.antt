@@ -1,14 +1,14 @@
-use Rattle.command_run.proofs.Turned.{no_reader, header_at, begins_at, turns_at, ends_at_done, turn_stops}
+use Rattle.command_run.proofs.Turned.{no_reader, no_profile, begins, turns_at, ends_at_done, turn_stops}
 use Rattle.command_run.proofs.script.run.Goals as goal
 
 pub returns-in_default : goal.returns-in_default
 returns-in_default g c = no_reader _ _
 
 pub returns-in-Err : goal.returns-in-Err
-returns-in-Err g c = header_at _ _ _ _ _ _ c.in-Ok.ensures c.in-Err.ensures
+returns-in-Err g c = no_profile _ _ c.in-Err.ensures
 
 pub loop-more-init : goal.loop-more-init
-loop-more-init g c = begins_at _ _ _ _ _ _ c.in-Ok.ensures c.in_default-take_header.ensures c.new-runner.ensures
+loop-more-init g c = begins _ _ c.in_default-take_profile.ensures c.new-runner.ensures
 
 pub loop-more-preserved : goal.loop-more-preserved
 loop-more-preserved g c = turns_at _ _ _ c.loop-more.invariant c.in-Ok-Some.field-0-is c.in-Ok-Some.ensures

@@ -12,7 +12,7 @@ use Rattle.asn1_lexical_laws.specs.Lexical.{IsGap, IsItem}
 use Rattle.asn1_lexical_laws.specs.Lexical as item
 use Rattle.asn1_lexical_laws.proofs.Gaps.{told, gap_passed}
 use Rattle.asn1_lexical_laws.proofs.Items.{item_here}
-use Rattle.command_check.specs.Text.{is_end_of_text, is_blank, IsBlank}
+use Rattle.input_module.specs.Text.{is_end_of_text, is_blank, IsBlank}
 
 first_of : (text : List ℕ) → first_token (items_of text) ≡ (lexeme_at (after_gap Between text)).token
 unfolding scan

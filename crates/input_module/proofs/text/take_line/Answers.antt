@@ -1,6 +1,6 @@
 use Rattle.std.proofs.lemmas.Result.{err_from_is_err_and}
-use Rattle.command_check.proofs.Steps.{no_room, turn_unread}
-use Rattle.command_check.proofs.text.take_line.Goals as goal
+use Rattle.input_module.proofs.Steps.{no_room, turn_unread}
+use Rattle.input_module.proofs.text.take_line.Goals as goal
 
 pub returns-in_err-line : goal.returns-in_err-line
 returns-in_err-line g c =

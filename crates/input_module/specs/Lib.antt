@@ -1,0 +1,5 @@
+pub mod Header
+pub mod Text
+pub mod Module
+pub mod Taking
+pub mod inside

@@ -1,0 +1,2 @@
+-- Internal: what ties the functions together that take a module.
+pub mod Steps
