@@ -1,1 +1,1 @@
-pub mod CoreFits
+pub mod Fits

@@ -1,4 +1,4 @@
-//! The procedures of XnAP, and that with the core, by their codes in the profile.
+//! The procedures of XnAP, by their codes in the profile.
 
 pub const HANDOVER_PREPARATION: u8 = 1;
 
@@ -9,5 +9,3 @@ pub const HANDOVER_CANCEL: u8 = 3;
 pub const UE_CONTEXT_RELEASE: u8 = 4;
 
 pub const TRANSPORT_CONFIRM: u8 = 5;
-
-pub const PATH_SWITCH: u8 = 1;

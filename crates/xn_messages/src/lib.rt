@@ -1,7 +1,7 @@
-//! Messages of XnAP (TS 38.423), and of a CU-CP with the core, as values of their PDUs, and back.
+//! Messages of XnAP (TS 38.423), in both versions of the profile, as values of the profile's PDU, and back.
 #![tactic(auto)]
 
+mod additions;
 mod codes;
-pub mod core_hearing;
-pub mod core_writing;
+pub mod hearing;
 pub mod writing;

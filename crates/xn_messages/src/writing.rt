@@ -3,15 +3,16 @@
 
 ghost use Rattle.std.specs.Prelude.{◌≡◌, IfOk};
 ghost use Rattle.message_types.specs.declared.xn.XnMessage.TheVariants as xns;
-ghost use Rattle.aper_values.specs.Views.{view, options_view};
-ghost use Rattle.message_defs.specs.Xn.{written_xn, origin_additions};
+ghost use Rattle.aper_values.specs.Views.{view};
+ghost use Rattle.message_defs.specs.Xn.{written_xn};
 
+use crate::additions::origin_additions;
 use crate::codes::{
     HANDOVER_CANCEL, HANDOVER_PREPARATION, SN_STATUS_TRANSFER, TRANSPORT_CONFIRM,
     UE_CONTEXT_RELEASE,
 };
 use aper_values::make::enumeral;
-use aper_values::value::{OptValues, Value};
+use aper_values::value::Value;
 use gnb_types::items::Memory;
 use gnb_types::names::{SnBits, UeId};
 use gnb_types::octets::Octets;
@@ -19,7 +20,7 @@ use gnb_types::plans::{Peer, StatusList, TunnelList};
 use message_types::XnMessage;
 use message_values::elements::ElementName;
 use message_values::fields::{
-    from_number, from_peer, from_sn, from_statuses, from_text, from_tunnels, from_ue,
+    from_number, from_peer, from_sn, from_statuses, from_tunnels, from_ue,
 };
 use message_values::places::{
     INITIATING, Place, SUCCESSFUL, UNSUCCESSFUL, extended_message, message_of,
@@ -73,19 +74,6 @@ pub fn written(alloc: Global, msg: &XnMessage) -> Result<Value, Memory>
         XnMessage::TransportConfirm { ue, instance } => Ok(transport_confirm(
             alloc, *ue, *instance,
         )?),
-    }
-}
-
-/// The name of the source, where there is one.
-fn origin_additions(alloc: Global, origin: &Option<Octets>) -> Result<OptValues, Memory>
-    ensures { IfOk result (λ more. options_view more.items ≡ origin_additions origin.now) }
-{
-    match origin {
-        Some(name) => {
-            let name = from_text(alloc, name)?;
-            Ok(Vec::from_array(alloc, [Some(name)])?)
-        }
-        None => Ok(Vec::new(alloc)),
     }
 }
 

@@ -2,7 +2,7 @@ use Rattle.std.proofs.Common.{sym, subst}
 use Rattle.aper_values.specs.Views.{ies_view}
 use Rattle.message_defs.specs.Core.{core_at}
 use Rattle.message_values.specs.Hearing.{Hears}
-use Rattle.xn_messages.proofs.core_hearing.path_switch.Goals as goal
+use Rattle.core_messages.proofs.hearing.path_switch.Goals as goal
 
 pub returns-in-0 : goal.returns-in-0
 returns-in-0 c =

@@ -9,7 +9,7 @@ ghost use Rattle.message_defs.specs.Core.{core_at, heard_core};
 ghost use Rattle.message_values.specs.Fitting.{AreFitting};
 ghost use Rattle.message_values.specs.Hearing.{Hears};
 ghost use Rattle.message_values.specs.declared.places.TheConstants.{INITIATING, SUCCESSFUL};
-ghost use Rattle.xn_messages.specs.declared.codes.TheConstants.{PATH_SWITCH};
+ghost use Rattle.core_messages.specs.declared.codes.TheConstants.{PATH_SWITCH};
 
 use crate::codes::PATH_SWITCH;
 use aper_values::value::{Ie, Value};

@@ -5,8 +5,8 @@ use Rattle.aper_values.specs.declared.value.Value.{the_lemmas}
 use Rattle.aper_values.specs.Views.{view}
 use Rattle.profile_defs.specs.Profile.{core_type}
 use Rattle.message_values.specs.Fitting.{AreFitting}
-use Rattle.xn_messages.proofs.CoreFits.{fits}
-use Rattle.xn_messages.proofs.core_hearing.heard.Goals as goal
+use Rattle.core_messages.proofs.Fits.{fits}
+use Rattle.core_messages.proofs.hearing.heard.Goals as goal
 
 pub heard_at-requires : goal.heard_at-requires
 heard_at-requires c =
