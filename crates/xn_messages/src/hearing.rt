@@ -65,11 +65,11 @@ fn heard_at(
     ensures { Hears (xn_at outcome code criticality (ies_view found.now) (options_view additions.now)) result }
 {
     match code {
-        HANDOVER_PREPARATION => Ok(preparation(alloc, outcome, criticality, found, additions)?),
-        SN_STATUS_TRANSFER => Ok(sn_status(alloc, outcome, criticality, found)?),
-        HANDOVER_CANCEL => Ok(cancel(outcome, criticality, found)?),
-        UE_CONTEXT_RELEASE => Ok(release(outcome, criticality, found)?),
-        TRANSPORT_CONFIRM => Ok(confirm(outcome, criticality, found)?),
+        HANDOVER_PREPARATION => preparation(alloc, outcome, criticality, found, additions),
+        SN_STATUS_TRANSFER => sn_status(alloc, outcome, criticality, found),
+        HANDOVER_CANCEL => cancel(outcome, criticality, found),
+        UE_CONTEXT_RELEASE => release(outcome, criticality, found),
+        TRANSPORT_CONFIRM => confirm(outcome, criticality, found),
         _ => Err(MsgError::UnknownProcedure { code, criticality }),
     }
 }
