@@ -1,42 +1,27 @@
 -- A component of a token's body, by its number.
-use Rattle.std.proofs.Common.{◌≡◌, ℕ, refl}
+use Rattle.std.proofs.Common.{◌≡◌, ℕ, zero, suc, ◌-◌, ◌==◌, Bool, false, cond, refl, subst, sym, arith}
+use Rattle.std.proofs.lemmas.Bool.Decides.{nat_tests}
 use Rattle.aper_defs.specs.Values.{Value, Options, components, no_options, absent, present}
 use Rattle.message_defs.specs.Places.{or_empty}
 use Rattle.message_defs.specs.Tokens.{component_in, components_in}
 use Rattle.message_values.specs.Parts.{option_at, part_at}
 
-first : (vs : Options) → component_in 0 vs ≡ or_empty (option_at 0 vs)
-first no_options = refl
-first (absent vs) = refl
-first (present v vs) = refl
+not_first : (n : ℕ) → (suc n == 0) ≡ false
+not_first n = grind (arith, nat_tests)
 
-second : (vs : Options) → component_in 1 vs ≡ or_empty (option_at 1 vs)
-second no_options = refl
-second (absent vs) = first vs
-second (present v vs) = first vs
+later : (n : ℕ) (v : Value) (vs : Options) → cond (suc n == 0) v (component_in (suc n - 1) vs) ≡ component_in n vs
+later n v vs =
+    let before : suc n - 1 ≡ n = omega arith in
+    subst (λ (b : Bool). cond b v (component_in (suc n - 1) vs) ≡ component_in n vs) (sym (not_first n))
+    (subst (λ (m : ℕ). component_in m vs ≡ component_in n vs) (sym before) refl)
 
-third : (vs : Options) → component_in 2 vs ≡ or_empty (option_at 2 vs)
-third no_options = refl
-third (absent vs) = second vs
-third (present v vs) = second vs
+at : (n : ℕ) (vs : Options) → component_in n vs ≡ or_empty (option_at n vs)
+at n no_options = refl
+at zero (absent vs) = refl
+at zero (present v vs) = refl
+at (suc n) (absent vs) = rw (later n _ vs) (at n vs)
+at (suc n) (present v vs) = rw (later n v vs) (at n vs)
 
-fourth : (vs : Options) → component_in 3 vs ≡ or_empty (option_at 3 vs)
-fourth no_options = refl
-fourth (absent vs) = third vs
-fourth (present v vs) = third vs
-
-pub part_0 : (v : Value) → component_in 0 (components_in v) ≡ or_empty (part_at 0 v)
-part_0 (components vs more) = first vs
-part_0 v = refl
-
-pub part_1 : (v : Value) → component_in 1 (components_in v) ≡ or_empty (part_at 1 v)
-part_1 (components vs more) = second vs
-part_1 v = refl
-
-pub part_2 : (v : Value) → component_in 2 (components_in v) ≡ or_empty (part_at 2 v)
-part_2 (components vs more) = third vs
-part_2 v = refl
-
-pub part_3 : (v : Value) → component_in 3 (components_in v) ≡ or_empty (part_at 3 v)
-part_3 (components vs more) = fourth vs
-part_3 v = refl
+pub component_is : (n : ℕ) (v : Value) → component_in n (components_in v) ≡ or_empty (part_at n v)
+component_is n (components vs more) = at n vs
+component_is n v = refl

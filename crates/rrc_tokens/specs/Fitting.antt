@@ -1,5 +1,5 @@
 -- Internal: which numbers of a token's components fit the fields that code has for them. Those of each value of RrcToken do.
-use Rattle.std.specs.Prelude.{ℕ, ◌^◌, ◌<◌}
+use Rattle.std.specs.Prelude.{◌^◌, ◌<◌}
 use Rattle.aper_defs.specs.Values.{Options}
 use Rattle.message_defs.specs.Fields.{to_number}
 use Rattle.message_defs.specs.Tokens.{component_in}

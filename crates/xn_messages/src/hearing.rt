@@ -1,7 +1,7 @@
 //! The message that is heard in a value.
 #![tactic(auto, unfolding(message_defs::specs::Xn::xn_at))]
 
-ghost use Rattle.std.specs.Prelude.{◌≡◌, ℕ, []};
+ghost use Rattle.std.specs.Prelude.{ℕ, []};
 ghost use Rattle.aper_defs.specs.Values.{Options};
 ghost use Rattle.aper_defs.specs.Membership.{Has};
 ghost use Rattle.profile_defs.specs.Profile.{xn_type};
