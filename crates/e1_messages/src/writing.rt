@@ -155,6 +155,7 @@ fn context_setup_request(
     Ok(message_of(alloc, place, fields)?)
 }
 
+#[tactic(auto, using(crate::proofs::InOrder::put_next), unfolding(message_defs::specs::E1::written_e1))]
 fn context_setup_response(
     alloc: Global,
     ue: UeId,
@@ -242,6 +243,7 @@ fn modification_request(
     Ok(message_of(alloc, place, fields)?)
 }
 
+#[tactic(auto, using(crate::proofs::InOrder::put_next), unfolding(message_defs::specs::E1::written_e1))]
 fn modification_response(
     alloc: Global,
     ue: UeId,

@@ -3,4 +3,5 @@
 
 mod codes;
 pub mod hearing;
+pub mod tokens;
 pub mod writing;

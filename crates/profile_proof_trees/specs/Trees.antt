@@ -1,0 +1,14 @@
+-- A type of the profile in a module, with its tree.
+use Rattle.std.specs.Prelude.{◌≡◌, ◌<◌, length, Some}
+use Rattle.asn1_types.specs.declared.definition.TypeId.{TypeId}
+use Rattle.asn1_assignments.specs.declared.assignment.Syntax.{Syntax}
+use Rattle.asn1_module.specs.Module.{find_type}
+use Rattle.aper_types.specs.Types as modules
+use Rattle.profile_defs.specs.Forms.{Form, name_of, tree}
+
+-- the form's name is that of a type of the module, whose tree is the form's
+pub record HasTree (m : Syntax) (form : Form) : Type 0 where
+  pub id : TypeId
+  pub named : find_type (name_of form) m.assignments ≡ Some id
+  pub inside : id.number < length m.nodes
+  pub is : modules.tree m id.number ≡ tree form

@@ -1,0 +1,49 @@
+//! The types that messages and tokens are of, in the module of a profile.
+#![tactic(auto)]
+
+ghost use Rattle.profile_defs.specs.Profile.{f1_type, e1_type, core_type, token_type};
+ghost use Rattle.profile_types.specs.Types.{IsTypeOf};
+
+use asn1_types::TypeId;
+use profile_module::Profile;
+use profile_proof_trees::agreeing_modules_have_the_trees;
+
+/// F1AP-PDU (TS 38.473).
+pub fn f1_pdu(profile: &Profile) -> TypeId
+    ensures { IsTypeOf profile.now.syntax f1_type result }
+{
+    agreeing_modules_have_the_trees();
+    let module = profile.module();
+    let _name = module.name();
+    module.find(b"F1AP-PDU").unwrap()
+}
+
+/// E1AP-PDU (TS 37.483).
+pub fn e1_pdu(profile: &Profile) -> TypeId
+    ensures { IsTypeOf profile.now.syntax e1_type result }
+{
+    agreeing_modules_have_the_trees();
+    let module = profile.module();
+    let _name = module.name();
+    module.find(b"E1AP-PDU").unwrap()
+}
+
+/// Core-PDU, in place of NGAP (TS 38.413).
+pub fn core_pdu(profile: &Profile) -> TypeId
+    ensures { IsTypeOf profile.now.syntax core_type result }
+{
+    agreeing_modules_have_the_trees();
+    let module = profile.module();
+    let _name = module.name();
+    module.find(b"Core-PDU").unwrap()
+}
+
+/// RrcToken, in place of messages of RRC (TS 38.331).
+pub fn rrc_token(profile: &Profile) -> TypeId
+    ensures { IsTypeOf profile.now.syntax token_type result }
+{
+    agreeing_modules_have_the_trees();
+    let module = profile.module();
+    let _name = module.name();
+    module.find(b"RrcToken").unwrap()
+}
