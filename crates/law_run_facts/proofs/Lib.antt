@@ -1,0 +1,5 @@
+pub mod Within
+pub mod Steps
+pub mod Runs
+pub mod Units
+pub mod Plain
