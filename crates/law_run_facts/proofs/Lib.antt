@@ -3,3 +3,4 @@ pub mod Steps
 pub mod Runs
 pub mod Units
 pub mod Plain
+pub mod Alone
