@@ -4,3 +4,4 @@ pub mod Runs
 pub mod Units
 pub mod Plain
 pub mod Alone
+pub mod Fits
