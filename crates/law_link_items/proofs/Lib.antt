@@ -4,4 +4,5 @@ pub mod CuUps
 pub mod Dus
 pub mod Terminals
 pub mod CuCps
+pub mod Octets
 pub mod Links

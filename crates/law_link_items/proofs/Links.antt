@@ -15,15 +15,18 @@ use Rattle.unit_defs.specs.Ways.{Message, core, Pdu, Load, fresh, end_marker, An
 use Rattle.unit_defs.specs.Messages.{channel}
 use Rattle.unit_defs.specs.Transactions.{Kind, request, reply, transfer, kind_of, replied}
 use Rattle.unit_defs.specs.Core.{CorePath, CoreRecord, end_of, old_ends, new_path, moved, switch_path, asked, came, core_acts}
+use Rattle.transport_defs.specs.declared.Item.{Item}
 use Rattle.run_defs.specs.Written.{Written}
-use Rattle.run_defs.specs.States.{State, new_state}
+use Rattle.run_defs.specs.States.{State, new_state, radio_of}
 use Rattle.run_defs.specs.Runs.{Reading, plain_way, plain_world}
 use Rattle.law_steps.specs.Reached.{reached}
 use Rattle.law_run_facts.specs.Facts.{Hold, PutsFit}
-use Rattle.law_run_facts.specs.UnitFacts.{as_facts, written_facts, AnswerFits, UnitsKeep}
+use Rattle.law_run_facts.specs.UnitFacts.{as_facts, said_item, HasOctets, HasPduOctets, written_facts, AnswerFits, UnitsKeep}
 use Rattle.law_run_facts.proofs.Fits.{any_then, replied_fits, fits_request}
 use Rattle.law_run_facts.proofs.Plain.{plain_run_holds}
-use Rattle.law_link_items.specs.Items.{ItemsShow}
+use Rattle.law_link_items.specs.Items.{IsOnTunnel, IsOnRadio, ItemsShow}
+use Rattle.law_link_items.specs.Octets.{ItemsAreLaid}
+use Rattle.law_link_items.proofs.Octets.{map_all, all_laid}
 use Rattle.law_link_items.proofs.Names.{IsCuUp, down_to_up, CoreNames, link_items}
 use Rattle.law_link_items.proofs.CuUps.{cu_up_fits, found_put, placed_names as up_placed_names}
 use Rattle.law_link_items.proofs.Dus.{du_fits, placed_names as du_placed_names}
@@ -100,8 +103,20 @@ items_keep = record {
   first_core = λ ue path is. absurd cc;
 }
 
-pub items_in_run : (reading : Reading) (events : List Event) (t : State (Message Token) Token (Written (Load Pdu)) (Written Pdu))
-    → reached (plain_world reading) events new_state ≡ Some t → ItemsShow t
-items_in_run reading events t is =
-    let holds : Hold (written_facts link_items) t = plain_run_holds link_items items_keep reading events t is in
-    record { tunnels = holds.tunnels; radios = holds.radios }
+module _ (reading : Reading) (events : List Event) (t : State (Message Token) Token (Written (Load Pdu)) (Written Pdu))
+    (is : reached (plain_world reading) events new_state ≡ Some t) where
+  holds : Hold (written_facts link_items) t
+  holds = plain_run_holds link_items items_keep reading events t is
+
+  pub items_in_run : ItemsShow t
+  items_in_run = record {
+    tunnels = λ end items found.
+        map_all (λ (item : Item (Written (Load Pdu))). IsOnTunnel end (said_item item) × HasOctets end.teid item)
+        (λ (item : Item (Written (Load Pdu))). IsOnTunnel end (said_item item)) items (λ item p. p.0) (holds.tunnels end items found);
+    radios = λ key.
+        map_all (λ (item : Item (Written Pdu)). IsOnRadio (said_item item) × HasPduOctets item) (λ (item : Item (Written Pdu)). IsOnRadio (said_item item))
+        (radio_of t key).items (λ item p. p.0) (holds.radios key);
+  }
+
+  pub octets_in_run : ItemsAreLaid t
+  octets_in_run = all_laid t holds

@@ -108,7 +108,7 @@ module _ (node : NodeId) (taken : Option ℕ) where
   begin_fits at fmc bits b is =
       after (framed plain_way at false false (Some (report_pdu fmc bits)) Absent b then (λ c. sent_again plain_way at c.sender.unconfirmed c)) (number_waiting plain_way at)
       (after (framed plain_way at false false (Some (report_pdu fmc bits)) Absent b) (λ c. sent_again plain_way at c.sender.unconfirmed c)
-      (framed_fits at false false (Some (report_pdu fmc bits)) Absent b refl refl is) (λ c p. sent_again_fits at c.sender.unconfirmed c p)) (number_waiting_fits at)
+      (framed_fits at false false (Some (report_pdu fmc bits)) Absent b (refl, refl) refl is) (λ c p. sent_again_fits at c.sender.unconfirmed c p)) (number_waiting_fits at)
 
   pub switched_fits : (at : UpAt) (du : NodeId) (teid : ℕ) (b : UpBearer) → IsDu du → Fits (switched plain_way at du teid b)
   unfolding switched

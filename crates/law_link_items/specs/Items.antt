@@ -14,6 +14,7 @@ use Rattle.unit_defs.specs.Ways.{Message, Pdu, packet_pdu, report_pdu, Load, fre
 use Rattle.transport_defs.specs.declared.Item.{Item}
 use Rattle.run_defs.specs.Written.{Written}
 use Rattle.run_defs.specs.States.{State, radio_of}
+use Rattle.law_run_facts.specs.UnitFacts.{said_item}
 
 -- ---- the COUNT that is said: of the packet, and of what a delivery status confirms
 
@@ -35,10 +36,11 @@ count_of_load end_marker = None
 
 -- ---- what may stand there (TS 38.401, 6.1.2; TS 38.425, 5.4; TS 38.300, 9.2.3.2)
 
--- a frame polls and carries nothing, or carries a PDU
+-- a frame polls and carries nothing, or carries a PDU; the restart mark stands on packets alone
 abbrev pub IsFrame : Bool → Bool → Option Pdu → Type 0
 IsFrame poll restart None = (poll ≡ true) × (restart ≡ false)
-IsFrame poll restart (Some pdu) = poll ≡ false
+IsFrame poll restart (Some (packet_pdu count p)) = poll ≡ false
+IsFrame poll restart (Some (report_pdu fmc bits)) = (poll ≡ false) × (restart ≡ false)
 
 -- N3, forwarding down, and the delivery statuses of a DU
 abbrev pub GoesDown : Load Pdu → Type 0
@@ -74,10 +76,7 @@ IsOnRadio item = item.count ≡ count_of_pdu item.content
 
 -- ---- in a state of `Run`: each item shows the COUNT that it says, and may stand there
 
-abbrev pub says_of : {X : Type 0} → Item (Written X) → Item X
-says_of item = record { key = item.key; count = item.count; content = item.content.says }
-
 pub record ItemsShow (s : State (Message Token) Token (Written (Load Pdu)) (Written Pdu)) : Type 0 where
   pub tunnels : (end : TunnelEnd) (items : List (Item (Written (Load Pdu)))) → find tunnel_cmp s.tunnels end ≡ Some items
-      → AllByRecursion (λ (item : Item (Written (Load Pdu))). IsOnTunnel end (says_of item)) items
-  pub radios : (key : EntityKey) → AllByRecursion (λ (item : Item (Written Pdu)). IsOnRadio (says_of item)) (radio_of s key).items
+      → AllByRecursion (λ (item : Item (Written (Load Pdu))). IsOnTunnel end (said_item item)) items
+  pub radios : (key : EntityKey) → AllByRecursion (λ (item : Item (Written Pdu)). IsOnRadio (said_item item)) (radio_of s key).items

@@ -2,6 +2,7 @@
 #![tactic(auto)]
 
 ghost use Rattle.law_link_items.specs.Items.{ItemsShow};
+ghost use Rattle.law_link_items.specs.Octets.{ItemsAreLaid};
 ghost use Rattle.law_steps.specs.Reached.{reached};
 ghost use Rattle.message_types.specs.declared.rrc.Token.{Token};
 ghost use Rattle.run_defs.specs.Runs.{plain_world, Reading};
@@ -19,4 +20,13 @@ pub fn items_show_what_they_say()
     ensures { (reading : Reading) (events : List Event)
         (t : State (Message Token) Token (Written (Load Pdu)) (Written Pdu))
         → reached (plain_world reading) events new_state ≡ Some t → ItemsShow t }
+{}
+
+/// In every run the octets of each item of a tunnel have a layout of the links that lead to the tunnel's end in its direction,
+/// for the tunnel's TEID and the COUNT that is shown, with numbers of 12 or of 18 bits; and so have those of each PDU of a
+/// radio.
+pub fn octets_are_of_their_links()
+    ensures { (reading : Reading) (events : List Event)
+        (t : State (Message Token) Token (Written (Load Pdu)) (Written Pdu))
+        → reached (plain_world reading) events new_state ≡ Some t → ItemsAreLaid t }
 {}

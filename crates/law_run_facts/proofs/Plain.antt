@@ -3,6 +3,7 @@ use Rattle.std.proofs.Common.{◌≡◌, ℕ, List, [], ◌∷◌, map, Option, 
 use Rattle.gnb_types.specs.declared.names.Gnb.{Gnb}
 use Rattle.gnb_types.specs.declared.names.NodeId.{NodeId}
 use Rattle.gnb_types.specs.declared.names.NodeId.TheVariants.{CuCp, CuUp as up_id, Du as du_id, Core, Ue}
+use Rattle.gnb_types.specs.declared.names.SnBits.TheVariants.{Len12}
 use Rattle.gnb_types.specs.declared.keys.EntityKey.{EntityKey}
 use Rattle.message_types.specs.declared.rrc.Token.{Token}
 use Rattle.scenario_text.specs.declared.event.Event.{Event}
@@ -36,8 +37,8 @@ module _ (facts : UnitFacts) (keep : UnitsKeep facts) (reading : Reading) where
   written_fits : (lengths : Lengths) (node : NodeId) (taken : Option ℕ) (output : Put (Message Token) (Load Pdu) Pdu) → PutFits (as_facts facts) node taken output
       → PutFits (written_facts facts) node taken (written_put lengths output)
   written_fits lengths node taken (control to ue message) p = p
-  written_fits lengths node taken (packet to teid ue bearer dir tag load) p = p
-  written_fits lengths node taken (radio ue bearer dir epoch tag pdu) p = p
+  written_fits lengths node taken (packet to teid ue bearer dir tag load) p = (p, (lengths ue, refl))
+  written_fits lengths node taken (radio ue bearer dir epoch tag pdu) p = (p, (lengths ue, refl))
   written_fits lengths node taken (deliver ue bearer dir count x) p = tt
   written_fits lengths node taken (dropped reason) p = tt
   written_fits lengths node taken (held reason) p = tt
@@ -109,11 +110,11 @@ module _ (facts : UnitFacts) (keep : UnitsKeep facts) (reading : Reading) where
       → Fits node taken (input_of reading given)
   given_fits node taken (letter_for from message) p = p
   given_fits node taken (item_for teid item) p =
-      (item.content.says, refl, (item.key, beside (facts.on_tunnel (record { node = node; teid = teid })) item.key item.content.says taken item.count p.0 p.1))
+      (item.content.says, refl, (item.key, beside (facts.on_tunnel (record { node = node; teid = teid })) item.key item.content.says taken item.count p.0 p.1.0))
   given_fits node taken (carried_for item) p =
-      (refl, (p.1.0, beside (facts.on_radio p.1.0) item.key item.content.says taken item.count p.0 p.1.1))
+      (refl, (p.1.0, beside (facts.on_radio p.1.0) item.key item.content.says taken item.count p.0 p.1.1.0))
   given_fits node taken (confirmed_for item) p =
-      (refl, (p.1.0, beside (facts.on_radio p.1.0) item.key item.content.says taken item.count p.0 p.1.1))
+      (refl, (p.1.0, beside (facts.on_radio p.1.0) item.key item.content.says taken item.count p.0 p.1.1.0))
   given_fits node taken (offer_for ue bearer x) p = tt
   given_fits node taken tick_for p = tt
   given_fits node taken (order_for order) p = tt
@@ -164,7 +165,7 @@ module _ (facts : UnitFacts) (keep : UnitsKeep facts) (reading : Reading) where
     placed = λ u plan free room teids p. placed_holds facts keep u plan room teids p;
     core_answers = λ lengths r q given outputs p fits is. subst CoreAnswered is (core_answered lengths r given p fits);
     core_placed = λ r plan n3 p. keep.places_path r plan n3 p;
-    lays = λ r ue bearer p path h found. keep.lays r ue bearer p path h found;
+    lays = λ r ue bearer p path h found. (keep.lays r ue bearer p path h found, (Len12, refl));
     silent = λ counted lengths r q from octets outputs is. subst Silent is refl;
   }
 

@@ -3,6 +3,7 @@ use Rattle.std.specs.Prelude.{ℕ, ◌≡◌, true, List, Option, Some, None}
 use Rattle.gnb_types.specs.declared.names.Gnb.{Gnb}
 use Rattle.gnb_types.specs.declared.names.NodeId.{NodeId}
 use Rattle.gnb_types.specs.declared.names.NodeId.TheVariants.{CuCp, CuUp as up_id, Du as du_id, Core, Ue}
+use Rattle.gnb_types.specs.declared.names.SnBits.{SnBits}
 use Rattle.gnb_types.specs.declared.names.UeId.{UeId}
 use Rattle.gnb_types.specs.declared.names.BearerId.{BearerId}
 use Rattle.gnb_types.specs.declared.names.Dir.TheVariants.{Dl}
@@ -23,6 +24,7 @@ use Rattle.unit_defs.specs.CpRecords.{CuCpRecord, new_cu_cp}
 use Rattle.unit_defs.specs.CuCp.{cu_cp_acts}
 use Rattle.unit_defs.specs.Core.{CorePath, CoreRecord, new_core, core_acts}
 use Rattle.unit_defs.specs.Static.{up_has_room, up_has_teids, du_has_teids, up_placed, du_placed, cp_placed, up_set_up, du_set_up, cp_set_up}
+use Rattle.unit_octet_defs.specs.Writing.{pdu_octets, load_octets, written_load}
 use Rattle.transport_defs.specs.declared.Item.{Item}
 use Rattle.transport_defs.specs.declared.Letter.{Letter}
 use Rattle.run_defs.specs.Units.{Units, cp_of, up_of, du_of, ue_of}
@@ -42,6 +44,16 @@ pub record UnitFacts : Type 1 where
   pub on_tunnel : TunnelEnd → Item (Load Pdu) → Type 0
   pub on_radio : EntityKey → Item Pdu → Type 0
 
+-- items as they stand on links, with their octets: those of what they say, with numbers of one of the two lengths
+abbrev pub said_item : {X : Type 0} → Item (Written X) → Item X
+said_item item = record { key = item.key; count = item.count; content = item.content.says }
+
+abbrev pub HasOctets : ℕ → Item (Written (Load Pdu)) → Type 0
+HasOctets teid item = (sn : SnBits) × (item.content.octets ≡ load_octets teid (written_load sn item.content.says))
+
+abbrev pub HasPduOctets : Item (Written Pdu) → Type 0
+HasPduOctets item = (sn : SnBits) × (item.content.octets ≡ pdu_octets sn item.content.says)
+
 module _ (facts : UnitFacts) where
   abbrev pub OfUnits : Units (Message Token) Token → Type 0
   OfUnits units =
@@ -60,17 +72,13 @@ module _ (facts : UnitFacts) where
     counted = Unit {0};
   }
 
-  -- items as they stand on links, with their octets
-  abbrev pub said_item : {X : Type 0} → Item (Written X) → Item X
-  said_item item = record { key = item.key; count = item.count; content = item.content.says }
-
   abbrev pub written_facts : Facts (Message Token) Token (Written (Load Pdu)) (Written Pdu)
   written_facts = record {
     units = OfUnits;
     core = facts.core;
     letter = facts.letter;
-    on_tunnel = λ end item. facts.on_tunnel end (said_item item);
-    on_radio = λ key item. facts.on_radio key (said_item item);
+    on_tunnel = λ end item. facts.on_tunnel end (said_item item) × HasOctets end.teid item;
+    on_radio = λ key item. facts.on_radio key (said_item item) × HasPduOctets item;
     counted = Unit {0};
   }
 
