@@ -14,8 +14,8 @@ ghost use Rattle.unit_defs.specs.Ways.{Load, Message, Pdu};
 
 /// In every run each item of a tunnel is one that may stand there, by the node at the tunnel's end and by its direction: frames
 /// alone go to a DU; packets, End Markers and delivery statuses go down to a CU-UP, PDUs, packets with a COUNT and End Markers
-/// go up to one; and to no other node a tunnel leads. Beside each item, and beside each PDU of a radio, stands the COUNT of the
-/// packet that it is, or confirms, and none beside any other.
+/// go up to one; and to no other node a tunnel leads. Beside each item, and beside each PDU of a radio, stands the COUNT that it
+/// says: of its packet, where that has one, or of the packet that it confirms; and none beside any other.
 pub fn items_show_what_they_say()
     ensures { (reading : Reading) (events : List Event)
         (t : State (Message Token) Token (Written (Load Pdu)) (Written Pdu))
