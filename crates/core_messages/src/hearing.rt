@@ -22,7 +22,11 @@ use message_values::found::{
 use message_values::places::{INITIATING, SUCCESSFUL};
 use std::alloc::Global;
 
-/// The message that a value of the PDU says.
+/// The message that a value of the PDU says. Information elements that the message doesn't have and additions are passed over.
+///
+/// # Errors
+/// `UnknownProcedure` where the code isn't in the set or has no such outcome; `UnknownIe` for the first information element that the message
+/// doesn't have and that has criticality reject (TS 38.413, 10.3); `Memory`.
 #[tactic(auto, unfolding(message_defs::specs::Core::heard_core))]
 pub fn heard(alloc: Global, value: &Value) -> Result<CoreMessage, MsgError>
     requires { Has [] core_type (view value.now) }

@@ -17,7 +17,10 @@ use message_values::fields::{from_number, from_peer, from_tunnels, from_ue};
 use message_values::places::{INITIATING, Place, SUCCESSFUL, message_of};
 use std::alloc::Global;
 
-/// The value of a message.
+/// The value of a message: its information elements in the order of the profile's table, each with criticality reject.
+///
+/// # Errors
+/// Out of memory.
 pub fn written(alloc: Global, msg: &CoreMessage) -> Result<Value, Memory>
     ensures { IfOk result (λ v. view v ≡ written_core msg.now) }
 {

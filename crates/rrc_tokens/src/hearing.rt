@@ -18,7 +18,10 @@ use message_types::Token;
 use message_values::error::MsgError;
 use message_values::fields::{part_at, to_gnb, to_number, to_octet};
 
-/// The token that a value of RrcToken says.
+/// The token that a value of RrcToken says. Additions are passed over.
+///
+/// # Errors
+/// `UnknownProcedure`, with code 0 and criticality 0, for an alternative that isn't known.
 pub fn heard(value: &Value) -> Result<Token, MsgError>
     requires { Has [] token_type (view value.now) }
     ensures heard { Hears (heard_token (view value.now)) result }

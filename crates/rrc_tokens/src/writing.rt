@@ -17,6 +17,9 @@ use message_values::fields::{from_gnb, from_number, from_ue, sequence};
 use std::alloc::Global;
 
 /// The value of a token.
+///
+/// # Errors
+/// Out of memory.
 pub fn written(alloc: Global, token: Token) -> Result<Value, Memory>
     ensures { IfOk result (λ v. view v ≡ written_token token) }
 {

@@ -28,7 +28,12 @@ use message_values::found::{
 use message_values::places::{INITIATING, SUCCESSFUL, UNSUCCESSFUL};
 use std::alloc::Global;
 
-/// The message that a value of the PDU says, in either version of the profile.
+/// The message that a value of the PDU says, in either version of the profile. Information elements that the message doesn't have and
+/// additions that aren't named are passed over.
+///
+/// # Errors
+/// `UnknownProcedure` where the code isn't in the set or has no such outcome; `UnknownIe` for the first information element that the message
+/// doesn't have and that has criticality reject (TS 38.423, 10.3); `Memory`.
 #[tactic(auto, unfolding(message_defs::specs::Xn::heard_xn))]
 pub fn heard(alloc: Global, value: &Value) -> Result<XnMessage, MsgError>
     requires { (version : ℕ) × Has [] (xn_type version) (view value.now) }

@@ -27,7 +27,10 @@ use message_values::places::{
 };
 use std::alloc::Global;
 
-/// The value of a message.
+/// The value of a message: its information elements in the order of the profile's table, each with criticality reject.
+///
+/// # Errors
+/// Out of memory.
 pub fn written(alloc: Global, msg: &XnMessage) -> Result<Value, Memory>
     ensures { IfOk result (λ v. view v ≡ written_xn msg.now) }
 {
