@@ -1,5 +1,5 @@
 -- A form whose tree is within the bounds of encodings is within them.
-use Rattle.std.proofs.Common.{◌≡◌, ℕ, ◌≤◌, length, arith}
+use Rattle.std.proofs.Common.{ℕ, arith}
 use Rattle.aper_defs.specs.Trees.{Tree}
 use Rattle.aper_defs.specs.Bounds.{IsBounded}
 use Rattle.aper_types.specs.declared.form.Form.{Form}

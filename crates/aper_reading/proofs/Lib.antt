@@ -1,5 +1,7 @@
 pub mod ListLemmas
 pub mod SequenceLemmas
+pub mod SequenceSteps
 pub mod FormBounds
-pub mod Heavy
+pub mod HeavyLemmas
 pub mod Turns
+pub mod ReadsSteps

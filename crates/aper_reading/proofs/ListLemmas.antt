@@ -1,5 +1,5 @@
 -- Members of a SEQUENCE OF, one at a time.
-use Rattle.std.proofs.Common.{◌≡◌, ℕ, zero, suc, ◌+◌, List, [], ◌∷◌, ◌++◌, length, Option, refl, sym, ap, ◌∙◌, arith, length-append}
+use Rattle.std.proofs.Common.{◌≡◌, ℕ, suc, List, [], ◌∷◌, ◌++◌, length, Option, refl, sym, ap, ◌∙◌, arith, length-append}
 use Rattle.asn1_types.specs.declared.definition.TypeId.{TypeId}
 use Rattle.asn1_types.specs.declared.definition.Size.{Size}
 use Rattle.aper_defs.specs.Trees.{Tree, sequence_of}
@@ -14,7 +14,7 @@ use Rattle.aper_frames.specs.declared.frame.Members.{Members}
 use Rattle.aper_frames.specs.declared.frame.Frame.{Frame}
 use Rattle.aper_frames.specs.declared.frame.Frame.TheVariants as frames
 use Rattle.aper_frames.specs.declared.frame.Turn.TheVariants as turns
-use Rattle.aper_frames.specs.Frames.{values_before, ask_member, members_left, member_after, path_of, next_of}
+use Rattle.aper_frames.specs.Frames.{values_before, ask_member, members_left, path_of, next_of}
 use Rattle.aper_frames.specs.Steps.{left}
 use Rattle.aper_frames.proofs.Before.{values_more, values_end}
 

@@ -1,9 +1,11 @@
 //! Whole values.
 
 ghost use Rattle.std.specs.Prelude.{◌≡◌, ◌<◌, ◌^◌, [], length};
+ghost use Rattle.aper_defs.specs.Reading.{run};
 ghost use Rattle.aper_types.specs.Types.{tree};
 ghost use Rattle.aper_frames.specs.Frames.{path_of};
-ghost use Rattle.aper_reading.specs.Decoding.{Decodes, ReadsWhole, ReadsValue, IsRefusal};
+ghost use Rattle.aper_frames.specs.Steps.{left};
+ghost use Rattle.aper_reading.specs.Decoding.{Decodes, ReadsWhole, ReadsValue, IsRefusal, IsTurnInside, TakesTurn, Lessens};
 
 use crate::begin::begin;
 use crate::error::DecodeError;
@@ -15,6 +17,13 @@ use aper_types::form_of;
 use aper_values::value::Value;
 use asn1_module::{Module, TypeId};
 use std::alloc::Global;
+
+/// What a turn leads to: another one, or the whole value.
+#[derive(Drop)]
+enum Progress {
+    Next(Turn),
+    Whole(Value),
+}
 
 /// The value of a type of a module that these octets spell.
 pub fn decode<'m>(
@@ -80,12 +89,30 @@ fn read_value<'m>(
 {
     let mut turn = Turn::Read(id);
     loop {
-        turn = match turn {
-            Turn::Read(id) => begin(alloc, cursor, frames, form_of(m, id))?,
-            Turn::Made(value) => match frames.pop() {
-                None => return Ok(value),
-                Some(frame) => go_on(alloc, cursor, frames, frame, value)?,
-            },
-        };
+        match take_turn(alloc, m, cursor, frames, turn)? {
+            Progress::Next(next) => turn = next,
+            Progress::Whole(value) => return Ok(value),
+        }
+    }
+}
+
+/// Begins the value that is to be read, or goes on after the one that has been made.
+fn take_turn<'m>(
+    alloc: Global,
+    m: &'m Module,
+    cursor: &mut Cursor,
+    frames: &mut Stack<'m>,
+    turn: Turn,
+) -> Result<Progress, Unanswered>
+    requires { IsTurnInside (length m.now.nodes) turn }
+    ensures asked { TakesTurn (tree m.now) (run (left (tree m.now) turn frames.old) cursor.old) cursor.new frames.new result }
+    ensures lighter { Lessens m.now turn frames.old frames.new result }
+{
+    match turn {
+        Turn::Read(id) => Ok(Progress::Next(begin(alloc, cursor, frames, form_of(m, id))?)),
+        Turn::Made(value) => match frames.pop() {
+            None => Ok(Progress::Whole(value)),
+            Some(frame) => Ok(Progress::Next(go_on(alloc, cursor, frames, frame, value)?)),
+        },
     }
 }

@@ -8,46 +8,15 @@ use Rattle.asn1_assignments.specs.declared.assignment.IeRow.{IeRow}
 use Rattle.asn1_assignments.specs.declared.assignment.ProcedureRow.{ProcedureRow}
 use Rattle.asn1_assignments.specs.declared.assignment.Syntax.{Syntax}
 use Rattle.asn1_module.specs.Links.{AreBelow, OptionBelow, IesBelow, ProceduresBelow}
-use Rattle.aper_defs.specs.Trees.{Tree, Parts, Rows, Procedures, Outcome}
-use Rattle.aper_defs.specs.Trees.{boolean, integer, enumerated, bit_string, octet_string, printable_string, sequence, choice, sequence_of, container, pdu, no_parts, part, no_rows, row, no_procedures, procedure, no_outcome, outcome}
-use Rattle.aper_proof_answers.proofs.NumberFacts.{is_below}
+use Rattle.aper_defs.specs.Trees.{Tree}
+use Rattle.aper_proof_answers.proofs.NumberFacts.{below, is_below}
 use Rattle.aper_types.specs.declared.form.Form.{Form}
 use Rattle.aper_types.specs.declared.form.Form.TheVariants as forms
 use Rattle.aper_types.specs.Types.{parts_of, rows_of, outcome_of, procedures_of, tree}
 use Rattle.aper_types.specs.Forms.{form_tree, IsFormInside}
 use Rattle.aper_frames.specs.Weights.{parts_weight, rows_weight, outcome_weight, procedures_weight}
 use Rattle.aper_reading.specs.Forms.{form_weight}
-
-unfoldable mutual
-  pub heavy : Tree → ℕ
-  heavy boolean = 1
-  heavy (integer low high extensible) = 1
-  heavy (enumerated names extensible) = 1
-  heavy (bit_string size) = 1
-  heavy (octet_string size) = 1
-  heavy (printable_string size) = 1
-  heavy (sequence extensible root additions) = parts_heavy root + parts_heavy additions + 194
-  heavy (choice extensible root additions) = parts_heavy root + parts_heavy additions + 3
-  heavy (sequence_of size t) = 65535 * (2 + heavy t) + 1
-  heavy (container rows) = 65535 * (4 + rows_heavy rows) + 1
-  heavy (pdu procedures) = procedures_heavy procedures + 3
-
-  pub parts_heavy : Parts → ℕ
-  parts_heavy no_parts = 0
-  parts_heavy (part name optional t others) = 3 + heavy t + parts_heavy others
-
-  pub rows_heavy : Rows → ℕ
-  rows_heavy no_rows = 0
-  rows_heavy (row id mandatory t others) = heavy t + rows_heavy others
-
-  pub procedures_heavy : Procedures → ℕ
-  procedures_heavy no_procedures = 0
-  procedures_heavy (procedure code initiating successful unsuccessful others) =
-      outcome_heavy initiating + outcome_heavy successful + outcome_heavy unsuccessful + procedures_heavy others
-
-  pub outcome_heavy : Outcome → ℕ
-  outcome_heavy no_outcome = 0
-  outcome_heavy (outcome t) = heavy t
+use Rattle.aper_reading.specs.Heavy.{heavy, parts_heavy, rows_heavy, procedures_heavy, outcome_heavy, weighed}
 
 -- ---- the tree of a form is as heavy as what is left of it at first
 module _ (of : ℕ → Tree) where
@@ -105,7 +74,12 @@ module _ (n : ℕ) (w v : ℕ → ℕ) (same : (id : ℕ) → id < n → w id �
   procedures_inside : (rows : List ProcedureRow) → ProceduresBelow n rows → procedures_weight w rows ≡ procedures_weight v rows
   procedures_inside [] h = refl
   procedures_inside (r ∷ rows) h = omega (
-    arith, same r.initiating.number h.0.0, outcome_inside r.successful h.0.1.0, outcome_inside r.unsuccessful h.0.1.1, procedures_inside rows h.1)
+    arith,
+    same r.initiating.number h.0.0,
+    outcome_inside r.successful h.0.1.0,
+    outcome_inside r.unsuccessful h.0.1.1,
+    procedures_inside rows h.1,
+  )
 
   pub form_inside : (form : Form) → IsFormInside n form → form_weight w form ≡ form_weight v form
   form_inside forms.Boolean h = refl
@@ -122,10 +96,7 @@ module _ (n : ℕ) (w v : ℕ → ℕ) (same : (id : ℕ) → id < n → w id �
   form_inside (forms.Container rows) h = ap (λ k. 65535 * (4 + k) + 1) (rows_inside rows.now h)
   form_inside (forms.Pdu rows) h = ap (λ k. k + 3) (procedures_inside rows.now h)
 
--- ---- the types of a module weigh what their trees do, and any other number as much as one likes
-unfoldable pub weighed : Syntax → ℕ → ℕ → ℕ
-weighed m other id = cond (nat_lt id (length m.nodes)) (heavy (tree m id)) other
-
+-- ---- the types of a module
 pub weighed_inside : (m : Syntax) (other id : ℕ) → id < length m.nodes → weighed m other id ≡ heavy (tree m id)
 unfolding weighed
 weighed_inside m other id h = ap (λ (b : Bool). cond b (heavy (tree m id)) other) (is_below id (length m.nodes) h)
@@ -143,7 +114,7 @@ unfolding weighed
 is_inside m id most h = by_test (nat_lt id (length m.nodes)) refl
   where
     by_test : (b : Bool) → nat_lt id (length m.nodes) ≡ b → id < length m.nodes
-    by_test true e = omega (arith, e)
+    by_test true e = below id (length m.nodes) e
     by_test false e =
         let weighs : weighed m (most + 1) id ≡ most + 1 = ap (λ (x : Bool). cond x (heavy (tree m id)) (most + 1)) e in
         absurd (omega (arith, h (most + 1), weighs))

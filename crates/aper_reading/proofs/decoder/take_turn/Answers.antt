@@ -1,0 +1,22 @@
+use Rattle.std.proofs.Common.{length, ap, subst, arith}
+use Rattle.aper_defs.specs.Bounds.{IsBounded}
+use Rattle.aper_types.specs.Types.{tree}
+use Rattle.aper_frames.specs.Weights.{turn_weight}
+use Rattle.aper_reading.specs.Heavy.{weighed}
+use Rattle.aper_reading.specs.Decoding.{IsTurnInside}
+use Rattle.aper_reading.proofs.FormBounds.{form_bounded}
+use Rattle.aper_reading.proofs.Turns.{begun_lighter}
+use Rattle.aper_reading.proofs.decoder.take_turn.Goals as goal
+
+pub begin-requires : goal.begin-requires
+begin-requires c =
+    form_bounded (tree c.args.m.now) c.form_of.result (subst IsBounded c.form_of.ensures.tree c.form_of.ensures.bounded)
+
+pub returns-in_ok-begin-in-Read-clause-lighter : goal.returns-in_ok-begin-in-Read-clause-lighter
+returns-in_ok-begin-in-Read-clause-lighter c = λ other. omega (
+  arith,
+  ap (turn_weight (weighed c.args.m.now other)) c.in-Read.is,
+  begun_lighter c.args.m.now c.in-Read.id c.form_of.result c.form_of.ensures.tree c.in_ok-begin-in-Read.field-0 c.args.frames.now c.begin.new.frames
+      (subst (IsTurnInside (length c.args.m.now.nodes)) c.in-Read.is c.requires) c.form_of.ensures.inside
+      (c.in_ok-begin-in-Read.ensures {u = tt}).lighter other,
+)
