@@ -9,7 +9,7 @@ use Rattle.aper_values.specs.Views.{view, options_view}
 use Rattle.aper_members.specs.Membership.{IsValue, AreComponents}
 use Rattle.aper_members.specs.Followed.{ValueFollows, ComponentsFollow}
 use Rattle.aper_members.proofs.Turns.{item_at, component_absent, component_present, component_value, components_left}
-use Rattle.aper_encoding.proofs.Members.{further}
+use Rattle.aper_members.proofs.Members.{further}
 
 module _ (of : ℕ → Tree) where
   pub component_at : (parts : List Component) (i : ℕ) (c : Component) (v : Value) (vs : List (Option Value)) → i < length parts

@@ -1,4 +1,4 @@
--- Parts by their places, and how many members there are.
+-- Components, additions and alternatives by their places.
 use Rattle.std.proofs.Common.{◌≡◌, ℕ, zero, suc, ◌+◌, ◌≤◌, List, [], ◌∷◌, ◌++◌, length, drop, Option, Some, None, refl, sym, ap, subst, arith}
 use Rattle.std.proofs.lemmas.List.{drop_all}
 use Rattle.bits_core.specs.Writing.{Written}
@@ -15,29 +15,14 @@ use Rattle.aper_types.specs.Types.{parts_of}
 use Rattle.aper_values.specs.declared.value.Value.{Value}
 use Rattle.aper_values.specs.declared.value.Element.{Element}
 use Rattle.aper_values.specs.Views.{view, values_view, options_view, ies_view}
+use Rattle.aper_members.specs.Rows.{part_type}
 use Rattle.aper_members.specs.Membership.{IsInside, AreComponents, AreNamed}
 use Rattle.aper_members.specs.Followed.{InsideFollows, AdditionsFollow}
+use Rattle.aper_members.proofs.Members.{further}
 use Rattle.aper_members.proofs.Turns.{addition_named, addition_raw, addition_value, addition_unknown, additions_left, unknown_left}
-use Rattle.aper_encoding.specs.Parts.{part_type}
-
-pub values_count : (vs : List Value) → value_count (values_view vs) ≡ length vs
-values_count [] = refl
-values_count (v ∷ vs) = ap suc (values_count vs)
-
-pub elements_count : (es : List (Element Value)) → ie_count (ies_view es) ≡ length es
-elements_count [] = refl
-elements_count (e ∷ es) = ap suc (elements_count es)
-
-pub part_below : (n i : ℕ) (parts : List Component) → AreBelow n parts → OptionBelow n (part_type i parts)
-part_below n i [] h = tt
-part_below n zero (c ∷ parts) h = h.0
-part_below n (suc i) (c ∷ parts) h = part_below n i parts h.1
 
 abbrev no_components : List Component
 no_components = []
-
-pub further : {A : Type 0} (i : ℕ) (x : A) (xs : List A) → drop (suc i + 1) (x ∷ xs) ≡ drop (i + 1) xs
-further i x xs = let e : suc i + 1 ≡ suc (i + 1) = omega arith in ap (λ n. drop n (x ∷ xs)) e
 
 module _ (of : ℕ → Tree) where
   fit : (p : Path) (parts : List Component) (vs : List (Option Value)) → HasComponents p (parts_of of parts) (options_view vs)

@@ -24,8 +24,9 @@ use Rattle.aper_members.specs.Followed.{ValueFollows, InsideFollows, MembersFoll
 use Rattle.aper_members.proofs.ChoiceLemmas.{parts_count}
 use Rattle.aper_members.proofs.Shapes.{where_false}
 use Rattle.aper_members.proofs.Turns.{both_follow}
-use Rattle.aper_encoding.specs.Parts.{part_type}
-use Rattle.aper_encoding.proofs.Members.{values_count, elements_count, added_inside, added_follows}
+use Rattle.aper_members.specs.Rows.{part_type}
+use Rattle.aper_members.proofs.Members.{values_count, elements_count}
+use Rattle.aper_encoding.proofs.Members.{added_inside, added_follows}
 
 -- ---- a type as its form
 pub follows_of : (old new : Written) (t u : Tree) (v : SeenValue) → t ≡ u → ValueFollows old new u v → ValueFollows old new t v

@@ -9,7 +9,6 @@ ghost use Rattle.aper_types.specs.Types.{tree, parts_of, rows_of, procedures_of,
 ghost use Rattle.aper_values.specs.Views.{view, options_view};
 ghost use Rattle.aper_members.specs.Membership.{IsValue, IsInside, AreComponents, AreNamed};
 ghost use Rattle.aper_members.specs.Followed.{ValueFollows, InsideFollows, ComponentsFollow, AdditionsFollow};
-ghost use Rattle.aper_encoding.specs.Parts.{part_type};
 
 use aper_fields::contents::{completed, put_contents};
 use aper_fields::fields::{put_constrained, put_ie_count, put_ie_id, put_pad};
@@ -17,7 +16,7 @@ use aper_fields::numbers::{put_extension, put_index};
 use aper_fields::strings::put_count;
 use aper_members::heads::{put_flags, put_head, put_marks};
 use aper_members::raw::{put_past, put_raw};
-use aper_members::rows::{message_type, named, row_type};
+use aper_members::rows::{message_type, named, part_type, row_type};
 use aper_types::{Form, form_of};
 use aper_values::value::Value;
 use aper_writing::simple::{
@@ -30,16 +29,6 @@ use asn1_types::{Component, Extensible, Size, TypeId};
 use bits_core::writer::BitWriter;
 use gnb_types::items::Memory;
 use std::alloc::Global;
-
-/// The type of the part at a place, counted from 0.
-fn part_type(parts: &[Component], place: usize) -> Option<TypeId>
-    ensures { result ≡ part_type place parts.now }
-{
-    match parts.get(place) {
-        Some(part) => Some(part.definition),
-        None => None,
-    }
-}
 
 /// A value of a type.
 #[cycle(put)]

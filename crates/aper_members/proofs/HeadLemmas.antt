@@ -1,12 +1,12 @@
 -- Flags and marks that were put.
-use Rattle.std.proofs.Common.{◌≡◌, ℕ, zero, suc, ◌+◌, ◌-◌, ◌*◌, ◌^◌, ◌<◌, ◌≤◌, ◌==◌, cond, Bool, true, false, List, [], ◌∷◌, ◌++◌, length, drop, get_or, Option, Some, None, is_some, refl, sym, ap, ◌∙◌, arith}
+use Rattle.std.proofs.Common.{◌≡◌, ℕ, suc, ◌+◌, ◌-◌, ◌*◌, ◌^◌, ◌<◌, ◌==◌, cond, Bool, true, false, List, [], ◌∷◌, ◌++◌, length, Option, Some, None, is_some, refl, sym, ap, ◌∙◌, arith}
 use Rattle.std.specs.Int.{from_bool}
 use Rattle.std.proofs.Math.Nat.{pow-suc}
-use Rattle.bits_core.specs.Bits.{bit_value, number_of}
+use Rattle.bits_core.specs.Bits.{number_of}
 use Rattle.bits_core.specs.Writing.{Written}
 use Rattle.asn1_types.specs.declared.definition.Component.{Component}
 use Rattle.aper_defs.specs.Trees.{Tree}
-use Rattle.aper_defs.specs.Values.{presence, has_options}
+use Rattle.aper_defs.specs.Values.{presence}
 use Rattle.aper_defs.specs.Fields.{Path, Field, Role, asked, flag, small, addition_bits}
 use Rattle.aper_defs.specs.Fields as fields
 use Rattle.aper_defs.specs.Parts.{extension_fields}

@@ -1,5 +1,6 @@
 pub mod Shapes
 pub mod Turns
+pub mod Members
 pub mod HeadLemmas
 pub mod RowLemmas
 pub mod MessageLemmas

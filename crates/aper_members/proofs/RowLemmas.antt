@@ -1,26 +1,25 @@
 -- Bodies of information elements and messages, and alternatives, by what their rows give.
-use Rattle.std.proofs.Common.{◌≡◌, ℕ, zero, suc, ◌+◌, ◌-◌, ◌<◌, ◌≤◌, ◌==◌, cond, Bool, true, false, List, [], ◌∷◌, ◌++◌, length, get_or, Option, Some, None, refl, sym, ap, subst, ◌∙◌, arith, append_assoc}
+use Rattle.std.proofs.Common.{◌≡◌, ℕ, ◌<◌, ◌==◌, cond, List, [], ◌∷◌, ◌++◌, Option, Some, None, refl, sym, ap, subst, ◌∙◌, append_assoc}
 use Rattle.bits_core.specs.Writing.{Written}
 use Rattle.asn1_types.specs.declared.definition.TypeId.{TypeId}
-use Rattle.asn1_types.specs.declared.definition.Component.{Component}
 use Rattle.asn1_assignments.specs.declared.assignment.IeRow.{IeRow}
 use Rattle.asn1_module.specs.Links.{OptionBelow, IesBelow}
-use Rattle.aper_defs.specs.Trees.{Tree, Slot, slots_left, part_count}
+use Rattle.aper_defs.specs.Trees.{Tree, Slot, slots_left}
 use Rattle.aper_defs.specs.Values.{Value as SeenValue, ie_count}
 use Rattle.aper_defs.specs.Fields.{Path, Field, asked, pad, ie_id, constrained}
 use Rattle.aper_defs.specs.Fields as fields
 use Rattle.aper_defs.specs.Bits.{put_all, open_fields}
-use Rattle.aper_defs.specs.Layouts.{layout, raw_fields, ie_fields, row_fields, alternative_fields, added_fields}
-use Rattle.aper_defs.specs.Membership.{Has, HasRow, HasAlternative, HasAdded, FitsOpen, IsRaw, Either}
+use Rattle.aper_defs.specs.Layouts.{layout, raw_fields, ie_fields, row_fields}
+use Rattle.aper_defs.specs.Membership.{Has, HasRow, FitsOpen, IsRaw, Either}
 use Rattle.aper_proof_answers.proofs.NumberFacts.{by_cases}
 use Rattle.aper_fields.specs.Following.{Follows}
-use Rattle.aper_types.specs.Types.{parts_of, rows_of}
+use Rattle.aper_types.specs.Types.{rows_of}
 use Rattle.aper_values.specs.declared.value.Element.{Element}
 use Rattle.aper_values.specs.declared.value.Value.{Value}
 use Rattle.aper_values.specs.Views.{view, ies_view}
-use Rattle.aper_members.specs.Membership.{IsValue, FitsInside, IsInside, IsBody}
+use Rattle.aper_members.specs.Membership.{FitsInside, IsInside, IsBody}
 use Rattle.aper_members.specs.Rows.{row_type}
-use Rattle.aper_members.specs.Followed.{ValueFollows, OpenFollows, RawFollows, InsideFollows, ElementsFollow}
+use Rattle.aper_members.specs.Followed.{OpenFollows, RawFollows, InsideFollows, ElementsFollow}
 
 module _ (of : ℕ → Tree) where
   -- ---- information elements

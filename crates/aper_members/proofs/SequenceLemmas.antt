@@ -1,12 +1,10 @@
 -- A SEQUENCE that was put.
-use Rattle.std.proofs.Common.{◌≡◌, ℕ, suc, ◌==◌, not, arith, Bool, true, false, List, [], ◌∷◌, ◌++◌, length, Option, Some, None, refl, sym, ap, ◌∙◌}
+use Rattle.std.proofs.Common.{◌≡◌, ℕ, suc, ◌==◌, not, arith, Bool, false, List, [], ◌∷◌, ◌++◌, length, Option, Some, None, refl, ap}
 use Rattle.std.proofs.lemmas.Bool.Decides.{nat_tests}
 use Rattle.bits_core.specs.Writing.{Written}
 use Rattle.asn1_types.specs.declared.definition.Component.{Component}
 use Rattle.aper_defs.specs.Trees.{Tree, sequence}
 use Rattle.aper_defs.specs.Values.{components, has_options}
-use Rattle.aper_defs.specs.Fields.{Path, Field}
-use Rattle.aper_defs.specs.Bits.{put_all}
 use Rattle.aper_defs.specs.Parts.{extension_fields}
 use Rattle.aper_defs.specs.Layouts.{layout, flag_fields, mark_fields, component_fields, addition_fields}
 use Rattle.aper_fields.specs.Following.{Follows}

@@ -1,8 +1,7 @@
 -- What a value of a type is, by the form of the type.
-use Rattle.std.proofs.Common.{◌≡◌, ℕ, zero, suc, ◌+◌, ◌-◌, ◌<◌, ◌≤◌, Bool, true, false, List, [], ◌∷◌, length, get_or, Option, Some, None, refl, sym, ap, subst, ◌∙◌, arith}
+use Rattle.std.proofs.Common.{◌≡◌, ℕ, suc, ◌<◌, ◌≤◌, Bool, true, false, List, ◌∷◌, length, Option, Some, None, refl, subst, arith}
 use Rattle.std.specs.Prelude.{ℤ, nat_lt, nat_le, ◌&&◌, ◌||◌}
 use Rattle.asn1_types.specs.declared.definition.Size.{Size}
-use Rattle.asn1_types.specs.declared.definition.Component.{Component}
 use Rattle.aper_defs.specs.Trees.{Tree, Parts, Rows, Procedures, Slot, part_count, slots_left}
 use Rattle.aper_defs.specs.Trees.{integer, enumerated, sequence, choice, sequence_of, container, pdu}
 use Rattle.aper_defs.specs.Values.{Value, Values, Options, Ies, value_count, ie_count, presence}
@@ -12,8 +11,8 @@ use Rattle.aper_defs.specs.Fields as fields
 use Rattle.aper_defs.specs.Parts.{in_size}
 use Rattle.aper_defs.specs.Membership.{Has, Either, EachFrom, AreElements, AreAdditions, HasRow, IsRaw, is_number_of, is_index_of, is_count_of}
 use Rattle.aper_defs.specs.Bounds.{IsSizeBounded}
-use Rattle.aper_proof_answers.proofs.NumberFacts.{by_cases, at_most, is_below, is_not_below, second_of_both}
-use Rattle.aper_members.specs.Membership.{IsValue, AreComponents, AreNamed, AreMembers, AreBodies, IsBody, IsMessage}
+use Rattle.aper_proof_answers.proofs.NumberFacts.{at_most, is_below, is_not_below, second_of_both}
+use Rattle.aper_members.specs.Membership.{IsValue, AreComponents, AreNamed, AreMembers, AreBodies, IsMessage}
 
 pub as_of : (t u : Tree) (v w : Value) → t ≡ u → v ≡ w → IsValue t v → IsValue u w
 as_of t u v w e f h = subst (λ x. IsValue x w) e (subst (λ x. IsValue t x) f h)

@@ -1,11 +1,11 @@
 -- A complete encoding that was put.
-use Rattle.std.proofs.Common.{◌≡◌, ℕ, ◌*◌, ◌/◌, ◌≤◌, false, List, [], ◌++◌, length, refl, sym, ap, ◌∙◌, arith, append-nil}
+use Rattle.std.proofs.Common.{◌≡◌, ℕ, ◌*◌, ◌≤◌, List, [], ◌++◌, length, sym, ap, ◌∙◌, arith, append-nil}
 use Rattle.bits_core.specs.Bits.{octet_bits}
 use Rattle.bits_core.specs.Writing.{Written}
 use Rattle.bits_core.proofs.BitLemmas.{length-octet_bits}
 use Rattle.aper_defs.specs.Trees.{Tree}
 use Rattle.aper_defs.specs.Values.{Value as SeenValue}
-use Rattle.aper_defs.specs.Fields.{Path, Field}
+use Rattle.aper_defs.specs.Fields.{Path}
 use Rattle.aper_defs.specs.Bits.{put_all, closed, octet_count}
 use Rattle.aper_defs.specs.Layouts.{layout}
 use Rattle.aper_defs.specs.Membership.{Has}

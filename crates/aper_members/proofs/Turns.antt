@@ -1,24 +1,22 @@
 -- One more part of a value that was put.
-use Rattle.std.proofs.Common.{◌≡◌, ℕ, zero, suc, ◌+◌, ◌<◌, ◌≤◌, List, [], ◌∷◌, ◌++◌, length, drop, get_or, Option, Some, None, refl, sym, ap, subst, ◌∙◌, arith, append_assoc}
+use Rattle.std.proofs.Common.{◌≡◌, ℕ, zero, suc, ◌+◌, ◌<◌, List, [], ◌∷◌, ◌++◌, length, drop, get_or, Option, Some, None, refl, sym, ap, subst, ◌∙◌, arith, append_assoc}
 use Rattle.std.proofs.lemmas.List.{drop_more, drop_all}
 use Rattle.bits_core.specs.Writing.{Written}
 use Rattle.asn1_types.specs.declared.definition.Component.{Component}
-use Rattle.asn1_assignments.specs.declared.assignment.IeRow.{IeRow}
 use Rattle.asn1_module.specs.Links.{AreBelow}
-use Rattle.aper_defs.specs.Trees.{Tree, Slot, slots_left}
-use Rattle.aper_defs.specs.Values.{Value as SeenValue, each_from}
+use Rattle.aper_defs.specs.Trees.{Tree}
+use Rattle.aper_defs.specs.Values.{each_from}
 use Rattle.aper_defs.specs.Fields.{Path, Field, asked, pad, ie_id, constrained}
 use Rattle.aper_defs.specs.Fields as fields
 use Rattle.aper_defs.specs.Bits.{put_all, open_fields}
-use Rattle.aper_defs.specs.Layouts.{layout, raw_fields, raw_additions, component_fields, addition_fields, ie_fields, row_fields}
-use Rattle.aper_defs.specs.Membership.{Has, HasComponents, HasAdditions, IsRaw}
+use Rattle.aper_defs.specs.Layouts.{layout, raw_fields, raw_additions, component_fields, addition_fields}
+use Rattle.aper_defs.specs.Membership.{HasComponents, HasAdditions, IsRaw}
 use Rattle.aper_fields.specs.Following.{Follows}
-use Rattle.aper_types.specs.Types.{parts_of, rows_of}
+use Rattle.aper_types.specs.Types.{parts_of}
 use Rattle.aper_values.specs.declared.value.Value.{Value}
-use Rattle.aper_values.specs.declared.value.Element.{Element}
-use Rattle.aper_values.specs.Views.{view, values_view, options_view, ies_view}
+use Rattle.aper_values.specs.Views.{view, values_view, options_view}
 use Rattle.aper_members.specs.Membership.{IsValue, FitsInside, AreComponents, AreNamed}
-use Rattle.aper_members.specs.Followed.{ValueFollows, OpenFollows, RawFollows, ComponentsFollow, AdditionsFollow, MembersFollow, ElementsFollow}
+use Rattle.aper_members.specs.Followed.{ValueFollows, OpenFollows, RawFollows, ComponentsFollow, AdditionsFollow, MembersFollow}
 
 pub both_follow : (old mid new : Written) (F G : Path → List Field) → Follows old mid F → Follows mid new G
     → Follows old new (λ p. F p ++ G p)

@@ -15,7 +15,7 @@ use Rattle.aper_fields.specs.Following.{Follows}
 use Rattle.aper_types.specs.Types.{parts_of, rows_of}
 use Rattle.aper_values.specs.declared.value.Value.{Value}
 use Rattle.aper_values.specs.declared.value.Element.{Element}
-use Rattle.aper_values.specs.Views.{view, values_view, options_view, ies_view}
+use Rattle.aper_values.specs.Views.{values_view, options_view, ies_view}
 
 abbrev pub ValueFollows : Written → Written → Tree → SeenValue → Type 0
 ValueFollows old new t v = Follows old new (λ p. layout p t v)

@@ -1,8 +1,13 @@
--- The types that rows of sets give.
-use Rattle.std.specs.Prelude.{ℕ, ◌==◌, List, [], ◌∷◌, Option, Some, None, if◌then◌else◌}
+-- The types that parts and rows of sets give, by their places and ids.
+use Rattle.std.specs.Prelude.{ℕ, ◌==◌, List, [], ◌∷◌, Option, Some, None, option_map, slice_get, if◌then◌else◌}
 use Rattle.asn1_types.specs.declared.definition.TypeId.{TypeId}
+use Rattle.asn1_types.specs.declared.definition.Component.{Component}
 use Rattle.asn1_assignments.specs.declared.assignment.IeRow.{IeRow}
 use Rattle.asn1_assignments.specs.declared.assignment.ProcedureRow.{ProcedureRow}
+
+-- that of the part at a place, counted from 0
+abbrev pub part_type : ℕ → List Component → Option TypeId
+part_type i parts = option_map (λ part. part.definition) (slice_get parts i)
 
 -- that of the information element with an id
 unfoldable pub row_type : ℕ → List IeRow → Option TypeId

@@ -1,8 +1,8 @@
-//! The types that a type's rows and additions give.
+//! The types that a type's parts and rows give.
 
 ghost use Rattle.std.specs.Prelude.{◌≡◌};
 ghost use Rattle.asn1_types.specs.Members.{additions_of};
-ghost use Rattle.aper_members.specs.Rows.{row_type, outcome_type, message_type};
+ghost use Rattle.aper_members.specs.Rows.{part_type, row_type, outcome_type, message_type};
 
 use asn1_assignments::{IeRow, ProcedureRow};
 use asn1_types::{Component, Items, TypeId};
@@ -14,6 +14,16 @@ pub fn named(additions: &Option<Items<Component>>) -> &[Component]
     match additions {
         Some(components) => components.as_slice(),
         None => &[],
+    }
+}
+
+/// The type of the part at a place, counted from 0.
+pub fn part_type(parts: &[Component], place: usize) -> Option<TypeId>
+    ensures { result ≡ part_type place parts.now }
+{
+    match parts.get(place) {
+        Some(part) => Some(part.definition),
+        None => None,
     }
 }
 

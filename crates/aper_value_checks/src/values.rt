@@ -9,7 +9,6 @@ ghost use Rattle.aper_types.specs.Forms.{form_tree, IsFormInside};
 ghost use Rattle.aper_types.specs.Types.{tree, rows_of, procedures_of, sequence_tree, choice_tree};
 ghost use Rattle.aper_values.specs.Views.{view};
 ghost use Rattle.aper_measuring.specs.Measured.{ValueMeasured, InsideMeasured, ComponentsMeasured, AdditionsMeasured};
-ghost use Rattle.aper_value_checks.specs.Parts.{part_type};
 
 use aper_measuring::bounds::{is_index_of, is_member_count_of};
 use aper_measuring::contents::{opened_end, raw_end};
@@ -19,7 +18,7 @@ use aper_measuring::simple::{
     bit_string_end, boolean_end, enumerated_end, integer_end, octet_string_end,
     printable_string_end,
 };
-use aper_members::rows::{message_type, named, row_type};
+use aper_members::rows::{message_type, named, part_type, row_type};
 use aper_types::{Form, form_of};
 use aper_values::value::Value;
 use aper_widths::numbers::{after_extension, after_index};
@@ -28,16 +27,6 @@ use aper_widths::strings::after_count;
 use asn1_assignments::{IeRow, ProcedureRow};
 use asn1_module::Module;
 use asn1_types::{Component, Extensible, Size, TypeId};
-
-/// The type of the part at a place, counted from 0.
-fn part_type(parts: &[Component], place: usize) -> Option<TypeId>
-    ensures { result ≡ part_type place parts.now }
-{
-    match parts.get(place) {
-        Some(part) => Some(part.definition),
-        None => None,
-    }
-}
 
 /// The place after a value's fields, where they are put from a place on; none where it isn't one of the type.
 #[cycle(measure)]

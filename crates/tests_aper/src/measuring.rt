@@ -23,7 +23,7 @@ const SIZE: Option<Size> = Some(Size {
 
 const MODULE: &[u8] = b"M DEFINITIONS AUTOMATIC TAGS ::= BEGIN
 Pair ::= SEQUENCE {a INTEGER (0..255), b BOOLEAN OPTIONAL, ..., c INTEGER (0..255)}
-Pairs ::= SEQUENCE (SIZE (0..255)) OF Pair
+Pairs ::= SEQUENCE (SIZE (1..256)) OF Pair
 Either ::= CHOICE {a Pair, b BOOLEAN, ...}
 END";
 

@@ -33,9 +33,10 @@ use Rattle.aper_members.proofs.RowLemmas.{BodyFollows, element_inside, body_foll
 use Rattle.aper_members.proofs.SequenceLemmas.{sequence_follows, has_any}
 use Rattle.aper_members.proofs.Shapes.{as_of, list_members, list_count, element_bodies, element_count, message_known, message_past, sequence_root, sequence_named, sequence_few, choice_index}
 use Rattle.aper_members.proofs.Turns.{item_at, component_there, components_none, addition_absent, additions_none, below_at}
-use Rattle.aper_encoding.specs.Parts.{part_type}
+use Rattle.aper_members.specs.Rows.{part_type}
+use Rattle.aper_members.proofs.Members.{values_count, elements_count, part_below}
 use Rattle.aper_encoding.proofs.Components.{component_at, components_next, components_absent, component_turn}
-use Rattle.aper_encoding.proofs.Members.{values_count, elements_count, part_below, components_fit, addition_inside, additions_next, addition_turn}
+use Rattle.aper_encoding.proofs.Members.{components_fit, addition_inside, additions_next, addition_turn}
 use Rattle.aper_encoding.proofs.Open.{Completes, contents_fit, contents_follow}
 use Rattle.aper_encoding.proofs.Puts.{follows_of, follows_as, list_follows, elements_none, container_follows, chosen_inside, added_follow, message_known_follows, message_past_follows}
 use Rattle.aper_encoding.proofs.values.+put.Goals as goal

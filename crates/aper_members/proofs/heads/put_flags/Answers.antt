@@ -1,4 +1,4 @@
-use Rattle.std.proofs.Common.{◌≡◌, ◌+◌, ◌∷◌, Bool, List, Option, drop, is_some, sym, subst, arith}
+use Rattle.std.proofs.Common.{◌≡◌, ◌+◌, ◌∷◌, Bool, List, Option, drop, sym, subst, arith}
 use Rattle.std.proofs.lemmas.List.{drop_all}
 use Rattle.asn1_types.specs.declared.definition.Component.{Component}
 use Rattle.aper_defs.specs.Parts.{extension_fields}

@@ -1,4 +1,4 @@
-use Rattle.std.proofs.Common.{◌≡◌, ℕ, ◌∷◌, [], length, sym, subst, ◌∙◌}
+use Rattle.std.proofs.Common.{ℕ, ◌∷◌, [], length, sym, subst, ◌∙◌}
 use Rattle.aper_defs.specs.Fields.{asked, addition_bits}
 use Rattle.aper_fields.specs.Following.{Follows}
 use Rattle.aper_members.proofs.HeadLemmas.{marks_follow}

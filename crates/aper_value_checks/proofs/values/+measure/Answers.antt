@@ -30,13 +30,13 @@ use Rattle.aper_measuring.specs.Heads.{optional_count}
 use Rattle.aper_measuring.specs.Order.{LeavesRows}
 use Rattle.aper_measuring.specs.Measured.{ValueMeasured, InsideMeasured, ComponentsMeasured, AdditionsMeasured, MembersMeasured, ElementsMeasured}
 use Rattle.aper_measuring.proofs.OrderLemmas.{known_row}
-use Rattle.aper_measuring.proofs.Turns.{open_measured, sequence_measured, member_next, member_wrong, members_none}
-use Rattle.aper_measuring.proofs.Bodies.{index_wrong, root_chosen}
-use Rattle.aper_measuring.proofs.Elements.{elements_none, elements_missing, criticality_wrong, order_wrong, body_wrong, element_measured, count_wrong}
-use Rattle.aper_value_checks.specs.Parts.{part_type}
-use Rattle.aper_value_checks.proofs.Members.{elements_count, part_below}
-use Rattle.aper_value_checks.proofs.Parts.{counts_differ, components_absent, components_missing, component_turn, component_refused, components_end, additions_absent, addition_turn, addition_refused, additions_end, addition_chosen}
-use Rattle.aper_value_checks.proofs.Wholes.{measured_as, list_told, list_refused, container_told, message_told, past_told}
+use Rattle.aper_proof_measures.proofs.Turns.{open_measured, sequence_measured, member_next, member_wrong, members_none}
+use Rattle.aper_proof_measures.proofs.Bodies.{index_wrong, root_chosen}
+use Rattle.aper_proof_measures.proofs.Elements.{elements_none, elements_missing, criticality_wrong, order_wrong, body_wrong, element_measured, count_wrong}
+use Rattle.aper_members.specs.Rows.{part_type}
+use Rattle.aper_members.proofs.Members.{elements_count, part_below}
+use Rattle.aper_proof_measures.proofs.Parts.{counts_differ, components_absent, components_missing, component_turn, component_refused, components_end, additions_absent, addition_turn, addition_refused, additions_end, addition_chosen}
+use Rattle.aper_proof_measures.proofs.Wholes.{measured_as, list_told, list_refused, container_told, message_told, past_told}
 use Rattle.aper_value_checks.proofs.values.+measure.Goals as goal
 
 pub additions_end-loop-i-preserved-in_default : goal.additions_end-loop-i-preserved-in_default

@@ -21,7 +21,7 @@ use Rattle.aper_members.specs.Rows.{row_type, outcome_type, message_type}
 use Rattle.aper_members.proofs.ChoiceLemmas.{parts_count}
 use Rattle.aper_measuring.specs.Measured.{Measured, ValueMeasured, RawMeasured, InsideMeasured}
 use Rattle.aper_measuring.proofs.HeadLemmas.{head_end, past_end}
-use Rattle.aper_measuring.proofs.Turns.{both_measured, value_at, open_at, raw_at}
+use Rattle.aper_proof_measures.proofs.Turns.{both_measured, value_at, open_at, raw_at}
 
 module _ (of : ℕ → Tree) where
   -- ---- the body of an information element

@@ -6,7 +6,7 @@ use Rattle.aper_defs.specs.Values.{value_count, ie_count}
 use Rattle.aper_values.specs.declared.value.Value.{Value}
 use Rattle.aper_values.specs.declared.value.Element.{Element}
 use Rattle.aper_values.specs.Views.{values_view, ies_view}
-use Rattle.aper_value_checks.specs.Parts.{part_type}
+use Rattle.aper_members.specs.Rows.{part_type}
 
 pub values_count : (vs : List Value) → value_count (values_view vs) ≡ length vs
 values_count [] = refl

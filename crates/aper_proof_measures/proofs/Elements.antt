@@ -19,7 +19,7 @@ use Rattle.aper_members.specs.Rows.{row_type}
 use Rattle.aper_measuring.specs.Measured.{Measured, ValueMeasured, InsideMeasured, ElementsMeasured}
 use Rattle.aper_measuring.specs.Order.{LeavesRows}
 use Rattle.aper_measuring.proofs.HeadLemmas.{element_head}
-use Rattle.aper_measuring.proofs.Bodies.{row_measured}
+use Rattle.aper_proof_measures.proofs.Bodies.{row_measured}
 
 module _ (of : ℕ → Tree) (rows : List IeRow) where
   abbrev known : List Slot

@@ -15,10 +15,10 @@ use Rattle.aper_values.specs.Views.{view}
 use Rattle.aper_widths.specs.Ends.{Ends}
 use Rattle.aper_members.proofs.Turns.{item_at}
 use Rattle.aper_measuring.specs.Measured.{Measured, ValueMeasured, InsideMeasured, ComponentsMeasured, AdditionsMeasured}
-use Rattle.aper_measuring.proofs.Turns.{open_at, raw_at, component_absent, component_missing, component_present, component_wrong, components_none, components_count, addition_present, addition_wrong, unknown_present, unknown_wrong, addition_absent, unknown_absent, additions_none}
-use Rattle.aper_measuring.proofs.Bodies.{added_chosen}
-use Rattle.aper_value_checks.specs.Parts.{part_type}
-use Rattle.aper_value_checks.proofs.Members.{further}
+use Rattle.aper_proof_measures.proofs.Turns.{open_at, raw_at, component_absent, component_missing, component_present, component_wrong, components_none, components_count, addition_present, addition_wrong, unknown_present, unknown_wrong, addition_absent, unknown_absent, additions_none}
+use Rattle.aper_proof_measures.proofs.Bodies.{added_chosen}
+use Rattle.aper_members.specs.Rows.{part_type}
+use Rattle.aper_members.proofs.Members.{further}
 
 module _ (of : ℕ → Tree) (parts : List Component) where
   -- ---- components

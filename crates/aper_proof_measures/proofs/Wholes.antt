@@ -21,10 +21,10 @@ use Rattle.aper_widths.specs.Ends.{passed, end_of, Ends}
 use Rattle.aper_widths.proofs.EndLemmas.{ends_at}
 use Rattle.aper_members.specs.Rows.{message_type}
 use Rattle.aper_measuring.specs.Measured.{ValueMeasured, RawMeasured, InsideMeasured, MembersMeasured, ElementsMeasured}
-use Rattle.aper_measuring.proofs.Turns.{list_measured, list_wrong}
-use Rattle.aper_measuring.proofs.Bodies.{body_measured, known_measured, past_measured}
-use Rattle.aper_measuring.proofs.Elements.{elements_measured}
-use Rattle.aper_value_checks.proofs.Members.{values_count, elements_count}
+use Rattle.aper_proof_measures.proofs.Turns.{list_measured, list_wrong}
+use Rattle.aper_proof_measures.proofs.Bodies.{body_measured, known_measured, past_measured}
+use Rattle.aper_proof_measures.proofs.Elements.{elements_measured}
+use Rattle.aper_members.proofs.Members.{values_count, elements_count}
 
 -- a type as its form
 pub measured_as : (t u : Tree) (v w : Value) (old : ℕ) (r : Option ℕ) → t ≡ u → v ≡ w → ValueMeasured u w old r → ValueMeasured t v old r
