@@ -1,7 +1,7 @@
 -- A module was checked, and what it came to is written.
-use Rattle.std.proofs.Common.{◌≡◌, ◌⊎◌, ◌+◌, ℕ, List, length, Option, Some, None, Result, Ok, Err, refl, sym, ap, ◌∙◌, subst, inl, inr, append-nil, arith}
+use Rattle.std.proofs.Common.{◌≡◌, ◌+◌, ℕ, List, length, Some, Result, Ok, Err, refl, sym, ap, ◌∙◌, subst, inl, inr, append-nil, arith}
 use Rattle.command_output.proofs.Faults.{no_read_fault, no_write_fault}
-use Rattle.gnb_base.specs.Outside.{SourceAt, SinkAt, Rose}
+use Rattle.gnb_base.specs.Outside.{SourceAt, SinkAt}
 use Rattle.input_defs.specs.declared.InputEnd.TheVariants as inputs
 use Rattle.input_defs.specs.Split.{InputSplit, rest_of, TakesInput}
 use Rattle.input_defs.specs.Near.{StopsNear}
@@ -9,7 +9,7 @@ use Rattle.input_lines.proofs.Near.{near_handed, near_empty, near_next}
 use Rattle.script_words.specs.declared.reason.TextReason.{TextReason}
 use Rattle.command_defs.specs.declared.CommonEnd.TheVariants.{WriteFault, Memory}
 use Rattle.command_defs.specs.Ends.{StopsAtLine}
-use Rattle.command_defs.specs.Outside.{OutsideAt, outside, NoneFailed, ReadsTo, AllRead, ReadStopped, WritesTo, AllWritten, WriteStopped}
+use Rattle.command_defs.specs.Outside.{OutsideAt, outside, NoneFailed, ReadsTo, AllRead, ReadStopped, AllWritten, WriteStopped}
 use Rattle.command_defs.specs.Output.{Prints, PrintsFront}
 use Rattle.command_output.specs.Writes.{WritesAll, WritesFront}
 use Rattle.command_output.proofs.Written.{none_failed}

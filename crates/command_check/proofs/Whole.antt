@@ -8,7 +8,7 @@ use Rattle.gnb_base.proofs.LinesOf.{lines_of-line, lines_of-last}
 use Rattle.gnb_base.specs.Reading.{input_limit}
 use Rattle.gnb_base.specs.Outside.{SourceAt}
 use Rattle.input_defs.specs.declared.InputEnd.TheVariants as inputs
-use Rattle.input_defs.specs.Split.{InputSplit, rest_of, joined, Divides, Whole, Bare}
+use Rattle.input_defs.specs.Split.{InputSplit, joined, Divides, Whole, Bare}
 use Rattle.input_defs.specs.Ends.{ComesNext, IsReadToEnd, IsTooLong}
 use Rattle.input_lines.proofs.Sources.{rest_known}
 use Rattle.input_lines.proofs.Standing.{both_nil}
@@ -21,8 +21,6 @@ use Rattle.asn1_module_laws.proofs.Faults.{reading_once, never_both}
 use Rattle.profile.specs.declared.version.Version.{Version}
 use Rattle.profile.specs.declared.version.Version.TheVariants.{One, Two}
 use Rattle.profile_defs.specs.Profile.{module_name}
-use Rattle.profile_module.specs.Profiles.{IsBuiltin}
-use Rattle.input_module.specs.declared.header.ModuleHeader.{ModuleHeader}
 use Rattle.input_module.specs.declared.header.ModuleHeader.TheVariants as headers
 use Rattle.input_module.specs.declared.module.GivenModule.{GivenModule}
 use Rattle.input_module.specs.declared.module.GivenModule.TheVariants as given
