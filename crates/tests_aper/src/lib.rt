@@ -6,4 +6,6 @@ mod asked;
 #[cfg(test)]
 mod cursors;
 #[cfg(test)]
+mod heads;
+#[cfg(test)]
 mod strings;
