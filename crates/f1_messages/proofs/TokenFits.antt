@@ -2,7 +2,7 @@
 use Rattle.std.proofs.Common.{◌≡◌, ℕ, zero, suc, ◌-◌, ◌==◌, ◌∷◌, [], Bool, true, false, cond, refl, ap, ◌∙◌, arith}
 use Rattle.std.specs.Prelude.{codes, nat_lt}
 use Rattle.std.proofs.lemmas.Bool.Decides.{nat_tests}
-use Rattle.aper_defs.specs.Values.{Value, Options, truth, number, enumeral, bits, octets, text, components, chosen, list, elements, message, raw, no_options, absent, present}
+use Rattle.aper_defs.specs.Values.{Value, Options, components, chosen, raw, no_options, absent, present}
 use Rattle.aper_defs.specs.Fields.{Path}
 use Rattle.aper_defs.specs.Fields as fields
 use Rattle.aper_defs.specs.Membership.{Has, HasComponents, HasAlternative, HasAdded, Either, IsRaw}

@@ -3,5 +3,6 @@
 
 mod codes;
 pub mod hearing;
+pub mod octets;
 pub mod tokens;
 pub mod writing;

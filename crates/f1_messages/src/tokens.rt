@@ -1,8 +1,10 @@
 //! The tokens of RRC (TS 38.331) as values of RrcToken, and back.
 #![tactic(auto)]
 
-ghost use Rattle.std.specs.Prelude.{◌≡◌, ℕ, ◌<◌, ◌^◌, [], IfOk};
+ghost use Rattle.std.specs.Prelude.{◌≡◌, ℕ, ◌<◌, ◌≤◌, ◌^◌, [], IfOk};
+ghost use Rattle.aper_defs.specs.Bits.{octet_count};
 ghost use Rattle.aper_defs.specs.Membership.{Has};
+ghost use Rattle.aper_defs.specs.Spelling.{Spells, spelling_limit, whole_layout};
 ghost use Rattle.aper_defs.specs.Values as seen;
 ghost use Rattle.aper_values.specs.Views.{view};
 ghost use Rattle.profile_defs.specs.Profile.{token_type};
@@ -11,15 +13,19 @@ ghost use Rattle.message_defs.specs.Tokens.{written_token, written_mark, heard_t
 ghost use Rattle.message_values.specs.Hearing.{Hears};
 ghost use Rattle.f1_messages.specs.TokenParts.{FitsToken};
 
+use aper_encoding::encode;
 use aper_values::make::chosen;
 use aper_values::value::Value;
 use gnb_types::items::Memory;
 use gnb_types::names::{Gnb, UeId};
+use gnb_types::octets::Octets;
 use message_types::Token;
 use message_values::error::MsgError;
 use message_values::fields::{
     from_gnb, from_number, from_ue, part_at, sequence, to_gnb, to_number, to_octet,
 };
+use profile_module::Profile;
+use profile_types::rrc_token;
 use std::alloc::Global;
 
 /// The alternatives of a token.
@@ -59,6 +65,18 @@ fn marked(alloc: Global, alternative: u32, ue: UeId, epoch: u32) -> Result<Value
 {
     let mark = sequence(alloc, [Some(from_ue(ue)), Some(from_number(epoch))])?;
     Ok(chosen(alloc, alternative, mark)?)
+}
+
+/// The one spelling of a token, of at most 131,072 octets. Out of memory is the one error.
+pub fn to_bytes(alloc: Global, profile: &Profile, token: Token) -> Result<Octets, Memory>
+    requires member { Has [] token_type (written_token token) }
+    requires short { octet_count (whole_layout token_type (written_token token)) ≤ spelling_limit }
+    ensures { IfOk result (λ octets. Spells token_type (written_token token) octets) }
+{
+    let value = written(alloc, token)?;
+    let id = rrc_token(profile);
+    let module = profile.module();
+    Ok(encode(alloc, module, id, &value)?)
 }
 
 /// The token that a value says.
