@@ -3,4 +3,5 @@
 
 mod codes;
 pub mod hearing;
+pub mod octets;
 pub mod writing;

@@ -1,5 +1,5 @@
 -- The elements of a value of the PDU fit the fields that code has for them.
-use Rattle.std.proofs.Common.{◌≡◌, ℕ, []}
+use Rattle.std.proofs.Common.{ℕ, []}
 use Rattle.std.specs.Prelude.{codes}
 use Rattle.aper_defs.specs.Values.{Value, message}
 use Rattle.aper_defs.specs.Membership.{Has}

@@ -1,7 +1,7 @@
-//! Messages of F1AP (TS 38.473) as values of the profile's PDU, and back; and the tokens of RRC likewise.
+//! Messages of F1AP (TS 38.473) as values of the profile's PDU, and back.
 #![tactic(auto)]
 
 mod codes;
 pub mod hearing;
-pub mod tokens;
+pub mod octets;
 pub mod writing;
