@@ -45,7 +45,7 @@ use Rattle.run_defs.specs.Runs.{plain_way}
 use Rattle.law_run_facts.specs.Facts.{PutsFit}
 use Rattle.law_run_facts.specs.UnitFacts.{as_facts, InputFits, AnswerFits}
 use Rattle.law_run_facts.proofs.Fits.{puts_both, fits_if, fits_then, any_then, ask_fits, advance_fits, replied_fits, fits_request, fits_reply, due_fits}
-use Rattle.law_link_items.proofs.Names.{BearerNames, BearersName, UpNames, link_items, Agrees, agrees}
+use Rattle.law_link_items.proofs.Names.{IsCuUp, BearerNames, BearersName, UpNames, link_items, Agrees, agrees}
 use Rattle.law_link_items.proofs.UpBearers.{framed_fits, switched_fits, frozen_fits, status_fits, resumed_fits, item_fits}
 
 abbrev Record : Type 0
@@ -106,7 +106,7 @@ unfolding made
 made_name target next [] = tt
 made_name target next (b ∷ bs) = ((tt, tt), made_name target (next + teids_of_bearer target) bs)
 
-module _ (node : NodeId) (taken : Option ℕ) where
+module _ (node : NodeId) (at_up : IsCuUp node) (taken : Option ℕ) where
   abbrev Fits : Answer (Message Token) Pdu Record → Type 0
   Fits a = AnswerFits link_items UpNames node taken a
 
@@ -149,7 +149,7 @@ module _ (node : NodeId) (taken : Option ℕ) where
   statuses_fit ue c [] es all = (all, tt)
   statuses_fit ue c (s ∷ ss) [] all = (tt, tt)
   statuses_fit ue c (s ∷ ss) (e ∷ es) all =
-      step_fits e.0 (with_status plain_way (up_at ue c e.0) s e.1) (status_each plain_way ue c ss es) (status_fits node taken (up_at ue c e.0) s e.1 all.0)
+      step_fits e.0 (with_status plain_way (up_at ue c e.0) s e.1) (status_each plain_way ue c ss es) (status_fits node at_up taken (up_at ue c e.0) s e.1 all.0)
       (statuses_fit ue c ss es all.1)
 
   steps_fit : (r : Record) (ch : Channel) (ue : UeId) (d : UpContext) (s : UpStep plain_way) (m : E1Message) → UpNames r → StepFits s
@@ -259,7 +259,7 @@ module _ (node : NodeId) (taken : Option ℕ) where
         (each_bearer plain_way (λ b. switched plain_way (up_at ue (as_switched plain_way c) b) (du_id r.gnb d) (teid_of list b)) c.bearers)
         (modified plain_way ue instance None None) p
         (each_fits (λ b. switched plain_way (up_at ue (as_switched plain_way c) b) (du_id r.gnb d) (teid_of list b))
-        (λ b x h. switched_fits node taken (up_at ue (as_switched plain_way c) b) (du_id r.gnb d) (teid_of list b) x tt) c.bearers all))
+        (λ b x h. switched_fits node at_up taken (up_at ue (as_switched plain_way c) b) (du_id r.gnb d) (teid_of list b) x tt) c.bearers all))
     switch_fits (Some d) None c all = (p, (tt, tt))
     switch_fits None list c all = (p, (tt, tt))
 
@@ -274,7 +274,7 @@ module _ (node : NodeId) (taken : Option ℕ) where
         (each_bearer plain_way (λ x. frozen_to plain_way (up_at ue (as_frozen plain_way c) x) (peer_node plain_way peer) (teid_of a x) (teid_of b x)) c.bearers)
         (modified plain_way ue instance None (Some (statuses plain_way c))) p
         (each_fits (λ x. frozen_to plain_way (up_at ue (as_frozen plain_way c) x) (peer_node plain_way peer) (teid_of a x) (teid_of b x))
-        (λ x y h. frozen_fits node taken (up_at ue (as_frozen plain_way c) x) (peer_node plain_way peer) (teid_of a x) (teid_of b x) y tt h) c.bearers all)))
+        (λ x y h. frozen_fits node at_up taken (up_at ue (as_frozen plain_way c) x) (peer_node plain_way peer) (teid_of a x) (teid_of b x) y tt h) c.bearers all)))
     freeze_fits (Some peer) (Some a) None c all = (p, (tt, tt))
     freeze_fits (Some peer) None b c all = (p, (tt, tt))
     freeze_fits None a b c all = (p, (tt, tt))
@@ -293,7 +293,7 @@ module _ (node : NodeId) (taken : Option ℕ) where
         either (c.flags.frozen && not c.flags.released) _ (drops Unexpected r)
         (steps_fit r ch ue (as_resumed plain_way c) (each_bearer plain_way (λ b. resumed plain_way (up_at ue (as_resumed plain_way c) b)) c.bearers)
         (modified plain_way ue instance None None) p
-        (each_fits (λ b. resumed plain_way (up_at ue (as_resumed plain_way c) b)) (λ b x h. resumed_fits node taken (up_at ue (as_resumed plain_way c) b) x h) c.bearers all))
+        (each_fits (λ b. resumed plain_way (up_at ue (as_resumed plain_way c) b)) (λ b x h. resumed_fits node at_up taken (up_at ue (as_resumed plain_way c) b) x h) c.bearers all))
         (p, (tt, tt))
 
     modify_fits : (downlinks : Option (List Tunnel)) (mode : ℕ) (peer : Option Peer) (down up : Option (List Tunnel)) (ss : Option (List SnStatus)) (du : Option ℕ)
@@ -355,7 +355,7 @@ module _ (node : NodeId) (taken : Option ℕ) where
     taken_fits t teid item c b same all is None =
         after (with_bearer plain_way r t.ue c t.bearer (took plain_way (up_at t.ue c t.bearer) t.kind teid item b)) (end_where_over plain_way t.ue)
         (bearer_fits r t.ue c t.bearer (took plain_way (up_at t.ue c t.bearer) t.kind teid item b) p all
-        (item_fits node taken (up_at t.ue c t.bearer) t.kind teid item b same is)) (over_fits t.ue)
+        (item_fits node at_up taken (up_at t.ue c t.bearer) t.kind teid item b same is)) (over_fits t.ue)
 
     take_fits : (teid : ℕ) (item : Taken Pdu) → Agrees taken item → Fits (take plain_way teid item r)
     unfolding take
@@ -385,7 +385,7 @@ module _ (node : NodeId) (taken : Option ℕ) where
             either (length b.sender.unconfirmed == 0) (puts (no Empty) r) _ (p, (tt, tt))
             (either (c.flags.frozen || not (has_downlink b.downlink)) (puts (no NoRadio) r) _ (p, (tt, tt))
             (bearer_fits r ue c bearer (framed plain_way (up_at ue c bearer) true false None Absent b) p all
-            (framed_fits node taken (up_at ue c bearer) true false None Absent b (refl, refl) refl (found_in BearerNames c.bearers bearer b all is))))
+            (framed_fits node at_up taken (up_at ue c bearer) true false None Absent b (refl, refl) refl (found_in BearerNames c.bearers bearer b all is))))
 
         by : (c : Option UpContext) → find ue_cmp r.contexts ue ≡ c → Fits (poll_on plain_way r ue bearer c)
         by None is = (p, (tt, tt))

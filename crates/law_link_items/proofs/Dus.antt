@@ -29,12 +29,13 @@ use Rattle.unit_defs.specs.Transactions.{Kind, request, reply, transfer, kind_of
 use Rattle.unit_defs.specs.Static.{uplinks_from, du_context, du_placed}
 use Rattle.unit_defs.specs.CuUp.{bearers_from}
 use Rattle.unit_defs.specs.Du.{DuBearer, DuContext, DuTunnel, Du, du_node, context_of, with_transactions, downlinks_of, downlink_list, bearers_made, bearers_anew, replies, closings, openings, old_downlinks, replaced, replaces, context_with, setup, context_anew, modify_on, modify, end_markers, released_on, release, relayed_down, relay_down, relayed_up, relay_up, token_ue, start, set_up, asked, transferred, of_cp, of_terminal, control_came, missing, is_missing, told, gap_after, carried, with_bearer, frame_came, taken_in, taken_of, taken_on, take, of_bearer, of_context, pass_up, confirmed, confirm, due_output, tick, du_acts}
+use Rattle.run_defs.specs.States.{entity}
 use Rattle.run_defs.specs.Runs.{plain_way, taken_of as taken_load}
 use Rattle.law_run_facts.specs.Facts.{PutsFit}
 use Rattle.law_run_facts.specs.UnitFacts.{as_facts, InputFits, AnswerFits}
 use Rattle.law_run_facts.proofs.Fits.{puts_both, fits_if, fits_then, any_then, ask_fits, advance_fits, replied_fits, fits_request, fits_reply, due_fits}
 use Rattle.law_link_items.specs.Items.{count_of_pdu, count_of_payload, count_of_load}
-use Rattle.law_link_items.proofs.Names.{IsCuUp, down_to_up, up_to_up, DuBearersName, DuNames, link_items}
+use Rattle.law_link_items.proofs.Names.{IsDu, IsCuUp, tells_up, passes_up, du_on_air, DuBearersName, DuNames, link_items}
 use Rattle.law_link_items.proofs.CuUps.{found_in, all_put, found_put, found_left}
 
 abbrev Record : Type 0
@@ -70,7 +71,7 @@ frame_agrees_load taken (uplink pdu) is = tt
 frame_agrees_load taken (status lost delivered) is = tt
 frame_agrees_load taken end_marker is = tt
 
-module _ (node : NodeId) (taken : Option ℕ) where
+module _ (node : NodeId) (at_du : IsDu node) (taken : Option ℕ) where
   abbrev Fits : Answer (Message Token) Pdu Record → Type 0
   Fits a = AnswerFits link_items DuNames node taken a
 
@@ -130,7 +131,7 @@ module _ (node : NodeId) (taken : Option ℕ) where
 
   ends_fit : (ue : UeId) (es : Bearers) → DuBearersName es → Put (map (λ e. packet e.1.up e.1.uplink ue e.0 Ul Absent end_marker) es)
   ends_fit ue [] all = tt
-  ends_fit ue (e ∷ es) all = ((refl, up_to_up e.1.up end_marker all.0 tt), ends_fit ue es all.1)
+  ends_fit ue (e ∷ es) all = ((refl, passes_up node e.1.up end_marker at_du all.0 tt), ends_fit ue es all.1)
 
   released_fits : (ue : UeId) (r : Record) (c : Option DuContext) → DuNames r → find ue_cmp r.contexts ue ≡ c → Fits (released_on plain_way ue r c)
   released_fits ue r None p is = (p, tt)
@@ -202,14 +203,15 @@ module _ (node : NodeId) (taken : Option ℕ) where
   told_fits ue bearer b poll number is = by (is_missing plain_way b number || poll)
     where
       by : (t : Bool) → Put (if t then packet b.up b.uplink ue bearer Dl Absent (status (missing plain_way b number) None) ∷ [] else [])
-      by true = ((refl, down_to_up b.up (status (missing plain_way b number) None) is tt), tt)
+      by true = ((refl, tells_up node b.up (status (missing plain_way b number) None) at_du is tt), tt)
       by false = tt
 
   carried_fits : (ue : UeId) (bearer : BearerId) (c : DuContext) (gap : Bool) (pdu : Option Pdu) (r : Record) → taken ≡ count_of_payload pdu → DuNames r
       → Fits (carried plain_way ue bearer c gap pdu r)
   carried_fits ue bearer c gap None r same p = (p, tt)
   carried_fits ue bearer c true (Some pdu) r same p = (p, (tt, tt))
-  carried_fits ue bearer c false (Some pdu) r same p = (p, (same, tt))
+  carried_fits ue bearer c false (Some pdu) r same p =
+      (p, (du_on_air node (entity ue bearer Dl) (record { key = entity ue bearer Dl; count = taken; content = pdu }) at_du same refl, tt))
 
   frame_fits : (ue : UeId) (bearer : BearerId) (c : DuContext) (b : DuBearer) (item : Taken Pdu) (r : Record) → FrameAgrees taken item → DuNames r → IsNamed c → HasUp b
       → Fits (frame_came plain_way ue bearer c b item r)
@@ -253,7 +255,7 @@ module _ (node : NodeId) (taken : Option ℕ) where
 
   confirmed_fits : (ue : UeId) (bearer : BearerId) (r : Record) (b : DuBearer) (sn : SnBits) (pdu : Pdu) → taken ≡ count_of_pdu pdu → HasUp b → DuNames r
       → Fits (confirmed plain_way ue bearer r b (plain_way.number sn pdu))
-  confirmed_fits ue bearer r b sn (packet_pdu count x) same is p = (p, ((same, down_to_up b.up (status [] (Some count)) is tt), tt))
+  confirmed_fits ue bearer r b sn (packet_pdu count x) same is p = (p, ((same, tells_up node b.up (status [] (Some count)) at_du is tt), tt))
   confirmed_fits ue bearer r b sn (report_pdu fmc bits) same is p = (p, tt)
 
   -- ---- F1 Setup, a tick, and the table
@@ -281,7 +283,7 @@ module _ (node : NodeId) (taken : Option ℕ) where
       take_fits teid item r (subst (FrameAgrees taken) (sym fit.1) (frame_agrees_load taken fit.0 fit.2.1.0)) p
   du_fits r (radio_input ue bearer Ul pdu content) p fit =
       context_fits r (λ c b. puts (packet b.up b.uplink ue bearer Ul Same (uplink pdu)) r) ue bearer p
-      (λ d b is. (p, ((fit.1.1, up_to_up b.up (uplink pdu) is tt), tt)))
+      (λ d b is. (p, ((fit.1.1, passes_up node b.up (uplink pdu) at_du is tt), tt)))
   du_fits r (radio_input ue bearer Dl pdu content) p fit = (p, (tt, tt))
   du_fits r (confirm_input ue bearer Dl pdu content) p fit =
       context_fits r (λ c b. confirmed plain_way ue bearer r b (plain_way.number c.sn pdu)) ue bearer p

@@ -27,7 +27,7 @@ use Rattle.law_run_facts.proofs.Plain.{plain_run_holds}
 use Rattle.law_link_items.specs.Items.{IsOnTunnel, IsOnRadio, ItemsShow}
 use Rattle.law_link_items.specs.Octets.{ItemsAreLaid}
 use Rattle.law_link_items.proofs.Octets.{map_all, all_laid}
-use Rattle.law_link_items.proofs.Names.{IsCuUp, down_to_up, CoreNames, link_items}
+use Rattle.law_link_items.proofs.Names.{IsCuUp, core_puts, CoreNames, link_items}
 use Rattle.law_link_items.proofs.CuUps.{cu_up_fits, found_put, placed_names as up_placed_names}
 use Rattle.law_link_items.proofs.Dus.{du_fits, placed_names as du_placed_names}
 use Rattle.law_link_items.proofs.Terminals.{terminal_fits}
@@ -43,7 +43,7 @@ HasUp path = IsCuUp path.up
 
 ends_fit : (ue : UeId) (up : NodeId) (ts : List Tunnel) → IsCuUp up → PutsFit (as_facts link_items) Core None (map (end_of plain_way ue up) ts)
 ends_fit ue up [] is = tt
-ends_fit ue up (t ∷ ts) is = ((refl, down_to_up up end_marker is tt), ends_fit ue up ts is)
+ends_fit ue up (t ∷ ts) is = ((refl, core_puts up end_marker is tt), ends_fit ue up ts is)
 
 moved_fits : (ue : UeId) (peer : Peer) (n3 : List Tunnel) (r : CoreRecord (Message Token) Token) → CoreNames r → CoreFits (moved plain_way ue peer n3 r)
 moved_fits ue peer n3 r p = (found_put HasUp r.paths ue (new_path plain_way peer n3) p tt, by (find ue_cmp r.paths ue) refl)
@@ -79,15 +79,15 @@ core_fits r from m p = (p, (tt, tt))
 
 -- ---- the run
 
-items_keep : UnitsKeep link_items
+pub items_keep : UnitsKeep link_items
 unfolding find
 items_keep = record {
-  ups_act = λ gnb number r taken input p fits. cu_up_fits (up_id gnb number) taken r input p fits;
-  dus_act = λ gnb number r taken input p fits. du_fits (du_id gnb number) taken r input p fits;
+  ups_act = λ gnb number r taken input p fits. cu_up_fits (up_id gnb number) tt taken r input p fits;
+  dus_act = λ gnb number r taken input p fits. du_fits (du_id gnb number) tt taken r input p fits;
   cps_act = λ gnb r taken input p fits. cu_cp_fits (CuCp gnb) taken r input;
-  ues_act = λ ue u taken input p fits. terminal_fits (Ue ue.0) taken u input;
+  ues_act = λ ue u taken input p fits. terminal_fits (Ue ue.0) tt taken u input;
   core_acts = λ r from message p fits. core_fits r from message p;
-  lays = λ r ue bearer x path p found. (refl, down_to_up path.up (fresh x) (p ue path found) tt);
+  lays = λ r ue bearer x path p found. (refl, core_puts path.up (fresh x) (p ue path found) tt);
   comes = λ plan. tt;
   places_ue = λ plan. tt;
   places_up = λ r plan downlink room teids p. up_placed_names r plan downlink p;

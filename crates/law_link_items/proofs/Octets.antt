@@ -22,7 +22,7 @@ use Rattle.law_link_items.specs.Octets.{layout_to, IsLaidTo, IsLaidOnAir, ItemsA
 use Rattle.law_link_items.proofs.Names.{link_items}
 
 -- to a DU
-to_du_laid : (teid : ℕ) (sn : SnBits) (load : Load Pdu) → GoesToDu load
+pub to_du_laid : (teid : ℕ) (sn : SnBits) (load : Load Pdu) → GoesToDu load
     → F1uDownlink sn teid (count_of_load load) (load_octets teid (written_load sn load))
 unfolding f1u_downlink_packet f1u_downlink_report f1u_downlink_poll
 to_du_laid teid sn (frame true false number None) p = inr (inr (number, refl))
@@ -74,7 +74,7 @@ item_laid end item is octets =
     )
 
 -- on a radio
-pdu_laid : (sn : SnBits) (pdu : Pdu) → IsRadioData sn (count_of_pdu pdu) (pdu_octets sn pdu) ⊎ IsRadioReport (pdu_octets sn pdu)
+pub pdu_laid : (sn : SnBits) (pdu : Pdu) → IsRadioData sn (count_of_pdu pdu) (pdu_octets sn pdu) ⊎ IsRadioReport (pdu_octets sn pdu)
 pdu_laid sn (packet_pdu count x) = inl (x, refl)
 pdu_laid sn (report_pdu fmc bits) = inr (fmc, bits, refl)
 

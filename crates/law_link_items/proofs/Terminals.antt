@@ -20,15 +20,16 @@ use Rattle.pdcp_defs.specs.Receivers.{is_duplicate, is_ahead, stored, deliver as
 use Rattle.unit_defs.specs.declared.UeState.{UeState}
 use Rattle.unit_defs.specs.declared.UeState.TheVariants as states
 use Rattle.unit_defs.specs.declared.TokenKind.{TokenKind}
-use Rattle.unit_defs.specs.Ways.{Message, rrc, Pdu, report_pdu, Content, packet_content, report_content, Output, deliver, Input, control_input, packet_input, radio_input, confirm_input, offer_input, tick_input, order_input, held, no, Answer, gives, spent, ◌then◌, nothing, puts, drops, counts_spent, epochs_spent}
+use Rattle.unit_defs.specs.Ways.{Message, rrc, Pdu, packet_pdu, report_pdu, Content, packet_content, report_content, Output, deliver, Input, control_input, packet_input, radio_input, confirm_input, offer_input, tick_input, order_input, held, no, Answer, gives, spent, ◌then◌, nothing, puts, drops, counts_spent, epochs_spent}
 use Rattle.unit_defs.specs.Ue.{UeBearer, UeNode, last_epoch, largest_packet, is_connected, is_accessing, may_return, on_air, data_output, unconfirmed_outputs, number_each, number_waiting, connect_bearer, with_bearer, with_bearers, connect_each, connect, of_bearer, at_bearer, said, says_it, may_obey, obey, arrived, arrive, returned, return_to, come_back, accepted_in, accept, fail, used_uplink, offered, offer, handed, took_data, took, take, confirmed_if, confirmed, confirm, told, told_by, ue_acts}
+use Rattle.run_defs.specs.States.{entity}
 use Rattle.run_defs.specs.Runs.{plain_way}
-use Rattle.law_run_facts.specs.Facts.{PutsFit}
+use Rattle.law_run_facts.specs.Facts.{PutFits, PutsFit}
 use Rattle.law_run_facts.specs.UnitFacts.{as_facts}
 use Rattle.law_run_facts.proofs.Fits.{FitsAny, fits_if, any_then}
-use Rattle.law_link_items.proofs.Names.{link_items}
+use Rattle.law_link_items.proofs.Names.{IsUe, ue_on_air, link_items}
 
-module _ (node : NodeId) (taken : Option ℕ) where
+module _ (node : NodeId) (at_ue : IsUe node) (taken : Option ℕ) where
   abbrev pub Fits : {R : Type 0} → Answer (Message Token) Pdu R → Type 0
   Fits a = FitsAny link_items node taken a
 
@@ -43,6 +44,16 @@ module _ (node : NodeId) (taken : Option ℕ) where
 
   -- ---- one bearer
 
+  -- a PDU with its own COUNT, and a report without one
+  data_fits : (u : UeNode) (bearer : BearerId) (count : ℕ) (x : List ℕ) → PutFits (as_facts link_items) node taken (data_output plain_way u bearer count x)
+  data_fits u bearer count x =
+      ue_on_air node (entity u.plan.ue bearer Ul) (record { key = entity u.plan.ue bearer Ul; count = Some count; content = packet_pdu count x }) at_ue refl refl
+
+  report_fits : (u : UeNode) (bearer : BearerId) (fmc : ℕ) (bits : List Bool)
+      → PutFits (as_facts link_items) node taken (on_air plain_way u bearer Absent (report_pdu fmc bits))
+  report_fits u bearer fmc bits =
+      ue_on_air node (entity u.plan.ue bearer Ul) (record { key = entity u.plan.ue bearer Ul; count = None; content = report_pdu fmc bits }) at_ue refl refl
+
   number_each_fits : (u : UeNode) (bearer : BearerId) (ps : List (List ℕ)) (b : UeBearer) → Fits (number_each plain_way u bearer ps b)
   unfolding number_each
   number_each_fits u bearer [] b = (tt, tt)
@@ -50,7 +61,7 @@ module _ (node : NodeId) (taken : Option ℕ) where
       let on : UeBearer = record b { sender = numbered b.sender x; waiting = ps } in
       either (not (has_room u.plan.sn u.plan.quota b.sender)) (nothing b) _ (tt, tt)
       (after (if nat_lt last_count b.sender.next then spent counts_spent else puts (data_output plain_way u bearer b.sender.next x) on) (number_each plain_way u bearer ps)
-      (either (nat_lt last_count b.sender.next) (spent counts_spent) (puts (data_output plain_way u bearer b.sender.next x) on) tt (tt, (refl, tt)))
+      (either (nat_lt last_count b.sender.next) (spent counts_spent) (puts (data_output plain_way u bearer b.sender.next x) on) tt (tt, (data_fits u bearer b.sender.next x, tt)))
       (number_each_fits u bearer ps))
 
   number_waiting_fits : (u : UeNode) (bearer : BearerId) (b : UeBearer) → Fits (number_waiting plain_way u bearer b)
@@ -59,13 +70,13 @@ module _ (node : NodeId) (taken : Option ℕ) where
 
   again_fit : (u : UeNode) (bearer : BearerId) (es : List (ℕ × List ℕ)) → Put (map (λ e. data_output plain_way u bearer e.0 e.1) es)
   again_fit u bearer [] = tt
-  again_fit u bearer (e ∷ es) = (refl, again_fit u bearer es)
+  again_fit u bearer (e ∷ es) = (data_fits u bearer e.0 e.1, again_fit u bearer es)
 
   connect_bearer_fits : (u : UeNode) (bearer : BearerId) (b : UeBearer) → Fits (connect_bearer plain_way u bearer b)
   unfolding connect_bearer
   connect_bearer_fits u bearer b =
       after (gives (on_air plain_way u bearer Absent (report_pdu b.receiver.deliv (received_bits b.receiver)) ∷ unconfirmed_outputs plain_way u bearer b) b)
-      (number_waiting plain_way u bearer) (tt, (refl, again_fit u bearer b.sender.unconfirmed)) (number_waiting_fits u bearer)
+      (number_waiting plain_way u bearer) (tt, (report_fits u bearer b.receiver.deliv (received_bits b.receiver), again_fit u bearer b.sender.unconfirmed)) (number_waiting_fits u bearer)
 
   connect_each_fits : (u : UeNode) (es : List (BearerId × UeBearer)) → Fits (connect_each plain_way u es)
   connect_each_fits u [] = (tt, tt)

@@ -19,10 +19,10 @@ use Rattle.run_defs.specs.Runs.{plain_way}
 use Rattle.law_run_facts.specs.Facts.{PutsFit}
 use Rattle.law_run_facts.specs.UnitFacts.{as_facts, AnswerFits}
 use Rattle.law_run_facts.proofs.Fits.{fits_if, fits_then}
-use Rattle.law_link_items.specs.Items.{count_of_payload, count_of_load, IsFrame, GoesDown, GoesUp}
-use Rattle.law_link_items.proofs.Names.{IsDu, IsCuUp, to_du, down_to_up, up_to_up, DownlinkNames, HopNames, BearerNames, link_items, Agrees}
+use Rattle.law_link_items.specs.Items.{count_of_payload, count_of_load, IsFrame, IsForwardedDown, IsForwardedUp}
+use Rattle.law_link_items.proofs.Names.{IsDu, IsCuUp, to_du, forwards_down, forwards_up, DownlinkNames, HopNames, BearerNames, link_items, Agrees}
 
-module _ (node : NodeId) (taken : Option ℕ) where
+module _ (node : NodeId) (at_up : IsCuUp node) (taken : Option ℕ) where
   abbrev pub Fits : Answer (Message Token) Pdu UpBearer → Type 0
   Fits a = AnswerFits link_items BearerNames node taken a
 
@@ -44,7 +44,7 @@ module _ (node : NodeId) (taken : Option ℕ) where
       by None is = (p, tt)
       by (Some d) is =
           either (nat_lt last_frame d.next) (spent frames_spent) _ tt
-          ((is, p.1), ((same, to_du d.du (frame poll restart d.next pdu) is shape), tt))
+          ((is, p.1), ((same, to_du node d.du (frame poll restart d.next pdu) at_up is shape), tt))
 
   sent_fits : (at : UpAt) (count : ℕ) (p : List ℕ) (tag : Tag) (b : UpBearer) → count_beside tag taken ≡ Some count → BearerNames b
       → Fits (sent plain_way at count p tag b)
@@ -83,23 +83,23 @@ module _ (node : NodeId) (taken : Option ℕ) where
   unfolding deliver_stored
   deliver_fits at b is = (is, delivered_fit at (handed_up b.receiver).packets)
 
-  down_fits : (at : UpAt) (tag : Tag) (load : Load Pdu) (b : UpBearer) → GoesDown load → count_beside tag taken ≡ count_of_load load → BearerNames b
+  down_fits : (at : UpAt) (tag : Tag) (load : Load Pdu) (b : UpBearer) → IsForwardedDown load → count_beside tag taken ≡ count_of_load load → BearerNames b
       → Fits (forwarded_down plain_way at tag load b)
   unfolding forwarded_down
   down_fits at tag load b kind same p = by b.hop p.1
     where
       by : (h : Option SourceHop) → HopNames h → Fits (put_down plain_way at tag load b h)
       by None is = (p, tt)
-      by (Some h) is = (p, ((same, down_to_up h.peer load is kind), tt))
+      by (Some h) is = (p, ((same, forwards_down node h.peer load at_up is kind), tt))
 
-  up_fits : (at : UpAt) (tag : Tag) (load : Load Pdu) (b : UpBearer) → GoesUp load → count_beside tag taken ≡ count_of_load load → BearerNames b
+  up_fits : (at : UpAt) (tag : Tag) (load : Load Pdu) (b : UpBearer) → IsForwardedUp load → count_beside tag taken ≡ count_of_load load → BearerNames b
       → Fits (forwarded_up plain_way at tag load b)
   unfolding forwarded_up
   up_fits at tag load b kind same p = by b.hop p.1
     where
       by : (h : Option SourceHop) → HopNames h → Fits (put_up plain_way at tag load b h)
       by None is = (p, tt)
-      by (Some h) is = (p, ((same, up_to_up h.peer load is kind), tt))
+      by (Some h) is = (p, ((same, forwards_up node h.peer load at_up is kind), tt))
 
   -- ---- switch, freeze, SN status, resume
 

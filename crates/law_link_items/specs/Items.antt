@@ -2,7 +2,7 @@
 use Rattle.std.specs.Prelude.{ℕ, ◌≡◌, Bool, true, false, List, Option, Some, None}
 use Rattle.std.specs.List.{AllByRecursion}
 use Rattle.gnb_types.specs.declared.names.NodeId.{NodeId}
-use Rattle.gnb_types.specs.declared.names.NodeId.TheVariants.{CuUp, Du}
+use Rattle.gnb_types.specs.declared.names.NodeId.TheVariants.{CuUp, Du, Core, Ue}
 use Rattle.gnb_types.specs.declared.names.Dir.{Dir}
 use Rattle.gnb_types.specs.declared.names.Dir.TheVariants.{Dl, Ul}
 use Rattle.gnb_types.specs.declared.keys.TunnelEnd.{TunnelEnd}
@@ -61,6 +61,51 @@ GoesUp load = ⊥
 abbrev pub GoesToDu : Load Pdu → Type 0
 GoesToDu (frame poll restart number pdu) = IsFrame poll restart pdu
 GoesToDu load = ⊥
+
+-- ---- and who puts it: the core, a CU-UP, a DU
+
+abbrev pub IsOfN3 : Load Pdu → Type 0
+IsOfN3 (fresh p) = Unit {0}
+IsOfN3 end_marker = Unit {0}
+IsOfN3 load = ⊥
+
+abbrev pub IsForwardedDown : Load Pdu → Type 0
+IsForwardedDown (fresh p) = Unit {0}
+IsForwardedDown (numbered sn count p) = Unit {0}
+IsForwardedDown end_marker = Unit {0}
+IsForwardedDown load = ⊥
+
+abbrev pub IsForwardedUp : Load Pdu → Type 0
+IsForwardedUp (numbered sn count p) = Unit {0}
+IsForwardedUp end_marker = Unit {0}
+IsForwardedUp load = ⊥
+
+abbrev pub IsStatus : Load Pdu → Type 0
+IsStatus (status lost delivered) = Unit {0}
+IsStatus load = ⊥
+
+abbrev pub IsOfUplink : Load Pdu → Type 0
+IsOfUplink (uplink pdu) = Unit {0}
+IsOfUplink end_marker = Unit {0}
+IsOfUplink load = ⊥
+
+abbrev pub MayPut : NodeId → NodeId → Dir → Load Pdu → Type 0
+MayPut Core (CuUp gnb number) Dl load = IsOfN3 load
+MayPut (CuUp other up) (Du gnb number) Dl load = GoesToDu load
+MayPut (CuUp other up) (CuUp gnb number) Dl load = IsForwardedDown load
+MayPut (CuUp other up) (CuUp gnb number) Ul load = IsForwardedUp load
+MayPut (Du other du) (CuUp gnb number) Dl load = IsStatus load
+MayPut (Du other du) (CuUp gnb number) Ul load = IsOfUplink load
+MayPut from node dir load = ⊥
+
+abbrev pub IsPutOnTunnel : NodeId → TunnelEnd → Item (Load Pdu) → Type 0
+IsPutOnTunnel from end item = (item.count ≡ count_of_load item.content) × MayPut from end.node item.key.dir item.content
+
+-- a DU puts PDUs on a downlink radio, a terminal on an uplink one
+abbrev pub IsPutOnRadio : NodeId → EntityKey → Item Pdu → Type 0
+IsPutOnRadio (Du gnb number) key item = (item.count ≡ count_of_pdu item.content) × (item.key.dir ≡ Dl)
+IsPutOnRadio (Ue ue) key item = (item.count ≡ count_of_pdu item.content) × (item.key.dir ≡ Ul)
+IsPutOnRadio from key item = ⊥
 
 abbrev pub MayStand : NodeId → Dir → Load Pdu → Type 0
 MayStand (CuUp gnb number) Dl load = GoesDown load

@@ -24,8 +24,12 @@ module _ (up : Gnb → ℕ → CuUp (Message Token) Token → Type 0) (du : Gnb 
     ue = ue;
     core = core;
     letter = λ l. Unit {0};
+    puts_on = λ node end item. Unit {0};
+    puts_on_air = λ node key item. Unit {0};
     on_tunnel = λ end item. Unit {0};
     on_radio = λ key item. Unit {0};
+    stands = λ node end item p. tt;
+    stands_on_air = λ node key item p. tt;
   }
 
   put_alone : (node : NodeId) (taken : Option ℕ) (output : Put (Message Token) (Load Pdu) Pdu) → PutFits (as_facts alone) node taken output

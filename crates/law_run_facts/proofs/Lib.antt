@@ -5,3 +5,4 @@ pub mod Units
 pub mod Plain
 pub mod Alone
 pub mod Fits
+pub mod Tells

@@ -155,7 +155,7 @@ module _ (facts : UnitFacts) (keep : UnitsKeep facts) (reading : Reading) where
   abbrev Silent : WrittenCoreStepped → Type 0
   Silent (core_stepped outputs r) = count_letters (plain_world reading) outputs ≡ 0
 
-  plain_kept : AreKept (plain_world reading) (written_facts facts)
+  pub plain_kept : AreKept (plain_world reading) (written_facts facts)
   plain_kept = record {
     answers = λ lengths u v node taken given outputs p fits is.
         subst (AnsweredWell node taken) is

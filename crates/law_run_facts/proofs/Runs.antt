@@ -12,10 +12,12 @@ use Rattle.unit_defs.specs.Ways.{Put}
 use Rattle.unit_defs.specs.Messages.{teid_of}
 use Rattle.unit_defs.specs.Core.{CoreRecord}
 use Rattle.unit_defs.specs.Static.{up_has_room, up_has_teids, du_has_teids}
+use Rattle.transport_defs.specs.declared.Item.{Item}
 use Rattle.transport_defs.specs.Links.{most_letters, letter, landed}
 use Rattle.run_defs.specs.Units.{up_of, du_of}
 use Rattle.run_defs.specs.States.{State, World, letter_for, octets_from, goes, stops, told_before, ◌next◌, Within, Outcome, as_step, entity, sn_of, was_attached}
-use Rattle.run_defs.specs.Steps.{check_spans, put_out_all, count_letters, with_tunnel}
+use Rattle.gnb_types.specs.declared.keys.TunnelEnd.{TunnelEnd}
+use Rattle.run_defs.specs.Steps.{check_spans, put_on_tunnel, put_out_all, count_letters, with_tunnel}
 use Rattle.run_defs.specs.Conditions.{is_held_by_units, tunnels_from, n3_from, statically}
 use Rattle.run_defs.specs.Events.{landed_as, offered}
 use Rattle.run_defs.specs.Runs.{happens}
@@ -93,7 +95,7 @@ module _ {M C L P : Type 0} (world : World M C L P) (facts : Facts M C L P) (kep
 
   -- ---- an event
 
-  made_holds : (event : Event) (s : State M C L P) (e : Outcome M C L P) → Made world event s e → Hold facts s → HoldsWith world facts 0 e
+  pub made_holds : (event : Event) (s : State M C L P) (e : Outcome M C L P) → Made world event s e → Hold facts s → HoldsWith world facts 0 e
   unfolding landed letter
   made_holds event s e (stays t) h = h
   made_holds event s e (ends t why) h = tt
@@ -107,11 +109,11 @@ module _ {M C L P : Type 0} (world : World M C L P) (facts : Facts M C L P) (kep
   made_holds event s e (holds_item t end reason) h = h
   made_holds event s e (holds_pdu t key home reason) h = h
   made_holds event s e (offers t ue bearer p path is found) h =
-      step_holds (Some Core) _
-      (then_holds world facts 0 0 _ check_spans
-      (keep_put_on_tunnel world facts (record { node = path.up; teid = teid_of path.n3 bearer })
-      (record { key = entity ue bearer Dl; count = None; content = world.lay_n3 (teid_of path.n3 bearer) p })
-      (kept.lays t.core ue bearer p path h.core found) 0 (offered world (entity ue bearer Dl) t)
+      let end : TunnelEnd = record { node = path.up; teid = teid_of path.n3 bearer } in
+      let item : Item L = record { key = entity ue bearer Dl; count = None; content = world.lay_n3 (teid_of path.n3 bearer) p } in
+      step_holds (Some Core) (put_on_tunnel world end item (offered world (entity ue bearer Dl) t) next check_spans)
+      (then_holds world facts 0 0 (put_on_tunnel world end item (offered world (entity ue bearer Dl) t)) check_spans
+      (keep_put_on_tunnel world facts end item (facts.stands Core end item (kept.lays t.core ue bearer p path h.core found)) 0 (offered world (entity ue bearer Dl) t)
       (same_links world facts 0 t (offered world (entity ue bearer Dl) t) h refl refl refl refl refl))
       (λ x k. keep_checked world facts 0 x k))
   made_holds event s e (core_takes t number l outputs core found at is few) h =

@@ -66,7 +66,7 @@ module _ {M C L P : Type 0} (world : World M C L P) (facts : Facts M C L P) (kep
   }
 
   -- what a step takes has its facts
-  taken_fits : (event : Event) (cause : Cause M L P) (s : State M C L P) → Hold facts s → Stands event s cause
+  pub taken_fits : (event : Event) (cause : Cause M L P) (s : State M C L P) → Hold facts s → Stands event s cause
       → GivenFits facts (node_of cause) (count_of cause) (given_of cause)
   unfolding letter
   taken_fits event (by_order node order) s h at = tt

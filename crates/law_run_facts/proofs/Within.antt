@@ -271,11 +271,14 @@ module _ {M C L P : Type 0} (world : World M C L P) (facts : Facts M C L P) wher
   unfolding opens closes
   keep_put node taken (control to ue message) rest is s h = keep_control (letter_of world node to ue message) (count_letters world rest) s h is
   keep_put node taken (packet to teid ue bearer dir tag load) rest is s h =
-      keep_put_on_tunnel (record { node = to; teid = teid }) (item_of world ue bearer dir (count_beside tag taken) load) is (count_letters world rest)
-      (noted (entity ue bearer dir) tag s) (keep_noted (entity ue bearer dir) tag (count_letters world rest) s h)
+      let end : TunnelEnd = record { node = to; teid = teid } in
+      let item : Item L = item_of world ue bearer dir (count_beside tag taken) load in
+      keep_put_on_tunnel end item (facts.stands node end item is) (count_letters world rest) (noted (entity ue bearer dir) tag s)
+      (keep_noted (entity ue bearer dir) tag (count_letters world rest) s h)
   keep_put node taken (radio ue bearer dir epoch tag pdu) rest is s h =
-      keep_put_on_radio epoch (item_of world ue bearer dir (count_beside tag taken) pdu) is (count_letters world rest)
-      (noted (entity ue bearer dir) tag s) (keep_noted (entity ue bearer dir) tag (count_letters world rest) s h)
+      let item : Item P = item_of world ue bearer dir (count_beside tag taken) pdu in
+      keep_put_on_radio epoch item (facts.stands_on_air node (entity ue bearer dir) item is) (count_letters world rest) (noted (entity ue bearer dir) tag s)
+      (keep_noted (entity ue bearer dir) tag (count_letters world rest) s h)
   keep_put node taken (deliver ue bearer dir count p) rest is s h =
       same_links (count_letters world rest) s (delivered world (entity ue bearer dir) s) h refl refl refl refl refl
   keep_put node taken (dropped reason) rest is s h = h

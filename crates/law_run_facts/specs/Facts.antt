@@ -30,8 +30,13 @@ pub record Facts (M C L P : Type 0) : Type 1 where
   pub units : Units M C → Type 0
   pub core : CoreRecord M C → Type 0
   pub letter : Letter M → Type 0
+  -- of an item that a node puts, and of one that stands there
+  pub puts_on : NodeId → TunnelEnd → Item L → Type 0
+  pub puts_on_air : NodeId → EntityKey → Item P → Type 0
   pub on_tunnel : TunnelEnd → Item L → Type 0
   pub on_radio : EntityKey → Item P → Type 0
+  pub stands : (node : NodeId) (end : TunnelEnd) (item : Item L) → puts_on node end item → on_tunnel end item
+  pub stands_on_air : (node : NodeId) (key : EntityKey) (item : Item P) → puts_on_air node key item → on_radio key item
   -- control messages are counted: then the core puts none where it is given octets from outside
   pub counted : Type 0
 
@@ -54,9 +59,9 @@ module _ {M C L P : Type 0} (facts : Facts M C L P) where
   abbrev pub PutFits : NodeId → Option ℕ → Put M L P → Type 0
   PutFits node taken (control to ue message) = facts.letter (record { from = node; to = to; ue = ue; message = message })
   PutFits node taken (packet to teid ue bearer dir tag load) =
-      facts.on_tunnel (record { node = to; teid = teid }) (record { key = entity ue bearer dir; count = count_beside tag taken; content = load })
+      facts.puts_on node (record { node = to; teid = teid }) (record { key = entity ue bearer dir; count = count_beside tag taken; content = load })
   PutFits node taken (radio ue bearer dir epoch tag pdu) =
-      facts.on_radio (entity ue bearer dir) (record { key = entity ue bearer dir; count = count_beside tag taken; content = pdu })
+      facts.puts_on_air node (entity ue bearer dir) (record { key = entity ue bearer dir; count = count_beside tag taken; content = pdu })
   PutFits node taken output = Unit {0}
 
   abbrev pub PutsFit : NodeId → Option ℕ → List (Put M L P) → Type 0
@@ -87,7 +92,7 @@ pub record AreKept {M C L P : Type 0} (world : World M C L P) (facts : Facts M C
       → facts.core (record r { paths = put ue_cmp r.paths plan.ue (record { up = CuUp plan.gnb plan.up; n3 = n3 }) })
   pub lays : (r : CoreRecord M C) (ue : UeId) (bearer : BearerId) (p : List ℕ) (path : CorePath) → facts.core r
       → find ue_cmp r.paths ue ≡ Some path
-      → facts.on_tunnel (record { node = path.up; teid = teid_of path.n3 bearer })
+      → facts.puts_on Core (record { node = path.up; teid = teid_of path.n3 bearer })
       (record { key = entity ue bearer Dl; count = None; content = world.lay_n3 (teid_of path.n3 bearer) p })
   pub silent : facts.counted → (lengths : Lengths) (r q : CoreRecord M C) (from : NodeId) (octets : List ℕ) (outputs : List (Put M L P))
       → world.core_answer lengths r (octets_from from octets) ≡ core_stepped outputs q → count_letters world outputs ≡ 0

@@ -41,8 +41,12 @@ pub record UnitFacts : Type 1 where
   pub ue : UeId → UeNode → Type 0
   pub core : CoreRecord (Message Token) Token → Type 0
   pub letter : Letter (Message Token) → Type 0
+  pub puts_on : NodeId → TunnelEnd → Item (Load Pdu) → Type 0
+  pub puts_on_air : NodeId → EntityKey → Item Pdu → Type 0
   pub on_tunnel : TunnelEnd → Item (Load Pdu) → Type 0
   pub on_radio : EntityKey → Item Pdu → Type 0
+  pub stands : (node : NodeId) (end : TunnelEnd) (item : Item (Load Pdu)) → puts_on node end item → on_tunnel end item
+  pub stands_on_air : (node : NodeId) (key : EntityKey) (item : Item Pdu) → puts_on_air node key item → on_radio key item
 
 -- items as they stand on links, with their octets: those of what they say, with numbers of one of the two lengths
 abbrev pub said_item : {X : Type 0} → Item (Written X) → Item X
@@ -67,8 +71,12 @@ module _ (facts : UnitFacts) where
     units = OfUnits;
     core = facts.core;
     letter = facts.letter;
+    puts_on = facts.puts_on;
+    puts_on_air = facts.puts_on_air;
     on_tunnel = facts.on_tunnel;
     on_radio = facts.on_radio;
+    stands = facts.stands;
+    stands_on_air = facts.stands_on_air;
     counted = Unit {0};
   }
 
@@ -77,8 +85,12 @@ module _ (facts : UnitFacts) where
     units = OfUnits;
     core = facts.core;
     letter = facts.letter;
+    puts_on = λ node end item. facts.puts_on node end (said_item item) × HasOctets end.teid item;
+    puts_on_air = λ node key item. facts.puts_on_air node key (said_item item) × HasPduOctets item;
     on_tunnel = λ end item. facts.on_tunnel end (said_item item) × HasOctets end.teid item;
     on_radio = λ key item. facts.on_radio key (said_item item) × HasPduOctets item;
+    stands = λ node end item p. (facts.stands node end (said_item item) p.0, p.1);
+    stands_on_air = λ node key item p. (facts.stands_on_air node key (said_item item) p.0, p.1);
     counted = Unit {0};
   }
 
@@ -118,7 +130,7 @@ module _ (facts : UnitFacts) where
         → InputFits Core None (control_input from message) → AnswerFits facts.core Core None (core_acts plain_way r from message)
     pub lays : (r : CoreRecord (Message Token) Token) (ue : UeId) (bearer : BearerId) (p : List ℕ) (path : CorePath) → facts.core r
         → find ue_cmp r.paths ue ≡ Some path
-        → facts.on_tunnel (record { node = path.up; teid = teid_of path.n3 bearer })
+        → facts.puts_on Core (record { node = path.up; teid = teid_of path.n3 bearer })
         (record { key = entity ue bearer Dl; count = None; content = fresh p })
     pub comes : (plan : Plan) → facts.ue plan.ue (new_ue plan)
     pub places_ue : (plan : Plan) → facts.ue plan.ue (placed (new_ue plan))

@@ -31,8 +31,12 @@ module _ (M C L P : Type 0) where
     units = λ u. Unit {0};
     core = λ r. Unit {0};
     letter = λ l. Unit {0};
+    puts_on = λ node end item. Unit {0};
+    puts_on_air = λ node key item. item.key ≡ key;
     on_tunnel = λ end item. Unit {0};
     on_radio = λ key item. item.key ≡ key;
+    stands = λ node end item p. tt;
+    stands_on_air = λ node key item p. p;
     counted = ⊥;
   }
 
@@ -42,8 +46,12 @@ module _ (M C L P : Type 0) where
     units = λ u. Unit {0};
     core = λ r. Unit {0};
     letter = λ l. Unit {0};
+    puts_on = λ node end item. Unit {0};
+    puts_on_air = λ node key item. Unit {0};
     on_tunnel = λ end item. Unit {0};
     on_radio = λ key item. Unit {0};
+    stands = λ node end item p. tt;
+    stands_on_air = λ node key item p. tt;
     counted = Unit {0};
   }
 
