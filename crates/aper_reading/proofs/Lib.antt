@@ -5,3 +5,4 @@ pub mod FormBounds
 pub mod HeavyLemmas
 pub mod Turns
 pub mod ReadsSteps
+pub mod Front

@@ -25,7 +25,7 @@ use Rattle.aper_frames.specs.Steps.{left}
 use Rattle.aper_frames.specs.Weights.{frames_weight, turn_weight}
 use Rattle.aper_reading.specs.Forms.{form_weight}
 use Rattle.aper_reading.specs.Heavy.{heavy, weighed}
-use Rattle.aper_reading.specs.Decoding.{IsTurnInside, TakesTurn, ReadsValue}
+use Rattle.aper_reading.specs.Turns.{IsTurnInside, TakesTurn, ReadsValue}
 use Rattle.aper_reading.proofs.HeavyLemmas.{weighed_inside, form_weighed, is_inside}
 
 -- after the beginning of a value

@@ -1,4 +1,4 @@
--- Forms of types: within the bounds of the profile, as far as an encoding depends on them, and how much a value of one has to be read.
+-- Internal: forms of types: within the bounds of the profile, as far as an encoding depends on them, and how much a value of one has to be read.
 use Rattle.std.specs.Prelude.{◌≡◌, ℕ, true, ◌^◌, ◌<◌, ◌≤◌, length}
 use Rattle.std.specs.Int.Signed.{le_z}
 use Rattle.asn1_types.specs.Members.{additions_of}

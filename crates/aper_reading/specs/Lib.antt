@@ -1,3 +1,4 @@
 pub mod Forms
 pub mod Heavy
+pub mod Turns
 pub mod Decoding

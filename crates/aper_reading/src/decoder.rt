@@ -1,11 +1,13 @@
 //! Whole values.
 
-ghost use Rattle.std.specs.Prelude.{◌≡◌, ◌<◌, ◌^◌, [], length};
-ghost use Rattle.aper_defs.specs.Reading.{run};
+ghost use Rattle.std.specs.Prelude.{◌≡◌, ◌<◌, ◌≤◌, [], length};
+ghost use Rattle.aper_defs.specs.Trees.{Tree};
+ghost use Rattle.aper_defs.specs.Reading.{run, decoded};
 ghost use Rattle.aper_types.specs.Types.{tree};
 ghost use Rattle.aper_frames.specs.Frames.{path_of};
 ghost use Rattle.aper_frames.specs.Steps.{left};
-ghost use Rattle.aper_reading.specs.Decoding.{Decodes, ReadsWhole, ReadsValue, IsRefusal, IsTurnInside, TakesTurn, Lessens};
+ghost use Rattle.aper_reading.specs.Decoding.{Decodes};
+ghost use Rattle.aper_reading.specs.Turns.{ReadsWhole, ReadsValue, IsRefusal, IsTurnInside, TakesTurn, Lessens};
 
 use crate::begin::begin;
 use crate::error::DecodeError;
@@ -25,15 +27,43 @@ enum Progress {
     Whole(Value),
 }
 
-/// The value of a type of a module that these octets spell.
+/// The first octets of an encoding: the last field that isn't too long ends before the last one of them.
+const FRONT: usize = 131_073;
+
+/// The value of a type of a module that these octets spell, or their first wrong field.
 pub fn decode<'m>(
     alloc: Global,
     m: &'m Module,
     id: TypeId,
     octets: &[u8],
 ) -> Result<Value, DecodeError<'m>>
+    requires { id.number < length m.now.nodes }
+    ensures { Decodes (tree m.now id.number) octets.now result }
+{
+    decode_front(alloc, m, id, front(octets))
+}
+
+/// As many of these octets as are read, however many there are.
+fn front(octets: &[u8]) -> &[u8]
+    ensures short { length result.now ≤ 131073 }
+    ensures same { (t : Tree) → decoded t result.now ≡ decoded t octets.now }
+{
+    if octets.len() > FRONT {
+        &octets[..FRONT]
+    } else {
+        octets
+    }
+}
+
+/// The value that these octets spell, of which there are few.
+fn decode_front<'m>(
+    alloc: Global,
+    m: &'m Module,
+    id: TypeId,
+    octets: &[u8],
+) -> Result<Value, DecodeError<'m>>
     requires inside { id.number < length m.now.nodes }
-    requires short { length octets.now < 2 ^ 61 }
+    requires short { length octets.now ≤ 131073 }
     ensures { Decodes (tree m.now id.number) octets.now result }
 {
     let mut cursor = Cursor::new(alloc, octets);

@@ -1,5 +1,5 @@
 use Rattle.std.proofs.Common.{Ok, subst}
-use Rattle.aper_reading.specs.Decoding.{Lessens}
+use Rattle.aper_reading.specs.Turns.{Lessens}
 use Rattle.aper_reading.proofs.Turns.{first_turn, turn_inside, turn_lessens}
 use Rattle.aper_reading.proofs.decoder.read_value.Goals as goal
 

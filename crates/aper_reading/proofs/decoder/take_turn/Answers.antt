@@ -3,7 +3,7 @@ use Rattle.aper_defs.specs.Bounds.{IsBounded}
 use Rattle.aper_types.specs.Types.{tree}
 use Rattle.aper_frames.specs.Weights.{turn_weight}
 use Rattle.aper_reading.specs.Heavy.{weighed}
-use Rattle.aper_reading.specs.Decoding.{IsTurnInside}
+use Rattle.aper_reading.specs.Turns.{IsTurnInside}
 use Rattle.aper_reading.proofs.FormBounds.{form_bounded}
 use Rattle.aper_reading.proofs.Turns.{begun_lighter}
 use Rattle.aper_reading.proofs.decoder.take_turn.Goals as goal
