@@ -1,11 +1,10 @@
 -- Components, additions and alternatives by their places.
-use Rattle.std.proofs.Common.{◌≡◌, ℕ, zero, suc, ◌+◌, ◌≤◌, List, [], ◌∷◌, ◌++◌, length, drop, Option, Some, None, refl, sym, ap, subst, arith}
+use Rattle.std.proofs.Common.{◌≡◌, ℕ, zero, suc, ◌+◌, ◌≤◌, List, [], ◌∷◌, ◌++◌, length, drop, Option, Some, None, sym, subst, arith}
 use Rattle.std.proofs.lemmas.List.{drop_all}
 use Rattle.bits_core.specs.Writing.{Written}
 use Rattle.asn1_types.specs.declared.definition.Component.{Component}
-use Rattle.asn1_module.specs.Links.{AreBelow, OptionBelow}
 use Rattle.aper_defs.specs.Trees.{Tree}
-use Rattle.aper_defs.specs.Values.{Value as SeenValue, value_count, ie_count}
+use Rattle.aper_defs.specs.Values.{Value as SeenValue}
 use Rattle.aper_defs.specs.Fields.{Path, Field}
 use Rattle.aper_defs.specs.Fields as fields
 use Rattle.aper_defs.specs.Bits.{put_all}
@@ -13,8 +12,7 @@ use Rattle.aper_defs.specs.Layouts.{added_fields}
 use Rattle.aper_defs.specs.Membership.{HasComponents, HasAdded}
 use Rattle.aper_types.specs.Types.{parts_of}
 use Rattle.aper_values.specs.declared.value.Value.{Value}
-use Rattle.aper_values.specs.declared.value.Element.{Element}
-use Rattle.aper_values.specs.Views.{view, values_view, options_view, ies_view}
+use Rattle.aper_values.specs.Views.{view, options_view}
 use Rattle.aper_members.specs.Rows.{part_type}
 use Rattle.aper_members.specs.Membership.{IsInside, AreComponents, AreNamed}
 use Rattle.aper_members.specs.Followed.{InsideFollows, AdditionsFollow}
