@@ -1,6 +1,6 @@
 //! Whole values.
 
-ghost use Rattle.std.specs.Prelude.{◌<◌, ◌^◌, length, IfOk};
+ghost use Rattle.std.specs.Prelude.{◌<◌, length, IfOk};
 ghost use Rattle.aper_defs.specs.Spelling.{Spells};
 ghost use Rattle.aper_types.specs.Types.{tree};
 ghost use Rattle.aper_values.specs.Views.{view};
@@ -16,8 +16,7 @@ use std::alloc::Global;
 
 /// The value of a type of a module that these octets spell.
 pub fn decode(alloc: Global, m: &Module, id: TypeId, octets: &[u8]) -> Result<Value, DecodeError>
-    requires inside { id.number < length m.now.nodes }
-    requires short { length octets.now < 2 ^ 61 }
+    requires { id.number < length m.now.nodes }
     ensures value { IfOk result (λ v. Spells (tree m.now id.number) (view v) octets.now) }
     ensures refused { OnRefusal result (IsRefused (tree m.now id.number) octets.now) }
     ensures first_wrong { OnRefusal result (IsFirstWrong (tree m.now id.number) octets.now) }

@@ -11,6 +11,8 @@ mod heads;
 #[cfg(test)]
 mod measuring;
 #[cfg(test)]
+mod reading;
+#[cfg(test)]
 mod refusals;
 #[cfg(test)]
 mod spellings;
