@@ -14,7 +14,6 @@ use Rattle.scenario_text.specs.declared.line.OutLine.TheVariants as lines
 use Rattle.script_words.specs.Answers.{GivesOrMemory}
 use Rattle.scenario_text.specs.Grammar.{is_skipped}
 use Rattle.scenario_text.specs.Print.{print}
-use Rattle.static_runner.specs.declared.runner.Runner.{Runner}
 use Rattle.asn1_assignments.specs.declared.assignment.Syntax.{Syntax}
 use Rattle.profile.specs.declared.version.Version.TheVariants.{One}
 use Rattle.profile_module.specs.declared.agreement.AgreeError.{AgreeError}
@@ -32,7 +31,7 @@ use Rattle.command_run.specs.declared.end.RunEnd.{RunEnd}
 use Rattle.command_run.specs.declared.end.RunEnd.TheVariants.{Differs, Script, Common}
 use Rattle.command_run.specs.declared.script.Meaning.{Meaning}
 use Rattle.command_run.specs.declared.script.Meaning.TheVariants as meanings
-use Rattle.command_run.specs.inside.Turns.{RunnerAt, runner_at, RunAt, ProfileStops, Untaken, Unlike, Uncompared, ProfileMeets, LineStops, Refused, IsEvent, GoesOn, Applies, ApplyStops, Faulty, NoRoom, ApplyMeets, TakesLine, Happens, TurnStops, Unread, Unapplied, Unwritten, TurnMeets, Means}
+use Rattle.command_run.specs.inside.Turns.{RunnerAt, RunAt, ProfileStops, Untaken, Unlike, Uncompared, ProfileMeets, LineStops, Refused, IsEvent, GoesOn, Applies, ApplyStops, Faulty, TakesLine, Happens, TurnStops, Unread, Unapplied, Unwritten, TurnMeets, Means}
 use Rattle.command_run.proofs.Runs.{print-cons}
 use Rattle.run_model.specs.Runnable.{runnable_event_of, whole_event}
 

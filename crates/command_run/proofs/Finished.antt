@@ -1,22 +1,19 @@
 -- The last line after a run, and the status.
-use Rattle.std.proofs.Common.{◌≡◌, ◌⊎◌, ℕ, List, [], ◌∷◌, ◌++◌, Option, Some, None, Err, refl, sym, ap, ◌∙◌, subst, inl, inr, arith}
+use Rattle.std.proofs.Common.{◌≡◌, ℕ, List, [], ◌∷◌, ◌++◌, Option, Some, None, refl, sym, ap, ◌∙◌, subst, inl, inr, arith}
 use Rattle.gnb_base.specs.Outside.{SourceAt, SinkAt}
-use Rattle.input_defs.specs.Faults.{NoReadFailed, LastReadFailed}
-use Rattle.input_defs.specs.Split.{rest_of}
 use Rattle.run_model.specs.declared.event.StaticEvent.{StaticEvent}
 use Rattle.scenario_text.specs.declared.line.OutLine.{OutLine}
 use Rattle.scenario_text.specs.Print.{print}
 use Rattle.std.specs.Option.{option_to_list}
-use Rattle.command_defs.specs.declared.CommonEnd.{CommonEnd}
 use Rattle.command_defs.specs.declared.CommonEnd.TheVariants.{ReadFault, TooLong, WriteFault, Memory}
-use Rattle.command_defs.specs.Outside.{OutsideAt, outside, ReadsTo, AllRead, ReadStopped, WritesTo, AllWritten, WriteStopped, CallsTo}
-use Rattle.command_defs.specs.Output.{Prints, PrintsFront}
+use Rattle.command_defs.specs.Outside.{OutsideAt, outside, ReadsTo, AllRead, ReadStopped, WritesTo, AllWritten, WriteStopped}
+use Rattle.command_defs.specs.Output.{Prints}
 use Rattle.command_output.specs.Writes.{WritesAll, WritesFront}
 use Rattle.command_output.proofs.Written.{none_then_none, none_then_last, prints_more, front_more, front_all}
 use Rattle.command_run.specs.declared.end.RunEnd.{RunEnd}
 use Rattle.command_run.specs.declared.end.RunEnd.TheVariants.{Done, NoModule, Differs, Script, Common}
 use Rattle.command_run.specs.Ends.{run_status, report_of, run_last_lines, end_text}
-use Rattle.command_run.specs.Run.{RunEndMeets, run_text, PrintsRun, RunMeets}
+use Rattle.command_run.specs.Run.{run_text, PrintsRun, RunMeets}
 use Rattle.command_run.specs.inside.Stops.{RunsTo, PrintsTo, ReadsUntil, WritesUntil, Finishes, Silent, Written, Cut, Unwritten}
 
 -- ---- the status of the reads

@@ -1,15 +1,13 @@
 -- A run so far, one turn more, and each of its ends.
-use Rattle.std.proofs.Common.{◌≡◌, ◌<◌, ◌≤◌, ℕ, ◌+◌, List, [], ◌∷◌, ◌++◌, length, map, true, Option, Some, None, Ok, Err, refl, sym, ap, ◌∙◌, subst, inl, inr, append-nil, append_assoc, length-append, arith}
-use Rattle.std.specs.List.{flat_map}
+use Rattle.std.proofs.Common.{◌≡◌, ◌<◌, ◌≤◌, ℕ, ◌+◌, List, [], ◌∷◌, ◌++◌, length, true, Option, Some, None, Ok, refl, sym, ap, ◌∙◌, subst, inl, inr, append-nil, append_assoc, length-append, arith}
 use Rattle.gnb_base.specs.declared.lines.Line.{Line}
-use Rattle.gnb_base.specs.declared.lines.ReadError.{ReadError}
 use Rattle.gnb_base.specs.declared.lines.ReadPhase.TheVariants as phases
 use Rattle.gnb_base.specs.Outside.{SourceAt, SinkAt}
 use Rattle.gnb_base.specs.Reading.{Reading, fresh, input_limit, NextMeets}
 use Rattle.input_defs.specs.declared.InputEnd.{InputEnd}
 use Rattle.input_defs.specs.declared.InputEnd.TheVariants as inputs
-use Rattle.input_defs.specs.Faults.{NoReadFailed, FaultsOfEnd}
-use Rattle.input_defs.specs.Split.{InputSplit, input_split, rest_of, TakesInput}
+use Rattle.input_defs.specs.Faults.{FaultsOfEnd}
+use Rattle.input_defs.specs.Split.{InputSplit, input_split, rest_of}
 use Rattle.input_defs.specs.Ends.{EndsReading, IsReadToEnd}
 use Rattle.input_defs.specs.Standing.{StandsAfter, split_of}
 use Rattle.input_lines.specs.ReadsLine.{StopsReading}
@@ -33,17 +31,17 @@ use Rattle.input_module.specs.declared.stop.ModuleStop.TheVariants as stops
 use Rattle.input_module.specs.Module.{GivesModule, StopsModule, IsWrongModule, Empty, NoHeader, Unended, IsPart, Unfinished, Whole, AtHeader}
 use Rattle.input_module.specs.Taking.{FaultsOfStop, StillGives}
 use Rattle.input_module.proofs.Given.{gives_at_end}
-use Rattle.command_defs.specs.declared.CommonEnd.TheVariants.{WriteFault, Memory}
+use Rattle.command_defs.specs.declared.CommonEnd.TheVariants.{Memory}
 use Rattle.command_defs.specs.Ends.{end_of_input}
-use Rattle.command_defs.specs.Outside.{OutsideAt, outside, NoWriteFailed, LastWriteFailed}
-use Rattle.command_defs.specs.Output.{Prints, PrintsFront}
-use Rattle.command_output.specs.Writes.{WritesAll, WritesFront}
+use Rattle.command_defs.specs.Outside.{OutsideAt, outside}
+use Rattle.command_defs.specs.Output.{PrintsFront}
+use Rattle.command_output.specs.Writes.{WritesAll}
 use Rattle.command_output.proofs.Written.{none_failed, none_then_last, all_none, all_more, front_none, front_more, front_of, front_all}
 use Rattle.command_run.specs.declared.end.RunEnd.{RunEnd}
 use Rattle.command_run.specs.declared.end.RunEnd.TheVariants.{Done, Common}
 use Rattle.command_run.specs.Run.{AreEvents, IsProfile, IsScript, Passes, RunEndMeets, run_text}
 use Rattle.command_run.specs.inside.Stops.{RunsTo, PrintsTo, ReadsUntil, WritesUntil, end_of_stop}
-use Rattle.command_run.specs.inside.Turns.{RunnerAt, runner_at, RunAt, run_at, HasProfile, ProfileStops, Untaken, Unlike, Uncompared, IsEvent, LineStops, Refused, NoMemory, Applies, ApplyStops, Faulty, NoRoom, LineApplies, Skips, Happens, TakesLine, TakesEnd, TurnStops, Unread, Unapplied, Unwritten, TurnMeets}
+use Rattle.command_run.specs.inside.Turns.{RunnerAt, RunAt, run_at, HasProfile, ProfileStops, Untaken, Unlike, Uncompared, IsEvent, LineStops, Refused, NoMemory, Applies, ApplyStops, Faulty, NoRoom, LineApplies, Skips, Happens, TakesLine, TakesEnd, TurnStops, Unread, Unapplied, Unwritten, TurnMeets}
 use Rattle.command_run.proofs.Runs.{run_begins, no_text, script_skips, script_more, text-more, shows_more}
 use Rattle.run_model.specs.Runnable.{whole_event}
 

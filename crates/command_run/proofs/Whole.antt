@@ -1,5 +1,5 @@
 -- A whole script runs to its end, unless memory runs out; and a stop at a line is near it.
-use Rattle.std.proofs.Common.{◌≡◌, ◌⊎◌, ◌≤◌, ◌+◌, ◌-◌, ℕ, List, [], ◌∷◌, ◌++◌, length, map, take, drop, true, false, Option, Some, None, Result, Ok, Err, refl, sym, ap, ◌∙◌, subst, inl, inr, append-nil, append_assoc, length-append, arith}
+use Rattle.std.proofs.Common.{◌≡◌, ◌⊎◌, ◌+◌, ◌-◌, ℕ, List, [], ◌∷◌, ◌++◌, length, map, take, drop, true, false, Option, Some, None, Result, Ok, Err, refl, sym, ap, ◌∙◌, subst, inl, inr, append-nil, append_assoc, length-append, arith}
 use Rattle.std.proofs.lemmas.Grind.{flat_map-append}
 use Rattle.std.proofs.lemmas.List.{take_all}
 use Rattle.std.specs.List.{flat_map}
@@ -7,10 +7,9 @@ use Rattle.std.specs.Io.KnownBytes.{Consumes}
 use Rattle.command_output.proofs.Faults.{no_read_fault, no_write_fault}
 use Rattle.gnb_base.specs.Lines.{line_feed, lines_of}
 use Rattle.gnb_base.specs.Outside.{SourceAt}
-use Rattle.gnb_base.specs.Reading.{input_limit}
 use Rattle.input_defs.specs.Split.{InputSplit, rest_of, joined, TakesInput, Divides, Bare}
 use Rattle.input_defs.specs.Split as division
-use Rattle.input_defs.specs.Ends.{IsReadToEnd, IsTooLong}
+use Rattle.input_defs.specs.Ends.{IsTooLong}
 use Rattle.input_defs.specs.Near.{StopsNear}
 use Rattle.input_lines.proofs.Near.{near_handed, near_empty, near_next}
 use Rattle.input_lines.proofs.Sources.{rest_known}
