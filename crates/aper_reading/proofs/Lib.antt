@@ -1,8 +1,7 @@
 pub mod ListLemmas
-pub mod SequenceLemmas
 pub mod SequenceSteps
+pub mod ReadsSteps
 pub mod FormBounds
 pub mod HeavyLemmas
 pub mod Turns
-pub mod ReadsSteps
 pub mod Front

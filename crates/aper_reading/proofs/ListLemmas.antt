@@ -1,28 +1,16 @@
 -- Members of a SEQUENCE OF, one at a time.
-use Rattle.std.proofs.Common.{◌≡◌, ℕ, suc, List, [], ◌∷◌, ◌++◌, length, Option, refl, sym, ap, ◌∙◌, arith, length-append}
-use Rattle.asn1_types.specs.declared.definition.TypeId.{TypeId}
-use Rattle.asn1_types.specs.declared.definition.Size.{Size}
-use Rattle.aper_defs.specs.Trees.{Tree, sequence_of}
+use Rattle.std.proofs.Common.{◌≡◌, ℕ, suc, List, [], ◌∷◌, ◌++◌, length, sym, ap, ◌∙◌, arith, length-append}
+use Rattle.aper_defs.specs.Trees.{Tree}
 use Rattle.aper_defs.specs.Values as seen
-use Rattle.aper_defs.specs.Fields.{Path}
-use Rattle.aper_defs.specs.Fields as fields
-use Rattle.aper_defs.specs.Questions.{Prog, ask_count, ask_members}
-use Rattle.aper_defs.specs.Asking.{asks}
+use Rattle.aper_defs.specs.Questions.{Prog, ask_members}
 use Rattle.aper_values.specs.declared.value.Value.{Value}
 use Rattle.aper_values.specs.Views.{view, values_view}
 use Rattle.aper_frames.specs.declared.frame.Members.{Members}
 use Rattle.aper_frames.specs.declared.frame.Frame.{Frame}
-use Rattle.aper_frames.specs.declared.frame.Frame.TheVariants as frames
 use Rattle.aper_frames.specs.declared.frame.Turn.TheVariants as turns
 use Rattle.aper_frames.specs.Frames.{values_before, ask_member, members_left, path_of, next_of}
 use Rattle.aper_frames.specs.Steps.{left}
 use Rattle.aper_frames.proofs.Before.{values_more, values_end}
-
-pub list_as : (of : ℕ → Tree) (size : Option Size) (element : TypeId) (p : Path) (K : seen.Value → Prog)
-    → asks p (sequence_of size (of element.number)) K
-    ≡ ask_count p size (λ n. ask_members (λ i. asks (fields.member i ∷ p) (of element.number)) 0 n (λ vs. K (seen.list vs)))
-unfolding asks
-list_as of size element p K = refl
 
 -- a member more
 pub member_put : (one : ℕ → (seen.Value → Prog) → Prog) (n : ℕ) (made more : List Value) (v : Value) (K : seen.Values → Prog)
@@ -42,10 +30,3 @@ module _ (of : ℕ → Tree) (m : Members) (fs : List Frame) where
       ap (λ (n : ℕ). ask_members (ask_member of m (path_of fs)) (length m.made.items) n
       (values_before m.made.items (λ vs. next_of of fs (seen.list vs)))) none
       ∙ values_end m.made.items (λ vs. next_of of fs (seen.list vs)) ∙ ap (next_of of fs) (sym e)
-
-  pub members_next : (k : ℕ) (gs : List Frame) → m.left ≡ suc k → gs ≡ frames.Member (record { element = m.element; left = k; made = m.made }) ∷ fs
-      → members_left of m (path_of fs) (next_of of fs) ≡ left of (turns.Read m.element) gs
-  members_next k gs some e =
-      ap (λ (n : ℕ). ask_members (ask_member of m (path_of fs)) (length m.made.items) n
-      (values_before m.made.items (λ vs. next_of of fs (seen.list vs)))) some
-      ∙ ap (λ hs. left of (turns.Read m.element) hs) (sym e)

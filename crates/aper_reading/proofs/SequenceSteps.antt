@@ -1,5 +1,5 @@
 -- Steps of a SEQUENCE: its flags and components, and the marks of its additions.
-use Rattle.std.proofs.Common.{◌≡◌, ℕ, List, [], Bool, Result, Err, refl, sym, ap, ◌∙◌}
+use Rattle.std.proofs.Common.{◌≡◌, ℕ, List, [], ◌∷◌, ◌++◌, Option, Some, Bool, Result, Err, refl, sym, ap, ◌∙◌}
 use Rattle.asn1_types.specs.declared.definition.Component.{Component}
 use Rattle.aper_defs.specs.declared.reason.Reason.{Reason}
 use Rattle.aper_defs.specs.Trees.{Tree, sequence}
@@ -22,7 +22,7 @@ use Rattle.aper_frames.specs.declared.parts.Addition.{Addition}
 use Rattle.aper_frames.specs.declared.parts.Addition.TheVariants as additions
 use Rattle.aper_frames.specs.Frames.{options_before, after_components, components_left, after_additions, additions_left, additions_next, path_of, next_of}
 use Rattle.aper_frames.specs.Steps.{Steps}
-use Rattle.aper_frames.proofs.Before.{options_end}
+use Rattle.aper_frames.proofs.Before.{options_end, options_present}
 use Rattle.aper_frames.proofs.Onward.{steps_after, first_wrong}
 
 -- what is asked after others is refused
@@ -130,3 +130,10 @@ pub additions_end : (of : ℕ → Tree) (a n : Additions) (x : Addition) (fs : L
 additions_end of a n x fs v asked is e =
     asked ∙ ap (additions_next of n (path_of fs) (next_of of fs)) is
     ∙ options_end n.made.items (after_additions n (next_of of fs)) ∙ ap (next_of of fs) (sym e)
+
+-- a component or addition more, whatever is asked then
+pub option_put : (others : (seen.Options → Prog) → Prog) (made more : List (Option Value)) (v : Value) (J : seen.Options → Prog)
+    → more ≡ made ++ Some v ∷ []
+    → others (λ vs. options_before made J (seen.present (view v) vs)) ≡ others (options_before more J)
+option_put others made more v J e =
+    ap others (sym (options_present made v J)) ∙ ap (λ (ms : List (Option Value)). others (options_before ms J)) (sym e)

@@ -27,7 +27,7 @@ enum Progress {
     Whole(Value),
 }
 
-/// The first octets of an encoding: the last field that isn't too long ends before the last one of them.
+/// An encoding has at most 131,072 octets. One octet more shows that it is longer, and what comes after that changes no answer.
 const FRONT: usize = 131_073;
 
 /// The value of a type of a module that these octets spell, or their first wrong field.
@@ -43,7 +43,7 @@ pub fn decode<'m>(
     decode_front(alloc, m, id, front(octets))
 }
 
-/// As many of these octets as are read, however many there are.
+/// These octets as far as they are looked at.
 fn front(octets: &[u8]) -> &[u8]
     ensures short { length result.now ≤ 131073 }
     ensures same { (t : Tree) → decoded t result.now ≡ decoded t octets.now }
@@ -55,7 +55,7 @@ fn front(octets: &[u8]) -> &[u8]
     }
 }
 
-/// The value that these octets spell, of which there are few.
+/// The value that so few octets spell, or their first wrong field.
 fn decode_front<'m>(
     alloc: Global,
     m: &'m Module,

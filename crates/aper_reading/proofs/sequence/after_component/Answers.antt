@@ -3,7 +3,7 @@ use Rattle.aper_defs.specs.Asking.{ask_components}
 use Rattle.aper_types.specs.Types.{parts_of}
 use Rattle.aper_frames.specs.Frames.{component_after, components_left, after_components, path_of, next_of}
 use Rattle.aper_frames.proofs.Onward.{steps_as}
-use Rattle.aper_reading.proofs.SequenceLemmas.{option_put}
+use Rattle.aper_reading.proofs.SequenceSteps.{option_put}
 use Rattle.aper_reading.proofs.sequence.after_component.Goals as goal
 
 pub returns-clause-asked : goal.returns-clause-asked
