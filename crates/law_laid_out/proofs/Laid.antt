@@ -92,9 +92,6 @@ module _ (reading : Reading) where
   abbrev PlainFacts : Facts (Message Token) Token (Written (Load Pdu)) (Written Pdu)
   PlainFacts = written_facts link_items
 
-  IsLaidAs : NodeId → Link → ShownItem → Type 0
-  IsLaidAs actor link item = (sn : SnBits) × IsLaidOut sn actor link item
-
   put_laid : (actor : NodeId) (link : Link) (item : ShownItem)
       → TellsTunnel PlainWorld PlainFacts actor link item ⊎ TellsRadio PlainWorld PlainFacts actor link item → (sn : SnBits) × IsLaidOut sn actor link item
   put_laid actor link item (inl t) =

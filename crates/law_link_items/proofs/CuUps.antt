@@ -1,12 +1,8 @@
 -- A CU-UP puts what may stand, with the COUNT that it says, and keeps the names of its bearers.
 use Rattle.std.proofs.Common.{◌≡◌, ◌==◌, ℕ, ◌+◌, ◌*◌, Bool, true, false, cond, not, ◌&&◌, ◌||◌, List, [], ◌∷◌, length, map, Option, Some, None, refl, sym, ◌∙◌, subst}
 use Rattle.std.specs.Prelude.{if◌then◌else◌}
-use Rattle.std.specs.declared.cmp.Ordering.{Ordering}
-use Rattle.std.specs.declared.cmp.Ordering.TheVariants.{Less, Equal, Greater}
-use Rattle.std.specs.Ordering.{nat_cmp, eq_by_cmp, match_ordering}
-use Rattle.std.specs.Map.{lookup}
-use Rattle.std.specs.BTreeMap.{is_at, insert_entry}
-use Rattle.std.specs.List.{list_all, AllByRecursion, flat_map}
+use Rattle.std.specs.Ordering.{nat_cmp, eq_by_cmp}
+use Rattle.std.specs.List.{list_all, flat_map}
 use Rattle.gnb_types.specs.declared.names.Gnb.{Gnb}
 use Rattle.gnb_types.specs.declared.names.NodeId.{NodeId}
 use Rattle.gnb_types.specs.declared.names.NodeId.TheVariants.{CuCp, Du as du_id}
@@ -42,6 +38,7 @@ use Rattle.unit_defs.specs.UpItems.{held_reason, took}
 use Rattle.unit_defs.specs.Static.{with_downlinks, up_context, up_placed}
 use Rattle.unit_defs.specs.CuUp.{bearers_from, bearers_made, entries_of, with_context, context_of, with_transactions, up_node, UpStep, steps, stops, step_with, each_bearer, answer_with, ended, ended_if_over, end_where_over, replies, new_context, opened_of, with_new, makes, fits, set_up_for, setup_response, setup_on, setup, modified, uplinks_from, teids_from, uplinks_given, add_uplinks, as_switched, switch, as_frozen, peer_node, statuses, freeze, as_known, status_each, take_status, as_resumed, resume, names, switch_if, freeze_if, status_if, resume_if, modify_on, as_released, released_on, release, asked, start, set_up, control_by, ue_in, is_own_cp, control_came, with_bearer, taken_by, taken_in, taken_of, taken_on, take, poll_bearer, poll_on, poll, due_output, tick, cu_up_acts}
 use Rattle.run_defs.specs.Runs.{plain_way}
+use Rattle.law_receivers.proofs.CuUps.{found_in, all_put}
 use Rattle.law_run_facts.specs.Facts.{PutsFit}
 use Rattle.law_run_facts.specs.UnitFacts.{as_facts, InputFits, AnswerFits}
 use Rattle.law_run_facts.proofs.Fits.{puts_both, fits_if, fits_then, any_then, ask_fits, advance_fits, replied_fits, fits_request, fits_reply, due_fits}
@@ -55,29 +52,6 @@ abbrev Bearers : Type 0
 Bearers = List (BearerId × UpBearer)
 
 -- ---- tables
-
-module _ {X : Type 0} (Q : X → Type 0) where
-  abbrev pub Each : List (BearerId × X) → Type 0
-  Each es = AllByRecursion (λ (e : BearerId × X). Q e.1) es
-
-  pub found_in : (es : List (BearerId × X)) (k : BearerId) (x : X) → Each es → find bearer_cmp es k ≡ Some x → Q x
-  unfolding find
-  found_in [] k x all is = absurd cc
-  found_in (e ∷ es) k x all is = by (found_in es k x all.1) (is_at (bearer_cmp k) e.0) is
-    where
-      by : (find bearer_cmp es k ≡ Some x → Q x) → (t : Bool) → cond t (Some e.1) (lookup (is_at (bearer_cmp k)) es) ≡ Some x → Q x
-      by later true h = let same : e.1 ≡ x = cc in subst Q same all.0
-      by later false h = later h
-
-  pub all_put : (es : List (BearerId × X)) (k : BearerId) (x : X) → Each es → Q x → Each (put bearer_cmp es k x)
-  unfolding put
-  all_put [] k x all p = (p, tt)
-  all_put (e ∷ es) k x all p = by (bearer_cmp k e.0) (all_put es k x all.1 p)
-    where
-      by : (r : Ordering) → Each (insert_entry bearer_cmp es k x) → Each (match_ordering r ((k, x) ∷ e ∷ es) ((e.0, x) ∷ es) (e ∷ insert_entry bearer_cmp es k x))
-      by Less rest = (p, all)
-      by Equal rest = (p, all.1)
-      by Greater rest = (all.0, rest)
 
 module _ {X : Type 0} (Q : X → Type 0) where
   abbrev pub EachFound : List (UeId × X) → Type 0

@@ -36,7 +36,8 @@ use Rattle.law_run_facts.specs.UnitFacts.{as_facts, InputFits, AnswerFits}
 use Rattle.law_run_facts.proofs.Fits.{puts_both, fits_if, fits_then, any_then, ask_fits, advance_fits, replied_fits, fits_request, fits_reply, due_fits}
 use Rattle.law_link_items.specs.Items.{count_of_pdu, count_of_payload, count_of_load}
 use Rattle.law_link_items.proofs.Names.{IsDu, IsCuUp, tells_up, passes_up, du_on_air, DuBearersName, DuNames, link_items}
-use Rattle.law_link_items.proofs.CuUps.{found_in, all_put, found_put, found_left}
+use Rattle.law_receivers.proofs.CuUps.{found_in, all_put}
+use Rattle.law_link_items.proofs.CuUps.{found_put, found_left}
 
 abbrev Record : Type 0
 Record = Du (Message Token) Token

@@ -2,7 +2,7 @@
 -- nothing is asked.
 use Rattle.std.proofs.Common.{ℕ, Bool, true, false, not, ◌||◌, List, [], ◌∷◌, ◌++◌, Option, Some, None}
 use Rattle.std.specs.Prelude.{if◌then◌else◌}
-use Rattle.std.specs.List.{AllByRecursion, flat_map}
+use Rattle.std.specs.List.{flat_map}
 use Rattle.gnb_types.specs.declared.names.NodeId.{NodeId}
 use Rattle.gnb_types.specs.declared.keys.Channel.{Channel}
 use Rattle.gnb_types.specs.declared.reasons.DropReason.TheVariants.{Stale}
@@ -14,11 +14,8 @@ use Rattle.unit_defs.specs.Transactions.{Transactions, Waiting, Asked, is_empty,
 use Rattle.transport_defs.specs.declared.Letter.{Letter}
 use Rattle.run_defs.specs.Runs.{plain_way}
 use Rattle.law_run_facts.specs.Facts.{PutFits, PutsFit}
+use Rattle.law_run_facts.proofs.Within.{all_both}
 use Rattle.law_run_facts.specs.UnitFacts.{UnitFacts, as_facts, AnswerFits}
-
-all_both : {X : Type 0} (Q : X → Type 0) (xs ys : List X) → AllByRecursion Q xs → AllByRecursion Q ys → AllByRecursion Q (xs ++ ys)
-all_both Q [] ys p q = q
-all_both Q (x ∷ xs) ys p q = (p.0, all_both Q xs ys p.1 q)
 
 module _ (facts : UnitFacts) (node : NodeId) (taken : Option ℕ) where
   pub puts_both : (os more : List (Output (Message Token) Pdu)) → PutsFit (as_facts facts) node taken os → PutsFit (as_facts facts) node taken more

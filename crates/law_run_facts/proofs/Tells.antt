@@ -23,7 +23,7 @@ use Rattle.run_defs.specs.Events.{landed_as, offered}
 use Rattle.run_defs.specs.Runs.{Happened, happens, run_on, run_from}
 use Rattle.run_defs.specs.Units.{Units}
 use Rattle.std.specs.Ordering.{nat_cmp}
-use Rattle.law_run_facts.proofs.Within.{HoldsWith, same_links}
+use Rattle.law_run_facts.proofs.Within.{all_both, HoldsWith, same_links}
 use Rattle.law_run_facts.proofs.Steps.{found_has, taken_fits}
 use Rattle.law_run_facts.proofs.Runs.{made_holds}
 use Rattle.law_steps.specs.Causes.{Cause, by_order, by_tick, by_octets, by_octets_on, by_attach, by_release, by_offer, by_item, by_air, by_ack, by_letter, node_of, given_of, count_of, first_of, Stands}
@@ -31,10 +31,6 @@ use Rattle.law_steps.specs.Made.{IsRemark, Made, stays, ends, then_made, sets_up
 use Rattle.law_steps.proofs.Runs.{made_of_steps}
 use Rattle.law_run_facts.specs.Facts.{Facts, Hold, PutFits, PutsFit, AreKept}
 use Rattle.law_run_facts.specs.TellFacts.{Tells, StepTells}
-
-both_all : {X : Type 0} (Q : X → Type 0) (xs ys : List X) → AllByRecursion Q xs → AllByRecursion Q ys → AllByRecursion Q (xs ++ ys)
-both_all Q [] ys p q = q
-both_all Q (x ∷ xs) ys p q = (p.0, both_all Q xs ys p.1 q)
 
 module _ {M C L P : Type 0} (world : World M C L P) (facts : Facts M C L P) where
   module _ (actor : NodeId) where
@@ -49,8 +45,8 @@ module _ {M C L P : Type 0} (world : World M C L P) (facts : Facts M C L P) wher
     then_says (goes lines t) f p q = by (f t) (q t)
       where
         by : (e : Within M C L P) → Says e → Says (told_before lines e)
-        by (goes more s) h = both_all (Tells world facts actor) lines more p h
-        by (stops more why) h = both_all (Tells world facts actor) lines more p h
+        by (goes more s) h = all_both (Tells world facts actor) lines more p h
+        by (stops more why) h = all_both (Tells world facts actor) lines more p h
     then_says (stops lines why) f p q = p
 
     checked_says : SaysAll check_spans
@@ -186,8 +182,8 @@ module _ {M C L P : Type 0} (world : World M C L P) (facts : Facts M C L P) wher
   then_tells (goes steps t) more p h q = by (more t) (q t h)
     where
       by : (e : Outcome M C L P) → OutcomeTells e → OutcomeTells (told_before steps e)
-      by (goes further s) r = both_all (StepTells world facts) steps further p r
-      by (stops further why) r = both_all (StepTells world facts) steps further p r
+      by (goes further s) r = all_both (StepTells world facts) steps further p r
+      by (stops further why) r = all_both (StepTells world facts) steps further p r
   then_tells (stops steps why) more p h q = p
 
   module _ (kept : AreKept world facts) where

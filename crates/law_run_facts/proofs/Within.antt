@@ -28,6 +28,10 @@ pub all_and : {X : Type 0} (Q : X → Type 0) (xs : List X) (x : X) → AllByRec
 all_and Q [] x all q = (q, tt)
 all_and Q (y ∷ ys) x all q = (all.0, all_and Q ys x all.1 q)
 
+pub all_both : {X : Type 0} (Q : X → Type 0) (xs ys : List X) → AllByRecursion Q xs → AllByRecursion Q ys → AllByRecursion Q (xs ++ ys)
+all_both Q [] ys p q = q
+all_both Q (x ∷ xs) ys p q = (p.0, all_both Q xs ys p.1 q)
+
 module _ {M C L P : Type 0} (world : World M C L P) (facts : Facts M C L P) where
   -- they hold where it goes on
   abbrev pub HoldsWith : {X : Type 0} → ℕ → Ending X (State M C L P) → Type 0
