@@ -1,5 +1,4 @@
-//! Tests of aligned PER by public calls alone: whole values, whether they are of their types and how long they are, and what is asked
-//! at a place.
+//! Tests of aligned PER by public calls alone: what is asked at a place, whether values are of their types, and how long they are.
 #![tactic(auto)]
 
 #[cfg(test)]
@@ -11,12 +10,4 @@ mod heads;
 #[cfg(test)]
 mod measuring;
 #[cfg(test)]
-mod reading;
-#[cfg(test)]
-mod refusals;
-#[cfg(test)]
-mod spellings;
-#[cfg(test)]
 mod strings;
-#[cfg(test)]
-mod vectors;

@@ -11,7 +11,7 @@ use asn1_module::{Module, read_module};
 use asn1_types::Size;
 use gnb_types::bits::Bits;
 use gnb_types::octets::Octets;
-use std::process::Abort;
+use std::alloc::Global;
 use std::test::Fail;
 
 /// 1 to 150, or another number.
@@ -34,73 +34,120 @@ fn octets(end: Option<Place>) -> Option<u128> {
     }
 }
 
+/// Where numbers, truth values and names end from the first bit on, and how many octets that is.
 #[test]
-fn numbers(rt: HostRuntime) -> Result<(), Fail> {
-    let five = Value::Int(5);
-    let many = Value::Int(65536);
-    let other = Value::Bool(true);
-    assert!(rt; octets(boolean_end(&other, 0)) == Some(1));
-    assert!(rt; octets(boolean_end(&five, 0)) == None);
-    assert!(rt; octets(integer_end(0, 65536, false, &five, 0)) == Some(2));
-    assert!(rt; octets(integer_end(0, 65536, false, &many, 0)) == Some(4));
-    assert!(rt; octets(integer_end(0, 68719476735, false, &five, 0)) == Some(2));
-    assert!(rt; octets(integer_end(0, 10, true, &five, 0)) == Some(1));
-    assert!(rt; octets(integer_end(0, 10, true, &many, 0)) == Some(5));
-    assert!(rt; octets(integer_end(0, 10, false, &many, 0)) == None);
-    assert!(rt; octets(enumerated_end(2, true, &Value::Enum(65), 0)) == Some(1));
-    assert!(rt; octets(enumerated_end(2, true, &Value::Enum(66), 0)) == None);
-    Ok(())
+fn numbers(rt: HostRuntime) {
+    let (five, many) = (Value::Int(5), Value::Int(65536));
+    let ends = [
+        octets(boolean_end(&Value::Bool(true), 0)),
+        octets(boolean_end(&five, 0)),
+        octets(integer_end(0, 65536, false, &five, 0)),
+        octets(integer_end(0, 65536, false, &many, 0)),
+        octets(integer_end(0, 68719476735, false, &five, 0)),
+        octets(integer_end(0, 10, true, &five, 0)),
+        octets(integer_end(0, 10, true, &many, 0)),
+        octets(integer_end(0, 10, false, &many, 0)),
+        octets(enumerated_end(2, true, &Value::Enum(65), 0)),
+        octets(enumerated_end(2, true, &Value::Enum(66), 0)),
+    ];
+    let counts = [
+        Some(1),
+        None,
+        Some(2),
+        Some(4),
+        Some(2),
+        Some(1),
+        Some(5),
+        None,
+        Some(1),
+        None,
+    ];
+    assert!(rt; ends == counts);
+}
+
+/// How many octets a text has; none where memory lacks.
+fn text_length(alloc: Global, text: &[u8]) -> Option<Option<u128>> {
+    let text = Value::Text(Octets::from_slice(alloc, text).ok()?);
+    Some(octets(printable_string_end(SIZE, &text, 0)))
+}
+
+/// How many octets three bits have; none where memory lacks.
+fn bits_length(alloc: Global) -> Option<Option<u128>> {
+    let bits = Value::Bits(Bits::from_slice(alloc, &[true, false, true]).ok()?);
+    Some(octets(bit_string_end(SIZE, &bits, 0)))
+}
+
+/// How many octets 16,384 octets have, which are a part of their own; none where memory lacks.
+fn part_length(alloc: Global) -> Option<Option<u128>> {
+    let part = Value::Octets(Octets::from_slice(alloc, &[0; 16384]).ok()?);
+    Some(octets(octet_string_end(None, &part, 0)))
 }
 
 #[test]
-fn strings(rt: HostRuntime) -> Result<(), Fail> {
+fn strings(rt: HostRuntime) {
     let alloc = rt.alloc();
-    let text = Value::Text(Octets::from_slice(alloc, b"du1")?);
-    let star = Value::Text(Octets::from_slice(alloc, b"du*")?);
-    let part = Value::Octets(Octets::from_slice(alloc, &[0; 16384])?);
-    let bits = Value::Bits(Bits::from_slice(alloc, &[true, false, true])?);
-    assert!(rt; octets(printable_string_end(SIZE, &text, 0)) == Some(5));
-    assert!(rt; octets(printable_string_end(SIZE, &star, 0)) == None);
-    assert!(rt; octets(octet_string_end(None, &part, 0)) == Some(16386));
-    assert!(rt; octets(octet_string_end(SIZE, &text, 0)) == None);
-    assert!(rt; octets(bit_string_end(SIZE, &bits, 0)) == Some(3));
-    Ok(())
+    assert!(rt; text_length(alloc, b"du1") == Some(Some(5)));
+    assert!(rt; text_length(alloc, b"du*") == Some(None));
+    assert!(rt; part_length(alloc) == Some(Some(16386)));
+    assert!(rt; octets(octet_string_end(SIZE, &Value::Int(5), 0)) == None);
+    assert!(rt; bits_length(alloc) == Some(Some(3)));
 }
 
-/// How many octets a value of the type with a name has; none where there is no type, or the value isn't one of it.
-fn length_of(m: &Module, name: &[u8], value: &Value) -> Option<u64> {
-    let id = m.find(name)?;
-    if !is_value(m, id, value) {
-        return None;
+/// How many octets a value has as one of the type with a name: none where there is no type, or the value isn't one of it. None at
+/// all where memory lacks.
+fn length_of(m: &Module, name: &[u8], value: Option<Value>) -> Option<Option<u64>> {
+    let value = value?;
+    let Some(id) = m.find(name) else {
+        return Some(None);
+    };
+    if !is_value(m, id, &value) {
+        return Some(None);
     }
-    Some(spelled_length(m, id, value))
+    Some(Some(spelled_length(m, id, &value)))
 }
 
-/// A Pair: the extension bit and the bit of `b`, a pad to the next octet, and `a`.
+/// A Pair without additions.
+fn pair(alloc: Global, a: Option<Value>, b: Option<Value>) -> Option<Value> {
+    let root = vec![in alloc; a, b].ok()?;
+    Some(Value::Seq {
+        root,
+        additions: Vec::new(alloc),
+    })
+}
+
+/// A Pair with the addition 7.
+fn extended(alloc: Global) -> Option<Value> {
+    let root = vec![in alloc; Some(Value::Int(5)), None].ok()?;
+    let additions = vec![in alloc; Some(Value::Int(7))].ok()?;
+    Some(Value::Seq { root, additions })
+}
+
+fn list(alloc: Global, member: Option<Value>) -> Option<Value> {
+    Some(Value::List(vec![in alloc; member?].ok()?))
+}
+
+fn choice(alloc: Global, index: u32, body: Option<Value>) -> Option<Value> {
+    Some(Value::Choice(index, Box::new(alloc, body?).ok()?))
+}
+
+fn raw(alloc: Global) -> Option<Value> {
+    Some(Value::Raw(Octets::from_slice(alloc, &[1, 2]).ok()?))
+}
+
+/// A Pair: the extension bit and the bit of `b`, a pad to the next octet, and `a`; a list has one octet more for its count.
 #[test]
 fn values_of_a_module(rt: HostRuntime) -> Result<(), Fail> {
     let alloc = rt.alloc();
     let (m, _) = read_module(alloc, MODULE).ok().ok_or("a module")?;
-    let pair = Value::Seq {
-        root: vec![in alloc; Some(Value::Int(5)), None]?,
-        additions: Vec::new(alloc),
-    };
-    assert!(rt; length_of(&m, b"Pair", &pair) == Some(2));
-    assert!(rt; length_of(&m, b"Other", &pair).is_none());
-    let great = Value::Seq {
-        root: vec![in alloc; Some(Value::Int(256)), None]?,
-        additions: Vec::new(alloc),
-    };
-    assert!(rt; length_of(&m, b"Pair", &great).is_none());
-    let lacking = Value::Seq {
-        root: vec![in alloc; None, Some(Value::Bool(true))]?,
-        additions: Vec::new(alloc),
-    };
-    assert!(rt; length_of(&m, b"Pair", &lacking).is_none());
-    // One more octet for the count, and the first value of a list is no Pair.
-    let pairs = Value::List(vec![in alloc; pair]?);
-    assert!(rt; length_of(&m, b"Pairs", &pairs) == Some(3));
-    assert!(rt; length_of(&m, b"Pairs", &Value::List(vec![in alloc; great]?)).is_none());
+    let (five, great) = (Value::Int(5), Value::Int(256));
+    assert!(rt; length_of(&m, b"Pair", pair(alloc, Some(five), None)) == Some(Some(2)));
+    assert!(rt; length_of(&m, b"Pair", pair(alloc, Some(great), None)) == Some(None));
+    assert!(rt; length_of(&m, b"Pair", pair(alloc, None, Some(Value::Bool(true)))) == Some(None));
+    assert!(rt; length_of(&m, b"Other", Some(Value::Int(5))) == Some(None));
+    let pairs = list(alloc, pair(alloc, Some(Value::Int(5)), None));
+    assert!(rt; length_of(&m, b"Pairs", pairs) == Some(Some(3)));
+    let pairs = list(alloc, pair(alloc, Some(Value::Int(256)), None));
+    assert!(rt; length_of(&m, b"Pairs", pairs) == Some(None));
     Ok(())
 }
 
@@ -109,25 +156,12 @@ fn values_of_a_module(rt: HostRuntime) -> Result<(), Fail> {
 fn additions_of_a_module(rt: HostRuntime) -> Result<(), Fail> {
     let alloc = rt.alloc();
     let (m, _) = read_module(alloc, MODULE).ok().ok_or("a module")?;
-    let extended = Value::Seq {
-        root: vec![in alloc; Some(Value::Int(5)), None]?,
-        additions: vec![in alloc; Some(Value::Int(7))]?,
-    };
-    assert!(rt; length_of(&m, b"Pair", &extended) == Some(5));
-    let chosen = Value::Choice(0, Box::new(alloc, extended)?);
-    assert!(rt; length_of(&m, b"Either", &chosen) == Some(5));
-    let unknown = Value::Choice(
-        2,
-        Box::new(alloc, Value::Raw(Octets::from_slice(alloc, &[1, 2])?))?,
-    );
-    assert!(rt; length_of(&m, b"Either", &unknown) == Some(4));
-    assert!(rt;
-        length_of(
-            &m,
-            b"Either",
-            &Value::Choice(2, Box::new(alloc, Value::Int(5))?)
-        )
-        .is_none()
-    );
+    assert!(rt; length_of(&m, b"Pair", extended(alloc)) == Some(Some(5)));
+    let chosen = choice(alloc, 0, extended(alloc));
+    assert!(rt; length_of(&m, b"Either", chosen) == Some(Some(5)));
+    let unknown = choice(alloc, 2, raw(alloc));
+    assert!(rt; length_of(&m, b"Either", unknown) == Some(Some(4)));
+    let other = choice(alloc, 2, Some(Value::Int(5)));
+    assert!(rt; length_of(&m, b"Either", other) == Some(None));
     Ok(())
 }
