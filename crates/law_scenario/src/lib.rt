@@ -1,9 +1,9 @@
 //! Laws of the text of a scenario. No code stands on them.
 #![tactic(auto)]
 
-ghost use Rattle.std.specs.Prelude.{◌≡◌, ◌↔◌, ℕ, List, codes, Err};
+ghost use Rattle.std.specs.Prelude.{◌≡◌, ◌↔◌, ℕ, List, Err};
 ghost use Rattle.script_words.specs.declared.reason.TextReason.{TextReason};
-ghost use Rattle.scenario_text.specs.Grammar.{event_of, header_of};
+ghost use Rattle.scenario_text.specs.Grammar.{event_of};
 ghost use Rattle.scenario_text.specs.Texts.{event_text, InRange, IsTextOf};
 ghost use Rattle.scenario_text.specs.declared.event.Event.{Event};
 ghost use Rattle.scenario_text.specs.declared.line.OutLine.{OutLine};
@@ -40,9 +40,4 @@ pub fn texts_tell_lines_apart()
 /// No two transcripts have one text: what is printed says one thing.
 pub fn texts_tell_transcripts_apart()
     ensures { (xs ys : List OutLine) → AreLines xs → AreLines ys → print xs ≡ print ys → xs ≡ ys }
-{}
-
-/// One line is a header.
-pub fn one_line_is_a_header()
-    ensures { (line : List ℕ) → (header_of line ≡ Ok tt) ↔ (line ≡ codes "module builtin") }
 {}

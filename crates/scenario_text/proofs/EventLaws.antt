@@ -23,7 +23,7 @@ use Rattle.scenario_text.specs.declared.event.Event.{Event}
 use Rattle.scenario_text.specs.declared.event.Event.TheVariants as events
 use Rattle.scenario_text.specs.declared.event.Keyword.{Keyword}
 use Rattle.scenario_text.specs.declared.event.Keyword.TheVariants as keywords
-use Rattle.scenario_text.specs.Grammar.{EventForm, keyword_text, all_keywords, keyword_of, plan_places, plan_of, bare_form, static_form, attach_form, offer_form, get_form, air_form, ack_form, give_form, lose_message_form, lose_item_form, poll_form, ue_form, handover_form, ask_form, inject_message_form, inject_item_form, names_message, names_tunnel, read_form, keyword_event, words_event, event_of, header, header_of}
+use Rattle.scenario_text.specs.Grammar.{EventForm, keyword_text, all_keywords, keyword_of, plan_places, plan_of, bare_form, static_form, attach_form, offer_form, get_form, air_form, ack_form, give_form, lose_message_form, lose_item_form, poll_form, ue_form, handover_form, ask_form, inject_message_form, inject_item_form, names_message, names_tunnel, read_form, keyword_event, words_event, event_of}
 use Rattle.scenario_text.specs.Texts.{plan_values, by_form, form_text, event_text, InRange, IsWritten, IsTextOf}
 
 -- ---- keywords
@@ -527,31 +527,3 @@ given_in_range line (Ok e) h = event_in_range line e h
 given_in_range line (Err error) h = tt
 
 -- The header is one line.
-header_ok : (left : List (List ℕ)) → header left ≡ Ok tt → left ≡ codes "module" ∷ codes "builtin" ∷ []
-header_ok [] h = absurd (cc)
-header_ok (first ∷ rest) h = elim (chosen (first is codes "module") (Ok tt) (Err Word) (fixed (codes "module") Word first) refl) [
-  | inl w ↦ with_first rest (is_text first (codes "module") w.0) (ap (λ (r : Result (Unit {0}) TextReason). result_then {X = Unit {0} × List (List ℕ)} {Y = Unit {0}} (result_then r (λ x. Ok (x, rest))) (λ keyword. result_then (place (fixed (codes "builtin") Word) keyword.1) (λ kind. line_end kind.1))) w.1 ∙ h)
-  | inr w ↦ absurd (let no : Err Word ≡ Ok tt = ap (λ (r : Result (Unit {0}) TextReason). result_then {X = Unit {0} × List (List ℕ)} {Y = Unit {0}} (result_then r (λ x. Ok (x, rest))) (λ keyword. result_then (place (fixed (codes "builtin") Word) keyword.1) (λ kind. line_end kind.1))) w.1 ∙ h in cc)
-]
-  where
-    with_end : (second : List ℕ) (end : List (List ℕ)) → first ≡ codes "module" → second ≡ codes "builtin" → line_end end ≡ Ok tt
-        → first ∷ second ∷ end ≡ codes "module" ∷ codes "builtin" ∷ []
-    with_end second [] p q h = ap (λ w. w ∷ second ∷ []) p ∙ ap (λ w. codes "module" ∷ w ∷ []) q
-    with_end second (word ∷ end) p q h = absurd (cc)
-
-    with_first : (rest : List (List ℕ)) → first ≡ codes "module"
-        → result_then (place (fixed (codes "builtin") Word) rest) (λ kind. line_end kind.1) ≡ Ok tt
-        → first ∷ rest ≡ codes "module" ∷ codes "builtin" ∷ []
-    with_first [] p h = absurd (cc)
-    with_first (second ∷ end) p h = elim (chosen (second is codes "builtin") (Ok tt) (Err Word) (fixed (codes "builtin") Word second) refl) [
-      | inl w ↦ with_end second end p (is_text second (codes "builtin") w.0) (ap (λ (r : Result (Unit {0}) TextReason). result_then {X = Unit {0} × List (List ℕ)} {Y = Unit {0}} (result_then r (λ x. Ok (x, end))) (λ kind. line_end kind.1)) w.1 ∙ h)
-      | inr w ↦ absurd (let no : Err Word ≡ Ok tt = ap (λ (r : Result (Unit {0}) TextReason). result_then {X = Unit {0} × List (List ℕ)} {Y = Unit {0}} (result_then r (λ x. Ok (x, end))) (λ kind. line_end kind.1)) w.1 ∙ h in cc)
-    ]
-
-pub header_sound : (line : List ℕ) → header_of line ≡ Ok tt → line ≡ codes "module builtin"
-unfolding header_of
-header_sound line h = sym (join_with_byte-slice_split 32 line) ∙ ap (join_with_byte 32) (header_ok (words line) h)
-
-pub header_is_read : (line : List ℕ) → line ≡ codes "module builtin" → header_of line ≡ Ok tt
-unfolding header_of
-header_is_read line h = ap header_of h

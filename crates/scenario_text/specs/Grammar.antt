@@ -207,15 +207,6 @@ words_event next = result_then (ok_or (keyword_of next.0) Word) (λ keyword. key
 unfoldable pub event_of : List ℕ → Result Event TextReason
 event_of line = result_then (next_word (words line)) words_event
 
--- the header line, `module builtin`
-abbrev pub header : List (List ℕ) → Result (Unit {0}) TextReason
-header left =
-    result_then (place (fixed (codes "module") Word) left)
-    (λ keyword. result_then (place (fixed (codes "builtin") Word) keyword.1) (λ kind. line_end kind.1))
-
-unfoldable pub header_of : List ℕ → Result (Unit {0}) TextReason
-header_of line = header (words line)
-
 -- a line that is not an event: an empty one, or a comment
 abbrev pub is_skipped : List ℕ → Bool
 is_skipped line = length line == 0 || slice_index line 0 == 59

@@ -4,7 +4,7 @@ ghost use Rattle.std.specs.Prelude.{◌≡◌, ◌==◌, ◌≤◌, IfOk, Bool};
 ghost use Rattle.std.specs.List.{list_any};
 ghost use Rattle.script_words.specs.Places.{read_places};
 ghost use Rattle.script_words.specs.Answers.{words_left, Gives, GivesOrMemory};
-ghost use Rattle.scenario_text.specs.Grammar.{keyword_text, keyword_of, plan_places, radio_places, bearer_places, ue_places, message_places, tunnel_places, inject_message_form, inject_item_form, read_form, names_message as names_a_message, names_tunnel as names_a_tunnel, keyword_event, event_of, header_of};
+ghost use Rattle.scenario_text.specs.Grammar.{keyword_text, keyword_of, plan_places, radio_places, bearer_places, ue_places, message_places, tunnel_places, inject_message_form, inject_item_form, read_form, names_message as names_a_message, names_tunnel as names_a_tunnel, keyword_event, event_of};
 ghost use Rattle.scenario_text.specs.Grammar.{is_skipped as skips};
 ghost use Rattle.scenario_text.specs.Texts.{InRange, plan_values};
 ghost use Rattle.scenario_text.specs.declared.event.Keyword.TheVariants as keywords;
@@ -433,16 +433,6 @@ pub fn read_event(alloc: Global, line: &[u8]) -> Result<Event, TextError>
     ensures in_range { IfOk result InRange }
 {
     event(alloc, line)
-}
-
-/// Whether a line is the header of a script, `module builtin`, without its LF.
-#[tactic(auto, unfolding(crate::specs::Grammar::header_of))]
-pub fn read_header(line: &[u8]) -> Result<(), TextReason>
-    ensures { Gives (λ x. x) result (header_of line.now) }
-{
-    let words = Words::of(line).fixed(b"module", TextReason::Word)?;
-    let words = words.fixed(b"builtin", TextReason::Word)?;
-    words.end()
 }
 
 /// Whether a line is not an event: an empty one, or a comment.

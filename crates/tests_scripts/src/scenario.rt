@@ -6,7 +6,7 @@ use gnb_types::reasons::{CauseName, DropReason, HeldReason, RefuseReason};
 use scenario_text::event::TextReason;
 use scenario_text::line::{Item, Link, Message, OutLine};
 use scenario_text::print::print_line;
-use scenario_text::read::{TextError, is_skipped, read_event, read_header};
+use scenario_text::read::{TextError, is_skipped, read_event};
 use std::alloc::Global;
 use std::process::Abort;
 use std::test::Fail;
@@ -192,22 +192,8 @@ fn wrong_others(rt: HostRuntime) {
     are_refused(&rt, rt.alloc(), &OTHERS);
 }
 
-/// Header lines, and the reason of one that isn't.
-const HEADERS: [(&str, Option<TextReason>); 7] = [
-    ("module builtin", None),
-    ("module", Some(TextReason::Word)),
-    ("", Some(TextReason::Word)),
-    ("modul builtin", Some(TextReason::Word)),
-    ("module x", Some(TextReason::Word)),
-    ("module builtin ", Some(TextReason::Extra)),
-    ("module builtin 3", Some(TextReason::Extra)),
-];
-
 #[test]
-fn headers(rt: HostRuntime) {
-    for (line, reason) in HEADERS {
-        assert!(rt; read_header(line.as_bytes()).err() == reason, "{line}");
-    }
+fn skipped(rt: HostRuntime) {
     assert!(rt; is_skipped(b"") && is_skipped(b"; air u1 b1 dl") && !is_skipped(b" ;"));
 }
 
