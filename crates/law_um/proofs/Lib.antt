@@ -1,0 +1,4 @@
+mod Deliveries
+mod Timers
+mod Steps
+mod Histories

@@ -1,0 +1,2 @@
+//! Definitions alone: the receiving entity of an unacknowledged bearer, with its reordering timer.
+#![tactic(auto)]

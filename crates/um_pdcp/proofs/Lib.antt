@@ -1,0 +1,2 @@
+mod StoredLemmas
+mod UmLemmas
