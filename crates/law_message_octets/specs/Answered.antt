@@ -1,0 +1,27 @@
+-- What is answered where this is heard, and where octets spell nothing.
+use Rattle.std.specs.Prelude.{◌≡◌, ◌⊎◌, ℕ, List, Result, Ok, Err}
+use Rattle.aper_defs.specs.Trees.{Tree}
+use Rattle.aper_defs.specs.Values.{Value}
+use Rattle.aper_defs.specs.Spelling.{Spells}
+use Rattle.message_defs.specs.Heard.{Cause, unknown_procedure, unknown_element}
+use Rattle.message_octets.specs.declared.error.MsgError.{MsgError}
+use Rattle.message_octets.specs.declared.error.MsgError.TheVariants as errors
+
+abbrev pub answer_of : {M : Type 0} → Result M Cause → Result M MsgError
+answer_of (Ok msg) = Ok msg
+answer_of (Err (unknown_procedure code criticality)) = Err (errors.UnknownProcedure code criticality)
+answer_of (Err (unknown_element id)) = Err (errors.UnknownIe id)
+
+-- this answer, or out of memory
+abbrev pub IsUnlessMemory : {M : Type 0} → (result answer : Result M MsgError) → Type 0
+IsUnlessMemory result answer = (result ≡ answer) ⊎ (result ≡ Err errors.Memory)
+
+-- no value of the type is spelled so
+abbrev pub SpellsNone : Tree → List ℕ → Type 0
+SpellsNone t octets = (v : Value) → Spells t v octets → ⊥
+
+-- the first wrong field, or out of memory
+abbrev pub IsRefusal : {M : Type 0} → Result M MsgError → Type 0
+IsRefusal (Err (errors.Refused bit reason path)) = Unit {0}
+IsRefusal (Err errors.Memory) = Unit {0}
+IsRefusal result = ⊥

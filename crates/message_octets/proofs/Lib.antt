@@ -1,0 +1,2 @@
+mod XnAnswers
+mod Read

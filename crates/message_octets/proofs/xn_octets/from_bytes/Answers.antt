@@ -1,0 +1,30 @@
+use Rattle.std.proofs.Common.{Result, refl, subst}
+use Rattle.aper_defs.specs.Trees.{Tree}
+use Rattle.aper_defs.specs.Values.{Value}
+use Rattle.aper_defs.specs.Reading.{Fault}
+use Rattle.aper_types.specs.Types.{tree}
+use Rattle.message_types.specs.declared.xn.XnMessage.{XnMessage}
+use Rattle.profile.specs.Versions.{number_of}
+use Rattle.profile_defs.specs.Profile.{xn_type}
+use Rattle.profile_xn.proofs.Spellings.{same_decoded}
+use Rattle.message_defs.specs.Xn.{heard_xn}
+use Rattle.message_octets.specs.Reading.{read_value, IsReading}
+use Rattle.message_octets.proofs.Read.{bounded, reading}
+use Rattle.message_octets.proofs.XnAnswers.{answered}
+use Rattle.message_octets.proofs.xn_octets.from_bytes.Goals as goal
+
+pub returns-clause-heard : goal.returns-clause-heard
+returns-clause-heard c = answered (tree c.args.profile.now.syntax c.xn_pdu-id.result.number) (xn_type (number_of c.args.profile.now.version))
+    c.xn_pdu-id.ensures.alike c.args.octets.now c.heard_in.result c.heard_in.ensures
+
+-- The same is read for both types, since the same is asked of octets.
+pub returns-clause-read : goal.returns-clause-read
+returns-clause-read c =
+    let own : Tree = tree c.args.profile.now.syntax c.xn_pdu-id.result.number in
+    let type : Tree = xn_type (number_of c.args.profile.now.version) in
+    subst (λ (r : Result Value Fault). IsReading c.heard_in.result (read_value heard_xn r))
+    (same_decoded own type c.xn_pdu-id.ensures.alike c.args.octets.now)
+    (reading XnMessage own heard_xn
+    (bounded c.module-module.result.now c.args.profile.now.syntax own c.xn_pdu-id.result.number c.name-name.ensures.sound
+    c.module-module.ensures.syntax refl)
+    c.args.octets.now c.heard_in.result c.heard_in.ensures)
