@@ -1,0 +1,20 @@
+use Rattle.std.proofs.Common.{arith}
+use Rattle.pdcp_entities.specs.Entities.{taken}
+use Rattle.ue_bearers.proofs.RefLemmas.{used_few}
+use Rattle.ue_bearers.proofs.DownLemmas.{takes_seen, kept_taken}
+use Rattle.ue_bearers.proofs.downlink.Downlink.take.Goals as goal
+
+pub take-requires-clause-used : goal.take-requires-clause-used
+take-requires-clause-used c = let few = used_few c.self.inside.pool c.self.inside.key in omega (arith, few, c.self.invariant.few)
+
+pub invariant_of-self : goal.invariant_of-self
+unfolding taken
+invariant_of-self c =
+    kept_taken _ _ _ c.self.inside.pool c.take.new.pool c.self.inside.rx c.take.new.self _ _ c.take.result c.take.ensures.result
+    c.take.ensures.stored c.take.ensures.dropped c.take.ensures.parked c.self.invariant
+
+pub returns : goal.returns
+returns c =
+    takes_seen c.self.inside.sn c.self.inside.quota c.self.inside.pool c.self.inside.rx c.args.self.now c.self.view_is c.take.new.pool c.take.new.self
+    c.args.number c.args.packet.now c.self.invariant.sn_is c.self.invariant.quota_is c.take.result c.take.ensures.result c.take.ensures.octets
+    c.take.ensures.dropped c.reception_of.result c.reception_of.ensures
