@@ -1,0 +1,10 @@
+//! The control messages of all interfaces as one type, and what a unit asks of the codec that reads and spells them.
+#![tactic(auto)]
+
+mod codec;
+mod kind;
+mod message;
+
+pub use codec::MessageCodec;
+pub use kind::Kind;
+pub use message::Message;
