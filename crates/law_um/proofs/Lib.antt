@@ -1,4 +1,4 @@
-mod Deliveries
+pub mod Deliveries
 mod Timers
-mod Steps
+pub mod Steps
 mod Histories

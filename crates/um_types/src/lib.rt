@@ -1,5 +1,7 @@
-//! The types of an unacknowledged bearer: what a receiving entity hands up, and why it takes no packet.
+//! The types of an unacknowledged bearer: events and lines of its run, what a receiving entity hands up, and why it takes no packet.
 #![tactic(auto)]
 
 pub mod error;
+pub mod event;
+pub mod line;
 pub mod out;

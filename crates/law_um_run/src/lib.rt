@@ -1,0 +1,33 @@
+//! Laws of the run of an unacknowledged bearer, for every script. Each function does nothing: its contract is the law.
+#![tactic(auto)]
+
+ghost use Rattle.std.specs.Prelude.{◌≡◌, ℕ, ◌-◌, ◌%◌, List, Some};
+ghost use Rattle.std.specs.Ordering.{nat_cmp};
+ghost use Rattle.gnb_types.specs.declared.names.SnBits.{SnBits};
+ghost use Rattle.tables.specs.Tables.{find};
+ghost use Rattle.pdcp.specs.Numbers.{space};
+ghost use Rattle.pdcp_defs.specs.Counts.{near_count};
+ghost use Rattle.um_types.specs.declared.event.UmEvent.{UmEvent};
+ghost use Rattle.um_types.specs.declared.line.UmLine.{UmLine};
+ghost use Rattle.um_run_defs.specs.Run.{UmRun};
+ghost use Rattle.law_um.specs.Sound.{IsSound};
+ghost use Rattle.law_um_run.specs.Reached.{GoesOn, IsReached, WasOffered, EachDelivered};
+
+/// In every run the receiving entity is a sound one: COUNTs that it hands up rise, and none is handed up twice (`law_um`).
+pub fn the_entity_is_sound()
+    ensures { (sn : SnBits) (ticks : ℕ) (events : List UmEvent) (s : UmRun) → IsReached sn ticks events s → IsSound s.entity }
+{}
+
+/// In every run the COUNT that is found from the number of a message on the link is the one with which it was sent.
+pub fn the_count_that_was_sent_is_found()
+    ensures { (sn : SnBits) (ticks : ℕ) (events : List UmEvent) (s : UmRun) → IsReached sn ticks events s
+        → (number : ℕ) (packet : List ℕ) → find nat_cmp s.flight number ≡ Some packet
+        → near_count sn s.entity.receiver.deliv ((number - 1) % space sn) ≡ Some (number - 1) }
+{}
+
+/// In every run a packet that is delivered with a COUNT is the one that was offered as that of the COUNT.
+pub fn delivered_packets_were_offered()
+    ensures { (sn : SnBits) (ticks : ℕ) (events : List UmEvent) (event : UmEvent) (before : UmRun) (printed : List UmLine) (after : UmRun)
+        → IsReached sn ticks events before → GoesOn sn ticks event before printed after
+        → EachDelivered (WasOffered sn ticks events) printed }
+{}
