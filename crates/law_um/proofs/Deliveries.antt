@@ -104,7 +104,7 @@ run_is_within low high (e ∷ es) h is =
     run_to low high [] is = omega (arith, is)
     run_to low high (f ∷ fs) is = omega (arith, run_to (low + 1) high fs is.1)
 
-run_has : {X : Type 0} (low high count : ℕ) (ps es : List (ℕ × X)) → IsRun low high ps → HasNone count (ps ++ es) → count < high → count < low
+pub run_has : {X : Type 0} (low high count : ℕ) (ps es : List (ℕ × X)) → IsRun low high ps → HasNone count (ps ++ es) → count < high → count < low
 run_has low high count [] es is none h = omega (arith, is, h)
 run_has low high count (p ∷ ps) es is none h =
     let later = run_has (low + 1) high count ps es is.1 none.1 h in
@@ -178,3 +178,15 @@ put_has (e ∷ es) k x none = by (nat_cmp k e.0) (ranks k e.0) none (put_has es 
     by Less is none later = none.0 refl
     by Equal is none later = none.0 (sym is)
     by Greater is none later = later none.1
+
+pub none_put_other : {X : Type 0} (count : ℕ) (es : List (ℕ × X)) (k : ℕ) (x : X) → (k ≡ count → ⊥) → HasNone count es
+    → HasNone count (put nat_cmp es k x)
+unfolding put
+none_put_other count [] k x other none = (other, tt)
+none_put_other count (e ∷ es) k x other none = by (nat_cmp k e.0) (none_put_other count es k x other none.1)
+  where
+    by : (r : Ordering) → HasNone count (insert_entry nat_cmp es k x)
+        → HasNone count (match_ordering r ((k, x) ∷ e ∷ es) ((e.0, x) ∷ es) (e ∷ insert_entry nat_cmp es k x))
+    by Less later = (other, (none.0, none.1))
+    by Equal later = (none.0, none.1)
+    by Greater later = (none.0, later)

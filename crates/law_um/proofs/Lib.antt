@@ -1,4 +1,4 @@
 pub mod Deliveries
 mod Timers
 pub mod Steps
-mod Histories
+pub mod Histories

@@ -1,7 +1,7 @@
 //! Laws of the run of an unacknowledged bearer, for every script. Each function does nothing: its contract is the law.
 #![tactic(auto)]
 
-ghost use Rattle.std.specs.Prelude.{◌≡◌, ℕ, ◌-◌, ◌%◌, List, Some};
+ghost use Rattle.std.specs.Prelude.{◌≡◌, ℕ, ◌-◌, ◌%◌, ◌<◌, ◌≤◌, List, Some};
 ghost use Rattle.std.specs.Ordering.{nat_cmp};
 ghost use Rattle.gnb_types.specs.declared.names.SnBits.{SnBits};
 ghost use Rattle.tables.specs.Tables.{find};
@@ -10,7 +10,8 @@ ghost use Rattle.pdcp_defs.specs.Counts.{near_count};
 ghost use Rattle.um_types.specs.declared.event.UmEvent.{UmEvent};
 ghost use Rattle.um_types.specs.declared.line.UmLine.{UmLine};
 ghost use Rattle.um_run_defs.specs.Run.{UmRun};
-ghost use Rattle.law_um.specs.Sound.{IsSound};
+ghost use Rattle.law_um.specs.Sound.{IsSound, HasNone};
+ghost use Rattle.law_um_run.specs.Gaps.{Passes};
 ghost use Rattle.law_um_run.specs.Reached.{GoesOn, IsReached, WasOffered, EachDelivered};
 
 /// In every run the receiving entity is a sound one: COUNTs that it hands up rise, and none is handed up twice (`law_um`).
@@ -30,4 +31,13 @@ pub fn delivered_packets_were_offered()
     ensures { (sn : SnBits) (ticks : ℕ) (events : List UmEvent) (event : UmEvent) (before : UmRun) (printed : List UmLine) (after : UmRun)
         → IsReached sn ticks events before → GoesOn sn ticks event before printed after
         → EachDelivered (WasOffered sn ticks events) printed }
+{}
+
+/// Where RX_DELIV passes a COUNT that is awaited and isn't stored, either the packet of that COUNT is given now, or the event is a tick and a
+/// packet with a greater COUNT was taken at least as many ticks ago as the timer has, this tick among them.
+pub fn a_gap_is_passed_after_all_ticks()
+    ensures { (sn : SnBits) (ticks : ℕ) (events : List UmEvent) (event : UmEvent) (before : UmRun) (printed : List UmLine) (after : UmRun)
+        → IsReached sn ticks events before → GoesOn sn ticks event before printed after
+        → (count : ℕ) → before.entity.receiver.deliv ≤ count → HasNone count before.entity.receiver.stored
+        → count < after.entity.receiver.deliv → Passes sn ticks event events count }
 {}
