@@ -1,5 +1,5 @@
 -- The runs that a script reaches: each event goes on, and leaves at most half a space of COUNTs outstanding. The newest event first.
-use Rattle.std.specs.Prelude.{◌≡◌, ◌⊎◌, ℕ, ◌≤◌, List, [], ◌∷◌, ⊤}
+use Rattle.std.specs.Prelude.{◌≡◌, ◌⊎◌, ℕ, ◌+◌, ◌≤◌, List, [], ◌∷◌, ⊤}
 use Rattle.gnb_types.specs.declared.names.SnBits.{SnBits}
 use Rattle.pdcp.specs.Numbers.{half}
 use Rattle.um_types.specs.declared.event.UmEvent.{UmEvent}
@@ -29,3 +29,9 @@ abbrev pub EachDelivered : (ℕ → List ℕ → Type 0) → List UmLine → Typ
 EachDelivered P [] = ⊤
 EachDelivered P (lines.Deliver count packet ∷ more) = P count packet × EachDelivered P more
 EachDelivered P (line ∷ more) = EachDelivered P more
+
+-- the COUNTs that are delivered in these lines rise, none below the first number, each below the second
+abbrev pub Rises : ℕ → ℕ → List UmLine → Type 0
+Rises low high [] = low ≤ high
+Rises low high (lines.Deliver count packet ∷ more) = (low ≤ count) × Rises (count + 1) high more
+Rises low high (line ∷ more) = Rises low high more

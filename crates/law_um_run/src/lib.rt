@@ -12,7 +12,7 @@ ghost use Rattle.um_types.specs.declared.line.UmLine.{UmLine};
 ghost use Rattle.um_run_defs.specs.Run.{UmRun};
 ghost use Rattle.law_um.specs.Sound.{IsSound, HasNone};
 ghost use Rattle.law_um_run.specs.Gaps.{Passes};
-ghost use Rattle.law_um_run.specs.Reached.{GoesOn, IsReached, WasOffered, EachDelivered};
+ghost use Rattle.law_um_run.specs.Reached.{GoesOn, IsReached, WasOffered, EachDelivered, Rises};
 
 /// In every run the receiving entity is a sound one: COUNTs that it hands up rise, and none is handed up twice (`law_um`).
 pub fn the_entity_is_sound()
@@ -40,4 +40,11 @@ pub fn a_gap_is_passed_after_all_ticks()
         → IsReached sn ticks events before → GoesOn sn ticks event before printed after
         → (count : ℕ) → before.entity.receiver.deliv ≤ count → HasNone count before.entity.receiver.stored
         → count < after.entity.receiver.deliv → Passes sn ticks event events count }
+{}
+
+/// In every run the COUNTs that an event delivers rise, from RX_DELIV before it up to RX_DELIV after it: so those of the whole run rise.
+pub fn delivered_counts_rise()
+    ensures { (sn : SnBits) (ticks : ℕ) (events : List UmEvent) (event : UmEvent) (before : UmRun) (printed : List UmLine) (after : UmRun)
+        → IsReached sn ticks events before → GoesOn sn ticks event before printed after
+        → Rises before.entity.receiver.deliv after.entity.receiver.deliv printed }
 {}
