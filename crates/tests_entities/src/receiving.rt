@@ -6,8 +6,6 @@ ghost use Rattle.pdcp_entities.specs.Packets.{AreParked};
 
 use crate::pools::pool_of;
 use crate::rows::ROWS;
-use gnb_types::bits::Bits;
-use gnb_types::items::Memory;
 use gnb_types::names::{BearerId, Dir, SnBits, UeId};
 use packet_pool::{Key, Pool};
 use pdcp_entities::{Ahead, Rx, Taken};
@@ -85,86 +83,147 @@ impl Receiving {
         self.rx.stored(from).map(|held| held.0)
     }
 
-    fn report(&self, alloc: Global) -> Result<(u32, Bits), Memory> {
-        self.rx.report(alloc)
-    }
-
-    fn freeze(&mut self) {
-        self.rx.freeze();
-    }
-
-    fn resume(&mut self) {
-        self.rx.resume();
-    }
-
-    fn clear(&mut self) {
-        self.rx.clear(&mut self.pool);
+    /// Whether the report of what was received is this one.
+    fn reports(&self, alloc: Global, fmc: u32, bits: &[bool]) -> bool {
+        let Ok((first, received)) = self.rx.report(alloc) else {
+            return false;
+        };
+        first == fmc && received.as_slice() == bits
     }
 
     /// The COUNT that is awaited, and how many blocks are used.
     fn deliv_and_used(&self) -> (u32, u32) {
         (self.rx.deliv(), self.pool.used(UP))
     }
+
+    /// Whether a call has the answer that goes with it.
+    fn answers(&mut self, alloc: Global, call: Call) -> bool {
+        match call {
+            Call::Take(number, octet, taken) => self.take(number, octet) == Some(taken),
+            Call::HandUp(octet, count) => self.hand_up(octet) == count.map(|count| (count, true)),
+            Call::Stored(from, count) => self.stored(from) == count,
+            Call::Report(fmc, bits) => self.reports(alloc, fmc, bits),
+            Call::Freeze => {
+                self.rx.freeze();
+                true
+            }
+            Call::Resume => {
+                self.rx.resume();
+                true
+            }
+            Call::Clear => {
+                self.rx.clear(&mut self.pool);
+                true
+            }
+            Call::DelivAndUsed(deliv, used) => self.deliv_and_used() == (deliv, used),
+        }
+    }
+}
+
+/// A call, and its answer.
+#[derive(Clone, Copy)]
+enum Call {
+    /// A packet of this octet with this number.
+    Take(u32, u8, Result<Taken, Ahead>),
+    /// This octet goes up with this COUNT, or nothing does.
+    HandUp(u8, Option<u32>),
+    Stored(u32, Option<u32>),
+    Report(u32, &'static [bool]),
+    Freeze,
+    Resume,
+    Clear,
+    DelivAndUsed(u32, u32),
+}
+
+/// Whether an entity that awaits this COUNT gives all answers.
+fn answers_all(alloc: Global, sn: SnBits, deliv: u32, calls: &[Call]) -> Result<bool, Fail> {
+    let mut receiving = Receiving::new(alloc, sn, deliv)?;
+    for call in calls {
+        if !receiving.answers(alloc, *call) {
+            return Ok(false);
+        }
+    }
+    Ok(true)
 }
 
 /// What becomes of a packet with this COUNT.
-fn taken(count: u32, stored: bool) -> Option<Result<Taken, Ahead>> {
-    Some(Ok(Taken {
+const fn taken(count: u32, stored: bool) -> Result<Taken, Ahead> {
+    Ok(Taken {
         count: Some(count),
         stored,
-    }))
+    })
 }
 
 #[test]
 fn counts_across_the_wrap(rt: HostRuntime) -> Result<(), Fail> {
     for row in &ROWS {
         let [first, second] = row.counts;
-        let mut receiving = Receiving::new(rt.alloc(), row.sn, first)?;
-        assert_eq!(rt; receiving.take(row.numbers[0], 7), taken(first, true));
-        assert_eq!(rt; receiving.hand_up(7), Some((first, true)));
-        assert_eq!(rt; receiving.take(row.numbers[1], 8), taken(second, true));
-        assert_eq!(rt; receiving.hand_up(8), Some((second, true)));
-        assert_eq!(rt; receiving.take(row.numbers[0], 7), taken(first, false));
+        let calls = [
+            Call::Take(row.numbers[0], 7, taken(first, true)),
+            Call::HandUp(7, Some(first)),
+            Call::Take(row.numbers[1], 8, taken(second, true)),
+            Call::HandUp(8, Some(second)),
+            Call::Take(row.numbers[0], 7, taken(first, false)),
+        ];
+        assert!(rt; answers_all(rt.alloc(), row.sn, first, &calls)?);
     }
     Ok(())
 }
 
-#[test]
-fn a_packet_that_waits(rt: HostRuntime) -> Result<(), Fail> {
-    let mut receiving = Receiving::new(rt.alloc(), SnBits::Len12, 4_095)?;
-    assert_eq!(rt; receiving.take(1, 7), taken(4_097, true));
-    assert_eq!(rt; receiving.hand_up(7), None);
-    assert_eq!(rt; receiving.stored(0), Some(4_097));
-    assert_eq!(rt; receiving.stored(4_098), None);
-    let bits = Bits::from_slice(rt.alloc(), &[false, true])?;
-    assert!(rt; receiving.report(rt.alloc())? == (4_095, bits));
-    receiving.clear();
-    assert_eq!(rt; receiving.deliv_and_used(), (4_095, 0));
-    Ok(())
-}
+/// A packet that waits for the one before it: its COUNT is 4,097.
+const WAITS: [Call; 7] = [
+    Call::Take(
+        1,
+        7,
+        Ok(Taken {
+            count: Some(4_097),
+            stored: true,
+        }),
+    ),
+    Call::HandUp(7, None),
+    Call::Stored(0, Some(4_097)),
+    Call::Stored(4_098, None),
+    Call::Report(4_095, &[false, true]),
+    Call::Clear,
+    Call::DelivAndUsed(4_095, 0),
+];
+
+/// Four COUNTs from 0 on have room; that of the last number would be below 0.
+const NOT_STORED: [Call; 3] = [
+    Call::Take(4, 7, Err(Ahead)),
+    Call::Take(
+        4_095,
+        7,
+        Ok(Taken {
+            count: None,
+            stored: false,
+        }),
+    ),
+    Call::DelivAndUsed(0, 0),
+];
+
+/// While it is frozen nothing goes up.
+const FROZEN: [Call; 6] = [
+    Call::Freeze,
+    Call::Take(
+        4_095,
+        7,
+        Ok(Taken {
+            count: Some(4_095),
+            stored: true,
+        }),
+    ),
+    Call::HandUp(7, None),
+    Call::Resume,
+    Call::HandUp(7, Some(4_095)),
+    Call::DelivAndUsed(4_096, 0),
+];
 
 #[test]
-fn what_is_not_stored(rt: HostRuntime) -> Result<(), Fail> {
-    let mut receiving = Receiving::new(rt.alloc(), SnBits::Len12, 0)?;
-    // four COUNTs from 0 on have room; that of the last number would be below 0
-    assert_eq!(rt; receiving.take(4, 7), Some(Err(Ahead)));
-    let none = Taken {
-        count: None,
-        stored: false,
-    };
-    assert_eq!(rt; receiving.take(4_095, 7), Some(Ok(none)));
-    assert_eq!(rt; receiving.deliv_and_used(), (0, 0));
-    Ok(())
-}
-
-#[test]
-fn a_frozen_receiver(rt: HostRuntime) -> Result<(), Fail> {
-    let mut receiving = Receiving::new(rt.alloc(), SnBits::Len12, 4_095)?;
-    receiving.freeze();
-    assert_eq!(rt; receiving.take(4_095, 7), taken(4_095, true));
-    assert_eq!(rt; receiving.hand_up(7), None);
-    receiving.resume();
-    assert_eq!(rt; receiving.hand_up(7), Some((4_095, true)));
-    assert_eq!(rt; receiving.deliv_and_used(), (4_096, 0));
+fn each_call(rt: HostRuntime) -> Result<(), Fail> {
+    let alloc = rt.alloc();
+    assert!(rt; answers_all(alloc, SnBits::Len12, 4_095, &WAITS)?);
+    assert!(rt; answers_all(alloc, SnBits::Len12, 0, &NOT_STORED)?);
+    assert!(rt; answers_all(alloc, SnBits::Len12, 4_095, &FROZEN)?);
     Ok(())
 }

@@ -94,43 +94,79 @@ impl Sending {
         restore(&mut self.tx, &mut self.pool, count, &[octet])
     }
 
-    fn confirm_to(&mut self, number: u32) -> u32 {
-        self.tx.confirm_to(&mut self.pool, number)
-    }
-
-    fn confirm_report(&mut self, fmc: u32, bits: &[u8]) -> u32 {
-        self.tx.confirm_report(&mut self.pool, fmc, bits)
-    }
-
     /// The least COUNT from this one on that nothing confirmed.
     fn unconfirmed(&self, from: u32) -> Option<u32> {
         self.tx.unconfirmed(from).map(|held| held.0)
-    }
-
-    fn freeze(&mut self) {
-        self.tx.freeze();
-    }
-
-    fn resume(&mut self) {
-        self.tx.resume();
-    }
-
-    fn clear(&mut self) {
-        self.tx.clear(&mut self.pool);
     }
 
     /// The COUNT that is given next, and how many blocks are used.
     fn next_and_used(&self) -> (u32, u32) {
         (self.tx.next(), self.pool.used(DOWN))
     }
+
+    /// Whether a call has the answer that goes with it.
+    fn answers(&mut self, call: Call) -> bool {
+        match call {
+            Call::Number(octet, count) => self.number(octet) == Some(count),
+            Call::Restore(count, octet, held) => self.restore(count, octet) == Some(held),
+            Call::ConfirmTo(number, freed) => self.tx.confirm_to(&mut self.pool, number) == freed,
+            Call::ConfirmReport(fmc, bits, freed) => {
+                self.tx.confirm_report(&mut self.pool, fmc, bits) == freed
+            }
+            Call::Unconfirmed(from, count) => self.unconfirmed(from) == count,
+            Call::Freeze => {
+                self.tx.freeze();
+                true
+            }
+            Call::Resume => {
+                self.tx.resume();
+                true
+            }
+            Call::Clear => {
+                self.tx.clear(&mut self.pool);
+                true
+            }
+            Call::NextAndUsed(next, used) => self.next_and_used() == (next, used),
+        }
+    }
+}
+
+/// A call, and its answer.
+#[derive(Clone, Copy)]
+enum Call {
+    /// A packet of this octet gets this COUNT, or none.
+    Number(u8, Result<u32, NumberError>),
+    /// A packet of this octet is held under this COUNT, or isn't.
+    Restore(u32, u8, Result<(), OutsideWindow>),
+    /// So many packets are given up.
+    ConfirmTo(u32, u32),
+    ConfirmReport(u32, &'static [u8], u32),
+    Unconfirmed(u32, Option<u32>),
+    Freeze,
+    Resume,
+    Clear,
+    NextAndUsed(u32, u32),
+}
+
+/// Whether an entity that gives this COUNT next gives all answers.
+fn answers_all(alloc: Global, sn: SnBits, next: u32, calls: &[Call]) -> Result<bool, Fail> {
+    let mut sending = Sending::new(alloc, sn, next)?;
+    for call in calls {
+        if !sending.answers(*call) {
+            return Ok(false);
+        }
+    }
+    Ok(true)
 }
 
 #[test]
 fn numbers_across_the_wrap(rt: HostRuntime) -> Result<(), Fail> {
     for row in &ROWS {
-        let mut sending = Sending::new(rt.alloc(), row.sn, row.counts[0])?;
-        assert_eq!(rt; sending.number(7), Some(Ok(row.counts[0])));
-        assert_eq!(rt; sending.number(7), Some(Ok(row.counts[1])));
+        let calls = [
+            Call::Number(7, Ok(row.counts[0])),
+            Call::Number(7, Ok(row.counts[1])),
+        ];
+        assert!(rt; answers_all(rt.alloc(), row.sn, row.counts[0], &calls)?);
     }
     Ok(())
 }
@@ -146,45 +182,47 @@ fn pdus_across_the_wrap(rt: HostRuntime) -> Result<(), Fail> {
     Ok(())
 }
 
-#[test]
-fn the_last_count(rt: HostRuntime) -> Result<(), Fail> {
-    let mut sending = Sending::new(rt.alloc(), SnBits::Len18, 4_294_967_294)?;
-    assert_eq!(rt; sending.number(7), Some(Ok(4_294_967_294)));
-    assert_eq!(rt; sending.number(7), Some(Err(NumberError::CountSpent)));
-    assert_eq!(rt; sending.next_and_used(), (4_294_967_295, 1));
-    Ok(())
-}
+/// The last COUNT is given once.
+const LAST: [Call; 3] = [
+    Call::Number(7, Ok(4_294_967_294)),
+    Call::Number(7, Err(NumberError::CountSpent)),
+    Call::NextAndUsed(4_294_967_295, 1),
+];
+
+/// A window of four.
+const WINDOW: [Call; 9] = [
+    Call::Restore(4_094, 1, Ok(())),
+    Call::Restore(4_093, 1, Err(OutsideWindow)),
+    Call::Number(2, Ok(4_096)),
+    Call::Unconfirmed(4_095, Some(4_096)),
+    Call::Freeze,
+    Call::Number(3, Err(NumberError::Frozen)),
+    Call::Resume,
+    Call::Number(3, Ok(4_097)),
+    Call::Number(4, Err(NumberError::WindowFull)),
+];
+
+/// The COUNT of number 8,190 is 4,094, and then that of number 2 is far below; the report is of all below 4,096, and of 4,097.
+const CONFIRMED: [Call; 12] = [
+    Call::Number(7, Ok(4_094)),
+    Call::Number(7, Ok(4_095)),
+    Call::Number(7, Ok(4_096)),
+    Call::Number(7, Ok(4_097)),
+    Call::ConfirmTo(8_190, 1),
+    Call::ConfirmTo(2, 0),
+    Call::ConfirmReport(4_096, &[0x80], 2),
+    Call::Unconfirmed(0, Some(4_096)),
+    Call::NextAndUsed(4_098, 1),
+    Call::Clear,
+    Call::Unconfirmed(0, None),
+    Call::NextAndUsed(4_098, 0),
+];
 
 #[test]
-fn a_window_of_four(rt: HostRuntime) -> Result<(), Fail> {
-    let mut sending = Sending::new(rt.alloc(), SnBits::Len12, 4_096)?;
-    assert_eq!(rt; sending.restore(4_094, 1), Some(Ok(())));
-    assert_eq!(rt; sending.restore(4_093, 1), Some(Err(OutsideWindow)));
-    assert_eq!(rt; sending.number(2), Some(Ok(4_096)));
-    assert_eq!(rt; sending.unconfirmed(4_095), Some(4_096));
-    sending.freeze();
-    assert_eq!(rt; sending.number(3), Some(Err(NumberError::Frozen)));
-    sending.resume();
-    assert_eq!(rt; sending.number(3), Some(Ok(4_097)));
-    assert_eq!(rt; sending.number(4), Some(Err(NumberError::WindowFull)));
-    Ok(())
-}
-
-#[test]
-fn what_is_confirmed(rt: HostRuntime) -> Result<(), Fail> {
-    let mut sending = Sending::new(rt.alloc(), SnBits::Len12, 4_094)?;
-    for count in 4_094..4_098 {
-        assert_eq!(rt; sending.number(7), Some(Ok(count)));
-    }
-    // the COUNT of this number is 4,094, and then that of the number after it is far below
-    assert_eq!(rt; sending.confirm_to(8_190), 1);
-    assert_eq!(rt; sending.confirm_to(2), 0);
-    // all below 4,096, and 4,097
-    assert_eq!(rt; sending.confirm_report(4_096, &[0x80]), 2);
-    assert_eq!(rt; sending.unconfirmed(0), Some(4_096));
-    assert_eq!(rt; sending.next_and_used(), (4_098, 1));
-    sending.clear();
-    assert_eq!(rt; sending.unconfirmed(0), None);
-    assert_eq!(rt; sending.next_and_used(), (4_098, 0));
+fn each_call(rt: HostRuntime) -> Result<(), Fail> {
+    let alloc = rt.alloc();
+    assert!(rt; answers_all(alloc, SnBits::Len18, 4_294_967_294, &LAST)?);
+    assert!(rt; answers_all(alloc, SnBits::Len12, 4_096, &WINDOW)?);
+    assert!(rt; answers_all(alloc, SnBits::Len12, 4_094, &CONFIRMED)?);
     Ok(())
 }
