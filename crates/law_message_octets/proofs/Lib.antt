@@ -1,2 +1,3 @@
 mod Types
 mod Determined
+mod Said

@@ -1,5 +1,5 @@
 -- What is answered where this is heard, and where octets spell nothing.
-use Rattle.std.specs.Prelude.{◌≡◌, ◌⊎◌, ℕ, List, Result, Ok, Err}
+use Rattle.std.specs.Prelude.{◌≡◌, ◌⊎◌, ℕ, List, Option, None, Result, Ok, Err}
 use Rattle.aper_defs.specs.Trees.{Tree}
 use Rattle.aper_defs.specs.Values.{Value}
 use Rattle.aper_defs.specs.Spelling.{Spells}
@@ -25,3 +25,12 @@ abbrev pub IsRefusal : {M : Type 0} → Result M MsgError → Type 0
 IsRefusal (Err (errors.Refused bit reason path)) = Unit {0}
 IsRefusal (Err errors.Memory) = Unit {0}
 IsRefusal result = ⊥
+
+-- The octets spell a value that says this message, and none of its information elements is to be rejected.
+abbrev pub AreSaidIn : {M : Type 0} → Tree → (M → Value → Type 0) → (Value → Option ℕ) → M → List ℕ → Type 0
+AreSaidIn t Says rejected msg octets = (v : Value) × Spells t v octets × Says msg v × (rejected v ≡ None)
+
+-- an answer is a message exactly where it is so said, unless memory runs out
+pub record IsMessageWhereSaid (M : Type 0) (answers : Result M MsgError → Type 0) (msg : M) (Said : Type 0) : Type 0 where
+  pub said : answers (Ok msg) → Said
+  pub answered : Said → (result : Result M MsgError) → answers result → IsUnlessMemory result (Ok msg)

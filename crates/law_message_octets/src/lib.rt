@@ -1,7 +1,7 @@
 //! Laws of messages as octets: what is answered to octets is fixed by what they spell. Each function does nothing: its contract is the law.
 #![tactic(auto)]
 
-ghost use Rattle.std.specs.Prelude.{◌≡◌, ℕ, List, Result, Ok};
+ghost use Rattle.std.specs.Prelude.{◌≡◌, ℕ, List, Result, Ok, None};
 ghost use Rattle.message_types.specs.declared.e1.E1Message.{E1Message};
 ghost use Rattle.message_types.specs.declared.xn.XnMessage.{XnMessage};
 ghost use Rattle.message_types.specs.declared.xn.CoreMessage.{CoreMessage};
@@ -11,15 +11,17 @@ ghost use Rattle.aper_defs.specs.Spelling.{Spells};
 ghost use Rattle.profile.specs.declared.version.Version.{Version};
 ghost use Rattle.profile.specs.Versions.{number_of};
 ghost use Rattle.profile_defs.specs.Profile.{f1_type, e1_type, xn_type, core_type, token_type};
-ghost use Rattle.message_defs.specs.F1.{F1Message, written_f1, heard_f1};
-ghost use Rattle.message_defs.specs.E1.{written_e1, heard_e1};
-ghost use Rattle.message_defs.specs.Xn.{written_xn, heard_xn};
-ghost use Rattle.message_defs.specs.Core.{written_core, heard_core};
-ghost use Rattle.message_defs.specs.Tokens.{written_token, heard_token};
+ghost use Rattle.profile_defs.specs.Messages.{f1_messages, e1_messages, xn_messages, core_messages};
+ghost use Rattle.message_defs.specs.Heard.{rejected_in};
+ghost use Rattle.message_defs.specs.F1.{F1Message, written_f1, heard_f1, SaysF1};
+ghost use Rattle.message_defs.specs.E1.{written_e1, heard_e1, SaysE1};
+ghost use Rattle.message_defs.specs.Xn.{written_xn, heard_xn, SaysXn};
+ghost use Rattle.message_defs.specs.Core.{written_core, heard_core, SaysCore};
+ghost use Rattle.message_defs.specs.Tokens.{written_token, heard_token, SaysToken};
 ghost use Rattle.message_octets.specs.declared.error.MsgError.{MsgError};
 ghost use Rattle.message_octets.specs.Answers.{IsHeardIn};
 ghost use Rattle.law_message_versions.specs.Versions.{without_origin};
-ghost use Rattle.law_message_octets.specs.Answered.{IsUnlessMemory, IsRefusal, SpellsNone, answer_of};
+ghost use Rattle.law_message_octets.specs.Answered.{IsUnlessMemory, IsRefusal, SpellsNone, AreSaidIn, IsMessageWhereSaid, answer_of};
 
 /// To octets that spell a value the answer is what is heard in it, unless memory runs out.
 pub fn what_octets_say_is_answered()
@@ -83,4 +85,20 @@ pub fn other_versions_are_read()
         → IsHeardIn (xn_type 1) heard_xn octets result → IsUnlessMemory result (Ok (without_origin msg)) }
     ensures newer { (msg : XnMessage) (octets : List ℕ) (result : Result XnMessage MsgError) → Spells (xn_type 1) (written_xn msg) octets
         → IsHeardIn (xn_type 2) heard_xn octets result → IsUnlessMemory result (Ok msg) }
+{}
+
+/// A message is answered exactly where octets spell a value that says it and of which no information element is to be rejected, unless
+/// memory runs out.
+pub fn said_messages_are_answered()
+    ensures f1 { (msg : F1Message) (octets : List ℕ) → IsMessageWhereSaid F1Message (IsHeardIn f1_type heard_f1 octets) msg
+        (AreSaidIn f1_type SaysF1 (rejected_in f1_messages) msg octets) }
+    ensures e1 { (msg : E1Message) (octets : List ℕ) → IsMessageWhereSaid E1Message (IsHeardIn e1_type heard_e1 octets) msg
+        (AreSaidIn e1_type SaysE1 (rejected_in e1_messages) msg octets) }
+    ensures xn { (w : Version) (msg : XnMessage) (octets : List ℕ)
+        → IsMessageWhereSaid XnMessage (IsHeardIn (xn_type (number_of w)) heard_xn octets) msg
+        (AreSaidIn (xn_type (number_of w)) (SaysXn (number_of w)) (rejected_in (xn_messages (number_of w))) msg octets) }
+    ensures core { (msg : CoreMessage) (octets : List ℕ) → IsMessageWhereSaid CoreMessage (IsHeardIn core_type heard_core octets) msg
+        (AreSaidIn core_type SaysCore (rejected_in core_messages) msg octets) }
+    ensures token { (token : Token) (octets : List ℕ) → IsMessageWhereSaid Token (IsHeardIn token_type heard_token octets) token
+        (AreSaidIn token_type SaysToken (λ v. None) token octets) }
 {}

@@ -1,0 +1,11 @@
+//! Tests of messages as octets: worked octets are read, and written again.
+#![tactic(auto)]
+
+#[cfg(test)]
+mod e1_and_core;
+#[cfg(test)]
+mod f1;
+#[cfg(test)]
+mod tokens;
+#[cfg(test)]
+mod xn;
