@@ -1,4 +1,6 @@
 pub mod Bounds
+pub mod TunnelSteps
 pub mod Reading
 pub mod RadioReading
 pub mod Steps
+pub mod BearersMade

@@ -4,5 +4,7 @@
 
 pub mod bearers;
 pub mod contexts;
+pub mod downlinks;
+pub mod making;
 pub mod packets;
 pub mod radio;
