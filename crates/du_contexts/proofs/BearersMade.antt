@@ -51,12 +51,12 @@ module _ {K X : Type 0} {R : K → K → Ordering} (o : IsTotalOrder R) where
       rw above (ap (λ (xs : List (K × X)). e ∷ xs) (put_last es k v ks (sorted_tail R e.0 (keys_of es ++ k ∷ ks) sorted)))
 
   -- one entry of the rest goes to the table: what both are together stays
-  entry_goes : (m n : List (K × X)) (k : K) (v : X) (ks : List K) (rest : List (K × X)) → IsStrictlySortedBy R (keys_of m ++ k ∷ ks)
+  pub entry_goes : (m n : List (K × X)) (k : K) (v : X) (ks : List K) (rest : List (K × X)) → IsStrictlySortedBy R (keys_of m ++ k ∷ ks)
       → n ≡ put R m k v → n ++ rest ≡ m ++ (k, v) ∷ rest
   entry_goes m n k v ks rest sorted is =
       ap (λ (xs : List (K × X)). xs ++ rest) (is ∙ put_last m k v ks sorted) ∙ append_assoc m ((k, v) ∷ []) rest
 
-  keys_go : (m n : List (K × X)) (k : K) (v : X) (ks : List K) → IsStrictlySortedBy R (keys_of m ++ k ∷ ks)
+  pub keys_go : (m n : List (K × X)) (k : K) (v : X) (ks : List K) → IsStrictlySortedBy R (keys_of m ++ k ∷ ks)
       → n ≡ put R m k v → IsStrictlySortedBy R (keys_of n ++ ks)
   keys_go m n k v ks sorted is =
       subst (λ (xs : List K). IsStrictlySortedBy R xs)

@@ -4,3 +4,4 @@ pub mod Reading
 pub mod RadioReading
 pub mod Steps
 pub mod BearersMade
+pub mod RenewSteps

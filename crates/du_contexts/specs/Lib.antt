@@ -1,3 +1,4 @@
 pub mod Tables
 pub mod Frames
 pub mod RadioPdus
+pub mod Renewed

@@ -8,3 +8,4 @@ pub mod downlinks;
 pub mod making;
 pub mod packets;
 pub mod radio;
+pub mod renewing;
