@@ -3,6 +3,7 @@ use Rattle.std.specs.Prelude.{ℕ, ◌+◌, false, List, [], ◌∷◌, Option, 
 use Rattle.gnb_types.specs.declared.names.BearerId.{BearerId}
 use Rattle.gnb_types.specs.declared.names.UeId.{UeId}
 use Rattle.gnb_types.specs.declared.reasons.DropReason.TheVariants.{NoContext}
+use Rattle.gnb_types.specs.declared.plans.Tunnel.{Tunnel}
 use Rattle.unit_defs.specs.Ways.{drops}
 use Rattle.unit_defs.specs.Du.{DuBearer, DuContext, context_anew, replaces}
 use Rattle.unit_octet_defs.specs.Codec.{Codec, octet_way}
@@ -24,3 +25,7 @@ abbrev pub anew_of : ℕ → List Uplink → List (BearerId × DuBearer)
 anew_of next [] = []
 anew_of next (u ∷ us) =
     (u.bearer, record { up = u.up; uplink = u.teid; downlink = next; awaited = 0; gap = false }) ∷ anew_of (next + 1) us
+
+-- the downlink tunnel of a bearer
+abbrev pub downlink_of : BearerId × DuBearer → Tunnel
+downlink_of e = record { bearer = e.0; teid = e.1.downlink }

@@ -7,7 +7,8 @@ ghost use Rattle.gnb_types.specs.Orders.{ue_cmp, bearer_cmp};
 ghost use Rattle.tables.specs.Tables.{find};
 ghost use Rattle.unit_octet_defs.specs.Codec.{Codec};
 ghost use Rattle.unit_steps.specs.Steps.{IsStep, step_after};
-ghost use Rattle.du_contexts.specs.Tables.{OctetDu, with_tables};
+ghost use Rattle.unit_defs.specs.Du.{downlink_list};
+ghost use Rattle.du_contexts.specs.Tables.{OctetDu, with_tables, downlinks_at};
 ghost use Rattle.du_contexts.specs.Renewed.{renewed, uplink_of, anew_of};
 
 use crate::bearers::{DuBearer, DuContext};
@@ -17,6 +18,7 @@ use crate::packets::drop_input;
 use gnb_types::items::{Items, Memory};
 use gnb_types::names::{BearerId, NodeId, SnBits, UeId};
 use gnb_types::outputs::Outputs;
+use gnb_types::plans::{Tunnel, TunnelList};
 use gnb_types::reasons::DropReason;
 use std::alloc::Global;
 use tables::table::Table;
@@ -52,6 +54,20 @@ impl DuContext {
         }
         Ok(uplinks)
     }
+
+    /// Its downlink tunnels, in the order of bearers.
+    fn downlinks(&self, alloc: Global) -> Result<TunnelList, Memory>
+        ensures { IfOk result (λ tunnels. tunnels ≡ downlink_list self.now) }
+    {
+        let mut tunnels = Items::new(alloc);
+        for (id, bearer) in self.bearers.iter() {
+            tunnels.push(Tunnel {
+                bearer: *id,
+                teid: bearer.downlink,
+            })?;
+        }
+        Ok(tunnels)
+    }
 }
 
 /// The bearers with these uplinks, with downlink TEIDs from `next` on.
@@ -81,6 +97,16 @@ impl DuContexts {
         ensures { option_copied result ≡ find ue_cmp self.now.contexts ue }
     {
         self.contexts.get(&ue)
+    }
+
+    /// The downlink tunnels of a terminal's bearers, in the order of bearers; none where it has no context.
+    pub fn downlinks(&self, alloc: Global, ue: UeId) -> Result<TunnelList, Memory>
+        ensures { IfOk result (λ tunnels. tunnels ≡ downlinks_at (find ue_cmp self.now.contexts ue)) }
+    {
+        match self.context_of(ue) {
+            Some(context) => context.downlinks(alloc),
+            None => Ok(Items::new(alloc)),
+        }
     }
 
     /// The terminal's radio is that of this epoch now, and its bearers get new downlink tunnels.
