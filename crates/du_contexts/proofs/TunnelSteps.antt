@@ -1,5 +1,5 @@
 -- Steps of the rows on downlink tunnels, over plain values.
-use Rattle.std.proofs.Common.{◌≡◌, ℕ, Bool, true, cond, List, ◌++◌, length, map, Option, Some, refl, sym, ap, ◌∙◌, subst, append_assoc}
+use Rattle.std.proofs.Common.{◌≡◌, ℕ, Bool, true, cond, List, ◌++◌, length, map, Option, Some, sym, ap, ◌∙◌, subst, append_assoc}
 use Rattle.gnb_types.specs.declared.names.UeId.{UeId}
 use Rattle.gnb_types.specs.declared.outputs.Output.{Output}
 use Rattle.gnb_types.specs.Orders.{ue_cmp}
@@ -10,7 +10,7 @@ use Rattle.unit_defs.specs.Du.{DuContext, DuTunnel, downlinks_of, with_entries, 
 use Rattle.unit_octet_defs.specs.Codec.{Codec, octet_way}
 use Rattle.unit_octet_defs.specs.Units.{OctetAnswer}
 use Rattle.unit_octet_defs.specs.Writing.{outputs_of}
-use Rattle.unit_steps.specs.Steps.{Step, stepped, step_after}
+use Rattle.unit_steps.specs.Steps.{stepped, step_after}
 use Rattle.unit_steps.proofs.StepLaws.{outputs_append, OctetPut}
 use Rattle.du_contexts.specs.Tables.{OctetDu, DuTables, with_tables}
 

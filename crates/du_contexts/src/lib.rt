@@ -8,4 +8,5 @@ pub mod downlinks;
 pub mod making;
 pub mod packets;
 pub mod radio;
+pub mod relays;
 pub mod renewing;

@@ -1,4 +1,4 @@
-use Rattle.std.proofs.Common.{◌≡◌, ◌++◌, map, Option, OnOk, Some, sym, ap, ◌∙◌, subst}
+use Rattle.std.proofs.Common.{◌≡◌, ◌++◌, map, Option, OnOk, ap, ◌∙◌, subst}
 use Rattle.unit_defs.specs.Ways.{closed}
 use Rattle.unit_defs.specs.Du.{DuContext, old_downlinks}
 use Rattle.unit_octet_defs.specs.Codec.{octet_way}

@@ -1,5 +1,4 @@
-use Rattle.std.proofs.Common.{rules, List, sym, ap, ◌∙◌, ℕ}
-use Rattle.unit_defs.specs.Du.{bearers_anew}
+use Rattle.std.proofs.Common.{rules, List, ap, ◌∙◌, ℕ}
 use Rattle.du_contexts.specs.declared.renewing.Uplink.{Uplink}
 use Rattle.du_contexts.specs.Renewed.{anew_of}
 use Rattle.du_contexts.specs.Tables.{with_tables}

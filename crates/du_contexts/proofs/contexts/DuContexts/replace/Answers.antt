@@ -1,4 +1,4 @@
-use Rattle.std.proofs.Common.{rules, ◌++◌, map, sym, ap, ◌∙◌}
+use Rattle.std.proofs.Common.{rules, ◌++◌, map, ap, ◌∙◌}
 use Rattle.gnb_types.specs.Orders.{ue_cmp}
 use Rattle.tables.specs.Tables.{find}
 use Rattle.unit_defs.specs.Ways.{closed}
