@@ -112,7 +112,7 @@ sorted_from i (b ∷ bs) is =
 
 -- ---- no TEIDs are left
 
-length_made : (up : NodeId) (n : ℕ) (us : List Tunnel) → length (bearers_made up n us) ≡ length us
+pub length_made : (up : NodeId) (n : ℕ) (us : List Tunnel) → length (bearers_made up n us) ≡ length us
 length_made up n [] = refl
 length_made up n (u ∷ us) = ap suc (length_made up (n + 1) us)
 

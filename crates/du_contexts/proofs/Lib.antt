@@ -5,3 +5,4 @@ pub mod RadioReading
 pub mod Steps
 pub mod BearersMade
 pub mod RenewSteps
+pub mod PlaceSteps

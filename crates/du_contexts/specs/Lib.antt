@@ -2,3 +2,4 @@ pub mod Tables
 pub mod Frames
 pub mod RadioPdus
 pub mod Renewed
+pub mod Placing

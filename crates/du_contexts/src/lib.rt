@@ -7,6 +7,7 @@ pub mod contexts;
 pub mod downlinks;
 pub mod making;
 pub mod packets;
+pub mod placing;
 pub mod radio;
 pub mod relays;
 pub mod renewing;
