@@ -1,5 +1,5 @@
 -- What a PDU of a radio says to a DU, by a lawful codec.
-use Rattle.std.proofs.Common.{◌≡◌, ℕ, List, Option, Some, None, sym, ap, ◌∙◌}
+use Rattle.std.proofs.Common.{◌≡◌, ℕ, List, Option, Some, sym, ap, ◌∙◌}
 use Rattle.gnb_types.specs.declared.names.UeId.{UeId}
 use Rattle.gnb_types.specs.declared.names.BearerId.{BearerId}
 use Rattle.gnb_types.specs.declared.names.Dir.TheVariants.{Dl, Ul}
@@ -17,7 +17,7 @@ use Rattle.unit_octet_defs.specs.Reading.{read_at_du, read_du_pdu, pdu_read, con
 use Rattle.unit_octet_defs.specs.Units.{acts_on, du_steps}
 use Rattle.codec_defs.specs.Reading.{ReadsPdus}
 use Rattle.du_contexts.specs.Tables.{OctetDu, DuTables, with_tables}
-use Rattle.du_contexts.specs.RadioPdus.{IsPdu, SaysNothing, IsNoPdu}
+use Rattle.du_contexts.specs.RadioPdus.{IsPdu, IsNoPdu}
 
 module _ (codec : Codec) (r : OctetDu) (t : DuTables) (ue : UeId) (bearer : BearerId) (octets : List ℕ) (lawful : ReadsPdus codec) where
   -- the PDU is read with the length of numbers of the terminal's context

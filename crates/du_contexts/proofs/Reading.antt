@@ -1,6 +1,6 @@
 -- What octets say to a DU, by a lawful codec.
-use Rattle.std.proofs.Common.{◌≡◌, ℕ, List, Option, Some, None, sym, ap, ◌∙◌}
-use Rattle.std.specs.Ordering.{nat_cmp}
+use Rattle.std.proofs.Common.{◌≡◌, ℕ, true, false, List, Option, Some, sym, ap, ◌∙◌}
+use Rattle.std.specs.Prelude.{is_some}
 use Rattle.gnb_types.specs.declared.names.UeId.{UeId}
 use Rattle.gnb_types.specs.declared.names.BearerId.{BearerId}
 use Rattle.gnb_types.specs.declared.names.SnBits.{SnBits}
@@ -12,11 +12,11 @@ use Rattle.link_defs.specs.Decoding.{Item, f1u_downlink, DecodesOn}
 use Rattle.unit_defs.specs.Ways.{drops}
 use Rattle.unit_defs.specs.Du.{DuContext, DuTunnel, du_acts, take, taken_on, taken_of}
 use Rattle.unit_octet_defs.specs.Codec.{Codec, octet_way}
-use Rattle.unit_octet_defs.specs.Reading.{du_item, read_at_du, read_du_item, read_du_context, du_item_read}
+use Rattle.unit_octet_defs.specs.Reading.{du_item, read_at_du, read_du_item, read_du_context, du_item_read, du_link, du_link_of, du_sn}
 use Rattle.unit_octet_defs.specs.Units.{acts_on, du_steps}
 use Rattle.codec_defs.specs.Reading.{ReadsItems}
 use Rattle.du_contexts.specs.declared.packets.RadioKey.{RadioKey}
-use Rattle.du_contexts.specs.Tables.{OctetDu, DuTables, with_tables, IsTunnel}
+use Rattle.du_contexts.specs.Tables.{OctetDu, DuTables, with_tables, IsTunnel, is_item}
 
 module _ (codec : Codec) (r : OctetDu) (t : DuTables) (teid : ℕ) (key : RadioKey) (sn : SnBits) (octets : List ℕ)
     (tunnel : IsTunnel t teid key sn) where
@@ -46,3 +46,21 @@ module _ (codec : Codec) (r : OctetDu) (t : DuTables) (teid : ℕ) (key : RadioK
   nothing_read lawful none =
       is_read
       ∙ ap (λ (o : Option Item). acts_on (du_acts (octet_way codec) (with_tables r t)) (with_tables r t) (du_item_read codec teid o)) (lawful.none f1u_downlink sn octets none)
+
+  -- the link of the tunnel, and whether octets are an item of it
+  link_is : du_link (with_tables r t) teid ≡ Some (f1u_downlink, sn)
+  link_is =
+      ap (λ (o : Option DuTunnel). du_link_of (with_tables r t) o) tunnel.is_open
+      ∙ ap (λ (u : UeId). du_sn (find ue_cmp t.contexts u)) (sym tunnel.ue)
+      ∙ ap du_sn tunnel.has_context
+      ∙ ap (λ (s : SnBits). Some (f1u_downlink, s)) (sym tunnel.sn_is)
+
+  pub decodes_there : (item : Item) → ReadsItems codec → DecodesOn f1u_downlink sn item octets
+      → true ≡ is_item codec octets (du_link (with_tables r t) teid)
+  decodes_there item lawful decodes =
+      sym (ap (is_item codec octets) link_is ∙ ap is_some (lawful.found f1u_downlink sn item octets decodes))
+
+  pub decodes_not : ReadsItems codec → ((item : Item) → DecodesOn f1u_downlink sn item octets → ⊥)
+      → false ≡ is_item codec octets (du_link (with_tables r t) teid)
+  decodes_not lawful none =
+      sym (ap (is_item codec octets) link_is ∙ ap is_some (lawful.none f1u_downlink sn octets none))

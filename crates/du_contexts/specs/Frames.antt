@@ -1,5 +1,5 @@
 -- The frames of the code, as the rows of a DU have them.
-use Rattle.std.specs.Prelude.{ℕ, List, Option, option_copied}
+use Rattle.std.specs.Prelude.{ℕ, List, option_copied}
 use Rattle.unit_defs.specs.Ways.{Taken, frame_item}
 use Rattle.du_contexts.specs.declared.packets.Frame.{Frame}
 

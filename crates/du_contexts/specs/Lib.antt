@@ -1,3 +1,5 @@
 pub mod Tables
 pub mod Frames
 pub mod RadioPdus
+pub mod Renewed
+pub mod Placing

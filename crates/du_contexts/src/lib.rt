@@ -4,5 +4,10 @@
 
 pub mod bearers;
 pub mod contexts;
+pub mod downlinks;
+pub mod making;
 pub mod packets;
+pub mod placing;
 pub mod radio;
+pub mod relays;
+pub mod renewing;

@@ -12,13 +12,14 @@ ghost use Rattle.tables.specs.Tables.{find};
 ghost use Rattle.unit_defs.specs.Ways.{drops};
 ghost use Rattle.unit_defs.specs.Du.{DuContext, told, gap_after, carried, taken_of, pass_up, confirm};
 ghost use Rattle.unit_octet_defs.specs.Codec.{Codec, octet_way};
+ghost use Rattle.unit_octet_defs.specs.Reading.{du_link};
 ghost use Rattle.unit_octet_defs.specs.Units.{du_steps};
 ghost use Rattle.unit_octet_defs.specs.Writing.{outputs_of};
 ghost use Rattle.codec_defs.specs.Reading.{ReadsItems, ReadsPdus};
 ghost use Rattle.unit_steps.specs.Steps.{IsStep, step_after};
 ghost use Rattle.unit_steps.specs.declared.StepError.TheVariants as step_errors;
 ghost use Rattle.du_contexts.specs.Frames.{frame_as};
-ghost use Rattle.du_contexts.specs.Tables.{OctetDu, with_tables, IsTunnel};
+ghost use Rattle.du_contexts.specs.Tables.{OctetDu, with_tables, IsTunnel, is_item};
 
 use crate::bearers::DuBearer;
 use crate::contexts::DuContexts;
@@ -185,6 +186,7 @@ impl DuContexts {
     #[tactic(auto, unfolding(unit_octet_defs::specs::Units::du_steps, unit_octet_defs::specs::Reading::read_at_du))]
     fn tunnel(&self, teid: u32) -> Result<(RadioKey, SnBits), DropReason>
         ensures ok { IfOk result (λ x. IsTunnel self.now teid x.0 x.1) }
+        ensures none { (r : OctetDu) → IfErr result (λ reason. du_link (with_tables r self.now) teid ≡ None) }
         ensures err { (codec : Codec) (r : OctetDu) (octets : List ℕ) → IfErr result (λ reason.
             du_steps codec (with_tables r self.now) (ins.Packet teid octets) ≡ drops reason (with_tables r self.now)) }
     {
@@ -198,6 +200,20 @@ impl DuContexts {
         match self.contexts.get(&key.ue) {
             Some(context) => Ok((key, context.sn)),
             None => Err(DropReason::NoContext),
+        }
+    }
+
+    /// Whether octets decode as an item of this tunnel.
+    pub fn decodes(&self, teid: u32, octets: &[u8]) -> bool
+        ensures { (codec : Codec) (r : OctetDu) → ReadsItems codec → result ≡ is_item codec octets.now (du_link (with_tables r self.now) teid) }
+    {
+        let (_, sn) = match self.tunnel(teid) {
+            Ok(found) => found,
+            Err(_) => return false,
+        };
+        match read_f1u_downlink(sn, octets) {
+            Some(_) => true,
+            None => false,
         }
     }
 

@@ -1,0 +1,5 @@
+//! Tests of the contexts of a DU.
+#![tactic(auto)]
+
+#[cfg(test)]
+mod packets;
