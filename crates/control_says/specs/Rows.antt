@@ -1,0 +1,28 @@
+-- The rows of the code, as the definitions have them.
+use Rattle.std.specs.Prelude.{◌≡◌, ℕ, List, map, Result, Ok, Err}
+use Rattle.unit_defs.specs.CpRecords as cp
+use Rattle.unit_messages.specs.Messages.{message_as}
+use Rattle.unit_steps.specs.declared.StepError.{StepError}
+use Rattle.unit_steps.specs.declared.StepError.TheVariants as errors
+use Rattle.control_says.specs.declared.says.Say.{Say}
+use Rattle.control_says.specs.declared.says.Say.TheVariants.{Ask, Cancel, Reply, ReplyLate, Send, Fail, Ignore, Refuse}
+use Rattle.control_says.specs.declared.row.Row.{Row}
+
+abbrev pub say_as : Say → cp.Say (List ℕ)
+say_as (Ask to message deadline awaited) = cp.asks to (message_as message) deadline awaited
+say_as (Cancel to message) = cp.cancels to (message_as message)
+say_as (Reply to message) = cp.replies to (message_as message)
+say_as (ReplyLate to instance message) = cp.replies_late to instance (message_as message)
+say_as (Send to message) = cp.sends to (message_as message)
+say_as (Fail cause) = cp.fails cause
+say_as (Ignore reason) = cp.ignores reason
+say_as (Refuse reason) = cp.refuses reason
+
+abbrev pub row_as : Row → cp.Row (List ℕ)
+row_as r = cp.row (map say_as r.says) r.after
+
+-- the code gives the row, or the counter that stops it; out of memory nothing is said
+abbrev pub RowGives : cp.Row (List ℕ) → Result Row StepError → Type 0
+RowGives wanted (Ok r) = wanted ≡ row_as r
+RowGives wanted (Err (errors.Spent counter)) = wanted ≡ cp.row_spent counter
+RowGives wanted (Err errors.Memory) = Unit {0}

@@ -1,0 +1,96 @@
+//! A row, and where it acts.
+
+ghost use Rattle.std.specs.Prelude.{◌≡◌, [], ◌∷◌, map, Some, None, IfOk};
+ghost use Rattle.unit_defs.specs.CpRecords.{stays, keeps, gives_up, refuses, ignores};
+ghost use Rattle.control_says.specs.Rows.{row_as, say_as, RowGives};
+
+use crate::says::{Say, Says};
+use control_contexts::{Context, Terminal};
+use gnb_types::items::{Items, Memory};
+use gnb_types::names::{Gnb, NodeId, UeId};
+use gnb_types::reasons::{DropReason, RefuseReason};
+use std::alloc::Global;
+use std::marker::Model;
+use unit_steps::StepError;
+
+/// Who acts, and for which terminal.
+#[derive(Debug, Drop)]
+pub struct At<'a> {
+    pub gnb: Gnb,
+    pub ue: UeId,
+    /// The units that are set up.
+    pub units: &'a [NodeId],
+}
+
+impl<'a> Model for At<'a> {
+    ghost use Rattle.unit_defs.specs.CpRows.{CpAt};
+
+    ghost Value = { CpAt };
+
+    ghost view = { λ a. record { gnb = a.gnb; ue = a.ue; units = a.units.now } };
+}
+
+/// What a row says, and what is kept of the terminal then.
+#[derive(Debug, Drop)]
+pub struct Row {
+    pub says: Says,
+    pub after: Terminal,
+}
+
+impl Row {
+    /// It keeps the terminal as it is.
+    pub fn stays(alloc: Global, terminal: &Terminal, says: Says) -> Result<Row, Memory>
+        ensures { IfOk result (λ r. row_as r ≡ stays terminal.now (map say_as says)) }
+    {
+        let after = terminal.copy(alloc)?;
+        Ok(Row { says, after })
+    }
+
+    /// It keeps a context.
+    pub fn keeps(terminal: &Terminal, says: Says, context: Context) -> Row
+        ensures { row_as result ≡ keeps terminal.now (map say_as says) context }
+    {
+        Row {
+            says,
+            after: Terminal {
+                context: Some(context),
+                taken: terminal.taken,
+            },
+        }
+    }
+
+    /// It gives the context up.
+    pub fn gives_up(terminal: &Terminal, says: Says) -> Row
+        ensures { row_as result ≡ gives_up terminal.now (map say_as says) }
+    {
+        Row {
+            says,
+            after: Terminal {
+                context: None,
+                taken: terminal.taken,
+            },
+        }
+    }
+
+    /// It keeps the terminal as it is, and refuses an order.
+    pub fn refuses(
+        alloc: Global,
+        terminal: &Terminal,
+        reason: RefuseReason,
+    ) -> Result<Row, StepError>
+        ensures { RowGives (stays terminal.now (refuses reason ∷ [])) result }
+    {
+        let says = Items::one(alloc, Say::Refuse(reason))?;
+        let row = Row::stays(alloc, terminal, says)?;
+        Ok(row)
+    }
+
+    /// It keeps the terminal as it is, and ignores its input.
+    pub fn ignores(alloc: Global, terminal: &Terminal, reason: DropReason) -> Result<Row, StepError>
+        ensures { RowGives (stays terminal.now (ignores reason ∷ [])) result }
+    {
+        let says = Items::one(alloc, Say::Ignore(reason))?;
+        let row = Row::stays(alloc, terminal, says)?;
+        Ok(row)
+    }
+}
