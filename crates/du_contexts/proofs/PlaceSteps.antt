@@ -1,10 +1,9 @@
 -- Steps of placing a terminal, over plain values.
-use Rattle.std.proofs.Common.{◌≡◌, ℕ, zero, suc, ◌+◌, ◌*◌, ◌==◌, length, map, Bool, true, false, cond, ◌&&◌, List, [], ◌∷◌, ◌++◌, Option, None, Ok, Err, refl, sym, ap, ◌∙◌, eq-eqb, arith}
+use Rattle.std.proofs.Common.{◌≡◌, ℕ, zero, suc, ◌+◌, ◌*◌, length, map, Bool, true, false, cond, ◌&&◌, List, [], ◌∷◌, ◌++◌, Option, None, Ok, Err, refl, sym, ap, ◌∙◌, eq-eqb, arith}
 use Rattle.std.specs.Prelude.{Result}
 use Rattle.gnb_types.specs.declared.names.Gnb.{Gnb}
 use Rattle.gnb_types.specs.declared.names.NodeId.TheVariants.{CuUp}
 use Rattle.gnb_types.specs.declared.outputs.Output.{Output}
-use Rattle.gnb_types.specs.declared.plans.Peer.{Peer}
 use Rattle.gnb_types.specs.declared.plans.Plan.{Plan}
 use Rattle.gnb_types.specs.declared.plans.Tunnel.{Tunnel}
 use Rattle.gnb_types.specs.Orders.{ue_cmp}
@@ -20,8 +19,8 @@ use Rattle.unit_octet_defs.specs.Units.{OctetAnswer}
 use Rattle.unit_octet_defs.specs.Writing.{outputs_of}
 use Rattle.unit_steps.specs.declared.StepError.{StepError}
 use Rattle.unit_steps.specs.declared.StepError.TheVariants as errors
-use Rattle.unit_steps.specs.Steps.{IsStep, Step, stepped, stopped, step_after}
-use Rattle.du_contexts.specs.Placing.{uplinks_fit, may_place, IsPlaced}
+use Rattle.unit_steps.specs.Steps.{IsStep, stepped, stopped, step_after}
+use Rattle.du_contexts.specs.Placing.{uplinks_fit, IsPlaced}
 use Rattle.du_contexts.specs.Tables.{OctetDu, DuTables, with_tables}
 use Rattle.du_contexts.proofs.BearersMade.{length_made}
 
