@@ -1,0 +1,140 @@
+//! An attach (TS 38.401, 8.1): the bearers get their tunnels, then the DU gets the context.
+
+ghost use Rattle.std.specs.Prelude.{◌≡◌};
+ghost use Rattle.unit_defs.specs.CpRows.{attach_context as attach_context_of, attach, attach_begins, attach_has_tunnels, attach_is_placed, attach_fails};
+ghost use Rattle.unit_octet_defs.specs.Codec.{octet_way};
+ghost use Rattle.control_says.specs.Rows.{RowGives};
+
+use control_contexts::{Attempt, Context, Terminal, has_node};
+use control_says::says::{Say, bearer_setup, du_setup, say_command};
+use control_says::{At, Row};
+use gnb_types::items::Items;
+use gnb_types::names::NodeId;
+use gnb_types::plans::{Plan, TunnelList};
+use gnb_types::reasons::{CauseName, RefuseReason};
+use std::alloc::Global;
+use unit_defs::{AttemptKind, StateName};
+use unit_messages::MessageCodec;
+use unit_steps::StepError;
+
+/// The epoch of an attach.
+const FIRST: u32 = 1;
+
+/// A terminal asks for service: it has no context, and its units are set up.
+#[tactic(auto, unfolding(unit_defs::specs::CpRows::attach))]
+pub fn attach<C: MessageCodec>(
+    alloc: Global,
+    codec: &C,
+    at: &At<'_>,
+    plan: Plan,
+    terminal: &Terminal,
+) -> Result<Row, StepError>
+    ensures { RowGives (attach (octet_way C.codec) at.now plan terminal.now) result }
+{
+    match &terminal.context {
+        None => attach_begins(alloc, codec, at, plan, terminal),
+        Some(_) => Row::refuses(alloc, terminal, RefuseReason::Attached),
+    }
+}
+
+fn attach_begins<C: MessageCodec>(
+    alloc: Global,
+    codec: &C,
+    at: &At<'_>,
+    plan: Plan,
+    terminal: &Terminal,
+) -> Result<Row, StepError>
+    ensures { RowGives (attach_begins (octet_way C.codec) at.now plan terminal.now) result }
+{
+    if !has_node(at.units, NodeId::CuUp(at.gnb, plan.up)) {
+        return Row::refuses(alloc, terminal, RefuseReason::NotStarted);
+    }
+    if !has_node(at.units, NodeId::Du(at.gnb, plan.du)) {
+        return Row::refuses(alloc, terminal, RefuseReason::NotStarted);
+    }
+    let context = attach_context(alloc, codec, plan);
+    let says = Items::one(alloc, bearer_setup(at, &context, false))?;
+    Ok(Row::keeps(terminal, says, context))
+}
+
+/// The context of an attach: no epoch was accepted yet.
+fn attach_context<C: MessageCodec>(alloc: Global, _codec: &C, plan: Plan) -> Context
+    ensures { result ≡ attach_context_of (octet_way C.codec) plan }
+{
+    let attempt = Attempt::new(
+        alloc,
+        AttemptKind::Attach,
+        u64::from(FIRST),
+        plan.up,
+        plan.du,
+    );
+    Context {
+        state: StateName::Attaching,
+        epoch: Some(0),
+        finished: false,
+        up: plan.up,
+        du: plan.du,
+        sn: plan.sn,
+        bearers: plan.bearers,
+        quota: plan.quota,
+        by_xn: false,
+        attempt: Some(attempt),
+    }
+}
+
+/// Its tunnels are there: the DU gets the context of epoch 1.
+#[tactic(auto, unfolding(unit_defs::specs::CpRows::attach_has_tunnels))]
+pub fn attach_has_tunnels<C: MessageCodec>(
+    alloc: Global,
+    _codec: &C,
+    at: &At<'_>,
+    uplinks: TunnelList,
+    n3: TunnelList,
+    terminal: &Terminal,
+    context: &Context,
+    mut attempt: Attempt,
+) -> Result<Row, StepError>
+    ensures { RowGives
+        (attach_has_tunnels (octet_way C.codec) at.now uplinks n3 terminal.now context.now attempt)
+        result }
+{
+    attempt.n3 = n3;
+    let says = Items::one(alloc, du_setup(at, context, context.du, FIRST, uplinks))?;
+    let context = context.attempted(StateName::Attaching, attempt);
+    Ok(Row::keeps(terminal, says, context))
+}
+
+/// The DU is ready: the command.
+#[tactic(auto, unfolding(unit_defs::specs::CpRows::attach_is_placed))]
+pub fn attach_is_placed<C: MessageCodec>(
+    alloc: Global,
+    codec: &C,
+    at: &At<'_>,
+    downlinks: TunnelList,
+    terminal: &Terminal,
+    context: &Context,
+    mut attempt: Attempt,
+) -> Result<Row, StepError>
+    ensures { RowGives
+        (attach_is_placed (octet_way C.codec) at.now downlinks terminal.now context.now attempt)
+        result }
+{
+    attempt.downlinks = downlinks;
+    let says = Items::one(alloc, say_command(alloc, codec, at, context, &attempt)?)?;
+    let context = context.attempted(StateName::Commanded, attempt);
+    Ok(Row::keeps(terminal, says, context))
+}
+
+/// The CU-UP could not set up the bearers.
+#[tactic(auto, unfolding(unit_defs::specs::CpRows::attach_fails))]
+pub fn attach_fails<C: MessageCodec>(
+    alloc: Global,
+    _codec: &C,
+    cause: CauseName,
+    terminal: &Terminal,
+) -> Result<Row, StepError>
+    ensures { RowGives (attach_fails (octet_way C.codec) cause terminal.now) result }
+{
+    let says = Items::one(alloc, Say::Fail(cause))?;
+    Ok(Row::gives_up(terminal, says))
+}

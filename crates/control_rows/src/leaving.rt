@@ -1,0 +1,401 @@
+//! A handover to the other gNB, at its source (TS 38.423, 8.2; TS 38.300, 9.2.3.2), the command, and a cancel by order.
+
+ghost use Rattle.std.specs.Prelude.{◌≡◌, Some, None};
+ghost use Rattle.unit_defs.specs.CpRows.{epoch_of, handover_begins, handover_on, handover, handover_is_acknowledged, handover_is_declined, handover_expires, handover_is_frozen, handover_is_not_frozen, command, cancel_attempt, cancel_of, cancel};
+ghost use Rattle.unit_defs.specs.Messages.{is_same_gnb};
+ghost use Rattle.unit_octet_defs.specs.Codec.{octet_way};
+ghost use Rattle.control_says.specs.Rows.{RowGives};
+
+use crate::moving::move_begins;
+use crate::releasing::is_serving;
+use control_contexts::{Attempt, Context, Terminal};
+use control_says::modifying::{say_freeze, say_resume};
+use control_says::says::{
+    EPOCHS, NO_INSTANCE, Say, du_release, other_cp, say_command, two, xn_cancel,
+};
+use control_says::{At, Row};
+use gnb_types::items::Items;
+use gnb_types::names::Gnb;
+use gnb_types::plans::{Peer, Plan, StatusList, TunnelList};
+use gnb_types::reasons::{CauseName, RefuseReason};
+use message_types::XnMessage;
+use std::alloc::Global;
+use unit_defs::{AttemptKind, StateName};
+use unit_messages::{Message, MessageCodec};
+use unit_steps::StepError;
+
+/// Ticks from the request of a handover until it is given up.
+const PREPARATION_TICKS: u16 = 8;
+
+pub fn is_same_gnb(a: Gnb, b: Gnb) -> bool
+    ensures { result ≡ is_same_gnb a b }
+{
+    match (a, b) {
+        (Gnb::A, Gnb::A) | (Gnb::B, Gnb::B) => true,
+        (Gnb::A, Gnb::B) | (Gnb::B, Gnb::A) => false,
+    }
+}
+
+fn epoch_of<C: MessageCodec>(_codec: &C, context: &Context) -> u32
+    ensures { result ≡ epoch_of (octet_way C.codec) context.now }
+{
+    match context.epoch {
+        Some(epoch) => epoch,
+        None => 0,
+    }
+}
+
+/// It begins with a request to the other gNB, with the epoch after the one that was accepted last.
+#[tactic(auto, unfolding(unit_defs::specs::CpRows::handover_begins))]
+fn handover_begins<C: MessageCodec>(
+    alloc: Global,
+    _codec: &C,
+    at: &At<'_>,
+    goal: Plan,
+    epoch: u32,
+    terminal: &Terminal,
+    context: &Context,
+) -> Result<Row, StepError>
+    ensures { RowGives
+        (handover_begins (octet_way C.codec) at.now goal epoch terminal.now context.now) result }
+{
+    if epoch == u32::MAX {
+        return Err(StepError::Spent { counter: EPOCHS });
+    }
+    let epoch = epoch + 1;
+    let request = Message::Xn(XnMessage::HandoverRequest {
+        ue: at.ue,
+        instance: NO_INSTANCE,
+        epoch,
+        bearers: context.bearers,
+        sn: context.sn,
+        quota: context.quota,
+        peer: Peer {
+            gnb: goal.gnb,
+            up: goal.up,
+        },
+        du: goal.du,
+        origin: None,
+    });
+    let ask = Say::Ask {
+        to: other_cp(at),
+        message: request,
+        deadline: Some(PREPARATION_TICKS),
+        awaited: true,
+    };
+    let says = Items::one(alloc, ask)?;
+    let attempt = Attempt::new(
+        alloc,
+        AttemptKind::BetweenGnbs,
+        u64::from(epoch),
+        goal.up,
+        goal.du,
+    );
+    let context = context.attempted(StateName::Preparing, attempt);
+    Ok(Row::keeps(terminal, says, context))
+}
+
+/// An order: to another DU of the own gNB with the same CU-UP, or to the other gNB, of a terminal that is served.
+#[tactic(auto, unfolding(unit_defs::specs::CpRows::handover))]
+pub fn handover<C: MessageCodec>(
+    alloc: Global,
+    codec: &C,
+    at: &At<'_>,
+    goal: Plan,
+    terminal: &Terminal,
+) -> Result<Row, StepError>
+    ensures { RowGives (handover (octet_way C.codec) at.now goal terminal.now) result }
+{
+    match &terminal.context {
+        Some(context) => handover_of(alloc, codec, at, goal, terminal, context),
+        None => Row::refuses(alloc, terminal, RefuseReason::Busy),
+    }
+}
+
+fn handover_of<C: MessageCodec>(
+    alloc: Global,
+    codec: &C,
+    at: &At<'_>,
+    goal: Plan,
+    terminal: &Terminal,
+    context: &Context,
+) -> Result<Row, StepError>
+    ensures { RowGives
+        (handover_on (octet_way C.codec) at.now goal terminal.now (Some context.now)) result }
+{
+    let is_own = is_same_gnb(goal.gnb, at.gnb);
+    if is_own && goal.du == context.du {
+        return Row::refuses(alloc, terminal, RefuseReason::Same);
+    }
+    if is_own && goal.up != context.up {
+        return Row::refuses(alloc, terminal, RefuseReason::NotAllowed);
+    }
+    if !is_serving(codec, context.state) {
+        return Row::refuses(alloc, terminal, RefuseReason::Busy);
+    }
+    let epoch = epoch_of(codec, context);
+    if is_own {
+        return move_begins(alloc, codec, at, goal, epoch, terminal, context);
+    }
+    handover_begins(alloc, codec, at, goal, epoch, terminal, context)
+}
+
+/// The target is ready: what is here is frozen, and goes there.
+#[tactic(auto, unfolding(unit_defs::specs::CpRows::handover_is_acknowledged))]
+pub fn handover_is_acknowledged<C: MessageCodec>(
+    alloc: Global,
+    _codec: &C,
+    at: &At<'_>,
+    peer: Peer,
+    forward_down: TunnelList,
+    forward_up: TunnelList,
+    terminal: &Terminal,
+    context: &Context,
+    attempt: Attempt,
+) -> Result<Row, StepError>
+    ensures { RowGives
+        (handover_is_acknowledged (octet_way C.codec) at.now peer forward_down forward_up
+        terminal.now context.now attempt) result }
+{
+    let says = Items::one(
+        alloc,
+        say_freeze(at, context, peer, forward_down, forward_up),
+    )?;
+    let context = context.attempted(StateName::Prepared, attempt);
+    Ok(Row::keeps(terminal, says, context))
+}
+
+/// The target isn't ready.
+#[tactic(auto, unfolding(unit_defs::specs::CpRows::handover_is_declined))]
+pub fn handover_is_declined<C: MessageCodec>(
+    alloc: Global,
+    _codec: &C,
+    cause: CauseName,
+    terminal: &Terminal,
+    context: &Context,
+) -> Result<Row, StepError>
+    ensures { RowGives
+        (handover_is_declined (octet_way C.codec) cause terminal.now context.now) result }
+{
+    let says = Items::one(alloc, Say::Fail(cause))?;
+    Ok(Row::keeps(terminal, says, context.serving()))
+}
+
+/// The target did not answer within the deadline.
+#[tactic(auto, unfolding(unit_defs::specs::CpRows::handover_expires))]
+pub fn handover_expires<C: MessageCodec>(
+    alloc: Global,
+    _codec: &C,
+    at: &At<'_>,
+    terminal: &Terminal,
+    context: &Context,
+) -> Result<Row, StepError>
+    ensures { RowGives
+        (handover_expires (octet_way C.codec) at.now terminal.now context.now) result }
+{
+    let says = two(alloc, xn_cancel(at), Say::Fail(CauseName::Timeout))?;
+    Ok(Row::keeps(terminal, says, context.serving()))
+}
+
+/// It is frozen: the SN status.
+#[tactic(auto, unfolding(unit_defs::specs::CpRows::handover_is_frozen))]
+pub fn handover_is_frozen<C: MessageCodec>(
+    alloc: Global,
+    _codec: &C,
+    at: &At<'_>,
+    statuses: StatusList,
+    terminal: &Terminal,
+    context: &Context,
+    attempt: Attempt,
+) -> Result<Row, StepError>
+    ensures { RowGives
+        (handover_is_frozen (octet_way C.codec) at.now statuses terminal.now context.now attempt)
+        result }
+{
+    let transfer = Say::Ask {
+        to: other_cp(at),
+        message: Message::Xn(XnMessage::SnStatusTransfer {
+            ue: at.ue,
+            instance: NO_INSTANCE,
+            statuses,
+        }),
+        deadline: None,
+        awaited: false,
+    };
+    let says = Items::one(alloc, transfer)?;
+    let context = context.attempted(StateName::Frozen, attempt);
+    Ok(Row::keeps(terminal, says, context))
+}
+
+/// It could not be frozen.
+#[tactic(auto, unfolding(unit_defs::specs::CpRows::handover_is_not_frozen))]
+pub fn handover_is_not_frozen<C: MessageCodec>(
+    alloc: Global,
+    _codec: &C,
+    at: &At<'_>,
+    cause: CauseName,
+    terminal: &Terminal,
+    context: &Context,
+) -> Result<Row, StepError>
+    ensures { RowGives
+        (handover_is_not_frozen (octet_way C.codec) at.now cause terminal.now context.now) result }
+{
+    let says = two(alloc, xn_cancel(at), Say::Fail(cause))?;
+    Ok(Row::keeps(terminal, says, context.serving()))
+}
+
+// ---- the command, at the tick after all is ready, and again at each tick
+
+#[tactic(auto, unfolding(unit_defs::specs::CpRows::command))]
+pub fn command<C: MessageCodec>(
+    alloc: Global,
+    codec: &C,
+    at: &At<'_>,
+    terminal: &Terminal,
+    context: &Context,
+    attempt: Attempt,
+) -> Result<Row, StepError>
+    ensures { RowGives
+        (command (octet_way C.codec) at.now terminal.now context.now attempt) result }
+{
+    let says = Items::one(alloc, say_command(alloc, codec, at, context, &attempt)?)?;
+    let context = context.attempted(StateName::Commanded, attempt);
+    Ok(Row::keeps(terminal, says, context))
+}
+
+// ---- a cancel (TS 38.423, 8.2.3)
+
+/// An order: the attempt is given up, before the command alone.
+#[tactic(auto, unfolding(unit_defs::specs::CpRows::cancel))]
+pub fn cancel<C: MessageCodec>(
+    alloc: Global,
+    codec: &C,
+    at: &At<'_>,
+    terminal: &Terminal,
+) -> Result<Row, StepError>
+    ensures { RowGives (cancel (octet_way C.codec) at.now terminal.now) result }
+{
+    match &terminal.context {
+        Some(context) => cancel_of(alloc, codec, at, terminal, context),
+        None => Row::refuses(alloc, terminal, RefuseReason::Empty),
+    }
+}
+
+fn cancel_of<C: MessageCodec>(
+    alloc: Global,
+    codec: &C,
+    at: &At<'_>,
+    terminal: &Terminal,
+    context: &Context,
+) -> Result<Row, StepError>
+    ensures { RowGives
+        (cancel_of (octet_way C.codec) at.now terminal.now context.now context.now.attempt) result }
+{
+    match &context.attempt {
+        Some(attempt) => cancel_attempt(alloc, codec, at, terminal, context, attempt),
+        None => Row::refuses(alloc, terminal, RefuseReason::Empty),
+    }
+}
+
+fn cancel_attempt<C: MessageCodec>(
+    alloc: Global,
+    codec: &C,
+    at: &At<'_>,
+    terminal: &Terminal,
+    context: &Context,
+    attempt: &Attempt,
+) -> Result<Row, StepError>
+    ensures { RowGives
+        (cancel_attempt (octet_way C.codec) at.now terminal.now context.now context.now.state
+        attempt.now.kind attempt.now) result }
+{
+    match context.state {
+        StateName::Preparing => cancel_while_preparing(
+            alloc, codec, at, terminal, context, attempt,
+        ),
+        StateName::Prepared => Row::refuses(alloc, terminal, RefuseReason::Busy),
+        StateName::Frozen => cancel_while_frozen(alloc, codec, at, terminal, context, attempt),
+        StateName::Commanded => cancel_while_commanded(
+            alloc, codec, at, terminal, context, attempt,
+        ),
+        StateName::Idle
+        | StateName::Attaching
+        | StateName::Returning
+        | StateName::Completing
+        | StateName::Offered
+        | StateName::Ready
+        | StateName::Arrived
+        | StateName::Serving => Row::refuses(alloc, terminal, RefuseReason::Empty),
+    }
+}
+
+fn cancel_while_preparing<C: MessageCodec>(
+    alloc: Global,
+    _codec: &C,
+    at: &At<'_>,
+    terminal: &Terminal,
+    context: &Context,
+    attempt: &Attempt,
+) -> Result<Row, StepError>
+    ensures { RowGives
+        (cancel_attempt (octet_way C.codec) at.now terminal.now context.now StateName.Preparing
+        attempt.now.kind attempt.now) result }
+{
+    match attempt.kind {
+        AttemptKind::BetweenGnbs => {
+            let says = Items::one(alloc, xn_cancel(at))?;
+            Ok(Row::keeps(terminal, says, context.serving()))
+        }
+        AttemptKind::BetweenDus => Row::refuses(alloc, terminal, RefuseReason::Busy),
+        AttemptKind::Attach | AttemptKind::Offer | AttemptKind::Return => {
+            Row::refuses(alloc, terminal, RefuseReason::Empty)
+        }
+    }
+}
+
+fn cancel_while_frozen<C: MessageCodec>(
+    alloc: Global,
+    _codec: &C,
+    at: &At<'_>,
+    terminal: &Terminal,
+    context: &Context,
+    attempt: &Attempt,
+) -> Result<Row, StepError>
+    ensures { RowGives
+        (cancel_attempt (octet_way C.codec) at.now terminal.now context.now StateName.Frozen
+        attempt.now.kind attempt.now) result }
+{
+    match attempt.kind {
+        AttemptKind::BetweenDus => {
+            let says = Items::one(alloc, du_release(at, attempt.du, false))?;
+            Ok(Row::keeps(terminal, says, context.serving()))
+        }
+        AttemptKind::Attach | AttemptKind::BetweenGnbs | AttemptKind::Offer | AttemptKind::Return =>
+            {
+                let says = two(alloc, xn_cancel(at), say_resume(at, context))?;
+                Ok(Row::keeps(terminal, says, context.serving()))
+            }
+    }
+}
+
+fn cancel_while_commanded<C: MessageCodec>(
+    alloc: Global,
+    _codec: &C,
+    at: &At<'_>,
+    terminal: &Terminal,
+    context: &Context,
+    attempt: &Attempt,
+) -> Result<Row, StepError>
+    ensures { RowGives
+        (cancel_attempt (octet_way C.codec) at.now terminal.now context.now StateName.Commanded
+        attempt.now.kind attempt.now) result }
+{
+    match attempt.kind {
+        AttemptKind::BetweenDus | AttemptKind::BetweenGnbs => {
+            Row::refuses(alloc, terminal, RefuseReason::TooLate)
+        }
+        AttemptKind::Attach | AttemptKind::Offer | AttemptKind::Return => {
+            Row::refuses(alloc, terminal, RefuseReason::Empty)
+        }
+    }
+}
