@@ -1,5 +1,7 @@
-//! Tests of the receiving entity of an unacknowledged bearer, worked by hand from TS 38.323, 5.2.2.
+//! Tests of an unacknowledged bearer, its receiving entity and whole runs, worked by hand from TS 38.323, 5.2.2.
 #![tactic(auto)]
 
+#[cfg(test)]
+mod runs;
 #[cfg(test)]
 mod rx;

@@ -71,6 +71,7 @@ impl UmRx {
         ensures refused { IfErr result (λ e. (e ≡ errors.Memory)
             ⊎ ((takes self.old.sn self.old.ticks self.old.entity number packet.now ≡ Err e)
             × (self.new ≡ self.old))) }
+        ensures numbers { self.new.sn ≡ self.old.sn }
     {
         let count = self.count_of(number)?;
         let packet = Octets::from_slice(alloc, packet)?;
@@ -87,6 +88,7 @@ impl UmRx {
             ≡ record { packets = entries outs; after = self.new.entity }) }
         ensures same { IfOk result (λ outs. self.new ≡ with_entity self.old self.new.entity) }
         ensures memory { IfErr result (λ e. e ≡ errors.Memory) }
+        ensures numbers { self.new.sn ≡ self.old.sn }
     {
         match self.left {
             None => Ok(Outs::new(alloc)),
@@ -158,6 +160,7 @@ impl UmRx {
         ensures up { IfOk result (λ outs. arrived count self.old.entity
             ≡ record { packets = entries outs; after = self.new.entity }) }
         ensures same { IfOk result (λ outs. self.new ≡ with_entity self.old self.new.entity) }
+        ensures numbers { self.new.sn ≡ self.old.sn }
     {
         let mut outs = Outs::new(alloc);
         if count != self.deliv {
@@ -192,6 +195,7 @@ impl UmRx {
             ≡ record { packets = entries outs; after = self.new.entity }) }
         ensures same { IfOk result (λ outs. self.new ≡ with_entity self.old self.new.entity) }
         ensures memory { IfErr result (λ e. e ≡ errors.Memory) }
+        ensures numbers { self.new.sn ≡ self.old.sn }
     {
         let mut outs = Outs::new(alloc);
         hand_up_below(&mut self.stored, self.reord, &mut outs)?;

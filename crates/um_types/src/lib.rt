@@ -5,3 +5,4 @@ pub mod error;
 pub mod event;
 pub mod line;
 pub mod out;
+pub mod stop;
