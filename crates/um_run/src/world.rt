@@ -243,7 +243,8 @@ impl UmWorld {
         let Some((number, _)) = self.flight.first() else {
             return self.puts.saturating_sub(deliv);
         };
-        self.puts.saturating_sub(deliv.min(number.saturating_sub(1)))
+        self.puts
+            .saturating_sub(deliv.min(number.saturating_sub(1)))
     }
 
     /// Applies an event, and gives its lines. The run stops after the first event that leaves more than half a space of COUNTs outstanding,
