@@ -1,11 +1,14 @@
 //! A queue: first in, first out.
 
 ghost use Rattle.std.specs.Prelude.{◌≡◌, ◌==◌, [], ◌∷◌, ◌++◌, length, OnOk, OnErr, IfNone, option_copied};
+ghost use Rattle.std.specs.VecDeque.Iter.{deque_iter_rest, deque_iter_steps};
+ghost use Rattle.std.specs.Iterator.Runs.{YieldsRefsInOrder};
 ghost use Rattle.tables.specs.Queues.{first_item, TakesFirst};
 
 use gnb_types::items::Memory;
 use std::alloc::Global;
 use std::collections::VecDeque;
+use std::collections::vec_deque::Iter;
 use std::marker::Model;
 
 /// Items in the order in which they came. Contracts see the list, the oldest first.
@@ -49,6 +52,14 @@ impl<T> Queue<T> {
         ensures { option_copied result ≡ first_item self.now }
     {
         self.items.front()
+    }
+
+    /// The items, the oldest first.
+    pub fn iter(&self) -> Iter<'_, T>
+        ensures rest { deque_iter_rest result ≡ self.now }
+        ensures runs { YieldsRefsInOrder (deque_iter_steps {X = T}) deque_iter_rest }
+    {
+        self.items.iter()
     }
 
     /// Takes the oldest item out.
