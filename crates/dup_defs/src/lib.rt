@@ -1,0 +1,2 @@
+//! Definitions alone: the transmitting entity of a bearer with PDCP duplication.
+#![tactic(auto)]

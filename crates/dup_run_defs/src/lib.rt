@@ -1,0 +1,2 @@
+//! Definitions alone: the run of one bearer with PDCP duplication over two legs.
+#![tactic(auto)]
