@@ -1,0 +1,2 @@
+-- Internal: what every run keeps.
+pub mod Kept
