@@ -2,3 +2,4 @@ pub mod Lists
 pub mod Numbering
 pub mod Deliveries
 pub mod Outcomes
+pub mod Legs

@@ -33,7 +33,7 @@ use Rattle.law_dup.proofs.Deliveries.{delivers_counted, delivers_of, delivers_ab
 
 -- ---- lines that deliver nothing
 
-puts_deliver_nothing : (sn : SnBits) (puts : List DupPut) → delivered_in (map (put_line sn) puts) ≡ []
+pub puts_deliver_nothing : (sn : SnBits) (puts : List DupPut) → delivered_in (map (put_line sn) puts) ≡ []
 puts_deliver_nothing sn [] = refl
 puts_deliver_nothing sn (p ∷ ps) = puts_deliver_nothing sn ps
 
@@ -45,7 +45,7 @@ delivered_append (x ∷ xs) ys = ap (λ es. delivered_by x ++ es) (delivered_app
     append_three [] bs cs = refl
     append_three (a ∷ ks) bs cs = ap (λ xs. a ∷ xs) (append_three ks bs cs)
 
-lost_nothing : (leg : Leg) (items : ℕ) → delivered_in (lost_lines leg items) ≡ []
+pub lost_nothing : (leg : Leg) (items : ℕ) → delivered_in (lost_lines leg items) ≡ []
 lost_nothing leg items = by (items == 0)
   where
     by : (b : Bool) → delivered_in (cond b [] (lines.Lost leg items ∷ [])) ≡ []
@@ -96,7 +96,7 @@ module _ (sn : SnBits) (quota : ℕ) where
       IsKept sn quota packets s × AreCounted deliv s.receiver.deliv (delivered_in printed) × AreOf packets (delivered_in printed)
 
   -- nothing is delivered
-  quiet_good : (packets : List (List ℕ)) (printed : List DupLine) (s t : DupRun) → delivered_in printed ≡ [] → t.receiver ≡ s.receiver
+  pub quiet_good : (packets : List (List ℕ)) (printed : List DupLine) (s t : DupRun) → delivered_in printed ≡ [] → t.receiver ≡ s.receiver
       → IsKept sn quota packets t → Good packets s.receiver.deliv (goes_on printed t)
   quiet_good packets printed s t none same kept = (
     kept,
@@ -104,7 +104,7 @@ module _ (sn : SnBits) (quota : ℕ) where
     subst (λ (es : List (ℕ × List ℕ)). AreOf packets es) (sym none) tt,
   )
 
-  puts_good : (packets : List (List ℕ)) (before : List DupLine) (s t : DupRun) (r : DupNumbers) → delivered_in before ≡ [] → t.receiver ≡ s.receiver
+  pub puts_good : (packets : List (List ℕ)) (before : List DupLine) (s t : DupRun) (r : DupNumbers) → delivered_in before ≡ [] → t.receiver ≡ s.receiver
       → NumbersGood sn quota packets t r → Good packets s.receiver.deliv (lines_first before (puts_out sn t r))
   puts_good packets before s t spends none same good = tt
   puts_good packets before s t (gives puts after) none same good =
@@ -112,11 +112,11 @@ module _ (sn : SnBits) (quota : ℕ) where
       (delivered_append before (map (put_line sn) puts) ∙ (ap (λ es. es ++ delivered_in (map (put_line sn) puts)) none ∙ puts_deliver_nothing sn puts))
       (puts_receiver puts (over t after) ∙ same) good
 
-  no_lines : (o : DupOutcome) → lines_first [] o ≡ o
+  pub no_lines : (o : DupOutcome) → lines_first [] o ≡ o
   no_lines (goes_on printed s) = refl
   no_lines counts_spent = refl
 
-  refused_good : (packets : List (List ℕ)) (reason : DupRefusal) (s : DupRun) → IsKept sn quota packets s → Good packets s.receiver.deliv (refused reason s)
+  pub refused_good : (packets : List (List ℕ)) (reason : DupRefusal) (s : DupRun) → IsKept sn quota packets s → Good packets s.receiver.deliv (refused reason s)
   refused_good packets reason s kept = quiet_good packets (lines.Refused reason ∷ []) s s refl refl kept
 
   -- ---- a packet is offered
@@ -160,16 +160,16 @@ module _ (sn : SnBits) (quota : ℕ) where
 
   -- ---- an item is carried
 
-  remainder_again : (t : SnBits) (count : ℕ) → count % space t % space t ≡ count % space t
+  pub remainder_again : (t : SnBits) (count : ℕ) → count % space t % space t ≡ count % space t
   remainder_again Len12 count = omega arith
   remainder_again Len18 count = omega arith
 
-  window_short : (t : SnBits) → window t quota + 1 ≤ half t
+  pub window_short : (t : SnBits) → window t quota + 1 ≤ half t
   window_short Len12 = omega arith
   window_short Len18 = omega arith
 
   -- the COUNT of an item that is carried is found
-  found : (packets : List (List ℕ)) (s : DupRun) (base : IsOpen sn quota packets s) (high : ℕ) → base.low ≤ high → high < s.entity.sender.next
+  pub found : (packets : List (List ℕ)) (s : DupRun) (base : IsOpen sn quota packets s) (high : ℕ) → base.low ≤ high → high < s.entity.sender.next
       → near_count sn s.receiver.deliv (high % space sn) ≡ Some high
   found packets s base high up under =
       let short = window_short sn in
@@ -238,7 +238,7 @@ module _ (sn : SnBits) (quota : ℕ) where
     full = kept.full;
   }
 
-  leg_had : (r t : Receiver (List ℕ)) (low next : ℕ) → ((c : ℕ) → is_duplicate r c ≡ true → is_duplicate t c ≡ true) → (b : Bool) (items : LegItems)
+  pub leg_had : (r t : Receiver (List ℕ)) (low next : ℕ) → ((c : ℕ) → is_duplicate r c ≡ true → is_duplicate t c ≡ true) → (b : Bool) (items : LegItems)
       → KeepsLeg r low next b items → KeepsLeg t low next b items
   leg_had r t low next more true items leg = record {
     high = leg.high;
@@ -250,7 +250,7 @@ module _ (sn : SnBits) (quota : ℕ) where
   leg_had r t low next more false items leg = leg
 
   -- a packet is taken, and what can be is delivered
-  taken_kept : (packets : List (List ℕ)) (s : DupRun) (kept : IsKept sn quota packets s) (count : ℕ) (packet : List ℕ)
+  pub taken_kept : (packets : List (List ℕ)) (s : DupRun) (kept : IsKept sn quota packets s) (count : ℕ) (packet : List ℕ)
       → slice_get packets count ≡ Some packet → count < s.entity.sender.next → is_duplicate s.receiver count ≡ false
       → IsKept sn quota packets (record s { receiver = (deliver (stored s.receiver count packet)).after })
   unfolding deliver stored is_duplicate
@@ -294,7 +294,7 @@ module _ (sn : SnBits) (quota : ℕ) where
           by false is e = grind (arith, nat_tests)
 
   -- what it delivers
-  taken_lines : (packets : List (List ℕ)) (s : DupRun) (kept : IsKept sn quota packets s) (count : ℕ) (packet : List ℕ)
+  pub taken_lines : (packets : List (List ℕ)) (s : DupRun) (kept : IsKept sn quota packets s) (count : ℕ) (packet : List ℕ)
       → slice_get packets count ≡ Some packet
       → AreCounted s.receiver.deliv (deliver (stored s.receiver count packet)).after.deliv (deliver (stored s.receiver count packet)).packets
       × AreOf packets (deliver (stored s.receiver count packet)).packets
@@ -309,7 +309,7 @@ module _ (sn : SnBits) (quota : ℕ) where
   -- ---- an item of a leg comes
 
   -- the leg then
-  leg_carried : (r : Receiver (List ℕ)) (low next : ℕ) (items : LegItems) (e : ℕ × List ℕ) (es : List (ℕ × List ℕ)) (leg : IsLeg r low next items)
+  pub leg_carried : (r : Receiver (List ℕ)) (low next : ℕ) (items : LegItems) (e : ℕ × List ℕ) (es : List (ℕ × List ℕ)) (leg : IsLeg r low next items)
       → items.coming ≡ e ∷ es → is_duplicate r e.0 ≡ true → IsLeg r low next (record { carried = items.carried ++ e.0 ∷ []; coming = es })
   leg_carried r low next items e es leg is had =
       let counted = subst (λ (xs : List (ℕ × List ℕ)). AreCounted leg.high next xs) is leg.coming in
@@ -322,11 +322,11 @@ module _ (sn : SnBits) (quota : ℕ) where
         coming = counted.1;
       }
 
-  items_receiver : (leg : Leg) (items : LegItems) (s : DupRun) (r : Receiver (List ℕ))
+  pub items_receiver : (leg : Leg) (items : LegItems) (s : DupRun) (r : Receiver (List ℕ))
       → record (with_items leg items s) { receiver = r } ≡ with_items leg items (record s { receiver = r })
   items_receiver legs.First items s r = refl
   items_receiver legs.Second items s r = refl
 
-  same_receiver : (leg : Leg) (items : LegItems) (s : DupRun) → (with_items leg items s).receiver ≡ s.receiver
+  pub same_receiver : (leg : Leg) (items : LegItems) (s : DupRun) → (with_items leg items s).receiver ≡ s.receiver
   same_receiver legs.First items s = refl
   same_receiver legs.Second items s = refl
