@@ -202,3 +202,120 @@ module _ (sn : SnBits) (quota : ℕ) (packets : List (List ℕ)) (s : DupRun) (k
           coming = above_counted c keeps.high s.entity.sender.next items.coming keeps.coming oldest.numbered;
         }
     other_leg false items keeps = (keeps.0, ap (above c) keeps.1)
+
+    abbrev after : DupSender
+    after = record s.entity { sender = confirmed_to s.entity.sender c }
+
+    confirmed_base : (l : Leg) (mine others : LegItems) → KeepsLeg s.receiver raised s.entity.sender.next (serves s.entity l) mine
+        → KeepsLeg s.receiver raised s.entity.sender.next (serves s.entity (other l)) others
+        → AreOf packets mine.coming → AreOf packets others.coming
+        → IsOpen sn quota packets (over (with_items (other l) others (with_items l mine s)) after)
+    unfolding confirmed_to
+    confirmed_base legs.First mine others keeps_mine keeps_others of_mine of_others = let base = kept.base in record {
+      low = raised;
+      numbered = base.numbered;
+      waiting = base.waiting;
+      counts = base.counts;
+      unconfirmed = above_counted c base.low s.entity.sender.next s.entity.sender.unconfirmed base.unconfirmed oldest.numbered;
+      held = of_above packets c s.entity.sender.unconfirmed base.held;
+      near = (let near = base.near in omega (arith, near));
+      first = keeps_mine;
+      first_of = of_mine;
+      second = keeps_others;
+      second_of = of_others;
+      confirmed = delivered;
+      given = base.given;
+      above = base.above;
+      below = base.below;
+      stored = base.stored;
+    }
+    confirmed_base legs.Second mine others keeps_mine keeps_others of_mine of_others = let base = kept.base in record {
+      low = raised;
+      numbered = base.numbered;
+      waiting = base.waiting;
+      counts = base.counts;
+      unconfirmed = above_counted c base.low s.entity.sender.next s.entity.sender.unconfirmed base.unconfirmed oldest.numbered;
+      held = of_above packets c s.entity.sender.unconfirmed base.held;
+      near = (let near = base.near in omega (arith, near));
+      first = keeps_others;
+      first_of = of_others;
+      second = keeps_mine;
+      second_of = of_mine;
+      confirmed = delivered;
+      given = base.given;
+      above = base.above;
+      below = base.below;
+      stored = base.stored;
+    }
+
+    others_same : (l : Leg) (items : LegItems) → items_of (other l) (with_items l items s) ≡ items_of (other l) s
+    others_same legs.First items = refl
+    others_same legs.Second items = refl
+
+    entity_same : (l : Leg) (mine others : LegItems) → (with_items (other l) others (with_items l mine s)).entity ≡ s.entity
+    entity_same legs.First mine others = refl
+    entity_same legs.Second mine others = refl
+
+    receiver_same : (l : Leg) (mine others : LegItems) → (with_items (other l) others (with_items l mine s)).receiver ≡ s.receiver
+    receiver_same legs.First mine others = refl
+    receiver_same legs.Second mine others = refl
+
+    abbrev right : LegItems → LegItems
+    right items = record items { coming = above c items.coming }
+
+    abbrev lost : LegItems → DupRun
+    lost items = with_items (other leg) (right items) (with_items leg left s)
+
+    numbers : NumbersGood sn quota packets (lost (items_of (other leg) s)) (confirmed sn quota (c % space sn) (lost (items_of (other leg) s)).entity)
+    unfolding confirmed
+    numbers =
+        let mine = leg_of sn quota leg packets s kept.base in
+        let others = leg_of sn quota (other leg) packets s kept.base in
+        subst
+        (λ (e : DupSender). NumbersGood sn quota packets (lost (items_of (other leg) s)) (confirmed_at sn quota e (count_below sn e.sender.next (c % space sn))))
+        (sym (entity_same leg left (right (items_of (other leg) s))))
+        (subst (λ (o : Option ℕ). NumbersGood sn quota packets (lost (items_of (other leg) s)) (confirmed_at sn quota s.entity o)) (sym confirms)
+        (waiting_good sn quota packets after (lost (items_of (other leg) s))
+        (confirmed_base leg left (right (items_of (other leg) s)) (own_leg (serves s.entity leg) mine.0)
+        (other_leg (serves s.entity (other leg)) (items_of (other leg) s) others.0) mine.1 (of_above packets c (items_of (other leg) s).coming others.1))))
+
+    pub confirmed_good : Good sn quota packets s.receiver.deliv (confirmed_one sn quota leg s (items_of leg s) (c ∷ cs))
+    confirmed_good =
+        subst
+        (λ (o : Option ℕ). Good sn quota packets s.receiver.deliv
+        (and_then (loses_up_to (other leg) o (with_items leg left s)) (λ t. puts_out sn t (confirmed sn quota (c % space sn) t.entity))))
+        (sym confirms)
+        (subst
+        (λ (items : LegItems). Good sn quota packets s.receiver.deliv
+        (lines_first (lost_lines (other leg) (length items.coming - length (above c items.coming)))
+        (puts_out sn (lost items) (confirmed sn quota (c % space sn) (lost items).entity))))
+        (sym (others_same leg left))
+        (puts_good sn quota packets
+        (lost_lines (other leg) (length (items_of (other leg) s).coming - length (above c (items_of (other leg) s).coming))) s
+        (lost (items_of (other leg) s)) (confirmed sn quota (c % space sn) (lost (items_of (other leg) s)).entity)
+        (lost_nothing (other leg) (length (items_of (other leg) s).coming - length (above c (items_of (other leg) s).coming)))
+        (receiver_same leg left (right (items_of (other leg) s))) numbers))
+
+  pub confirm_good : AreNear sn s → (leg : Leg) → Good sn quota packets s.receiver.deliv (confirm sn quota leg s)
+  confirm_good near leg = by (items_of leg s).carried refl
+    where
+      by : (cs : List ℕ) → (items_of leg s).carried ≡ cs → Good sn quota packets s.receiver.deliv (confirmed_one sn quota leg s (items_of leg s) cs)
+      by [] carried = refused_good sn quota packets refusals.Empty s kept
+      by (c ∷ cs) carried = confirmed_good near leg c cs carried
+
+  -- ---- the question, and what is refused where a leg is down
+
+  pub ask_good : Good sn quota packets s.receiver.deliv (asked s)
+  ask_good = by (is_quiet s)
+    where
+      by : (b : Bool) → Good sn quota packets s.receiver.deliv (goes_on (cond b (lines.Quiet s.receiver.deliv) lines.Busy ∷ []) s)
+      by true = quiet_good sn quota packets (lines.Quiet s.receiver.deliv ∷ []) s s refl refl kept
+      by false = quiet_good sn quota packets (lines.Busy ∷ []) s s refl refl kept
+
+  pub up_good : (leg : Leg) (does : DupOutcome) → (is_up s.entity leg ≡ true → Good sn quota packets s.receiver.deliv does)
+      → Good sn quota packets s.receiver.deliv (where_up leg s does)
+  up_good leg does good = by (is_up s.entity leg) refl
+    where
+      by : (b : Bool) → is_up s.entity leg ≡ b → Good sn quota packets s.receiver.deliv (cond b does (refused refusals.Down s))
+      by true up = good up
+      by false up = refused_good sn quota packets refusals.Down s kept
