@@ -3,3 +3,4 @@ pub mod Numbering
 pub mod Deliveries
 pub mod Outcomes
 pub mod Legs
+pub mod Modes

@@ -1,0 +1,188 @@
+-- A leg fails or is mended, or the mode changes.
+use Rattle.std.proofs.Common.{◌≡◌, ◌==◌, ℕ, suc, ◌+◌, ◌-◌, ◌%◌, ◌<◌, ◌≤◌, Bool, true, false, cond, not, ◌&&◌, ◌||◌, nat_lt, nat_le, max, List, [], ◌∷◌, ◌++◌, length, map, drop, Option, Some, None, refl, sym, ap, ◌∙◌, subst, arith, append-nil, length-append}
+use Rattle.std.specs.Prelude.{fold, slice_get, is_some}
+use Rattle.std.specs.Ordering.{nat_cmp}
+use Rattle.tables.specs.Tables.{find, put}
+use Rattle.std.specs.List.{filter, flat_map, AllByRecursion}
+use Rattle.std.proofs.lemmas.Bool.Decides.{nat_tests}
+use Rattle.std.proofs.lemmas.List.{drop-append-le}
+use borrow.Author.Tests.{ltb-true}
+use Rattle.gnb_types.specs.declared.names.SnBits.{SnBits}
+use Rattle.gnb_types.specs.declared.names.SnBits.TheVariants.{Len12, Len18}
+use Rattle.pdcp.specs.Near.{IsNear, last_count}
+use Rattle.pdcp.specs.Numbers.{space, half}
+use Rattle.pdcp.specs.declared.pdu.TheConstants.{PACKET_LIMIT}
+use Rattle.pdcp_defs.specs.Counts.{near_count, count_below}
+use Rattle.pdcp_defs.specs.Senders.{Sender, window, confirmed_to}
+use Rattle.pdcp_defs.specs.Receivers.{Receiver, Delivery, is_duplicate, stored, deliver}
+use Rattle.pdcp_entities.proofs.NearLemmas.{near_is, found_from}
+use Rattle.dup_types.specs.declared.leg.Leg.{Leg}
+use Rattle.dup_types.specs.declared.leg.Leg.TheVariants as legs
+use Rattle.dup_types.specs.declared.leg.Mode.{Mode}
+use Rattle.dup_types.specs.declared.line.DupLine.{DupLine}
+use Rattle.dup_types.specs.declared.line.DupLine.TheVariants as lines
+use Rattle.dup_types.specs.declared.line.DupRefusal.{DupRefusal}
+use Rattle.dup_types.specs.declared.line.DupRefusal.TheVariants as refusals
+use Rattle.dup_defs.specs.Senders.{DupSender, DupPut, DupNumbers, gives, spends, serves, in_mode, is_up, is_full, all_on, puts_on, number_waiting, offered, confirmed, confirmed_at, with_leg, leg_is, brings_up, with_mode, enters, mode_is}
+use Rattle.dup_run_defs.specs.Run.{LegItems, DupRun, DupOutcome, goes_on, counts_spent, no_items, items_of, with_items, other, added, with_put, with_puts, put_line, puts_out, lost_lines, size_of, lose_all, lose_to, refused, lines_first, and_then, offers, got, handed_up, received, carried_one, carry, loses_up_to, confirmed_one, confirm, where_up, fails, mends, leaves, same_mode, changes_mode, asked, is_quiet}
+use Rattle.law_dup.specs.Scripts.{AreOf, AreCounted, delivered_by, delivered_in}
+use Rattle.law_dup.specs.inside.Kept.{WaitsFull, IsCarried, IsLeg, KeepsLeg, IsOpen, IsKept, AreNear}
+use Rattle.law_dup.proofs.Lists.{of_more, of_added, of_above, counted_added, counted_up, counted_one, above, above_counted, carried_more, carried_raised, all_more, all_as, all_put, from_put}
+use Rattle.law_dup.proofs.Numbering.{over, puts_over, puts_append, NumbersGood, waiting_good}
+use Rattle.law_dup.proofs.Deliveries.{delivers_counted, delivers_of, delivers_above, delivers_below, delivers_up, still_had, had_now, had_below}
+
+use Rattle.law_dup.proofs.Outcomes.{puts_deliver_nothing, lost_nothing, delivered_append, delivers_all, puts_receiver, puts_all, all_added, Good, quiet_good, puts_good, no_lines, refused_good, found, leg_of, with_leg_kept, leg_had, taken_kept, taken_lines, leg_carried, items_receiver, same_receiver, remainder_again}
+use Rattle.law_dup.proofs.Legs.{up_good}
+
+
+-- ---- a leg by whether it serves
+
+-- one that is down holds nothing
+none_kept : (r : Receiver (List ℕ)) (low next : ℕ) (b : Bool) → KeepsLeg r low next (b && false) no_items
+none_kept r low next true = (refl, refl)
+none_kept r low next false = (refl, refl)
+
+down_empty : (r : Receiver (List ℕ)) (low next : ℕ) (b u : Bool) (items : LegItems) → u ≡ false → KeepsLeg r low next (b && u) items
+    → (items.carried ≡ []) × (items.coming ≡ [])
+down_empty r low next true false items down keeps = keeps
+down_empty r low next false false items down keeps = keeps
+down_empty r low next b true items down keeps = cc
+
+-- all that is unconfirmed is put on it
+abbrev grow : LegItems → List (ℕ × List ℕ) → LegItems
+grow items es = record items { coming = items.coming ++ es }
+
+filled : (r : Receiver (List ℕ)) (low next : ℕ) (items : LegItems) (es : List (ℕ × List ℕ)) → (items.carried ≡ []) × (items.coming ≡ [])
+    → AreCounted low next es → IsLeg r low next (grow items es)
+filled r low next items es empty counted = record {
+  high = low;
+  above = omega arith;
+  carried = subst (λ (cs : List ℕ). IsCarried low low cs) (sym empty.0) (omega arith);
+  came = subst (λ (cs : List ℕ). AllByRecursion (λ c. is_duplicate r c ≡ true) cs) (sym empty.0) tt;
+  coming = subst (λ (xs : List (ℕ × List ℕ)). AreCounted low next (xs ++ es)) (sym empty.1) counted;
+}
+
+of_filled : (packets : List (List ℕ)) (items : LegItems) (es : List (ℕ × List ℕ)) → AreOf packets items.coming → AreOf packets es
+    → AreOf packets (grow items es).coming
+of_filled packets items es all more = of_added packets items.coming es all more
+
+module _ (sn : SnBits) (quota : ℕ) (packets : List (List ℕ)) (s : DupRun) (kept : IsKept sn quota packets s) where
+  abbrev Kept : DupRun → Type 0
+  Kept t = IsKept sn quota packets t
+
+  abbrev next : ℕ
+  next = s.entity.sender.next
+
+  abbrev held : List (ℕ × List ℕ)
+  held = s.entity.sender.unconfirmed
+
+  abbrev r : Receiver (List ℕ)
+  r = s.receiver
+
+  -- the same run with other legs and another entity that has numbered the same
+  legs_kept : (e : DupSender) (first second : LegItems) → e.sender ≡ s.entity.sender → e.waiting ≡ s.entity.waiting
+      → KeepsLeg r kept.base.low next (serves e legs.First) first → AreOf packets first.coming
+      → KeepsLeg r kept.base.low next (serves e legs.Second) second → AreOf packets second.coming
+      → Kept (record { entity = e; first = first; second = second; receiver = s.receiver })
+  legs_kept e first second sender waiting keeps_first of_first keeps_second of_second =
+      let base = kept.base in
+      let now : DupSender = record e { sender = s.entity.sender; waiting = s.entity.waiting } in
+      let same : now ≡ e =
+      ap (λ (x : Sender (List ℕ)). record e { sender = x; waiting = s.entity.waiting }) (sym sender)
+      ∙ ap (λ (w : List (List ℕ)). record e { waiting = w }) (sym waiting) in
+      subst (λ (x : DupSender). Kept (record { entity = x; first = first; second = second; receiver = s.receiver })) same
+      (record {
+        base = record {
+          low = base.low;
+          numbered = base.numbered;
+          waiting = base.waiting;
+          counts = base.counts;
+          unconfirmed = base.unconfirmed;
+          held = base.held;
+          near = base.near;
+          first = keeps_first;
+          first_of = of_first;
+          second = keeps_second;
+          second_of = of_second;
+          confirmed = base.confirmed;
+          given = base.given;
+          above = base.above;
+          below = base.below;
+          stored = base.stored;
+        };
+        full = kept.full;
+      })
+
+  -- ---- a leg fails
+
+  failed : (leg : Leg) → Kept (over (with_items leg no_items s) (with_leg leg false s.entity))
+  failed legs.First =
+      legs_kept (with_leg legs.First false s.entity) no_items s.second refl refl (none_kept r kept.base.low next (in_mode s.entity.mode legs.First)) tt
+      kept.base.second kept.base.second_of
+  failed legs.Second =
+      legs_kept (with_leg legs.Second false s.entity) s.first no_items refl refl kept.base.first kept.base.first_of
+      (none_kept r kept.base.low next (in_mode s.entity.mode legs.Second)) tt
+
+  entity_kept : (leg : Leg) (items : LegItems) → (with_items leg items s).entity ≡ s.entity
+  entity_kept legs.First items = refl
+  entity_kept legs.Second items = refl
+
+  pub fail_good : (leg : Leg) → Good sn quota packets s.receiver.deliv (fails sn leg s)
+  unfolding fails leg_is
+  fail_good leg =
+      up_good sn quota packets s kept leg (and_then (lose_all leg s) (λ t. puts_out sn t (leg_is leg false t.entity)))
+      (λ up. puts_good sn quota packets (lost_lines leg (size_of (items_of leg s))) s (with_items leg no_items s)
+      (gives [] (with_leg leg false (with_items leg no_items s).entity)) (lost_nothing leg (size_of (items_of leg s))) (same_receiver sn quota leg no_items s)
+      (subst (λ (e : DupSender). Kept (over (with_items leg no_items s) (with_leg leg false e))) (sym (entity_kept leg no_items)) (failed leg)))
+
+  -- ---- a leg is mended
+
+  mended : (leg : Leg) → is_up s.entity leg ≡ false → NumbersGood sn quota packets s (brings_up leg s.entity)
+  mended legs.First down = by (in_mode s.entity.mode legs.First) refl
+    where
+      on : DupSender
+      on = with_leg legs.First true s.entity
+
+      empty : (s.first.carried ≡ []) × (s.first.coming ≡ [])
+      empty = down_empty r kept.base.low next (in_mode s.entity.mode legs.First) s.entity.first_up s.first down kept.base.first
+
+      by : (b : Bool) → in_mode s.entity.mode legs.First ≡ b → Kept (with_puts (cond (b && true) (all_on legs.First held) []) (over s on))
+      by true is =
+          subst (λ (t : DupRun). Kept t) (sym (puts_all legs.First held (over s on)))
+          (legs_kept on (grow s.first held) s.second refl refl
+          (subst (λ (b : Bool). KeepsLeg r kept.base.low next (b && true) (grow s.first held)) (sym is)
+          (filled r kept.base.low next s.first held empty kept.base.unconfirmed))
+          (of_filled packets s.first held kept.base.first_of kept.base.held) kept.base.second kept.base.second_of)
+      by false is =
+          legs_kept on s.first s.second refl refl
+          (subst (λ (b : Bool). KeepsLeg r kept.base.low next (b && true) s.first) (sym is) empty) kept.base.first_of kept.base.second kept.base.second_of
+  mended legs.Second down = by (in_mode s.entity.mode legs.Second) refl
+    where
+      on : DupSender
+      on = with_leg legs.Second true s.entity
+
+      empty : (s.second.carried ≡ []) × (s.second.coming ≡ [])
+      empty = down_empty r kept.base.low next (in_mode s.entity.mode legs.Second) s.entity.second_up s.second down kept.base.second
+
+      by : (b : Bool) → in_mode s.entity.mode legs.Second ≡ b → Kept (with_puts (cond (b && true) (all_on legs.Second held) []) (over s on))
+      by true is =
+          subst (λ (t : DupRun). Kept t) (sym (puts_all legs.Second held (over s on)))
+          (legs_kept on s.first (grow s.second held) refl refl kept.base.first kept.base.first_of
+          (subst (λ (b : Bool). KeepsLeg r kept.base.low next (b && true) (grow s.second held)) (sym is)
+          (filled r kept.base.low next s.second held empty kept.base.unconfirmed))
+          (of_filled packets s.second held kept.base.second_of kept.base.held))
+      by false is =
+          legs_kept on s.first s.second refl refl kept.base.first kept.base.first_of
+          (subst (λ (b : Bool). KeepsLeg r kept.base.low next (b && true) s.second) (sym is) empty) kept.base.second_of
+
+  pub mend_good : (leg : Leg) → Good sn quota packets s.receiver.deliv (mends sn leg s)
+  unfolding mends leg_is
+  mend_good leg = by (is_up s.entity leg) refl
+    where
+      by : (b : Bool) → is_up s.entity leg ≡ b
+          → Good sn quota packets s.receiver.deliv
+          (cond b (refused refusals.Up s) (puts_out sn s (cond b (gives [] s.entity) (brings_up leg s.entity))))
+      by true up = refused_good sn quota packets refusals.Up s kept
+      by false down =
+          subst (λ (o : DupOutcome). Good sn quota packets s.receiver.deliv o) (no_lines sn quota (puts_out sn s (brings_up leg s.entity)))
+          (puts_good sn quota packets [] s s (brings_up leg s.entity) refl refl (mended leg down))
