@@ -66,6 +66,63 @@ of_filled : (packets : List (List ℕ)) (items : LegItems) (es : List (ℕ × Li
     → AreOf packets (grow items es).coming
 of_filled packets items es all more = of_added packets items.coming es all more
 
+-- what a leg holds after the mode has changed: whether the old mode had it, whether the new one has it, and whether it is up
+abbrev stays : Bool → LegItems → LegItems
+stays b items = cond b items no_items
+
+abbrev entered : Bool → Bool → Bool → List (ℕ × List ℕ) → LegItems → LegItems
+entered a b u es items = cond a (stays b items) (cond (b && u) (grow (stays b items) es) (stays b items))
+
+entered_kept : (r : Receiver (List ℕ)) (low next : ℕ) (a b u : Bool) (es : List (ℕ × List ℕ)) (items : LegItems) → KeepsLeg r low next (a && u) items
+    → AreCounted low next es → KeepsLeg r low next (b && u) (entered a b u es items)
+entered_kept r low next true true u es items keeps counted = keeps
+entered_kept r low next true false u es items keeps counted = (refl, refl)
+entered_kept r low next false true true es items keeps counted = filled r low next items es keeps counted
+entered_kept r low next false true false es items keeps counted = keeps
+entered_kept r low next false false u es items keeps counted = (refl, refl)
+
+of_entered : (packets : List (List ℕ)) (a b u : Bool) (es : List (ℕ × List ℕ)) (items : LegItems) → AreOf packets items.coming → AreOf packets es
+    → AreOf packets (entered a b u es items).coming
+of_entered packets true true u es items all more = all
+of_entered packets true false u es items all more = tt
+of_entered packets false true true es items all more = of_filled packets items es all more
+of_entered packets false true false es items all more = all
+of_entered packets false false true es items all more = tt
+of_entered packets false false false es items all more = tt
+
+-- where nothing is put on a leg it stays as it is
+abbrev grown_if : Bool → Bool → List (ℕ × List ℕ) → LegItems → LegItems
+grown_if a c es items = cond a items (cond c (grow items es) items)
+
+puts_first_leg : (a c : Bool) (es : List (ℕ × List ℕ)) (t : DupRun)
+    → with_puts (cond a [] (cond c (all_on legs.First es) [])) t ≡ record t { first = grown_if a c es t.first }
+puts_first_leg true c es t = refl
+puts_first_leg false true es t = puts_all legs.First es t
+puts_first_leg false false es t = refl
+
+puts_second_leg : (a c : Bool) (es : List (ℕ × List ℕ)) (t : DupRun)
+    → with_puts (cond a [] (cond c (all_on legs.Second es) [])) t ≡ record t { second = grown_if a c es t.second }
+puts_second_leg true c es t = refl
+puts_second_leg false true es t = puts_all legs.Second es t
+puts_second_leg false false es t = refl
+
+-- a leg that the new mode lacks loses what it has
+abbrev lines_if : Bool → Leg → DupRun → List DupLine
+lines_if b leg s = cond b [] (lost_lines leg (size_of (items_of leg s)))
+
+leaves_first : (b : Bool) (s : DupRun) → cond b (goes_on [] s) (lose_all legs.First s) ≡ goes_on (lines_if b legs.First s) (record s { first = stays b s.first })
+leaves_first true s = refl
+leaves_first false s = refl
+
+leaves_second : (b : Bool) (s : DupRun)
+    → cond b (goes_on [] s) (lose_all legs.Second s) ≡ goes_on (lines_if b legs.Second s) (record s { second = stays b s.second })
+leaves_second true s = refl
+leaves_second false s = refl
+
+lines_nothing : (b : Bool) (leg : Leg) (s : DupRun) → delivered_in (lines_if b leg s) ≡ []
+lines_nothing true leg s = refl
+lines_nothing false leg s = lost_nothing leg (size_of (items_of leg s))
+
 module _ (sn : SnBits) (quota : ℕ) (packets : List (List ℕ)) (s : DupRun) (kept : IsKept sn quota packets s) where
   abbrev Kept : DupRun → Type 0
   Kept t = IsKept sn quota packets t
@@ -186,3 +243,61 @@ module _ (sn : SnBits) (quota : ℕ) (packets : List (List ℕ)) (s : DupRun) (k
       by false down =
           subst (λ (o : DupOutcome). Good sn quota packets s.receiver.deliv o) (no_lines sn quota (puts_out sn s (brings_up leg s.entity)))
           (puts_good sn quota packets [] s s (brings_up leg s.entity) refl refl (mended leg down))
+
+  -- ---- the mode changes
+
+  module _ (mode : Mode) where
+    abbrev on : DupSender
+    on = with_mode mode s.entity
+
+    abbrev left : DupRun
+    left = record s { first = stays (in_mode mode legs.First) s.first; second = stays (in_mode mode legs.Second) s.second }
+
+    mode_numbers : NumbersGood sn quota packets left
+        (gives (enters s.entity.mode on legs.First ++ enters s.entity.mode on legs.Second) on)
+    mode_numbers =
+        let a = in_mode s.entity.mode legs.First in
+        let b = in_mode mode legs.First in
+        let c = in_mode s.entity.mode legs.Second in
+        let d = in_mode mode legs.Second in
+        let t : DupRun = over left on in
+        let u : DupRun = record t { first = grown_if a (b && s.entity.first_up) held t.first } in
+        subst (λ (x : DupRun). Kept x)
+        (sym
+        (puts_append (enters s.entity.mode on legs.First) (enters s.entity.mode on legs.Second) t
+        ∙ (ap (with_puts (enters s.entity.mode on legs.Second)) (puts_first_leg a (b && s.entity.first_up) held t)
+        ∙ puts_second_leg c (d && s.entity.second_up) held u)))
+        (legs_kept on (entered a b s.entity.first_up held s.first) (entered c d s.entity.second_up held s.second) refl refl
+        (entered_kept r kept.base.low next a b s.entity.first_up held s.first kept.base.first kept.base.unconfirmed)
+        (of_entered packets a b s.entity.first_up held s.first kept.base.first_of kept.base.held)
+        (entered_kept r kept.base.low next c d s.entity.second_up held s.second kept.base.second kept.base.unconfirmed)
+        (of_entered packets c d s.entity.second_up held s.second kept.base.second_of kept.base.held))
+
+    changed_good : Good sn quota packets s.receiver.deliv
+        (and_then (and_then (leaves mode legs.First s) (leaves mode legs.Second)) (λ t. puts_out sn t (mode_is mode t.entity)))
+    unfolding mode_is
+    changed_good =
+        let first : DupRun = record s { first = stays (in_mode mode legs.First) s.first } in
+        let lines = lines_if (in_mode mode legs.First) legs.First s ++ lines_if (in_mode mode legs.Second) legs.Second first in
+        subst
+        (λ (o : DupOutcome). Good sn quota packets s.receiver.deliv (and_then (and_then o (leaves mode legs.Second)) (λ t. puts_out sn t (mode_is mode t.entity))))
+        (sym (leaves_first (in_mode mode legs.First) s))
+        (subst
+        (λ (o : DupOutcome). Good sn quota packets s.receiver.deliv
+        (and_then (lines_first (lines_if (in_mode mode legs.First) legs.First s) o) (λ t. puts_out sn t (mode_is mode t.entity))))
+        (sym (leaves_second (in_mode mode legs.Second) first))
+        (puts_good sn quota packets lines s left
+        (gives (enters s.entity.mode on legs.First ++ enters s.entity.mode on legs.Second) on)
+        (delivered_append (lines_if (in_mode mode legs.First) legs.First s) (lines_if (in_mode mode legs.Second) legs.Second first)
+        ∙ (ap (λ es. es ++ delivered_in (lines_if (in_mode mode legs.Second) legs.Second first)) (lines_nothing (in_mode mode legs.First) legs.First s)
+        ∙ lines_nothing (in_mode mode legs.Second) legs.Second first)) refl mode_numbers))
+
+    pub mode_good : Good sn quota packets s.receiver.deliv (changes_mode sn mode s)
+    unfolding changes_mode
+    mode_good = by (same_mode mode s.entity.mode)
+      where
+        by : (b : Bool) → Good sn quota packets s.receiver.deliv
+            (cond b (refused refusals.Same s)
+            (and_then (and_then (leaves mode legs.First s) (leaves mode legs.Second)) (λ t. puts_out sn t (mode_is mode t.entity))))
+        by true = refused_good sn quota packets refusals.Same s kept
+        by false = changed_good
