@@ -4,3 +4,5 @@ pub mod Deliveries
 pub mod Outcomes
 pub mod Legs
 pub mod Modes
+pub mod Steps
+pub mod Scripts
