@@ -6,3 +6,4 @@ pub mod Legs
 pub mod Modes
 pub mod Steps
 pub mod Scripts
+pub mod Draining
