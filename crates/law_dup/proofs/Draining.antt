@@ -244,3 +244,156 @@ module _ (sn : SnBits) (quota : ℕ) where
       by (c ∷ cs) is some =
           and_less 2 0 (work sn quota s) (step s) (for_each step cs) (first c cs is)
           (each_less step (λ t. step_less 0 (work sn quota t) (confirm sn quota leg t) (confirm_less leg t)) cs)
+
+  -- ---- what is carried on a leg stays there until it is confirmed
+
+  abbrev CarriedThen : ℕ → Leg → DupStep → Type 0
+  CarriedThen least leg (passes printed s) = least ≤ length (items_of leg s).carried
+  CarriedThen least leg (stops printed end) = Unit {0}
+
+  abbrev CarriedAfter : ℕ → Leg → DupOutcome → Type 0
+  CarriedAfter least leg (goes_on printed s) = least ≤ length (items_of leg s).carried
+  CarriedAfter least leg counts_spent = Unit {0}
+
+  step_carried : (least : ℕ) (leg : Leg) (o : DupOutcome) → CarriedAfter least leg o → CarriedThen least leg (step_of sn o)
+  step_carried least leg counts_spent l = tt
+  step_carried least leg (goes_on printed s) l = by (nat_lt (half sn) (span s))
+    where
+      by : (b : Bool) → CarriedThen least leg
+          (cond b (stops (printed ++ lines.Outstanding (span s) (half sn) ∷ []) (ends.Outstanding (span s) (half sn))) (passes printed s))
+      by true = tt
+      by false = l
+
+  items_again : (leg : Leg) (items : LegItems) (s : DupRun) → items_of leg (with_items leg items s) ≡ items
+  items_again legs.First items s = refl
+  items_again legs.Second items s = refl
+
+  items_received : (leg : Leg) (s : DupRun) (r : Receiver (List ℕ)) → items_of leg (record s { receiver = r }) ≡ items_of leg s
+  items_received legs.First s r = refl
+  items_received legs.Second s r = refl
+
+  received_carried : (least : ℕ) (leg : Leg) (packet : List ℕ) (s : DupRun) (o : Option ℕ) → least ≤ length (items_of leg s).carried
+      → CarriedAfter least leg (received packet s o)
+  received_carried least leg packet s None l = l
+  received_carried least leg packet s (Some count) l = by (is_duplicate s.receiver count)
+    where
+      by : (b : Bool) → CarriedAfter least leg
+          (cond b (goes_on (lines.DropDuplicate ∷ []) s) (handed_up s (deliver (stored s.receiver count packet))))
+      by true = l
+      by false = subst (λ (i : LegItems). least ≤ length i.carried) (sym (items_received leg s (deliver (stored s.receiver count packet)).after)) l
+
+  lines_carried : (least : ℕ) (leg : Leg) (printed : List DupLine) (o : DupOutcome) → CarriedAfter least leg o → CarriedAfter least leg (lines_first printed o)
+  lines_carried least leg printed counts_spent l = tt
+  lines_carried least leg printed (goes_on more s) l = l
+
+  -- one more than before, where an item was to come
+  one_carried : (leg : Leg) (s : DupRun) (e : ℕ × List ℕ) (es : List (ℕ × List ℕ))
+      → CarriedAfter (length (items_of leg s).carried + 1) leg (carried_one sn leg s (items_of leg s) (e ∷ es))
+  one_carried leg s e es =
+      let items : LegItems = record { carried = (items_of leg s).carried ++ e.0 ∷ []; coming = es } in
+      let t : DupRun = with_items leg items s in
+      lines_carried (length (items_of leg s).carried + 1) leg (got sn leg e ∷ []) (received e.1 t (near_count sn s.receiver.deliv (e.0 % space sn)))
+      (received_carried (length (items_of leg s).carried + 1) leg e.1 t (near_count sn s.receiver.deliv (e.0 % space sn))
+      (subst (λ (i : LegItems). length (items_of leg s).carried + 1 ≤ length i.carried) (sym (items_again leg items s))
+      (omega (arith, length-append (items_of leg s).carried (e.0 ∷ [])))))
+
+  carry_carried : (leg : Leg) (s : DupRun) → CarriedAfter (length (items_of leg s).carried) leg (carry sn leg s)
+  carry_carried leg s = by (items_of leg s).coming
+    where
+      weaker : (o : DupOutcome) → CarriedAfter (length (items_of leg s).carried + 1) leg o → CarriedAfter (length (items_of leg s).carried) leg o
+      weaker counts_spent l = tt
+      weaker (goes_on printed t) l = omega (arith, l)
+
+      by : (es : List (ℕ × List ℕ)) → CarriedAfter (length (items_of leg s).carried) leg (carried_one sn leg s (items_of leg s) es)
+      by [] = omega arith
+      by (e ∷ es) = weaker (carried_one sn leg s (items_of leg s) (e ∷ es)) (one_carried leg s e es)
+
+  and_carried : (least : ℕ) (leg : Leg) (a : DupStep) (more : DupRun → DupStep) → CarriedThen least leg a
+      → ((s : DupRun) → CarriedThen (length (items_of leg s).carried) leg (more s)) → CarriedThen least leg (a and more)
+  and_carried least leg (stops printed end) more l next = tt
+  and_carried least leg (passes printed s) more l next = by (more s) (next s)
+    where
+      by : (b : DupStep) → CarriedThen (length (items_of leg s).carried) leg b → CarriedThen least leg (printed_first printed b)
+      by (stops again end) m = tt
+      by (passes again t) m = omega (arith, l, m)
+
+  each_carried : {X : Type 0} (leg : Leg) (xs : List X) (s : DupRun)
+      → CarriedThen (length (items_of leg s).carried) leg (for_each (λ t. step_of sn (carry sn leg t)) xs s)
+  each_carried leg [] s = omega arith
+  each_carried leg (x ∷ xs) s =
+      and_carried (length (items_of leg s).carried) leg (step_of sn (carry sn leg s)) (for_each (λ t. step_of sn (carry sn leg t)) xs)
+      (step_carried (length (items_of leg s).carried) leg (carry sn leg s) (carry_carried leg s)) (each_carried leg xs)
+
+  -- after all was carried there is an item to confirm, where the leg had one
+  all_carried : (leg : Leg) (s : DupRun) → 1 ≤ size_of (items_of leg s) → CarriedThen 1 leg (carry_all sn quota leg s)
+  all_carried leg s some = by (items_of leg s).coming refl
+    where
+      step : DupRun → DupStep
+      step t = step_of sn (carry sn leg t)
+
+      weaker : (n : ℕ) → 1 ≤ n → (b : DupStep) → CarriedThen n leg b → CarriedThen 1 leg b
+      weaker n l (stops printed end) m = tt
+      weaker n l (passes printed t) m = omega (arith, l, m)
+
+      first : (e : ℕ × List ℕ) (es : List (ℕ × List ℕ)) → (items_of leg s).coming ≡ e ∷ es → CarriedThen (length (items_of leg s).carried + 1) leg (step s)
+      first e es is =
+          step_carried (length (items_of leg s).carried + 1) leg (carry sn leg s)
+          (subst (λ (xs : List (ℕ × List ℕ)). CarriedAfter (length (items_of leg s).carried + 1) leg (carried_one sn leg s (items_of leg s) xs)) (sym is)
+          (one_carried leg s e es))
+
+      by : (es : List (ℕ × List ℕ)) → (items_of leg s).coming ≡ es → CarriedThen 1 leg (for_each step es s)
+      by [] is =
+          let none : length (items_of leg s).coming ≡ 0 = ap (λ (x : List (ℕ × List ℕ)). length x) is in
+          omega (arith, some, none)
+      by (e ∷ es) is =
+          weaker (length (items_of leg s).carried + 1) (omega arith) (step s and for_each step es)
+          (and_carried (length (items_of leg s).carried + 1) leg (step s) (for_each step es) (first e es is) (each_carried leg es))
+
+  -- ---- a turn, and a round
+
+  carries_less : (leg : Leg) (s : DupRun) → LessThen 0 (work sn quota s) (carry_all sn quota leg s)
+  carries_less leg s = each_less (λ t. step_of sn (carry sn leg t)) (λ t. step_less 0 (work sn quota t) (carry sn leg t) (carry_less leg t)) (items_of leg s).coming s
+
+  confirms_no_more : (leg : Leg) (s : DupRun) → LessThen 0 (work sn quota s) (confirm_all sn quota leg s)
+  confirms_no_more leg s =
+      each_less (λ t. step_of sn (confirm sn quota leg t)) (λ t. step_less 0 (work sn quota t) (confirm sn quota leg t) (confirm_less leg t)) (items_of leg s).carried s
+
+  turn_no_more : (leg : Leg) (s : DupRun) → LessThen 0 (work sn quota s) (turn sn quota leg s)
+  turn_no_more leg s = by (is_up s.entity leg)
+    where
+      by : (b : Bool) → LessThen 0 (work sn quota s) (cond b (carry_all sn quota leg s and confirm_all sn quota leg) (passes [] s))
+      by true = and_less 0 0 (work sn quota s) (carry_all sn quota leg s) (confirm_all sn quota leg) (carries_less leg s) (confirms_no_more leg)
+      by false = omega arith
+
+  -- a leg that is up and holds something holds less
+  turn_less : (leg : Leg) (s : DupRun) → is_up s.entity leg ≡ true → 1 ≤ size_of (items_of leg s) → LessThen 2 (work sn quota s) (turn sn quota leg s)
+  turn_less leg s up some =
+      subst (λ (b : Bool). LessThen 2 (work sn quota s) (cond b (carry_all sn quota leg s and confirm_all sn quota leg) (passes [] s))) (sym up)
+      (by (carry_all sn quota leg s) (carries_less leg s) (all_carried leg s some))
+    where
+      by : (a : DupStep) → LessThen 0 (work sn quota s) a → CarriedThen 1 leg a → LessThen 2 (work sn quota s) (a and confirm_all sn quota leg)
+      by (stops printed end) l more = tt
+      by (passes printed t) l more = then_ (confirm_all sn quota leg t) (confirms_less leg t more)
+        where
+          then_ : (b : DupStep) → LessThen 2 (work sn quota t) b → LessThen 2 (work sn quota s) (printed_first printed b)
+          then_ (stops again end) m = tt
+          then_ (passes again u) m = omega (arith, l, m)
+
+  -- where a leg holds nothing its turn does nothing
+  turn_nothing : (leg : Leg) (s : DupRun) → size_of (items_of leg s) ≡ 0 → turn sn quota leg s ≡ passes [] s
+  turn_nothing leg s none = by (is_up s.entity leg) (no_coming (items_of leg s).coming refl) (no_carried (items_of leg s).carried refl)
+    where
+      no_coming : (es : List (ℕ × List ℕ)) → (items_of leg s).coming ≡ es → (items_of leg s).coming ≡ []
+      no_coming [] is = is
+      no_coming (e ∷ es) is = let size : length (items_of leg s).coming ≡ length (e ∷ es) = ap (λ (x : List (ℕ × List ℕ)). length x) is in absurd (omega (arith, size, none))
+
+      no_carried : (cs : List ℕ) → (items_of leg s).carried ≡ cs → (items_of leg s).carried ≡ []
+      no_carried [] is = is
+      no_carried (c ∷ cs) is = let size : length (items_of leg s).carried ≡ length (c ∷ cs) = ap (λ (x : List ℕ). length x) is in absurd (omega (arith, size, none))
+
+      by : (b : Bool) → (items_of leg s).coming ≡ [] → (items_of leg s).carried ≡ []
+          → cond b (carry_all sn quota leg s and confirm_all sn quota leg) (passes [] s) ≡ passes [] s
+      by false coming carried = refl
+      by true coming carried =
+          ap (λ (es : List (ℕ × List ℕ)). for_each (λ t. step_of sn (carry sn leg t)) es s and confirm_all sn quota leg) coming
+          ∙ ap (λ (cs : List ℕ). printed_first [] (for_each (λ t. step_of sn (confirm sn quota leg t)) cs s)) carried

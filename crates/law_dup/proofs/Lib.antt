@@ -7,3 +7,4 @@ pub mod Modes
 pub mod Steps
 pub mod Scripts
 pub mod Draining
+pub mod Quiet

@@ -1,0 +1,1 @@
+-- After a drain nothing is under way.
