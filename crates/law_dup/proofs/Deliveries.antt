@@ -1,5 +1,5 @@
 -- What the receiving entity delivers, and what it has had.
-use Rattle.std.proofs.Common.{◌≡◌, ◌==◌, ℕ, ◌+◌, ◌<◌, ◌≤◌, Bool, true, false, cond, ◌||◌, nat_lt, List, [], ◌∷◌, Option, Some, None, refl, sym, ap, ◌∙◌, subst, arith}
+use Rattle.std.proofs.Common.{◌≡◌, ◌==◌, ℕ, ◌+◌, ◌<◌, ◌≤◌, Bool, true, false, cond, ◌||◌, nat_lt, List, [], ◌∷◌, Option, Some, refl, ap, ◌∙◌, subst, arith}
 use Rattle.std.specs.Prelude.{is_some}
 use Rattle.std.specs.Ordering.{nat_cmp, MatchOrdering, is_eq, eq_by_cmp}
 use Rattle.std.specs.Cmp.{ranks}
@@ -13,7 +13,7 @@ use Rattle.std.proofs.lemmas.Cmp.{nat_cmp_total}
 use borrow.Author.Tests.{eqb-true, ltb-true}
 use Rattle.tables.specs.Tables.{find, put}
 use Rattle.tables.proofs.TableLaws.{find-put, find-put-same}
-use Rattle.pdcp_defs.specs.Receivers.{Receiver, Delivery, deliver_from, deliver, with_packet, stored, is_duplicate}
+use Rattle.pdcp_defs.specs.Receivers.{Receiver, deliver_from, deliver, with_packet, stored, is_duplicate}
 use Rattle.law_dup.specs.Scripts.{AreOf, AreCounted}
 use Rattle.law_dup.specs.inside.Kept.{AreAbove}
 use Rattle.law_dup.proofs.Lists.{AreFrom, from_above}

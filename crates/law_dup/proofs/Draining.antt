@@ -1,9 +1,6 @@
 -- Draining: each round leaves less to do, so that the legs hold nothing in the end.
-use Rattle.std.proofs.Common.{◌≡◌, ◌==◌, ℕ, zero, suc, ◌+◌, ◌-◌, ◌*◌, ◌%◌, ◌<◌, ◌≤◌, Bool, true, false, cond, not, ◌&&◌, nat_lt, List, [], ◌∷◌, ◌++◌, length, map, Option, Some, None, refl, sym, ap, ◌∙◌, subst, arith, length-append, ◌⊎◌, inl, inr}
-use Rattle.std.specs.Prelude.{fold}
-use Rattle.std.specs.List.{filter, AllByRecursion}
-use Rattle.std.proofs.lemmas.Bool.Decides.{nat_tests}
-use borrow.Author.Tests.{eqb-true, eqb-false}
+use Rattle.std.proofs.Common.{◌≡◌, ℕ, ◌+◌, ◌*◌, ◌%◌, ◌≤◌, Bool, true, false, cond, not, nat_lt, List, [], ◌∷◌, ◌++◌, length, Option, Some, None, refl, sym, ap, ◌∙◌, subst, arith, length-append}
+use Rattle.std.specs.List.{filter}
 use Rattle.gnb_types.specs.declared.names.SnBits.{SnBits}
 use Rattle.pdcp.specs.Near.{last_count}
 use Rattle.pdcp.specs.Numbers.{half, space}
@@ -14,12 +11,11 @@ use Rattle.dup_types.specs.declared.leg.Leg.{Leg}
 use Rattle.dup_types.specs.declared.leg.Leg.TheVariants as legs
 use Rattle.dup_types.specs.declared.line.DupLine.{DupLine}
 use Rattle.dup_types.specs.declared.line.DupLine.TheVariants as lines
-use Rattle.dup_types.specs.declared.line.DupRefusal.TheVariants as refusals
 use Rattle.dup_types.specs.declared.stop.DupEnd.TheVariants as ends
-use Rattle.dup_defs.specs.Senders.{DupSender, DupPut, DupNumbers, gives, spends, serves, is_up, in_mode, all_on, puts_of, puts_first, number_each, number_waiting, confirmed, confirmed_at}
-use Rattle.dup_run_defs.specs.Run.{LegItems, DupRun, DupOutcome, goes_on, counts_spent, items_of, with_items, other, added, with_put, with_puts, put_line, puts_out, lost_lines, size_of, lose_to, refused, lines_first, and_then, got, handed_up, received, carried_one, carry, loses_up_to, confirmed_one, confirm, holds_nothing, span}
-use Rattle.dup_run_defs.specs.Steps.{DupStep, passes, stops, step_of, printed_first, ◌and◌, for_each, carry_all, confirm_all, turn, round, is_empty, rounds, work, drains}
-use Rattle.law_dup.proofs.Numbering.{over, puts_append}
+use Rattle.dup_defs.specs.Senders.{DupSender, DupPut, DupNumbers, gives, spends, serves, is_up, all_on, puts_of, puts_first, number_each, number_waiting, confirmed, confirmed_at}
+use Rattle.dup_run_defs.specs.Run.{LegItems, DupRun, DupOutcome, goes_on, counts_spent, items_of, with_items, other, added, with_put, with_puts, puts_out, size_of, lines_first, and_then, got, handed_up, received, carried_one, carry, loses_up_to, confirmed_one, confirm, span}
+use Rattle.dup_run_defs.specs.Steps.{DupStep, passes, stops, step_of, printed_first, ◌and◌, for_each, carry_all, confirm_all, turn, work}
+use Rattle.law_dup.proofs.Numbering.{over}
 
 -- ---- what is put grows the legs by as many items
 
@@ -111,7 +107,7 @@ module _ (sn : SnBits) (quota : ℕ) where
   lines_less less before printed counts_spent l = tt
   lines_less less before printed (goes_on more s) l = l
 
-  and_less : (one two before : ℕ) (a : DupStep) (more : DupRun → DupStep) → LessThen one before a
+  pub and_less : (one two before : ℕ) (a : DupStep) (more : DupRun → DupStep) → LessThen one before a
       → ((s : DupRun) → LessThen two (work sn quota s) (more s)) → LessThen (one + two) before (a and more)
   and_less one two before (stops printed end) more l next = tt
   and_less one two before (passes printed s) more l next = by (more s) (next s)
@@ -358,7 +354,7 @@ module _ (sn : SnBits) (quota : ℕ) where
   confirms_no_more leg s =
       each_less (λ t. step_of sn (confirm sn quota leg t)) (λ t. step_less 0 (work sn quota t) (confirm sn quota leg t) (confirm_less leg t)) (items_of leg s).carried s
 
-  turn_no_more : (leg : Leg) (s : DupRun) → LessThen 0 (work sn quota s) (turn sn quota leg s)
+  pub turn_no_more : (leg : Leg) (s : DupRun) → LessThen 0 (work sn quota s) (turn sn quota leg s)
   turn_no_more leg s = by (is_up s.entity leg)
     where
       by : (b : Bool) → LessThen 0 (work sn quota s) (cond b (carry_all sn quota leg s and confirm_all sn quota leg) (passes [] s))
@@ -366,7 +362,7 @@ module _ (sn : SnBits) (quota : ℕ) where
       by false = omega arith
 
   -- a leg that is up and holds something holds less
-  turn_less : (leg : Leg) (s : DupRun) → is_up s.entity leg ≡ true → 1 ≤ size_of (items_of leg s) → LessThen 2 (work sn quota s) (turn sn quota leg s)
+  pub turn_less : (leg : Leg) (s : DupRun) → is_up s.entity leg ≡ true → 1 ≤ size_of (items_of leg s) → LessThen 2 (work sn quota s) (turn sn quota leg s)
   turn_less leg s up some =
       subst (λ (b : Bool). LessThen 2 (work sn quota s) (cond b (carry_all sn quota leg s and confirm_all sn quota leg) (passes [] s))) (sym up)
       (by (carry_all sn quota leg s) (carries_less leg s) (all_carried leg s some))
@@ -380,7 +376,7 @@ module _ (sn : SnBits) (quota : ℕ) where
           then_ (passes again u) m = omega (arith, l, m)
 
   -- where a leg holds nothing its turn does nothing
-  turn_nothing : (leg : Leg) (s : DupRun) → size_of (items_of leg s) ≡ 0 → turn sn quota leg s ≡ passes [] s
+  pub turn_nothing : (leg : Leg) (s : DupRun) → size_of (items_of leg s) ≡ 0 → turn sn quota leg s ≡ passes [] s
   turn_nothing leg s none = by (is_up s.entity leg) (no_coming (items_of leg s).coming refl) (no_carried (items_of leg s).carried refl)
     where
       no_coming : (es : List (ℕ × List ℕ)) → (items_of leg s).coming ≡ es → (items_of leg s).coming ≡ []

@@ -1,37 +1,22 @@
 -- A leg fails or is mended, or the mode changes.
-use Rattle.std.proofs.Common.{◌≡◌, ◌==◌, ℕ, suc, ◌+◌, ◌-◌, ◌%◌, ◌<◌, ◌≤◌, Bool, true, false, cond, not, ◌&&◌, ◌||◌, nat_lt, nat_le, max, List, [], ◌∷◌, ◌++◌, length, map, drop, Option, Some, None, refl, sym, ap, ◌∙◌, subst, arith, append-nil, length-append}
-use Rattle.std.specs.Prelude.{fold, slice_get, is_some}
-use Rattle.std.specs.Ordering.{nat_cmp}
-use Rattle.tables.specs.Tables.{find, put}
-use Rattle.std.specs.List.{filter, flat_map, AllByRecursion}
-use Rattle.std.proofs.lemmas.Bool.Decides.{nat_tests}
-use Rattle.std.proofs.lemmas.List.{drop-append-le}
-use borrow.Author.Tests.{ltb-true}
+use Rattle.std.proofs.Common.{◌≡◌, ℕ, Bool, true, false, cond, ◌&&◌, List, [], ◌++◌, refl, sym, ap, ◌∙◌, subst, arith}
+use Rattle.std.specs.List.{AllByRecursion}
 use Rattle.gnb_types.specs.declared.names.SnBits.{SnBits}
-use Rattle.gnb_types.specs.declared.names.SnBits.TheVariants.{Len12, Len18}
-use Rattle.pdcp.specs.Near.{IsNear, last_count}
-use Rattle.pdcp.specs.Numbers.{space, half}
-use Rattle.pdcp.specs.declared.pdu.TheConstants.{PACKET_LIMIT}
-use Rattle.pdcp_defs.specs.Counts.{near_count, count_below}
-use Rattle.pdcp_defs.specs.Senders.{Sender, window, confirmed_to}
-use Rattle.pdcp_defs.specs.Receivers.{Receiver, Delivery, is_duplicate, stored, deliver}
-use Rattle.pdcp_entities.proofs.NearLemmas.{near_is, found_from}
+use Rattle.pdcp_defs.specs.Senders.{Sender}
+use Rattle.pdcp_defs.specs.Receivers.{Receiver, is_duplicate}
 use Rattle.dup_types.specs.declared.leg.Leg.{Leg}
 use Rattle.dup_types.specs.declared.leg.Leg.TheVariants as legs
 use Rattle.dup_types.specs.declared.leg.Mode.{Mode}
 use Rattle.dup_types.specs.declared.line.DupLine.{DupLine}
-use Rattle.dup_types.specs.declared.line.DupLine.TheVariants as lines
-use Rattle.dup_types.specs.declared.line.DupRefusal.{DupRefusal}
 use Rattle.dup_types.specs.declared.line.DupRefusal.TheVariants as refusals
-use Rattle.dup_defs.specs.Senders.{DupSender, DupPut, DupNumbers, gives, spends, serves, in_mode, is_up, is_full, all_on, puts_on, number_waiting, offered, confirmed, confirmed_at, with_leg, leg_is, brings_up, with_mode, enters, mode_is}
-use Rattle.dup_run_defs.specs.Run.{LegItems, DupRun, DupOutcome, goes_on, counts_spent, no_items, items_of, with_items, other, added, with_put, with_puts, put_line, puts_out, lost_lines, size_of, lose_all, lose_to, refused, lines_first, and_then, offers, got, handed_up, received, carried_one, carry, loses_up_to, confirmed_one, confirm, where_up, fails, mends, leaves, same_mode, changes_mode, asked, is_quiet}
-use Rattle.law_dup.specs.Scripts.{AreOf, AreCounted, delivered_by, delivered_in}
-use Rattle.law_dup.specs.inside.Kept.{WaitsFull, IsCarried, IsLeg, KeepsLeg, IsOpen, IsKept, AreNear}
-use Rattle.law_dup.proofs.Lists.{of_more, of_added, of_above, counted_added, counted_up, counted_one, above, above_counted, carried_more, carried_raised, all_more, all_as, all_put, from_put}
-use Rattle.law_dup.proofs.Numbering.{over, puts_over, puts_append, NumbersGood, waiting_good}
-use Rattle.law_dup.proofs.Deliveries.{delivers_counted, delivers_of, delivers_above, delivers_below, delivers_up, still_had, had_now, had_below}
+use Rattle.dup_defs.specs.Senders.{DupSender, gives, serves, in_mode, is_up, all_on, with_leg, leg_is, brings_up, with_mode, enters, mode_is}
+use Rattle.dup_run_defs.specs.Run.{LegItems, DupRun, DupOutcome, goes_on, no_items, items_of, with_items, with_puts, puts_out, lost_lines, size_of, lose_all, refused, lines_first, and_then, fails, mends, leaves, same_mode, changes_mode}
+use Rattle.law_dup.specs.Scripts.{AreOf, AreCounted, delivered_in}
+use Rattle.law_dup.specs.inside.Kept.{IsCarried, IsLeg, KeepsLeg, IsKept}
+use Rattle.law_dup.proofs.Lists.{of_added}
+use Rattle.law_dup.proofs.Numbering.{over, puts_append, NumbersGood}
 
-use Rattle.law_dup.proofs.Outcomes.{puts_deliver_nothing, lost_nothing, delivered_append, delivers_all, puts_receiver, puts_all, all_added, Good, quiet_good, puts_good, no_lines, refused_good, found, leg_of, with_leg_kept, leg_had, taken_kept, taken_lines, leg_carried, items_receiver, same_receiver, remainder_again}
+use Rattle.law_dup.proofs.Outcomes.{lost_nothing, delivered_append, puts_all, Good, puts_good, no_lines, refused_good, same_receiver}
 use Rattle.law_dup.proofs.Legs.{up_good}
 
 

@@ -1,18 +1,16 @@
 -- Packets that wait get COUNTs, and stand on the legs that serve.
-use Rattle.std.proofs.Common.{◌≡◌, ◌==◌, ℕ, suc, ◌+◌, ◌-◌, ◌<◌, ◌≤◌, Bool, true, false, cond, not, ◌&&◌, nat_lt, max, List, [], ◌∷◌, ◌++◌, length, map, drop, Option, Some, None, refl, sym, ap, ◌∙◌, subst, arith}
-use Rattle.std.specs.Prelude.{fold}
-use Rattle.std.specs.List.{AllByRecursion}
+use Rattle.std.proofs.Common.{◌≡◌, ℕ, suc, ◌+◌, ◌-◌, ◌<◌, ◌≤◌, Bool, true, false, cond, not, nat_lt, List, [], ◌∷◌, ◌++◌, drop, refl, sym, ap, ◌∙◌, subst, arith}
 use Rattle.std.proofs.lemmas.Bool.Decides.{nat_tests}
 use Rattle.gnb_types.specs.declared.names.SnBits.{SnBits}
 use Rattle.pdcp.specs.Near.{last_count}
-use Rattle.pdcp_defs.specs.Senders.{Sender, first, first_of, window, has_room, numbered}
+use Rattle.pdcp_defs.specs.Senders.{first, first_of, window, has_room, numbered}
 use Rattle.pdcp_defs.specs.Receivers.{Receiver}
 use Rattle.dup_types.specs.declared.leg.Leg.{Leg}
 use Rattle.dup_types.specs.declared.leg.Leg.TheVariants as legs
-use Rattle.dup_defs.specs.Senders.{DupSender, DupPut, DupNumbers, gives, spends, serves, all_on, puts_on, puts_of, puts_first, number_each, number_waiting}
+use Rattle.dup_defs.specs.Senders.{DupSender, DupPut, DupNumbers, gives, spends, serves, all_on, puts_of, puts_first, number_each, number_waiting}
 use Rattle.dup_run_defs.specs.Run.{LegItems, DupRun, items_of, with_items, added, with_put, with_puts}
 use Rattle.law_dup.specs.Scripts.{AreOf, AreCounted}
-use Rattle.law_dup.specs.inside.Kept.{WaitsFull, IsLeg, KeepsLeg, IsOpen, IsKept}
+use Rattle.law_dup.specs.inside.Kept.{WaitsFull, KeepsLeg, IsOpen, IsKept}
 use Rattle.law_dup.proofs.Lists.{all_as, of_added, counted_added, counted_up, get_dropped, drop_one, drop_short}
 
 -- ---- what is put, over a run with another entity

@@ -1,35 +1,29 @@
 -- What each event leaves of a run, and what it delivers.
-use Rattle.std.proofs.Common.{◌≡◌, ◌==◌, ℕ, suc, ◌+◌, ◌-◌, ◌%◌, ◌<◌, ◌≤◌, Bool, true, false, cond, not, ◌&&◌, ◌||◌, nat_lt, nat_le, max, List, [], ◌∷◌, ◌++◌, length, map, drop, Option, Some, None, refl, sym, ap, ◌∙◌, subst, arith, append-nil, length-append}
-use Rattle.std.specs.Prelude.{fold, slice_get, is_some}
+use Rattle.std.proofs.Common.{◌≡◌, ◌==◌, ℕ, ◌+◌, ◌%◌, ◌<◌, ◌≤◌, Bool, true, false, cond, ◌||◌, nat_lt, List, [], ◌∷◌, ◌++◌, map, Some, refl, sym, ap, ◌∙◌, subst, arith, append-nil, length-append}
+use Rattle.std.specs.Prelude.{slice_get, is_some}
 use Rattle.std.specs.Ordering.{nat_cmp}
 use Rattle.tables.specs.Tables.{find, put}
-use Rattle.std.specs.List.{filter, flat_map, AllByRecursion}
 use Rattle.std.proofs.lemmas.Bool.Decides.{nat_tests}
 use Rattle.std.proofs.lemmas.List.{drop-append-le}
-use borrow.Author.Tests.{ltb-true}
 use Rattle.gnb_types.specs.declared.names.SnBits.{SnBits}
 use Rattle.gnb_types.specs.declared.names.SnBits.TheVariants.{Len12, Len18}
-use Rattle.pdcp.specs.Near.{IsNear, last_count}
 use Rattle.pdcp.specs.Numbers.{space, half}
-use Rattle.pdcp.specs.declared.pdu.TheConstants.{PACKET_LIMIT}
-use Rattle.pdcp_defs.specs.Counts.{near_count, count_below}
-use Rattle.pdcp_defs.specs.Senders.{Sender, window, confirmed_to}
-use Rattle.pdcp_defs.specs.Receivers.{Receiver, Delivery, is_duplicate, stored, deliver}
-use Rattle.pdcp_entities.proofs.NearLemmas.{near_is, found_from}
+use Rattle.pdcp_defs.specs.Counts.{near_count}
+use Rattle.pdcp_defs.specs.Senders.{window}
+use Rattle.pdcp_defs.specs.Receivers.{Receiver, is_duplicate, stored, deliver}
+use Rattle.pdcp_entities.proofs.NearLemmas.{near_is}
 use Rattle.dup_types.specs.declared.leg.Leg.{Leg}
 use Rattle.dup_types.specs.declared.leg.Leg.TheVariants as legs
-use Rattle.dup_types.specs.declared.leg.Mode.{Mode}
 use Rattle.dup_types.specs.declared.line.DupLine.{DupLine}
 use Rattle.dup_types.specs.declared.line.DupLine.TheVariants as lines
 use Rattle.dup_types.specs.declared.line.DupRefusal.{DupRefusal}
-use Rattle.dup_types.specs.declared.line.DupRefusal.TheVariants as refusals
-use Rattle.dup_defs.specs.Senders.{DupSender, DupPut, DupNumbers, gives, spends, serves, in_mode, is_up, is_full, all_on, puts_on, number_waiting, offered, confirmed, confirmed_at, with_leg, leg_is, brings_up, with_mode, enters, mode_is}
-use Rattle.dup_run_defs.specs.Run.{LegItems, DupRun, DupOutcome, goes_on, counts_spent, no_items, items_of, with_items, other, added, with_put, with_puts, put_line, puts_out, lost_lines, size_of, lose_all, lose_to, refused, lines_first, and_then, offers, got, handed_up, received, carried_one, carry, loses_up_to, confirmed_one, confirm, where_up, fails, mends, leaves, same_mode, changes_mode, asked, is_quiet}
+use Rattle.dup_defs.specs.Senders.{DupSender, DupPut, DupNumbers, gives, spends, serves, all_on, number_waiting, offered}
+use Rattle.dup_run_defs.specs.Run.{LegItems, DupRun, DupOutcome, goes_on, counts_spent, items_of, with_items, added, with_put, with_puts, put_line, puts_out, lost_lines, refused, lines_first}
 use Rattle.law_dup.specs.Scripts.{AreOf, AreCounted, delivered_by, delivered_in}
-use Rattle.law_dup.specs.inside.Kept.{WaitsFull, IsCarried, IsLeg, KeepsLeg, IsOpen, IsKept, AreNear}
-use Rattle.law_dup.proofs.Lists.{of_more, of_added, of_above, counted_added, counted_up, counted_one, above, above_counted, carried_more, carried_raised, all_more, all_as, all_put, from_put}
-use Rattle.law_dup.proofs.Numbering.{over, puts_over, puts_append, NumbersGood, waiting_good}
-use Rattle.law_dup.proofs.Deliveries.{delivers_counted, delivers_of, delivers_above, delivers_below, delivers_up, still_had, had_now, had_below}
+use Rattle.law_dup.specs.inside.Kept.{IsCarried, IsLeg, KeepsLeg, IsOpen, IsKept}
+use Rattle.law_dup.proofs.Lists.{of_more, carried_more, all_more, all_as, all_put, from_put}
+use Rattle.law_dup.proofs.Numbering.{over, NumbersGood, waiting_good}
+use Rattle.law_dup.proofs.Deliveries.{delivers_counted, delivers_of, delivers_above, delivers_below, delivers_up, still_had}
 
 -- ---- lines that deliver nothing
 

@@ -1,17 +1,16 @@
 -- Every script: what was delivered is a prefix of what was accepted.
-use Rattle.std.proofs.Common.{◌≡◌, ℕ, ◌+◌, ◌≤◌, Bool, true, false, List, [], ◌∷◌, ◌++◌, Option, Some, None, refl, sym, ap, ◌∙◌, subst, arith, append-nil}
+use Rattle.std.proofs.Common.{◌≡◌, ℕ, List, [], ◌∷◌, ◌++◌, Option, Some, None, refl, sym, ap, ◌∙◌, subst, arith, append-nil}
 use Rattle.std.specs.Prelude.{fold}
-use Rattle.std.specs.List.{flat_map, AllByRecursion}
+use Rattle.std.specs.List.{flat_map}
 use Rattle.gnb_types.specs.declared.names.SnBits.{SnBits}
 use Rattle.dup_types.specs.declared.event.DupEvent.{DupEvent}
 use Rattle.dup_types.specs.declared.line.DupLine.{DupLine}
 use Rattle.dup_types.specs.declared.stop.DupEnd.{DupEnd}
-use Rattle.dup_run_defs.specs.Run.{DupRun, new_run}
 use Rattle.dup_run_defs.specs.Steps.{DupStep, passes, stops, steps, DupHappening, DupScript, new_script, with_step, with_event_at, with_event, script_of}
 use Rattle.law_dup.specs.Scripts.{AreOf, AreCounted, IsPrefix, accepted_in, accepted, delivered_in, delivered}
 use Rattle.law_dup.specs.inside.Kept.{IsKept, AreNear}
 use Rattle.law_dup.proofs.Lists.{of_more, of_added, counted_added}
-use Rattle.law_dup.proofs.Steps.{StepGood, printed_of, now_accepted, event_good}
+use Rattle.law_dup.proofs.Steps.{StepGood, now_accepted, event_good}
 
 -- ---- one happening more
 
@@ -28,7 +27,7 @@ happening event printed = record { event = event; printed = printed }
 
 module _ (sn : SnBits) (quota : ℕ) where
   -- the run as it is while the script goes on
-  abbrev Goes : DupScript → ℕ → Option DupEnd → Type 0
+  abbrev pub Goes : DupScript → ℕ → Option DupEnd → Type 0
   Goes script end None = IsKept sn quota (accepted script) script.now × AreNear sn script.now × (script.now.receiver.deliv ≡ end)
   Goes script end (Some why) = Unit {0}
 

@@ -1,5 +1,5 @@
 -- Steps one after another: each keeps the run, and what they deliver goes on where the one before ended.
-use Rattle.std.proofs.Common.{◌≡◌, ℕ, zero, suc, ◌+◌, ◌-◌, ◌<◌, ◌≤◌, Bool, true, false, cond, not, ◌&&◌, nat_lt, List, [], ◌∷◌, ◌++◌, length, map, Option, Some, None, refl, sym, ap, ◌∙◌, subst, arith, append-nil}
+use Rattle.std.proofs.Common.{◌≡◌, ℕ, zero, suc, ◌+◌, ◌-◌, ◌≤◌, Bool, true, false, cond, nat_lt, List, [], ◌∷◌, ◌++◌, length, map, refl, sym, ap, ◌∙◌, subst, arith, append-nil}
 use Rattle.std.specs.Prelude.{fold, min}
 use Rattle.std.specs.List.{AllByRecursion}
 use Rattle.std.proofs.lemmas.Bool.Decides.{nat_tests}
@@ -14,10 +14,9 @@ use Rattle.dup_types.specs.declared.line.DupLine.{DupLine}
 use Rattle.dup_types.specs.declared.line.DupLine.TheVariants as lines
 use Rattle.dup_types.specs.declared.line.DupRefusal.{DupRefusal}
 use Rattle.dup_types.specs.declared.line.DupRefusal.TheVariants as refusals
-use Rattle.dup_types.specs.declared.stop.DupEnd.{DupEnd}
 use Rattle.dup_types.specs.declared.stop.DupEnd.TheVariants as ends
-use Rattle.dup_defs.specs.Senders.{DupSender, DupPut, DupNumbers, gives, spends, is_up, is_full, offered}
-use Rattle.dup_run_defs.specs.Run.{LegItems, DupRun, DupOutcome, goes_on, counts_spent, items_of, with_puts, put_line, puts_out, refused, offers, carry, confirm, where_up, fails, mends, changes_mode, asked, counts_on, undelivered, outstanding, span_from, span}
+use Rattle.dup_defs.specs.Senders.{DupPut, DupNumbers, gives, spends, is_up, is_full, offered}
+use Rattle.dup_run_defs.specs.Run.{DupRun, DupOutcome, goes_on, counts_spent, items_of, with_puts, put_line, puts_out, refused, offers, carry, confirm, where_up, fails, mends, changes_mode, asked, counts_on, undelivered, outstanding, span_from, span}
 use Rattle.dup_run_defs.specs.Steps.{DupStep, passes, stops, step_of, printed_first, ◌and◌, for_each, carry_all, confirm_all, turn, round, is_empty, rounds, work, drains, steps}
 use Rattle.law_dup.specs.Scripts.{AreOf, AreCounted, is_refused, unless_refused, offered_in, accepted_in, delivered_in}
 use Rattle.law_dup.specs.inside.Kept.{IsKept, AreNear}
@@ -120,7 +119,7 @@ module _ (sn : SnBits) (quota : ℕ) where
   -- ---- draining
 
   module _ (packets : List (List ℕ)) where
-    abbrev Goes : (DupRun → DupStep) → Type 0
+    abbrev pub Goes : (DupRun → DupStep) → Type 0
     Goes step = (s : DupRun) → IsKept sn quota packets s → AreNear sn s → StepGood packets s.receiver.deliv (step s)
 
     stays : Goes (λ s. passes [] s)
@@ -147,10 +146,10 @@ module _ (sn : SnBits) (quota : ℕ) where
             (λ t kept_then near_then. each_good (λ u. step_of sn (confirm sn quota leg u)) (confirms leg) (items_of leg t).carried t kept_then near_then)
         by false = stays s kept near
 
-    round_good : Goes (round sn quota)
+    pub round_good : Goes (round sn quota)
     round_good s kept near = and_good packets s.receiver.deliv (turn sn quota legs.First s) (turn sn quota legs.Second) (turn_good legs.First s kept near) (turn_good legs.Second)
 
-    rounds_good : (n : ℕ) → Goes (rounds sn quota n)
+    pub rounds_good : (n : ℕ) → Goes (rounds sn quota n)
     rounds_good zero s kept near = stays s kept near
     rounds_good (suc n) s kept near = by (is_empty sn quota s) (and_good packets s.receiver.deliv (round sn quota s) (rounds sn quota n) (round_good s kept near) (rounds_good n))
       where
