@@ -7,9 +7,10 @@ use Rattle.dup_types.specs.declared.event.DupEvent.{DupEvent}
 use Rattle.dup_types.specs.declared.line.DupLine.{DupLine}
 use Rattle.dup_types.specs.declared.stop.DupEnd.{DupEnd}
 use Rattle.dup_run_defs.specs.Steps.{DupStep, passes, stops, steps, DupHappening, DupScript, new_script, with_step, with_event_at, with_event, script_of}
-use Rattle.law_dup.specs.Scripts.{AreOf, AreCounted, IsPrefix, accepted_in, accepted, delivered_in, delivered}
-use Rattle.law_dup.specs.inside.Kept.{IsKept, AreNear}
-use Rattle.law_dup.proofs.Lists.{of_more, of_added, counted_added}
+use Rattle.dup_proof_events.specs.Counted.{AreOf, AreCounted, delivered_in}
+use Rattle.law_dup.specs.Scripts.{IsPrefix, accepted_in, accepted, delivered}
+use Rattle.dup_proof_events.specs.Kept.{IsKept, AreNear}
+use Rattle.dup_proof_events.proofs.Lists.{of_more, of_added, counted_added}
 use Rattle.law_dup.proofs.Steps.{StepGood, now_accepted, event_good}
 
 -- ---- one happening more

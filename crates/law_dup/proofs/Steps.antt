@@ -18,12 +18,13 @@ use Rattle.dup_types.specs.declared.stop.DupEnd.TheVariants as ends
 use Rattle.dup_defs.specs.Senders.{DupPut, DupNumbers, gives, spends, is_up, is_full, offered}
 use Rattle.dup_run_defs.specs.Run.{DupRun, DupOutcome, goes_on, counts_spent, items_of, with_puts, put_line, puts_out, refused, offers, carry, confirm, where_up, fails, mends, changes_mode, asked, counts_on, undelivered, outstanding, span_from, span}
 use Rattle.dup_run_defs.specs.Steps.{DupStep, passes, stops, step_of, printed_first, ◌and◌, for_each, carry_all, confirm_all, turn, round, is_empty, rounds, work, drains, steps}
-use Rattle.law_dup.specs.Scripts.{AreOf, AreCounted, is_refused, unless_refused, offered_in, accepted_in, delivered_in}
-use Rattle.law_dup.specs.inside.Kept.{IsKept, AreNear}
-use Rattle.law_dup.proofs.Lists.{of_added, counted_added}
-use Rattle.law_dup.proofs.Outcomes.{Good, delivered_append, accepted_good, refused_good}
-use Rattle.law_dup.proofs.Legs.{carry_good, confirm_good, ask_good, up_good}
-use Rattle.law_dup.proofs.Modes.{fail_good, mend_good, mode_good}
+use Rattle.dup_proof_events.specs.Counted.{AreOf, AreCounted, delivered_in}
+use Rattle.law_dup.specs.Scripts.{is_refused, unless_refused, offered_in, accepted_in}
+use Rattle.dup_proof_events.specs.Kept.{IsKept, AreNear}
+use Rattle.dup_proof_events.proofs.Lists.{of_added, counted_added}
+use Rattle.dup_proof_events.proofs.Outcomes.{Good, delivered_append, accepted_good, refused_good}
+use Rattle.dup_proof_events.proofs.Legs.{carry_good, confirm_good, ask_good, up_good}
+use Rattle.dup_proof_events.proofs.Modes.{fail_good, mend_good, mode_good}
 
 -- ---- the least of a list
 

@@ -1,11 +1,12 @@
 -- What a script says of the packets of a bearer with duplication: those that were offered and not refused, and those that were delivered.
 use Rattle.std.specs.Prelude.{◌≡◌, ℕ, ◌+◌, Bool, true, false, List, [], ◌∷◌, slice_get, Some}
-use Rattle.std.specs.List.{flat_map, AllByRecursion}
+use Rattle.std.specs.List.{flat_map}
 use Rattle.dup_types.specs.declared.event.DupEvent.{DupEvent}
 use Rattle.dup_types.specs.declared.event.DupEvent.TheVariants as events
 use Rattle.dup_types.specs.declared.line.DupLine.{DupLine}
 use Rattle.dup_types.specs.declared.line.DupLine.TheVariants as lines
 use Rattle.dup_run_defs.specs.Steps.{DupHappening, DupScript}
+use Rattle.dup_proof_events.specs.Counted.{delivered_in, AreOf, AreCounted}
 
 -- an event was refused
 abbrev pub is_refused : List DupLine → Bool
@@ -28,26 +29,9 @@ accepted_in h = unless_refused (is_refused h.printed) (offered_in h.event)
 abbrev pub accepted : DupScript → List (List ℕ)
 accepted script = flat_map accepted_in script.happened
 
--- a packet that a line delivers, with its COUNT
-abbrev pub delivered_by : DupLine → List (ℕ × List ℕ)
-delivered_by (lines.Deliver count packet) = (count, packet) ∷ []
-delivered_by line = []
-
-abbrev pub delivered_in : List DupLine → List (ℕ × List ℕ)
-delivered_in printed = flat_map delivered_by printed
-
 -- those that were delivered, in order
 abbrev pub delivered : DupScript → List (ℕ × List ℕ)
 delivered script = flat_map (λ h. delivered_in h.printed) script.happened
-
--- each is the packet of its COUNT
-abbrev pub AreOf : List (List ℕ) → List (ℕ × List ℕ) → Type 0
-AreOf packets es = AllByRecursion (λ e. slice_get packets e.0 ≡ Some e.1) es
-
--- COUNTs one after another: the first of them, and the one after the last
-abbrev pub AreCounted : ℕ → ℕ → List (ℕ × List ℕ) → Type 0
-AreCounted first end [] = first ≡ end
-AreCounted first end (e ∷ es) = (e.0 ≡ first) × AreCounted (first + 1) end es
 
 -- COUNTs 0, 1, 2 and so on, each with the packet that was accepted as that one: no packet twice, none left out, all in order
 abbrev pub IsPrefix : List (ℕ × List ℕ) → List (List ℕ) → Type 0

@@ -1,16 +1,10 @@
 //! Laws of the run of a bearer with duplication, for every script. Each function does nothing: its contract is the law.
 #![tactic(auto)]
 
-ghost use Rattle.std.specs.Prelude.{◌≡◌, ℕ, ◌≤◌, true, List, [], ◌∷◌, length, None};
+ghost use Rattle.std.specs.Prelude.{ℕ, List};
 ghost use Rattle.gnb_types.specs.declared.names.SnBits.{SnBits};
 ghost use Rattle.dup_types.specs.declared.event.DupEvent.{DupEvent};
-ghost use Rattle.dup_types.specs.declared.event.DupEvent.TheVariants.{Ask};
-ghost use Rattle.dup_types.specs.declared.leg.Leg.{Leg};
-ghost use Rattle.dup_types.specs.declared.line.DupLine.{DupLine};
-ghost use Rattle.dup_types.specs.declared.line.DupLine.TheVariants.{Quiet};
-ghost use Rattle.dup_defs.specs.Senders.{serves};
-ghost use Rattle.dup_run_defs.specs.Run.{DupRun};
-ghost use Rattle.dup_run_defs.specs.Steps.{passes, drains, steps, script_of};
+ghost use Rattle.dup_run_defs.specs.Steps.{script_of};
 ghost use Rattle.law_dup.specs.Scripts.{IsPrefix, accepted, delivered};
 
 /// In every script, whatever legs fail, mend and change, the packets that are delivered are a prefix of those that were accepted, each once
@@ -18,13 +12,4 @@ ghost use Rattle.law_dup.specs.Scripts.{IsPrefix, accepted, delivered};
 pub fn delivered_packets_are_a_prefix()
     ensures { (sn : SnBits) (quota : ℕ) (events : List DupEvent)
         → IsPrefix (delivered (script_of sn quota events)) (accepted (script_of sn quota events)) }
-{}
-
-/// After a drain while a leg of the mode is up nothing is under way: the question is answered with the number of all packets that were
-/// accepted, and all of them were delivered.
-pub fn a_drain_delivers_all()
-    ensures { (sn : SnBits) (quota : ℕ) (script : List DupEvent) → 1 ≤ quota → (script_of sn quota script).ended ≡ None
-        → (printed : List DupLine) (after : DupRun) → drains sn quota (script_of sn quota script).now ≡ passes printed after
-        → (leg : Leg) → serves after.entity leg ≡ true
-        → steps sn quota Ask after ≡ passes (Quiet (length (accepted (script_of sn quota script))) ∷ []) after }
 {}

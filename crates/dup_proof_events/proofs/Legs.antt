@@ -14,13 +14,13 @@ use Rattle.dup_types.specs.declared.line.DupLine.TheVariants as lines
 use Rattle.dup_types.specs.declared.line.DupRefusal.TheVariants as refusals
 use Rattle.dup_defs.specs.Senders.{DupSender, serves, is_up, confirmed, confirmed_at}
 use Rattle.dup_run_defs.specs.Run.{LegItems, DupRun, DupOutcome, goes_on, items_of, with_items, other, puts_out, lost_lines, refused, lines_first, and_then, got, handed_up, received, carried_one, carry, loses_up_to, confirmed_one, confirm, where_up, asked, is_quiet}
-use Rattle.law_dup.specs.Scripts.{AreOf, AreCounted}
-use Rattle.law_dup.specs.inside.Kept.{IsCarried, KeepsLeg, IsOpen, IsKept, AreNear}
-use Rattle.law_dup.proofs.Lists.{of_above, counted_up, counted_one, above, above_counted, carried_raised}
-use Rattle.law_dup.proofs.Numbering.{over, NumbersGood, waiting_good}
-use Rattle.law_dup.proofs.Deliveries.{had_now, had_below}
+use Rattle.dup_proof_events.specs.Counted.{AreOf, AreCounted}
+use Rattle.dup_proof_events.specs.Kept.{IsCarried, KeepsLeg, IsOpen, IsKept, AreNear}
+use Rattle.dup_proof_events.proofs.Lists.{of_above, counted_up, counted_one, above, above_counted, carried_raised}
+use Rattle.dup_proof_events.proofs.Numbering.{over, NumbersGood, waiting_good}
+use Rattle.dup_proof_events.proofs.Deliveries.{had_now, had_below}
 
-use Rattle.law_dup.proofs.Outcomes.{lost_nothing, delivers_all, Good, quiet_good, puts_good, refused_good, found, leg_of, with_leg_kept, taken_kept, taken_lines, leg_carried, items_receiver, same_receiver, remainder_again}
+use Rattle.dup_proof_events.proofs.Outcomes.{lost_nothing, delivers_all, Good, quiet_good, puts_good, refused_good, found, leg_of, with_leg_kept, taken_kept, taken_lines, leg_carried, items_receiver, same_receiver, remainder_again}
 
 module _ (sn : SnBits) (quota : ℕ) (packets : List (List ℕ)) (s : DupRun) (kept : IsKept sn quota packets s) where
   items_kept : (leg : Leg) (r : Receiver (List ℕ)) → items_of leg (record s { receiver = r }) ≡ items_of leg s

@@ -15,7 +15,7 @@ use Rattle.dup_types.specs.declared.stop.DupEnd.TheVariants as ends
 use Rattle.dup_defs.specs.Senders.{DupSender, DupPut, DupNumbers, gives, spends, serves, is_up, all_on, puts_of, puts_first, number_each, number_waiting, confirmed, confirmed_at}
 use Rattle.dup_run_defs.specs.Run.{LegItems, DupRun, DupOutcome, goes_on, counts_spent, items_of, with_items, other, added, with_put, with_puts, puts_out, size_of, lines_first, and_then, got, handed_up, received, carried_one, carry, loses_up_to, confirmed_one, confirm, span}
 use Rattle.dup_run_defs.specs.Steps.{DupStep, passes, stops, step_of, printed_first, ◌and◌, for_each, carry_all, confirm_all, turn, work}
-use Rattle.law_dup.proofs.Numbering.{over}
+use Rattle.dup_proof_events.proofs.Numbering.{over}
 
 -- ---- what is put grows the legs by as many items
 

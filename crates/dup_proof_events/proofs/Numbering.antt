@@ -9,9 +9,9 @@ use Rattle.dup_types.specs.declared.leg.Leg.{Leg}
 use Rattle.dup_types.specs.declared.leg.Leg.TheVariants as legs
 use Rattle.dup_defs.specs.Senders.{DupSender, DupPut, DupNumbers, gives, spends, serves, all_on, puts_of, puts_first, number_each, number_waiting}
 use Rattle.dup_run_defs.specs.Run.{LegItems, DupRun, items_of, with_items, added, with_put, with_puts}
-use Rattle.law_dup.specs.Scripts.{AreOf, AreCounted}
-use Rattle.law_dup.specs.inside.Kept.{WaitsFull, KeepsLeg, IsOpen, IsKept}
-use Rattle.law_dup.proofs.Lists.{all_as, of_added, counted_added, counted_up, get_dropped, drop_one, drop_short}
+use Rattle.dup_proof_events.specs.Counted.{AreOf, AreCounted}
+use Rattle.dup_proof_events.specs.Kept.{WaitsFull, KeepsLeg, IsOpen, IsKept}
+use Rattle.dup_proof_events.proofs.Lists.{all_as, of_added, counted_added, counted_up, get_dropped, drop_one, drop_short}
 
 -- ---- what is put, over a run with another entity
 

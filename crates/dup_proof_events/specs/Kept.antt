@@ -1,4 +1,4 @@
--- Internal: what is always so of a run, where these packets were accepted.
+-- What is always so of a run, where these packets were accepted.
 use Rattle.std.specs.Prelude.{◌≡◌, ℕ, ◌+◌, ◌<◌, ◌≤◌, Bool, true, false, max, List, [], ◌∷◌, drop, length}
 use Rattle.std.specs.List.{AllByRecursion}
 use Rattle.gnb_types.specs.declared.names.SnBits.{SnBits}
@@ -9,7 +9,7 @@ use Rattle.pdcp_defs.specs.Receivers.{Receiver, is_duplicate}
 use Rattle.dup_types.specs.declared.leg.Leg.TheVariants as legs
 use Rattle.dup_defs.specs.Senders.{serves}
 use Rattle.dup_run_defs.specs.Run.{LegItems, DupRun}
-use Rattle.law_dup.specs.Scripts.{AreOf, AreCounted}
+use Rattle.dup_proof_events.specs.Counted.{AreOf, AreCounted}
 
 -- packets wait only where the window is full
 abbrev pub WaitsFull : ℕ → ℕ → List (List ℕ) → Type 0

@@ -18,11 +18,12 @@ use Rattle.dup_types.specs.declared.stop.DupEnd.TheVariants as ends
 use Rattle.dup_defs.specs.Senders.{serves, in_mode}
 use Rattle.dup_run_defs.specs.Run.{LegItems, DupRun, size_of, holds_nothing, is_quiet, outstanding, span_from, span}
 use Rattle.dup_run_defs.specs.Steps.{DupStep, passes, stops, printed_first, ◌and◌, turn, round, is_empty, rounds, work, drains, steps, script_of}
-use Rattle.law_dup.specs.Scripts.{AreCounted, accepted}
-use Rattle.law_dup.specs.inside.Kept.{WaitsFull, IsCarried, IsLeg, KeepsLeg, IsKept, AreNear}
-use Rattle.law_dup.proofs.Lists.{counted_one}
+use Rattle.dup_proof_events.specs.Counted.{AreCounted}
+use Rattle.law_dup.specs.Scripts.{accepted}
+use Rattle.dup_proof_events.specs.Kept.{WaitsFull, IsCarried, IsLeg, KeepsLeg, IsKept, AreNear}
+use Rattle.dup_proof_events.proofs.Lists.{counted_one}
 use Rattle.law_dup.proofs.Steps.{StepGood, round_good, drain_good}
-use Rattle.law_dup.proofs.Draining.{LessThen, and_less, turn_no_more, turn_less, turn_nothing}
+use Rattle.law_dup_drain.proofs.Draining.{LessThen, and_less, turn_no_more, turn_less, turn_nothing}
 use Rattle.law_dup.proofs.Scripts.{script_good, IsGood, Goes}
 
 module _ (sn : SnBits) (quota : ℕ) (packets : List (List ℕ)) where

@@ -11,13 +11,13 @@ use Rattle.dup_types.specs.declared.line.DupLine.{DupLine}
 use Rattle.dup_types.specs.declared.line.DupRefusal.TheVariants as refusals
 use Rattle.dup_defs.specs.Senders.{DupSender, gives, serves, in_mode, is_up, all_on, with_leg, leg_is, brings_up, with_mode, enters, mode_is}
 use Rattle.dup_run_defs.specs.Run.{LegItems, DupRun, DupOutcome, goes_on, no_items, items_of, with_items, with_puts, puts_out, lost_lines, size_of, lose_all, refused, lines_first, and_then, fails, mends, leaves, same_mode, changes_mode}
-use Rattle.law_dup.specs.Scripts.{AreOf, AreCounted, delivered_in}
-use Rattle.law_dup.specs.inside.Kept.{IsCarried, IsLeg, KeepsLeg, IsKept}
-use Rattle.law_dup.proofs.Lists.{of_added}
-use Rattle.law_dup.proofs.Numbering.{over, puts_append, NumbersGood}
+use Rattle.dup_proof_events.specs.Counted.{AreOf, AreCounted, delivered_in}
+use Rattle.dup_proof_events.specs.Kept.{IsCarried, IsLeg, KeepsLeg, IsKept}
+use Rattle.dup_proof_events.proofs.Lists.{of_added}
+use Rattle.dup_proof_events.proofs.Numbering.{over, puts_append, NumbersGood}
 
-use Rattle.law_dup.proofs.Outcomes.{lost_nothing, delivered_append, puts_all, Good, puts_good, no_lines, refused_good, same_receiver}
-use Rattle.law_dup.proofs.Legs.{up_good}
+use Rattle.dup_proof_events.proofs.Outcomes.{lost_nothing, delivered_append, puts_all, Good, puts_good, no_lines, refused_good, same_receiver}
+use Rattle.dup_proof_events.proofs.Legs.{up_good}
 
 
 -- ---- a leg by whether it serves

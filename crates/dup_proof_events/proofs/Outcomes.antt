@@ -19,11 +19,11 @@ use Rattle.dup_types.specs.declared.line.DupLine.TheVariants as lines
 use Rattle.dup_types.specs.declared.line.DupRefusal.{DupRefusal}
 use Rattle.dup_defs.specs.Senders.{DupSender, DupPut, DupNumbers, gives, spends, serves, all_on, number_waiting, offered}
 use Rattle.dup_run_defs.specs.Run.{LegItems, DupRun, DupOutcome, goes_on, counts_spent, items_of, with_items, added, with_put, with_puts, put_line, puts_out, lost_lines, refused, lines_first}
-use Rattle.law_dup.specs.Scripts.{AreOf, AreCounted, delivered_by, delivered_in}
-use Rattle.law_dup.specs.inside.Kept.{IsCarried, IsLeg, KeepsLeg, IsOpen, IsKept}
-use Rattle.law_dup.proofs.Lists.{of_more, carried_more, all_more, all_as, all_put, from_put}
-use Rattle.law_dup.proofs.Numbering.{over, NumbersGood, waiting_good}
-use Rattle.law_dup.proofs.Deliveries.{delivers_counted, delivers_of, delivers_above, delivers_below, delivers_up, still_had}
+use Rattle.dup_proof_events.specs.Counted.{AreOf, AreCounted, delivered_by, delivered_in}
+use Rattle.dup_proof_events.specs.Kept.{IsCarried, IsLeg, KeepsLeg, IsOpen, IsKept}
+use Rattle.dup_proof_events.proofs.Lists.{of_more, carried_more, all_more, all_as, all_put, from_put}
+use Rattle.dup_proof_events.proofs.Numbering.{over, NumbersGood, waiting_good}
+use Rattle.dup_proof_events.proofs.Deliveries.{delivers_counted, delivers_of, delivers_above, delivers_below, delivers_up, still_had}
 
 -- ---- lines that deliver nothing
 

@@ -14,9 +14,9 @@ use borrow.Author.Tests.{eqb-true, ltb-true}
 use Rattle.tables.specs.Tables.{find, put}
 use Rattle.tables.proofs.TableLaws.{find-put, find-put-same}
 use Rattle.pdcp_defs.specs.Receivers.{Receiver, deliver_from, deliver, with_packet, stored, is_duplicate}
-use Rattle.law_dup.specs.Scripts.{AreOf, AreCounted}
-use Rattle.law_dup.specs.inside.Kept.{AreAbove}
-use Rattle.law_dup.proofs.Lists.{AreFrom, from_above}
+use Rattle.dup_proof_events.specs.Counted.{AreOf, AreCounted}
+use Rattle.dup_proof_events.specs.Kept.{AreAbove}
+use Rattle.dup_proof_events.proofs.Lists.{AreFrom, from_above}
 
 abbrev pub receiver : ℕ → List (ℕ × List ℕ) → Receiver (List ℕ)
 receiver deliv es = record { deliv = deliv; stored = es }

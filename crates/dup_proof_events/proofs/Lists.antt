@@ -9,8 +9,8 @@ use Rattle.std.specs.declared.cmp.Ordering.TheVariants.{Less, Equal, Greater}
 use Rattle.std.specs.BTreeMap.{insert_entry}
 use Rattle.std.proofs.lemmas.Bool.Decides.{nat_tests}
 use Rattle.tables.specs.Tables.{put}
-use Rattle.law_dup.specs.Scripts.{AreOf, AreCounted}
-use Rattle.law_dup.specs.inside.Kept.{IsCarried, AreAbove}
+use Rattle.dup_proof_events.specs.Counted.{AreOf, AreCounted}
+use Rattle.dup_proof_events.specs.Kept.{IsCarried, AreAbove}
 
 -- ---- packets at their places
 

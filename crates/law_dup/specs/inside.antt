@@ -1,2 +1,0 @@
--- Internal: what every run keeps.
-pub mod Kept
