@@ -2,3 +2,4 @@ mod Lists
 mod Kept
 mod Gaps
 mod Rising
+mod Scripts
