@@ -22,6 +22,10 @@ def status_of(transcript):
     return int(last[1]) if last[0] == "stop" else 0
 
 
+def is_input(path):
+    return path.suffix in (*WORDS, ".um")
+
+
 def call_of(path):
     """The words of an example's call, and its input."""
     if path.suffix == ".words":
@@ -39,7 +43,7 @@ def is_explained(ran):
 
 def main():
     subprocess.run([TOP / "gnb", "check"], stdin=subprocess.DEVNULL, stdout=subprocess.DEVNULL, check=False)  # builds it, where it isn't
-    paths = sorted(path for path in (TOP / "examples").iterdir() if path.suffix != ".out")
+    paths = sorted(path for path in (TOP / "examples").iterdir() if is_input(path) or path.suffix == ".words")
     for path in paths:
         expected = path.with_suffix(".out").read_bytes()
         words, given = call_of(path)
