@@ -1,7 +1,6 @@
 //! A script is read line by line, and each event is applied before the next line is read.
 
-ghost use Rattle.std.specs.Prelude.{◌≡◌, ◌≤◌, None, IfOk, Ok};
-ghost use Rattle.gnb_base.specs.Reading.{fresh};
+ghost use Rattle.std.specs.Prelude.{◌≡◌, ◌≤◌, None, IfOk};
 ghost use Rattle.command_defs.specs.Outside.{outside};
 ghost use Rattle.um_text.specs.Texts.{InRange};
 ghost use Rattle.command_um.specs.inside.Stops.{RunsTo};

@@ -1,7 +1,5 @@
 //! Whole scripts of the word `um`, worked by hand from TS 38.323, 5.2.2: what is printed, and how they end.
 
-ghost use Rattle.std.specs.Prelude.{◌<◌, ◌≤◌};
-
 use crate::calls::{Call, status};
 use command_defs::Status;
 use gnb_types::names::SnBits;

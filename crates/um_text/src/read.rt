@@ -1,6 +1,6 @@
 //! Reading the events of a script. The first wrong word from the left decides the reason.
 
-ghost use Rattle.std.specs.Prelude.{◌≡◌, IfOk};
+ghost use Rattle.std.specs.Prelude.{IfOk};
 ghost use Rattle.script_words.specs.Answers.{words_left, Gives, GivesOrMemory};
 ghost use Rattle.script_words.specs.Places.{read_places};
 ghost use Rattle.um_text.specs.Grammar.{message_places, keyword_event, event_of};
