@@ -3,3 +3,4 @@ mod Kept
 mod Gaps
 mod Rising
 mod Scripts
+mod Taken

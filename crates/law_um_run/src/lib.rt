@@ -1,7 +1,7 @@
 //! Laws of the run of an unacknowledged bearer, for every script. Each function does nothing: its contract is the law.
 #![tactic(auto)]
 
-ghost use Rattle.std.specs.Prelude.{◌≡◌, ℕ, ◌-◌, ◌%◌, ◌<◌, ◌≤◌, List, reverse, Some, None};
+ghost use Rattle.std.specs.Prelude.{◌≡◌, ℕ, ◌-◌, ◌%◌, ◌<◌, ◌≤◌, ◌⊎◌, List, reverse, Some, None};
 ghost use Rattle.std.specs.Ordering.{nat_cmp};
 ghost use Rattle.gnb_types.specs.declared.names.SnBits.{SnBits};
 ghost use Rattle.tables.specs.Tables.{find};
@@ -15,6 +15,7 @@ ghost use Rattle.law_um.specs.Sound.{IsSound, HasNone};
 ghost use Rattle.law_um_run.specs.Gaps.{Passes};
 ghost use Rattle.law_um_run.specs.Reached.{GoesOn, IsReached, WasOffered, EachDelivered, Rises};
 ghost use Rattle.law_um_run.specs.Scripts.{lines_of};
+ghost use Rattle.law_um_run.specs.Taken.{Has, WasTaken, WasDelivered};
 
 /// In every run the receiving entity is a sound one: COUNTs that it hands up rise, and none is handed up twice (`law_um`).
 pub fn the_entity_is_sound()
@@ -49,6 +50,13 @@ pub fn delivered_counts_rise()
     ensures { (sn : SnBits) (ticks : ℕ) (events : List UmEvent) (event : UmEvent) (before : UmRun) (printed : List UmLine) (after : UmRun)
         → IsReached sn ticks events before → GoesOn sn ticks event before printed after
         → Rises before.entity.receiver.deliv after.entity.receiver.deliv printed }
+{}
+
+/// In every run a packet that was taken of a message, and so was neither dropped nor held, was delivered or is stored.
+pub fn what_is_taken_is_delivered_or_stored()
+    ensures { (sn : SnBits) (ticks : ℕ) (events : List UmEvent) (s : UmRun) → IsReached sn ticks events s
+        → (count : ℕ) (packet : List ℕ) → WasTaken sn ticks events count packet
+        → Has count packet s.entity.receiver.stored ⊎ WasDelivered sn ticks events count packet }
 {}
 
 /// While a script goes on, its run is one that its events reach: what is said above of such runs holds after each of its events.
