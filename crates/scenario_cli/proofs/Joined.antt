@@ -29,7 +29,8 @@ use Rattle.command_um.specs.Ends.{script_status, StopsAtEvent}
 use Rattle.command_um.specs.Run.{UmMeets}
 use Rattle.command_um.specs.Whole.{RunsWholly as RunsWhollyUm}
 use Rattle.scenario_cli.specs.declared.top.Form.TheVariants.{Run, Check, Profile, Um, Other}
-use Rattle.scenario_cli.specs.Gnb.{FormMeets, WritesProfile, IsTimed}
+use Rattle.scenario_cli.specs.Gnb.{FormMeets, WritesProfile}
+use Rattle.scenario_cli.specs.inside.Timed.{IsTimed}
 
 -- ---- with words that are no form
 

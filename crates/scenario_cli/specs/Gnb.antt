@@ -1,5 +1,5 @@
 -- What a call of the program does, for every input, every list of failing calls, and every status.
-use Rattle.std.specs.Prelude.{◌≡◌, ◌≤◌, ◌&&◌, ℕ, List, [], ◌∷◌, Option, Some, None, if◌then◌else◌, codes}
+use Rattle.std.specs.Prelude.{◌≡◌, ◌&&◌, ℕ, List, [], ◌∷◌, Option, Some, None, if◌then◌else◌, codes}
 use Rattle.std.specs.Str.{bytes_eq}
 use Rattle.command_defs.specs.declared.Status.{Status}
 use Rattle.command_defs.specs.Ends.{UsageMeets}
@@ -35,14 +35,6 @@ um_form_with None ticks = forms.Other
 
 abbrev pub um_form : List ℕ → List ℕ → Form
 um_form bits ticks = um_form_with (sn_bits_of bits) (number_of 1 1000 ticks)
-
--- the timer of a form has ticks
-abbrev pub IsTimed : Form → Type 0
-IsTimed (forms.Um config) = (1 ≤ config.ticks) × (config.ticks ≤ 1000)
-IsTimed forms.Run = Unit {0}
-IsTimed forms.Check = Unit {0}
-IsTimed (forms.Profile version) = Unit {0}
-IsTimed forms.Other = Unit {0}
 
 -- the words of a form: one, `profile 2`, or `um N T`
 abbrev pub form_of : List (List ℕ) → Form

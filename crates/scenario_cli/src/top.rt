@@ -10,7 +10,8 @@ ghost use Rattle.command_check.specs.Whole.{ChecksWholly};
 ghost use Rattle.command_um.specs.declared.config.UmConfig.{UmConfig as Config};
 ghost use Rattle.command_um.specs.Ends.{StopsAtEvent};
 ghost use Rattle.command_um.specs.Whole.{RunsWholly as RunsWhollyUm};
-ghost use Rattle.scenario_cli.specs.Gnb.{form_of_one, um_form as um_form_of, form_of as form_of_words, IsTimed, FormMeets, WritesProfile};
+ghost use Rattle.scenario_cli.specs.Gnb.{form_of_one, um_form as um_form_of, form_of as form_of_words, FormMeets, WritesProfile};
+ghost use Rattle.scenario_cli.specs.inside.Timed.{IsTimed};
 
 use command_check::check_input;
 use command_defs::{CommonEnd, Status};
