@@ -1,6 +1,7 @@
 #!/usr/bin/env python3
-"""Runs each example, and compares what the program prints with the transcript beside it (`NAME.script`, `NAME.check` or `NAME.words`, and
-`NAME.out`). A script is the input of `run`, a check that of `check`; words are those of a call that reads nothing.
+"""Runs each example, and compares what the program prints with the transcript beside it (`NAME.script`, `NAME.check`, `NAME.um` or
+`NAME.words`, and `NAME.out`). A script is the input of `run`, a check that of `check`; words are those of a call that reads nothing. A script
+of `um` has the words of its call in its first line, after `; gnb`.
 
 The last line of a transcript has the status: it is `stop STATUS ..`, or the status is 0. Standard error has one line that begins with `gnb: `
 where the status isn't 0, and else nothing.
@@ -13,7 +14,7 @@ import subprocess
 import sys
 
 TOP = pathlib.Path(__file__).resolve().parents[1]
-WORDS = {".script": "run", ".check": "check", ".words": None}
+WORDS = {".script": "run", ".check": "check"}
 
 
 def status_of(transcript):
@@ -21,10 +22,18 @@ def status_of(transcript):
     return int(last[1]) if last[0] == "stop" else 0
 
 
+def is_input(path):
+    return path.suffix in (*WORDS, ".um")
+
+
 def call_of(path):
     """The words of an example's call, and its input."""
-    word = WORDS[path.suffix]
-    return ([word], path.read_bytes()) if word else (path.read_text().split(), b"")
+    if path.suffix == ".words":
+        return path.read_text().split(), b""
+    given = path.read_bytes()
+    if path.suffix == ".um":
+        return given.decode().splitlines()[0].removeprefix("; gnb ").split(), given
+    return [WORDS[path.suffix]], given
 
 
 def is_explained(ran):
@@ -34,7 +43,7 @@ def is_explained(ran):
 
 def main():
     subprocess.run([TOP / "gnb", "check"], stdin=subprocess.DEVNULL, stdout=subprocess.DEVNULL, check=False)  # builds it, where it isn't
-    paths = sorted(path for path in (TOP / "examples").iterdir() if path.suffix in WORDS)
+    paths = sorted(path for path in (TOP / "examples").iterdir() if is_input(path) or path.suffix == ".words")
     for path in paths:
         expected = path.with_suffix(".out").read_bytes()
         words, given = call_of(path)

@@ -1,5 +1,5 @@
 #!/usr/bin/env python3
-"""Runs each script and each check of examples/ once for each of its requests for memory, and lets that request fail.
+"""Runs each example that has an input (tools/examples.py) once for each of its requests for memory, and lets that request fail.
 
 Every run must end with status 9 and a front of what is printed where none fails. A C compiler makes the library that lets a request
 fail; where there is none this is said, and the check passes.
@@ -14,14 +14,16 @@ import subprocess
 import sys
 import tempfile
 
+from examples import call_of, is_input
+
 TOP = pathlib.Path(__file__).resolve().parents[1]
 PROGRAM = TOP / "crates/scenario_cli/out/scenario_cli"
-WORDS = {".script": "run", ".check": "check"}
 
 
 def answer(library, path, number):
     around = dict(os.environ, LD_PRELOAD=library, FAILING_ALLOCATION=str(number))
-    ran = subprocess.run([PROGRAM, WORDS[path.suffix]], input=path.read_bytes(), capture_output=True, env=around, check=False)
+    words, given = call_of(path)
+    ran = subprocess.run([PROGRAM, *words], input=given, capture_output=True, env=around, check=False)
     return ran.returncode, ran.stdout, ran.stderr
 
 
@@ -47,7 +49,7 @@ def main():
     with tempfile.TemporaryDirectory() as folder:
         library = f"{folder}/failing.so"
         subprocess.run([compiler, "-shared", "-fPIC", "-o", library, TOP / "tools/failing_allocations.c", "-ldl"], check=True)
-        for path in sorted(path for path in (TOP / "examples").iterdir() if path.suffix in WORDS):
+        for path in sorted(path for path in (TOP / "examples").iterdir() if is_input(path)):
             wrong = each_fails(library, path)
             if wrong:
                 print(f"{path.name}: {wrong}")

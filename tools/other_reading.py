@@ -17,31 +17,32 @@ PROGRAM = [str(TOP / "gnb")]
 OTHER = TOP / "../shared/oracle/gnb.py"
 
 
-def answer(command, word, text):
+def answer(command, words, text):
     """The status and the output of a program."""
-    ran = subprocess.run([*command, word], input=text.encode(), stdout=subprocess.PIPE, stderr=subprocess.DEVNULL, check=False)
+    ran = subprocess.run([*command, *words], input=text.encode(), stdout=subprocess.PIPE, stderr=subprocess.DEVNULL, check=False)
     return ran.returncode, ran.stdout
 
 
-def compare(usage, what, word, count, make, told):
-    """Compares so many inputs, each made by chance; `told` names what a status and an output came to."""
+def compare(usage, what, count, make, told, plain=None):
+    """Compares so many calls, each with words and an input made by chance; `told` names what a status and an output came to, and `plain` is the
+    other reading where none is named."""
     asked = argparse.ArgumentParser(description=usage, formatter_class=argparse.RawDescriptionHelpFormatter)
     asked.add_argument("--count", type=int, default=count)
     asked.add_argument("--seed", type=int, default=1)
     asked.add_argument("command", nargs="*")
     given = asked.parse_args()
-    other = given.command or ([sys.executable, str(OTHER)] if OTHER.exists() else None)
+    other = given.command or plain or ([sys.executable, str(OTHER)] if OTHER.exists() else None)
     if other is None:
         print(f"no other reading is here: {given.count} random {what} are not compared")
         return 0
-    texts = [make(random.Random(given.seed * 1_000_003 + number)) for number in range(given.count)]
-    answer(PROGRAM, word, texts[0])  # builds the program before several are run side by side
+    calls = [make(random.Random(given.seed * 1_000_003 + number)) for number in range(given.count)]
+    answer(PROGRAM, *calls[0])  # builds the program before several are run side by side
     outcomes = collections.Counter()
     with concurrent.futures.ThreadPoolExecutor(os.cpu_count()) as pool:
-        both = pool.map(lambda text: (answer(PROGRAM, word, text), answer(other, word, text)), texts)
-        for text, (ours, theirs) in zip(texts, both):
+        both = pool.map(lambda call: (answer(PROGRAM, *call), answer(other, *call)), calls)
+        for (words, text), (ours, theirs) in zip(calls, both):
             if ours != theirs:
-                print(f"random {what} differ:\n{text}\n-- ours: {ours}\n-- theirs: {theirs}")
+                print(f"random {what} differ: {words}\n{text}\n-- ours: {ours}\n-- theirs: {theirs}")
                 return 1
             outcomes[told(*ours)] += 1
     print(f"{given.count} random {what} are alike; by status: {dict(sorted(outcomes.items()))}")

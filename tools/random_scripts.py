@@ -84,4 +84,4 @@ def script(chance):
 
 
 if __name__ == "__main__":
-    sys.exit(other_reading.compare(__doc__, "scripts", "run", 250, script, lambda status, _output: str(status)))
+    sys.exit(other_reading.compare(__doc__, "scripts", 250, lambda chance: (["run"], script(chance)), lambda status, _output: str(status)))

@@ -46,25 +46,25 @@ use Rattle.scenario_text.proofs.EventLaws.{event_of-event_text, text_by_form}
 use Rattle.law_scenario.specs.Lines.{AreBytes, IsLink, IsCount, IsItem, IsMessage, IsLine, AreLines}
 use Rattle.law_scenario.proofs.Solid.{Solid, solid-append, solid-decimal, solid-hex, solid-node, solid-dir, AllSolid, parts_then, parts_one, Without, solid_words, solid_line, solid-places}
 
-abbrev opt_then : {X Y : Type 0} → Option X → (X → Option Y) → Option Y
+abbrev pub opt_then : {X Y : Type 0} → Option X → (X → Option Y) → Option Y
 opt_then None f = None
 opt_then (Some x) f = f x
 
-then_some : {X Y : Type 0} {o : Option X} {x : X} → o ≡ Some x → (f : X → Option Y) → opt_then o f ≡ f x
+pub then_some : {X Y : Type 0} {o : Option X} {x : X} → o ≡ Some x → (f : X → Option Y) → opt_then o f ≡ f x
 then_some {o} {x} e f = ap (λ p. opt_then p f) e
 
 -- ---- words
 
 -- a number of a type
-count_of : List ℕ → Option ℕ
+pub count_of : List ℕ → Option ℕ
 count_of word = number_of 0 (2 ^ 64 - 1) word
 
-count_of-decimal : (n : ℕ) → n < 2 ^ 64 → count_of (decimal n) ≡ Some n
+pub count_of-decimal : (n : ℕ) → n < 2 ^ 64 → count_of (decimal n) ≡ Some n
 unfolding count_of
 count_of-decimal zero h = ap (number_of 0 (2 ^ 64 - 1)) (decimal_digit 0 (omega arith))
 count_of-decimal (suc n) h = positive_again 0 (2 ^ 64 - 1) (suc n) (omega arith) (omega arith) (record { from = omega arith; to = omega arith })
 
-hex_back : (bytes : List ℕ) → AreBytes bytes → read_hex (hex_of bytes) ≡ Some bytes
+pub hex_back : (bytes : List ℕ) → AreBytes bytes → read_hex (hex_of bytes) ≡ Some bytes
 hex_back bytes h = hex_is_read (hex_of bytes) bytes (hex_of_is_hex bytes h)
 
 all_drops : List DropReason
@@ -139,10 +139,10 @@ cause_solid causes.Timeout = refl
 all_refuses : List RefuseReason
 all_refuses = refuses.Attached ∷ refuses.NotStarted ∷ refuses.NoBearer ∷ refuses.NoPath ∷ refuses.Size ∷ refuses.Quota ∷ refuses.NoSuch ∷ refuses.Empty ∷ refuses.NoRadio ∷ refuses.NotAllowed ∷ refuses.NoUe ∷ refuses.NotAccessing ∷ refuses.NoHome ∷ refuses.Busy ∷ refuses.Same ∷ refuses.TooLate ∷ refuses.NoLink ∷ refuses.Decodable ∷ []
 
-refuse_of : List ℕ → Option RefuseReason
+pub refuse_of : List ℕ → Option RefuseReason
 refuse_of word = find (λ r. word is refuse_text r) all_refuses
 
-refuse_back : (r : RefuseReason) → refuse_of (refuse_text r) ≡ Some r
+pub refuse_back : (r : RefuseReason) → refuse_of (refuse_text r) ≡ Some r
 unfolding refuse_of all_refuses
 refuse_back refuses.Attached = refl
 refuse_back refuses.NotStarted = refl
@@ -163,7 +163,7 @@ refuse_back refuses.TooLate = refl
 refuse_back refuses.NoLink = refl
 refuse_back refuses.Decodable = refl
 
-refuse_solid : (r : RefuseReason) → Solid (refuse_text r)
+pub refuse_solid : (r : RefuseReason) → Solid (refuse_text r)
 refuse_solid refuses.Attached = refl
 refuse_solid refuses.NotStarted = refl
 refuse_solid refuses.NoBearer = refl
@@ -187,7 +187,7 @@ dir_back : (d : Dir) → dir_of (dir_text d) ≡ Some d
 dir_back Dl = refl
 dir_back Ul = refl
 
-message_back : (n : ℕ) → IsWithin 1 greatest_number n → message_of (codes "#" ++ decimal n) ≡ Some n
+pub message_back : (n : ℕ) → IsWithin 1 greatest_number n → message_of (codes "#" ++ decimal n) ≡ Some n
 message_back n h = number_again 1 greatest_number n (omega arith) (omega arith) h
 
 -- ---- counts, links
@@ -641,7 +641,7 @@ unfolding line_text line_of
 line_back (lines.Happens event) h = ap (λ (r : Result Event TextReason). opt_then (result_ok r) (λ e. Some (lines.Happens e))) (event_of-event_text event h)
 line_back line h = reads_back line (line_text line) (line_reads_all line tt h)
 
-same_some : {X : Type 0} (o : Option X) (a b : X) → o ≡ Some a → o ≡ Some b → a ≡ b
+pub same_some : {X : Type 0} (o : Option X) (a b : X) → o ≡ Some a → o ≡ Some b → a ≡ b
 same_some o a b p q = cc
 
 -- No two lines have one text.

@@ -19,14 +19,14 @@ use Rattle.law_scenario.specs.FirstWrong.{HasNone, TunnelFault, IsFaultAt, IsWro
 
 -- ---- one word
 
-ok_or_err : {X E : Type 0} (o : Option X) (e f : E) → ok_or o e ≡ Err f → f ≡ e
+pub ok_or_err : {X E : Type 0} (o : Option X) (e f : E) → ok_or o e ≡ Err f → f ≡ e
 ok_or_err None e f h = cc
 ok_or_err (Some x) e f h = absurd (cc)
 
-same_reason : {X : Type 0} (r : Result X TextReason) (a b : TextReason) → r ≡ Err a → r ≡ Err b → a ≡ b
+pub same_reason : {X : Type 0} (r : Result X TextReason) (a b : TextReason) → r ≡ Err a → r ≡ Err b → a ≡ b
 same_reason r a b p q = cc
 
-not_both : {X E : Type 0} (r : Result X E) (x : X) (e : E) → r ≡ Ok x → r ≡ Err e → ⊥
+pub not_both : {X E : Type 0} (r : Result X E) (x : X) (e : E) → r ≡ Ok x → r ≡ Err e → ⊥
 not_both r x e p q = absurd (cc)
 
 hex_err : (word : List ℕ) (reason : TextReason) → read_word AtHex word ≡ Err reason → reason ≡ Hex
@@ -102,7 +102,7 @@ word_refused p k word reason wrong = by_read (read_word p word) refl
 
 -- ---- words at places
 
-places_wrong : {Y : Type 0} (places : List Place) → AreEventPlaces places
+pub places_wrong : {Y : Type 0} (places : List Place) → AreEventPlaces places
     → (make : Values places → Y) (left : List (List ℕ)) (reason : TextReason)
     → read_into places make left ≡ Err reason → IsWrongIn places left reason
 places_wrong [] k make [] reason h = absurd (cc)
@@ -119,7 +119,7 @@ places_wrong {Y} (p ∷ places) k make (word ∷ rest) reason h = by_read (read_
         let same : other ≡ reason = same_reason _ other reason refl g in
         inl (subst (IsWrongAt p word) same (none_at p k.0 word other e, fault_at p word other e))
 
-places_refused : {Y : Type 0} (places : List Place) → AreEventPlaces places
+pub places_refused : {Y : Type 0} (places : List Place) → AreEventPlaces places
     → (make : Values places → Y) (left : List (List ℕ)) (reason : TextReason)
     → IsWrongIn places left reason → read_into places make left ≡ Err reason
 places_refused [] k make [] reason h = absurd h
@@ -235,7 +235,7 @@ words_refused word left reason (inl h) = by_keyword (keyword_of word) refl
     by_keyword (Some k) found = absurd (h.0 k (keyword_sound word k found))
     by_keyword None found = ap (λ (o : Option Keyword). result_then (ok_or o Word) (λ keyword. keyword_event keyword left)) found ∙ ap Err (sym h.1)
 
-no_words : (line : List ℕ) → words line ≡ [] → ⊥
+pub no_words : (line : List ℕ) → words line ≡ [] → ⊥
 no_words line e = not_both (line_end (words line)) tt Extra (ap line_end e) (line_end-words line)
 
 -- What is refused has a first wrong word.

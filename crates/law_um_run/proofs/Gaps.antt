@@ -1,12 +1,11 @@
 -- How long a COUNT that is missing was awaited, event by event.
-use Rattle.std.proofs.Common.{◌≡◌, ◌==◌, ℕ, zero, suc, ◌+◌, ◌-◌, ◌%◌, ◌<◌, ◌≤◌, Bool, true, false, cond, nat_lt, nat_le, List, [], ◌∷◌, ◌++◌, length, Option, Some, None, refl, sym, ap, ◌∙◌, subst, arith, inl, inr, ◌⊎◌}
+use Rattle.std.proofs.Common.{◌≡◌, ◌==◌, ℕ, zero, suc, ◌+◌, ◌-◌, ◌<◌, ◌≤◌, Bool, true, false, cond, nat_lt, nat_le, List, [], ◌∷◌, length, Option, Some, None, refl, sym, ap, ◌∙◌, subst, arith, inl, inr}
 use Rattle.std.specs.Ordering.{nat_cmp}
 use Rattle.std.proofs.lemmas.Bool.Decides.{nat_tests}
 use Rattle.gnb_types.specs.declared.names.SnBits.{SnBits}
 use Rattle.gnb_types.specs.declared.reasons.RefuseReason.TheVariants.{Size, NoSuch, Empty}
 use Rattle.tables.specs.Tables.{find, put, without}
 use Rattle.pdcp.specs.Near.{last_count}
-use Rattle.pdcp.specs.Numbers.{space}
 use Rattle.pdcp.specs.declared.pdu.TheConstants.{PACKET_LIMIT}
 use Rattle.um_types.specs.declared.error.UmError.{UmError}
 use Rattle.um_types.specs.declared.error.UmError.TheVariants as errors
@@ -14,16 +13,16 @@ use Rattle.um_types.specs.declared.event.UmEvent.{UmEvent}
 use Rattle.um_types.specs.declared.event.UmEvent.TheVariants as events
 use Rattle.um_types.specs.declared.line.UmLine.{UmLine}
 use Rattle.um_types.specs.declared.line.UmLine.TheVariants as lines
-use Rattle.um_defs.specs.Receivers.{UmReceiver, UmDelivery, refuses, received, received_unless, takes, ticked}
-use Rattle.um_run_defs.specs.Run.{UmRun, UmOutcome, new_run, goes_on, spends, does_event, offered, sent, of_message, on_link, landed, lost, taken, taken_as, ticks_by, asked, most_messages, counts_spent, messages_spent}
-use Rattle.law_um.specs.Sound.{IsSound, IsRun, HasNone}
+use Rattle.um_defs.specs.Receivers.{UmReceiver, refuses, received, received_unless, takes, ticked}
+use Rattle.um_run_defs.specs.Run.{UmRun, UmOutcome, goes_on, spends, does_event, offered, sent, of_message, on_link, landed, lost, taken, taken_as, ticks_by, most_messages, counts_spent, messages_spent}
+use Rattle.law_um.specs.Sound.{HasNone}
 use Rattle.law_um.specs.Histories.{Step, arrival, a_tick, arrives_unless, state, TakenAgo}
 use Rattle.law_um.proofs.Deliveries.{none_put_other, run_has}
 use Rattle.law_um.proofs.Steps.{received_so, received_run}
 use Rattle.law_um.proofs.Histories.{gap}
 use Rattle.law_um_run.specs.Reached.{GoesOn, IsReached}
-use Rattle.law_um_run.specs.Gaps.{Gives, TakesNow, ticks_of, GotAgo, Passes}
-use Rattle.law_um_run.proofs.Lists.{Each, each_find, within_each}
+use Rattle.law_um_run.specs.Gaps.{Gives, ticks_of, GotAgo, Passes}
+use Rattle.law_um_run.proofs.Lists.{each_find, within_each}
 use Rattle.law_um_run.proofs.Kept.{IsKept, found, always_kept}
 
 apart_from : (a b : ℕ) → (a == b) ≡ false → a ≡ b → ⊥

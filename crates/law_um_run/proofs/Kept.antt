@@ -1,13 +1,12 @@
 -- What each event keeps in a run.
-use Rattle.std.proofs.Common.{◌≡◌, ◌==◌, ℕ, ◌+◌, ◌-◌, ◌%◌, ◌<◌, ◌≤◌, Bool, true, false, cond, nat_lt, nat_le, max, List, [], ◌∷◌, ◌++◌, length, map, Option, Some, None, Result, Ok, Err, refl, sym, ap, ◌∙◌, subst, arith, inl, inr, ◌⊎◌}
+use Rattle.std.proofs.Common.{◌≡◌, ◌==◌, ℕ, ◌+◌, ◌-◌, ◌%◌, ◌<◌, ◌≤◌, Bool, true, false, cond, nat_lt, nat_le, List, [], ◌∷◌, length, Option, Some, None, refl, sym, subst, arith, inl, inr}
 use Rattle.std.specs.Ordering.{nat_cmp}
 use Rattle.std.proofs.lemmas.Bool.Decides.{nat_tests}
 use Rattle.gnb_types.specs.declared.names.SnBits.{SnBits}
 use Rattle.gnb_types.specs.declared.names.SnBits.TheVariants.{Len12, Len18}
-use Rattle.gnb_types.specs.declared.reasons.RefuseReason.{RefuseReason}
-use Rattle.gnb_types.specs.declared.reasons.RefuseReason.TheVariants.{Size, NoSuch, Empty}
+use Rattle.gnb_types.specs.declared.reasons.RefuseReason.TheVariants.{Size, NoSuch}
 use Rattle.tables.specs.Tables.{find, put, without}
-use Rattle.pdcp.specs.Near.{IsNear, last_count}
+use Rattle.pdcp.specs.Near.{last_count}
 use Rattle.pdcp.specs.Numbers.{space, half}
 use Rattle.pdcp_defs.specs.Counts.{near_count}
 use Rattle.pdcp.specs.declared.pdu.TheConstants.{PACKET_LIMIT}
@@ -18,11 +17,11 @@ use Rattle.um_types.specs.declared.event.UmEvent.{UmEvent}
 use Rattle.um_types.specs.declared.event.UmEvent.TheVariants as events
 use Rattle.um_types.specs.declared.line.UmLine.{UmLine}
 use Rattle.um_types.specs.declared.line.UmLine.TheVariants as lines
-use Rattle.um_defs.specs.Receivers.{UmReceiver, UmDelivery, refuses, received, received_unless, takes, ticked}
+use Rattle.um_defs.specs.Receivers.{refuses, received, received_unless, takes, ticked}
 use Rattle.um_run_defs.specs.Run.{UmRun, UmOutcome, new_run, goes_on, spends, does_event, offered, sent, of_message, on_link, landed, lost, taken, taken_as, ticks_by, asked, delivered, span, least_on_link, most_messages, counts_spent, messages_spent}
 use Rattle.law_um.specs.Sound.{IsSound, IsWithin}
 use Rattle.law_um.proofs.Deliveries.{within_put, wider}
-use Rattle.law_um.proofs.Steps.{IsStep, is_sound, received_so, received_next, ticked_so, ticked_next}
+use Rattle.law_um.proofs.Steps.{is_sound, received_so, received_next, ticked_so, ticked_next}
 use Rattle.law_um_run.specs.Reached.{GoesOn, IsReached, WasOffered, EachDelivered}
 use Rattle.law_um_run.proofs.Lists.{Each, each_as, each_put, each_without, each_find, each_front, each_rest, within_each, within_without, least_each, least_low}
 

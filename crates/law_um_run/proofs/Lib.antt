@@ -2,3 +2,5 @@ mod Lists
 mod Kept
 mod Gaps
 mod Rising
+mod Scripts
+mod Taken

@@ -1,9 +1,9 @@
 -- The COUNTs that an event delivers rise.
-use Rattle.std.proofs.Common.{◌≡◌, ℕ, ◌+◌, ◌-◌, ◌%◌, ◌<◌, ◌≤◌, Bool, true, false, cond, nat_lt, nat_le, List, [], ◌∷◌, length, Option, Some, None, refl, sym, subst, arith}
+use Rattle.std.proofs.Common.{◌≡◌, ℕ, ◌+◌, ◌-◌, ◌≤◌, Bool, true, false, cond, nat_lt, nat_le, List, [], ◌∷◌, length, Option, Some, None, refl, sym, subst, arith}
 use Rattle.std.specs.Ordering.{nat_cmp}
 use Rattle.gnb_types.specs.declared.names.SnBits.{SnBits}
-use Rattle.gnb_types.specs.declared.reasons.RefuseReason.TheVariants.{Size, NoSuch, Empty}
-use Rattle.tables.specs.Tables.{find, put, without}
+use Rattle.gnb_types.specs.declared.reasons.RefuseReason.TheVariants.{Size, NoSuch}
+use Rattle.tables.specs.Tables.{find, without}
 use Rattle.pdcp.specs.Near.{last_count}
 use Rattle.pdcp.specs.declared.pdu.TheConstants.{PACKET_LIMIT}
 use Rattle.um_types.specs.declared.error.UmError.{UmError}
@@ -13,7 +13,7 @@ use Rattle.um_types.specs.declared.event.UmEvent.TheVariants as events
 use Rattle.um_types.specs.declared.line.UmLine.{UmLine}
 use Rattle.um_types.specs.declared.line.UmLine.TheVariants as lines
 use Rattle.um_defs.specs.Receivers.{refuses, received, received_unless, takes, ticked}
-use Rattle.um_run_defs.specs.Run.{UmRun, UmOutcome, goes_on, spends, does_event, offered, sent, of_message, on_link, landed, lost, taken, taken_as, ticks_by, delivered, most_messages, counts_spent, messages_spent}
+use Rattle.um_run_defs.specs.Run.{UmRun, UmOutcome, goes_on, spends, does_event, offered, sent, of_message, on_link, landed, taken, taken_as, ticks_by, delivered, most_messages, counts_spent, messages_spent}
 use Rattle.law_um.specs.Sound.{IsWithin}
 use Rattle.law_um.proofs.Steps.{received_so, ticked_so}
 use Rattle.law_um_run.specs.Reached.{GoesOn, IsReached, Rises}

@@ -1,2 +1,4 @@
 pub mod Reached
 pub mod Gaps
+pub mod Scripts
+pub mod Taken

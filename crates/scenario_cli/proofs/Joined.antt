@@ -1,5 +1,5 @@
 -- What each word promises, joined to what the program does.
-use Rattle.std.proofs.Common.{◌≡◌, ◌⊎◌, ℕ, List, [], ◌∷◌, refl, sym, ap, ◌∙◌, subst, inl, inr, arith, Result, Ok, Err}
+use Rattle.std.proofs.Common.{◌≡◌, ◌⊎◌, ℕ, [], ◌∷◌, refl, sym, ap, ◌∙◌, subst, inl, inr, arith, Err}
 use Rattle.gnb_base.specs.Outside.{SourceAt, SinkAt, Rose}
 use Rattle.input_lines.proofs.Sources.{none_failed as no_read_failed}
 use Rattle.scenario_text.specs.declared.line.OutLine.{OutLine}
@@ -9,9 +9,8 @@ use Rattle.command_defs.specs.declared.CommonEnd.TheVariants.{ReadFault, TooLong
 use Rattle.command_defs.specs.declared.Status.{Status}
 use Rattle.command_defs.specs.Ends.{StopsAtLine, UsagePrints, Written, Cut, Unwritten, UsageMeets}
 use Rattle.command_defs.specs.Outside.{OutsideAt, outside, ReadsTo, AllRead, ReadStopped, WritesTo, AllWritten, WriteStopped, CallsTo, NoWriteFailed}
-use Rattle.command_defs.specs.Output.{Prints, PrintsFront}
 use Rattle.command_defs.specs.Statuses.{usage_status, common_status, stop_line}
-use Rattle.command_output.specs.Writes.{WritesAll, WritesFront, WritesLines}
+use Rattle.command_output.specs.Writes.{WritesAll, WritesLines}
 use Rattle.command_output.proofs.Written.{none_failed}
 use Rattle.command_run.specs.declared.end.RunEnd.{RunEnd}
 use Rattle.command_run.specs.Ends.{run_status}
@@ -24,8 +23,14 @@ use Rattle.profile.specs.declared.version.Version.{Version}
 use Rattle.command_profile.specs.Written.{PrintsProfile, ProfileMeets, WritesWholly}
 use Rattle.command_profile.specs.Written as written
 use Rattle.scenario_cli.specs.declared.top.Form.{Form}
-use Rattle.scenario_cli.specs.declared.top.Form.TheVariants.{Run, Check, Profile, Other}
+use Rattle.command_um.specs.declared.config.UmConfig.{UmConfig}
+use Rattle.command_um.specs.declared.end.ScriptEnd.{ScriptEnd}
+use Rattle.command_um.specs.Ends.{script_status, StopsAtEvent}
+use Rattle.command_um.specs.Run.{UmMeets}
+use Rattle.command_um.specs.Whole.{RunsWholly as RunsWhollyUm}
+use Rattle.scenario_cli.specs.declared.top.Form.TheVariants.{Run, Check, Profile, Um, Other}
 use Rattle.scenario_cli.specs.Gnb.{FormMeets, WritesProfile}
+use Rattle.scenario_cli.specs.inside.Timed.{IsTimed}
 
 -- ---- with words that are no form
 
@@ -84,6 +89,8 @@ pub record Holds (form : Form) (before after : OutsideAt) (status : Status) : Ty
   pub calls : CallsTo before after status.code
   pub near : StopsAtLine before.source after.source status
   pub complete : form ≡ Run → RunsWholly before after status
+  pub bearer : (config : UmConfig) → form ≡ Um config → RunsWhollyUm config before after status
+  pub near_event : (config : UmConfig) → form ≡ Um config → StopsAtEvent before.source after.source status
   pub checks : form ≡ Check → ChecksWholly before after status
   pub writes : WritesProfile form before after status
 
@@ -105,6 +112,8 @@ run_holds before after end meets near complete = record {
   calls = meets.calls;
   near = near;
   complete = λ (e : Run ≡ Run). complete;
+  bearer = λ config (e : Run ≡ Um config). absurd (cc);
+  near_event = λ config (e : Run ≡ Um config). absurd (cc);
   checks = λ (e : Run ≡ Check). absurd (cc);
   writes = tt;
 }
@@ -119,6 +128,8 @@ check_holds before after end meets near complete = record {
   calls = meets.calls;
   near = near;
   complete = λ (e : Check ≡ Run). absurd (cc);
+  bearer = λ config (e : Check ≡ Um config). absurd (cc);
+  near_event = λ config (e : Check ≡ Um config). absurd (cc);
   checks = λ (e : Check ≡ Check). complete;
   writes = tt;
 }
@@ -133,6 +144,8 @@ usage_holds before after status u =
       calls = calls;
       near = λ bytes known stop. absurd (other_code status.code 4 (usage_code _ _ status u.prints) (inl refl) stop);
       complete = λ (e : Other ≡ Run). absurd (cc);
+      bearer = λ config (e : Other ≡ Um config). absurd (cc);
+      near_event = λ config (e : Other ≡ Um config). absurd (cc);
       checks = λ (e : Other ≡ Check). absurd (cc);
       writes = tt;
     }
@@ -173,9 +186,32 @@ profile_holds version before after status p complete =
       calls = calls;
       near = λ bytes known stop. absurd (no_code status.code 4 other (inl refl) stop);
       complete = λ (e : Profile version ≡ Run). absurd (cc);
+      bearer = λ config (e : Profile version ≡ Um config). absurd (cc);
+      near_event = λ config (e : Profile version ≡ Um config). absurd (cc);
       checks = λ (e : Profile version ≡ Check). absurd (cc);
       writes = complete;
     }
+
+-- ---- with the word `um`
+
+same_config : {config other : UmConfig} → Um config ≡ Um other → config ≡ other
+same_config e = cc
+
+um_holds : (config : UmConfig) (before after : OutsideAt) (end : ScriptEnd) → UmMeets config before after end
+    → StopsAtEvent before.source after.source (script_status end) → RunsWhollyUm config before after (script_status end)
+    → Holds (Um config) before after (script_status end)
+um_holds config before after end meets near complete = record {
+  headline = record { end = end; status_is = refl; meets = meets };
+  read = read_rose meets.calls.reads;
+  write = write_rose meets.calls.writes;
+  calls = meets.calls;
+  near = λ bytes known (stop : (script_status end).code ≡ 4). near bytes known (inl stop);
+  complete = λ (e : Um config ≡ Run). absurd (cc);
+  bearer = λ other (e : Um config ≡ Um other). subst (λ (c : UmConfig). RunsWhollyUm c before after (script_status end)) (same_config e) complete;
+  near_event = λ other (e : Um config ≡ Um other). near;
+  checks = λ (e : Um config ≡ Check). absurd (cc);
+  writes = tt;
+}
 
 -- ---- by the form of the words
 
@@ -206,3 +242,14 @@ pub prints_at : {before after : OutsideAt} (form found : Form) (version : Versio
     → ProfileMeets version before after status → WritesWholly version before after status → Holds form before after status
 prints_at {before = before} {after = after} form found version status e f p complete =
     holds_at form found (Profile version) status status e f refl (profile_holds version before after status p complete)
+
+pub runs_bearer : {before after : OutsideAt} (form found : Form) (config : UmConfig) (end : ScriptEnd) (status : Status) → found ≡ form
+    → found ≡ Um config → status ≡ script_status end → UmMeets config before after end
+    → StopsAtEvent before.source after.source (script_status end) → RunsWhollyUm config before after (script_status end)
+    → Holds form before after status
+runs_bearer {before = before} {after = after} form found config end status e f same meets near complete =
+    holds_at form found (Um config) status (script_status end) e f same (um_holds config before after end meets near complete)
+
+-- the timer of the form that was found has ticks
+pub timed : (found : Form) (config : UmConfig) → found ≡ Um config → IsTimed found → IsTimed (Um config)
+timed found config e h = subst (λ (f : Form). IsTimed f) e h

@@ -1,5 +1,5 @@
 -- What a call of the program does, for every input, every list of failing calls, and every status.
-use Rattle.std.specs.Prelude.{◌≡◌, ◌&&◌, ℕ, List, [], ◌∷◌, if◌then◌else◌, codes}
+use Rattle.std.specs.Prelude.{◌≡◌, ◌&&◌, ℕ, List, [], ◌∷◌, Option, Some, None, if◌then◌else◌, codes}
 use Rattle.std.specs.Str.{bytes_eq}
 use Rattle.command_defs.specs.declared.Status.{Status}
 use Rattle.command_defs.specs.Ends.{UsageMeets}
@@ -11,6 +11,12 @@ use Rattle.command_check.specs.declared.end.CheckEnd.{CheckEnd}
 use Rattle.command_check.specs.Report.{check_status, CheckMeets}
 use Rattle.profile.specs.declared.version.Version.TheVariants.{One, Two}
 use Rattle.command_profile.specs.Written.{ProfileMeets, WritesWholly}
+use Rattle.script_words.specs.Forms.{sn_bits_of, number_of}
+use Rattle.gnb_types.specs.declared.names.SnBits.{SnBits}
+use Rattle.command_um.specs.declared.config.UmConfig.{UmConfig}
+use Rattle.command_um.specs.declared.end.ScriptEnd.{ScriptEnd}
+use Rattle.command_um.specs.Ends.{script_status}
+use Rattle.command_um.specs.Run.{UmMeets}
 use Rattle.scenario_cli.specs.declared.top.Form.{Form}
 use Rattle.scenario_cli.specs.declared.top.Form.TheVariants as forms
 
@@ -21,11 +27,21 @@ form_of_one word =
     if bytes_eq word (codes "check") then forms.Check else (
     if bytes_eq word (codes "profile") then forms.Profile One else forms.Other))
 
--- the words of a form: one, or `profile 2`
+-- the two words after `um`: 12 or 18 bits of a sequence number, and 1 to 1000 ticks of the timer
+abbrev pub um_form_with : Option SnBits → Option ℕ → Form
+um_form_with (Some sn) (Some ticks) = forms.Um (record { sn = sn; ticks = ticks })
+um_form_with (Some sn) None = forms.Other
+um_form_with None ticks = forms.Other
+
+abbrev pub um_form : List ℕ → List ℕ → Form
+um_form bits ticks = um_form_with (sn_bits_of bits) (number_of 1 1000 ticks)
+
+-- the words of a form: one, `profile 2`, or `um N T`
 abbrev pub form_of : List (List ℕ) → Form
 form_of (word ∷ []) = form_of_one word
 form_of (word ∷ number ∷ []) =
     if bytes_eq word (codes "profile") && bytes_eq number (codes "2") then forms.Profile Two else forms.Other
+form_of (word ∷ bits ∷ ticks ∷ []) = if bytes_eq word (codes "um") then um_form bits ticks else forms.Other
 form_of words = forms.Other
 
 -- with the word `run`
@@ -40,10 +56,17 @@ pub record ChecksModule (before after : OutsideAt) (status : Status) : Type 0 wh
   pub status_is : status ≡ check_status end
   pub meets : CheckMeets before after end
 
+-- with the word `um`
+pub record RunsBearer (config : UmConfig) (before after : OutsideAt) (status : Status) : Type 0 where
+  pub end : ScriptEnd
+  pub status_is : status ≡ script_status end
+  pub meets : UmMeets config before after end
+
 abbrev pub FormMeets : Form → OutsideAt → OutsideAt → Status → Type 0
 FormMeets forms.Run before after status = RunsScript before after status
 FormMeets forms.Check before after status = ChecksModule before after status
 FormMeets (forms.Profile version) before after status = ProfileMeets version before after status
+FormMeets (forms.Um config) before after status = RunsBearer config before after status
 FormMeets forms.Other before after status = UsageMeets before after status
 
 -- with the word `profile` all of the text is written, where no write fails
@@ -51,4 +74,5 @@ abbrev pub WritesProfile : Form → OutsideAt → OutsideAt → Status → Type 
 WritesProfile (forms.Profile version) before after status = WritesWholly version before after status
 WritesProfile forms.Run before after status = Unit {0}
 WritesProfile forms.Check before after status = Unit {0}
+WritesProfile (forms.Um config) before after status = Unit {0}
 WritesProfile forms.Other before after status = Unit {0}

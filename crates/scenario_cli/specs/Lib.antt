@@ -1,1 +1,2 @@
 pub mod Gnb
+pub mod inside

@@ -41,7 +41,7 @@ pub fn explain(rt: &impl Eprint, status: Status) -> io::Result<()> {
     } = status;
     match code {
         2 => eprintln!(rt;
-            "gnb: usage: gnb run < SCRIPT, or gnb check < MODULE, or gnb profile, or gnb profile 2"
+            "gnb: usage: gnb run < SCRIPT, or gnb check < MODULE, or gnb profile, or gnb profile 2, or gnb um N T < SCRIPT"
         ),
         3 if reason == 20 => eprintln!(rt; "gnb: the module is not the profile, version 1"),
         3 => {
@@ -52,9 +52,13 @@ pub fn explain(rt: &impl Eprint, status: Status) -> io::Result<()> {
             let words = line_reason(reason);
             eprintln!(rt; "gnb: line {place} is refused: {words}")
         }
+        5 => {
+            eprintln!(rt; "gnb: after line {place} more than half a space of COUNTs is outstanding")
+        }
         6 => eprintln!(rt; "gnb: a read failed after {place} bytes"),
         7 => eprintln!(rt; "gnb: a write failed"),
         9 => eprintln!(rt; "gnb: out of memory"),
+        10 => eprintln!(rt; "gnb: at line {place} counter {reason} would pass its last value"),
         11 => eprintln!(rt; "gnb: the input is longer than 16,777,216 bytes"),
         _ => Ok(()),
     }

@@ -55,6 +55,13 @@ const FIVE_PACKETS: &str =
 const HELD: &str =
     "> static u1 A 1 1 12 1 4\n> offer u1 b1 dl 01\nput A.up1/1 u1 b1 dl - 30FF00010000000101\n> offer u1 b1 dl 02\nput A.up1/1 u1 b1 dl - 30FF00010000000102\n> offer u1 b1 dl 03\nput A.up1/1 u1 b1 dl - 30FF00010000000103\n> offer u1 b1 dl 04\nput A.up1/1 u1 b1 dl - 30FF00010000000104\n> offer u1 b1 dl 05\nput A.up1/1 u1 b1 dl - 30FF00010000000105\n> get A.up1/1\ngot A.up1/1 u1 b1 dl - 30FF00010000000101\nput A.du1/1 u1 b1 dl 0 34FF000F00000001000000840200000000000000800001\n> get A.up1/1\ngot A.up1/1 u1 b1 dl - 30FF00010000000102\nput A.du1/1 u1 b1 dl 1 34FF000F00000001000000840200000000010000800102\n> get A.up1/1\ngot A.up1/1 u1 b1 dl - 30FF00010000000103\nput A.du1/1 u1 b1 dl 2 34FF000F00000001000000840200000000020000800203\n> get A.up1/1\ngot A.up1/1 u1 b1 dl - 30FF00010000000104\nput A.du1/1 u1 b1 dl 3 34FF000F00000001000000840200000000030000800304\n> get A.up1/1\nheld A.up1/1 Quota\n> get A.up1/1\nheld A.up1/1 Quota\nend 12\n";
 
+/// Of an unacknowledged bearer a packet is missing, is awaited for two ticks, and comes too late.
+const LATE_PACKET: &str =
+    "offer 01\noffer 02\noffer 03\ngive #1\ngive #3\ntick\ntick\ngive #2\nask\n";
+
+const LATE: &str =
+    "> offer 01\nput #1 0 800001\n> offer 02\nput #2 1 800102\n> offer 03\nput #3 2 800203\n> give #1\ngot #1 0 800001\ndeliver 0 01\n> give #3\ngot #3 2 800203\n> tick\n> tick\ndeliver 2 03\n> give #2\ngot #2 1 800102\ndrop Late\n> ask\nwaiting 3 3 0\nend 9\n";
+
 const MODULE: &str = "module text\nM DEFINITIONS AUTOMATIC TAGS ::= BEGIN\nT ::= BOOLEAN\nEND\n";
 
 /// What a call is given, and the numbers of the reads and writes that fail. A space stands between two words.
@@ -148,6 +155,20 @@ fn whole_calls(rt: HostRuntime) -> Result<(), Fail> {
             status(4, 3, 4),
             "stop 4 3 4\n",
         ),
+        ("um 12 2", LATE_PACKET, status(0, 0, 0), LATE),
+        ("um 18 1000", "\n; none\n", status(0, 0, 0), "end 0\n"),
+        (
+            "um 12 2",
+            "tick\ngive 1\n",
+            status(4, 2, 2),
+            "> tick\nstop 4 2 2\n",
+        ),
+        ("um", LATE_PACKET, status(2, 0, 0), "stop 2 0 0\n"),
+        ("um 12", LATE_PACKET, status(2, 0, 0), "stop 2 0 0\n"),
+        ("um 13 2", LATE_PACKET, status(2, 0, 0), "stop 2 0 0\n"),
+        ("um 12 0", LATE_PACKET, status(2, 0, 0), "stop 2 0 0\n"),
+        ("um 12 1001", LATE_PACKET, status(2, 0, 0), "stop 2 0 0\n"),
+        ("um 12 2 2", LATE_PACKET, status(2, 0, 0), "stop 2 0 0\n"),
         ("check", "", status(4, 1, 1), "stop 4 1 1\n"),
         ("check", "module", status(4, 1, 1), "stop 4 1 1\n"),
         ("check", "module x\n", status(4, 1, 1), "stop 4 1 1\n"),
@@ -423,5 +444,27 @@ fn sizes(rt: HostRuntime) -> Result<(), Fail> {
     let (answer, held, _) = call.answer(alloc)?;
     assert_eq!(rt; answer, status(0, 0, 0));
     assert_eq!(rt; held.as_slice(), text.as_bytes());
+    Ok(())
+}
+
+/// One offer more than half the space of numbers of an unacknowledged bearer, none of which is given.
+#[test]
+fn outstanding_counts(rt: HostRuntime) -> Result<(), Fail> {
+    let alloc = rt.alloc();
+    let input = "offer 00\n".repeat(alloc, 2049)?;
+    let call = Call {
+        word: "um 12 2",
+        input: input.as_str(),
+        piece: 4096,
+        failing_reads: &[],
+        failing_writes: &[],
+    };
+    let (answer, held, _) = call.answer(alloc)?;
+    assert_eq!(rt; answer, status(5, 2049, 0));
+    assert!(rt;
+        held.as_slice().ends_with(
+            b"> offer 00\nput #2049 2048 880000\noutstanding 2049 2048\nstop 5 2049 0\n",
+        )
+    );
     Ok(())
 }

@@ -7,16 +7,25 @@ ghost use Rattle.command_defs.specs.Ends.{StopsAtLine, UsageMeets};
 ghost use Rattle.command_defs.specs.Outside.{outside, CallsTo};
 ghost use Rattle.command_run.specs.Whole.{RunsWholly};
 ghost use Rattle.command_check.specs.Whole.{ChecksWholly};
-ghost use Rattle.scenario_cli.specs.Gnb.{form_of_one, form_of as form_of_words, FormMeets, WritesProfile};
+ghost use Rattle.command_um.specs.declared.config.UmConfig.{UmConfig as Config};
+ghost use Rattle.command_um.specs.Ends.{StopsAtEvent};
+ghost use Rattle.command_um.specs.Whole.{RunsWholly as RunsWhollyUm};
+ghost use Rattle.scenario_cli.specs.Gnb.{form_of_one, um_form as um_form_of, form_of as form_of_words, FormMeets, WritesProfile};
+ghost use Rattle.scenario_cli.specs.inside.Timed.{IsTimed};
 
 use command_check::check_input;
 use command_defs::{CommonEnd, Status};
 use command_output::{common_status, stop_line, write_lines};
 use command_profile::write_profile;
 use command_run::run_script;
+use command_um::{UmConfig, run_um};
 use gnb_base::outside::{Sink, Source};
 use profile::Version;
+use script_words::forms::{number, sn_bits};
 use std::alloc::Global;
+
+/// The ticks of a timer at most.
+const MOST_TICKS: u32 = 1000;
 
 /// The forms of the program.
 #[derive(Clone, Copy, Debug, PartialEq, Eq)]
@@ -27,6 +36,8 @@ pub enum Form {
     Check,
     /// The text of the profile's module in this version is written.
     Profile(Version),
+    /// A script of one unacknowledged bearer is run.
+    Um(UmConfig),
     /// The words are no form.
     Other,
 }
@@ -46,14 +57,33 @@ fn form_of_word(word: &str) -> Form
     }
 }
 
+/// The form of `um` with the length of numbers and the ticks of the timer that these two words are.
+fn um_form(bits: &[u8], ticks: &[u8]) -> Form
+    ensures exact { result ≡ um_form_of bits.now ticks.now }
+    ensures timed { IsTimed result }
+{
+    let Some(sn) = sn_bits(bits) else {
+        return Form::Other;
+    };
+    let Some(ticks) = number(ticks, 1, MOST_TICKS) else {
+        return Form::Other;
+    };
+    let ticks = ticks as u16;
+    Form::Um(UmConfig { sn, ticks })
+}
+
 /// The form that the words are.
 fn form_of(words: &[String]) -> Form
-    ensures { result ≡ form_of_words (map string_bytes words.now) }
+    ensures exact { result ≡ form_of_words (map string_bytes words.now) }
+    ensures timed { IsTimed result }
 {
     match words {
         [word] => form_of_word(word.as_str()),
         [word, number] if word.as_str() == "profile" && number.as_str() == "2" => {
             Form::Profile(Version::Two)
+        }
+        [word, bits, ticks] if word.as_str() == "um" => {
+            um_form(bits.as_bytes(), ticks.as_bytes())
         }
         _ => Form::Other,
     }
@@ -101,6 +131,14 @@ pub fn gnb<S: Source, K: Sink>(
         → RunsWholly (outside (S.at input.old) (K.at output.old))
         (outside (S.at input.new) (K.at output.new)) result }
 
+    // So is a whole script of one unacknowledged bearer, and a stop at one of its lines is near it
+    // too.
+    ensures bearer { (config : Config) → form_of_words (map string_bytes words.now) ≡ Form.Um config
+        → RunsWhollyUm config (outside (S.at input.old) (K.at output.old))
+        (outside (S.at input.new) (K.at output.new)) result }
+    ensures near_event { (config : Config) → form_of_words (map string_bytes words.now) ≡ Form.Um config
+        → StopsAtEvent (S.at input.old) (S.at input.new) result }
+
     // A whole module is reported, likewise.
     ensures checks { form_of_words (map string_bytes words.now) ≡ Form.Check
         → ChecksWholly (outside (S.at input.old) (K.at output.old))
@@ -115,6 +153,7 @@ pub fn gnb<S: Source, K: Sink>(
         Form::Run => run_script(alloc, input, output).status(),
         Form::Check => check_input(alloc, input, output).status(),
         Form::Profile(version) => write_profile(version, input, output),
+        Form::Um(config) => run_um(alloc, config, input, output).status(),
         Form::Other => report_usage(alloc, input, output),
     }
 }

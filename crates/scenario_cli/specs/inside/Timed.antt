@@ -1,0 +1,11 @@
+-- Internal: the timer of a form has ticks.
+use Rattle.std.specs.Prelude.{◌≤◌}
+use Rattle.scenario_cli.specs.declared.top.Form.{Form}
+use Rattle.scenario_cli.specs.declared.top.Form.TheVariants as forms
+
+abbrev pub IsTimed : Form → Type 0
+IsTimed (forms.Um config) = (1 ≤ config.ticks) × (config.ticks ≤ 1000)
+IsTimed forms.Run = Unit {0}
+IsTimed forms.Check = Unit {0}
+IsTimed (forms.Profile version) = Unit {0}
+IsTimed forms.Other = Unit {0}

@@ -1,0 +1,4 @@
+pub mod Grammar
+pub mod Texts
+pub mod Print
+pub mod inside
