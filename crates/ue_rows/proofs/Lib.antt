@@ -1,0 +1,3 @@
+pub mod BearerLemmas
+pub mod RowSteps
+pub mod AtBearer
