@@ -43,11 +43,16 @@ other_length i (suc n) (b ∷ bs) other =
 abbrev pub rest_agrees : ℕ → ℕ → List BearerId → Bool
 rest_agrees k n bs = are_bearers (from (k + 1) (n - k)) (drop k bs)
 
+from_one : (n : ℕ) (bs : List BearerId) → are_bearers (bearer_list n []) bs ≡ are_bearers (from 1 n) bs
+from_one n bs = ap (λ (as' : List BearerId). are_bearers as' bs) (all_from_one n [] ∙ append-nil (from 1 n))
+
 pub begins : (n : ℕ) (bs : List BearerId) → are_bearers (bearer_list n []) bs ≡ rest_agrees 0 n bs
-begins n bs = ap (λ (as' : List BearerId). are_bearers as' bs) (all_from_one n [] ∙ append-nil (from 1 n))
+begins n bs =
+    let all : n ≡ n - 0 = omega arith in
+    from_one n bs ∙ ap (λ (m : ℕ). are_bearers (from 1 m) bs) all
 
 pub not_so_many : (n : ℕ) (bs : List BearerId) → (length bs ≡ n → ⊥) → are_bearers (bearer_list n []) bs ≡ false
-not_so_many n bs other = begins n bs ∙ other_length 1 n bs other
+not_so_many n bs other = from_one n bs ∙ other_length 1 n bs other
 
 module _ (k n : ℕ) (bs : List BearerId) (d : BearerId) (within : k < length bs) (many : length bs ≡ n) where
   split_off : rest_agrees k n bs ≡ ((k + 1 == (get_or bs k d).0) && rest_agrees (k + 1) n bs)

@@ -6,7 +6,7 @@ ghost use Rattle.unit_defs.specs.CpRecords.{bearers_in};
 ghost use Rattle.unit_defs.specs.CpRows.{name_bearers};
 
 use control_contexts::Context;
-use gnb_types::items::Memory;
+use gnb_types::items::{Items, Memory};
 use gnb_types::names::BearerId;
 use gnb_types::plans::{StatusList, TunnelList};
 use std::alloc::Global;
@@ -35,6 +35,7 @@ pub fn name_bearers(alloc: Global, context: &Context, tunnels: &TunnelList) -> R
     let bearers: Vec<BearerId> = tunnels
         .as_slice()
         .iter()
+        .copied()
         .map(|tunnel| tunnel.bearer)
         .collect(alloc)?;
     Ok(are_bearers(context, bearers.as_slice()))
@@ -49,10 +50,9 @@ pub fn statuses_name_bearers(
     ensures { IfOk result
         (λ named. named ≡ are_bearers (bearers_in context.now) (statuses_of statuses.now)) }
 {
-    let bearers: Vec<BearerId> = statuses
-        .as_slice()
-        .iter()
-        .map(|status| status.bearer)
-        .collect(alloc)?;
+    let mut bearers = Items::new(alloc);
+    for status in statuses.as_slice() {
+        bearers.push(status.bearer)?;
+    }
     Ok(are_bearers(context, bearers.as_slice()))
 }

@@ -87,7 +87,7 @@ fn let_source_go<C: MessageCodec>(at: &At<'_, C>, state: StateName) -> Result<Sa
 }
 
 /// The core has switched the path: a source between gNBs is let go. It is over where the bearers were switched.
-#[tactic(auto, unfolding(unit_defs::specs::CpRows::path_is_switched))]
+#[tactic(auto, using(crate::proofs::Over::over_where), unfolding(unit_defs::specs::CpRows::path_is_switched))]
 pub fn path_is_switched<C: MessageCodec>(
     at: &At<'_, C>,
     terminal: &Terminal,
