@@ -119,7 +119,7 @@ pub fn answer<C: MessageCodec>(
     message: &Message,
     terminal: &Terminal,
 ) -> Result<Answered, StepError>
-    ensures { AnswerGives
+    ensures { AnswerGives (octet_way C.codec)
         (answer (octet_way C.codec) at.now from instance (message_as message.now) terminal.now) result }
 {
     let Some(context) = &terminal.context else {
