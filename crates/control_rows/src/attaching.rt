@@ -6,13 +6,13 @@ ghost use Rattle.unit_octet_defs.specs.Codec.{octet_way};
 ghost use Rattle.control_says.specs.Rows.{RowGives};
 
 use control_contexts::{Attempt, Context, Terminal, has_node};
-use control_says::says::{Say, bearer_setup, du_setup, say_command};
-use control_says::{At, Row};
+use control_requests::{bearer_setup, du_setup};
+use control_says::says::Say;
+use control_says::{At, Row, say_command};
 use gnb_types::items::Items;
 use gnb_types::names::NodeId;
 use gnb_types::plans::{Plan, TunnelList};
 use gnb_types::reasons::{CauseName, RefuseReason};
-use std::alloc::Global;
 use unit_defs::{AttemptKind, StateName};
 use unit_messages::MessageCodec;
 use unit_steps::StepError;
@@ -23,46 +23,42 @@ const FIRST: u32 = 1;
 /// A terminal asks for service: it has no context, and its units are set up.
 #[tactic(auto, unfolding(unit_defs::specs::CpRows::attach))]
 pub fn attach<C: MessageCodec>(
-    alloc: Global,
-    codec: &C,
-    at: &At<'_>,
+    at: &At<'_, C>,
     plan: Plan,
     terminal: &Terminal,
 ) -> Result<Row, StepError>
     ensures { RowGives (attach (octet_way C.codec) at.now plan terminal.now) result }
 {
     match &terminal.context {
-        None => attach_begins(alloc, codec, at, plan, terminal),
-        Some(_) => Row::refuses(alloc, terminal, RefuseReason::Attached),
+        None => attach_begins(at, plan, terminal),
+        Some(_) => Row::refuses(at, terminal, RefuseReason::Attached),
     }
 }
 
 fn attach_begins<C: MessageCodec>(
-    alloc: Global,
-    codec: &C,
-    at: &At<'_>,
+    at: &At<'_, C>,
     plan: Plan,
     terminal: &Terminal,
 ) -> Result<Row, StepError>
     ensures { RowGives (attach_begins (octet_way C.codec) at.now plan terminal.now) result }
 {
     if !has_node(at.units, NodeId::CuUp(at.gnb, plan.up)) {
-        return Row::refuses(alloc, terminal, RefuseReason::NotStarted);
+        return Row::refuses(at, terminal, RefuseReason::NotStarted);
     }
     if !has_node(at.units, NodeId::Du(at.gnb, plan.du)) {
-        return Row::refuses(alloc, terminal, RefuseReason::NotStarted);
+        return Row::refuses(at, terminal, RefuseReason::NotStarted);
     }
-    let context = attach_context(alloc, codec, plan);
-    let says = Items::one(alloc, bearer_setup(at, &context, false))?;
+    let context = attach_context(at, plan);
+    let says = Items::one(at.alloc, bearer_setup(at, &context, false))?;
     Ok(Row::keeps(terminal, says, context))
 }
 
 /// The context of an attach: no epoch was accepted yet.
-fn attach_context<C: MessageCodec>(alloc: Global, _codec: &C, plan: Plan) -> Context
+fn attach_context<C: MessageCodec>(at: &At<'_, C>, plan: Plan) -> Context
     ensures { result ≡ attach_context_of (octet_way C.codec) plan }
 {
     let attempt = Attempt::new(
-        alloc,
+        at.alloc,
         AttemptKind::Attach,
         u64::from(FIRST),
         plan.up,
@@ -85,9 +81,7 @@ fn attach_context<C: MessageCodec>(alloc: Global, _codec: &C, plan: Plan) -> Con
 /// Its tunnels are there: the DU gets the context of epoch 1.
 #[tactic(auto, unfolding(unit_defs::specs::CpRows::attach_has_tunnels))]
 pub fn attach_has_tunnels<C: MessageCodec>(
-    alloc: Global,
-    _codec: &C,
-    at: &At<'_>,
+    at: &At<'_, C>,
     uplinks: TunnelList,
     n3: TunnelList,
     terminal: &Terminal,
@@ -99,7 +93,7 @@ pub fn attach_has_tunnels<C: MessageCodec>(
         result }
 {
     attempt.n3 = n3;
-    let says = Items::one(alloc, du_setup(at, context, context.du, FIRST, uplinks))?;
+    let says = Items::one(at.alloc, du_setup(at, context, context.du, FIRST, uplinks))?;
     let context = context.attempted(StateName::Attaching, attempt);
     Ok(Row::keeps(terminal, says, context))
 }
@@ -107,9 +101,7 @@ pub fn attach_has_tunnels<C: MessageCodec>(
 /// The DU is ready: the command.
 #[tactic(auto, unfolding(unit_defs::specs::CpRows::attach_is_placed))]
 pub fn attach_is_placed<C: MessageCodec>(
-    alloc: Global,
-    codec: &C,
-    at: &At<'_>,
+    at: &At<'_, C>,
     downlinks: TunnelList,
     terminal: &Terminal,
     context: &Context,
@@ -120,7 +112,7 @@ pub fn attach_is_placed<C: MessageCodec>(
         result }
 {
     attempt.downlinks = downlinks;
-    let says = Items::one(alloc, say_command(alloc, codec, at, context, &attempt)?)?;
+    let says = Items::one(at.alloc, say_command(at, context, &attempt)?)?;
     let context = context.attempted(StateName::Commanded, attempt);
     Ok(Row::keeps(terminal, says, context))
 }
@@ -128,13 +120,12 @@ pub fn attach_is_placed<C: MessageCodec>(
 /// The CU-UP could not set up the bearers.
 #[tactic(auto, unfolding(unit_defs::specs::CpRows::attach_fails))]
 pub fn attach_fails<C: MessageCodec>(
-    alloc: Global,
-    _codec: &C,
+    at: &At<'_, C>,
     cause: CauseName,
     terminal: &Terminal,
 ) -> Result<Row, StepError>
     ensures { RowGives (attach_fails (octet_way C.codec) cause terminal.now) result }
 {
-    let says = Items::one(alloc, Say::Fail(cause))?;
+    let says = Items::one(at.alloc, Say::Fail(cause))?;
     Ok(Row::gives_up(terminal, says))
 }

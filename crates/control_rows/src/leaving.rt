@@ -9,17 +9,14 @@ ghost use Rattle.control_says.specs.Rows.{RowGives};
 use crate::moving::move_begins;
 use crate::releasing::is_serving;
 use control_contexts::{Attempt, Context, Terminal};
-use control_says::modifying::{say_freeze, say_resume};
-use control_says::says::{
-    EPOCHS, NO_INSTANCE, Say, du_release, other_cp, say_command, two, xn_cancel,
-};
-use control_says::{At, Row};
+use control_requests::{du_release, say_freeze, say_resume, xn_cancel};
+use control_says::says::{EPOCHS, NO_INSTANCE, Say};
+use control_says::{At, Row, other_cp, say_command, two};
 use gnb_types::items::Items;
 use gnb_types::names::Gnb;
 use gnb_types::plans::{Peer, Plan, StatusList, TunnelList};
 use gnb_types::reasons::{CauseName, RefuseReason};
 use message_types::XnMessage;
-use std::alloc::Global;
 use unit_defs::{AttemptKind, StateName};
 use unit_messages::{Message, MessageCodec};
 use unit_steps::StepError;
@@ -36,7 +33,7 @@ pub fn is_same_gnb(a: Gnb, b: Gnb) -> bool
     }
 }
 
-fn epoch_of<C: MessageCodec>(_codec: &C, context: &Context) -> u32
+fn epoch_of<C: MessageCodec>(_at: &At<'_, C>, context: &Context) -> u32
     ensures { result ≡ epoch_of (octet_way C.codec) context.now }
 {
     match context.epoch {
@@ -48,9 +45,7 @@ fn epoch_of<C: MessageCodec>(_codec: &C, context: &Context) -> u32
 /// It begins with a request to the other gNB, with the epoch after the one that was accepted last.
 #[tactic(auto, unfolding(unit_defs::specs::CpRows::handover_begins))]
 fn handover_begins<C: MessageCodec>(
-    alloc: Global,
-    _codec: &C,
-    at: &At<'_>,
+    at: &At<'_, C>,
     goal: Plan,
     epoch: u32,
     terminal: &Terminal,
@@ -83,9 +78,9 @@ fn handover_begins<C: MessageCodec>(
         deadline: Some(PREPARATION_TICKS),
         awaited: true,
     };
-    let says = Items::one(alloc, ask)?;
+    let says = Items::one(at.alloc, ask)?;
     let attempt = Attempt::new(
-        alloc,
+        at.alloc,
         AttemptKind::BetweenGnbs,
         u64::from(epoch),
         goal.up,
@@ -98,24 +93,20 @@ fn handover_begins<C: MessageCodec>(
 /// An order: to another DU of the own gNB with the same CU-UP, or to the other gNB, of a terminal that is served.
 #[tactic(auto, unfolding(unit_defs::specs::CpRows::handover))]
 pub fn handover<C: MessageCodec>(
-    alloc: Global,
-    codec: &C,
-    at: &At<'_>,
+    at: &At<'_, C>,
     goal: Plan,
     terminal: &Terminal,
 ) -> Result<Row, StepError>
     ensures { RowGives (handover (octet_way C.codec) at.now goal terminal.now) result }
 {
     match &terminal.context {
-        Some(context) => handover_of(alloc, codec, at, goal, terminal, context),
-        None => Row::refuses(alloc, terminal, RefuseReason::Busy),
+        Some(context) => handover_of(at, goal, terminal, context),
+        None => Row::refuses(at, terminal, RefuseReason::Busy),
     }
 }
 
 fn handover_of<C: MessageCodec>(
-    alloc: Global,
-    codec: &C,
-    at: &At<'_>,
+    at: &At<'_, C>,
     goal: Plan,
     terminal: &Terminal,
     context: &Context,
@@ -125,27 +116,25 @@ fn handover_of<C: MessageCodec>(
 {
     let is_own = is_same_gnb(goal.gnb, at.gnb);
     if is_own && goal.du == context.du {
-        return Row::refuses(alloc, terminal, RefuseReason::Same);
+        return Row::refuses(at, terminal, RefuseReason::Same);
     }
     if is_own && goal.up != context.up {
-        return Row::refuses(alloc, terminal, RefuseReason::NotAllowed);
+        return Row::refuses(at, terminal, RefuseReason::NotAllowed);
     }
-    if !is_serving(codec, context.state) {
-        return Row::refuses(alloc, terminal, RefuseReason::Busy);
+    if !is_serving(at, context.state) {
+        return Row::refuses(at, terminal, RefuseReason::Busy);
     }
-    let epoch = epoch_of(codec, context);
+    let epoch = epoch_of(at, context);
     if is_own {
-        return move_begins(alloc, codec, at, goal, epoch, terminal, context);
+        return move_begins(at, goal, epoch, terminal, context);
     }
-    handover_begins(alloc, codec, at, goal, epoch, terminal, context)
+    handover_begins(at, goal, epoch, terminal, context)
 }
 
 /// The target is ready: what is here is frozen, and goes there.
 #[tactic(auto, unfolding(unit_defs::specs::CpRows::handover_is_acknowledged))]
 pub fn handover_is_acknowledged<C: MessageCodec>(
-    alloc: Global,
-    _codec: &C,
-    at: &At<'_>,
+    at: &At<'_, C>,
     peer: Peer,
     forward_down: TunnelList,
     forward_up: TunnelList,
@@ -158,7 +147,7 @@ pub fn handover_is_acknowledged<C: MessageCodec>(
         terminal.now context.now attempt) result }
 {
     let says = Items::one(
-        alloc,
+        at.alloc,
         say_freeze(at, context, peer, forward_down, forward_up),
     )?;
     let context = context.attempted(StateName::Prepared, attempt);
@@ -168,8 +157,7 @@ pub fn handover_is_acknowledged<C: MessageCodec>(
 /// The target isn't ready.
 #[tactic(auto, unfolding(unit_defs::specs::CpRows::handover_is_declined))]
 pub fn handover_is_declined<C: MessageCodec>(
-    alloc: Global,
-    _codec: &C,
+    at: &At<'_, C>,
     cause: CauseName,
     terminal: &Terminal,
     context: &Context,
@@ -177,32 +165,28 @@ pub fn handover_is_declined<C: MessageCodec>(
     ensures { RowGives
         (handover_is_declined (octet_way C.codec) cause terminal.now context.now) result }
 {
-    let says = Items::one(alloc, Say::Fail(cause))?;
+    let says = Items::one(at.alloc, Say::Fail(cause))?;
     Ok(Row::keeps(terminal, says, context.serving()))
 }
 
 /// The target did not answer within the deadline.
 #[tactic(auto, unfolding(unit_defs::specs::CpRows::handover_expires))]
 pub fn handover_expires<C: MessageCodec>(
-    alloc: Global,
-    _codec: &C,
-    at: &At<'_>,
+    at: &At<'_, C>,
     terminal: &Terminal,
     context: &Context,
 ) -> Result<Row, StepError>
     ensures { RowGives
         (handover_expires (octet_way C.codec) at.now terminal.now context.now) result }
 {
-    let says = two(alloc, xn_cancel(at), Say::Fail(CauseName::Timeout))?;
+    let says = two(at.alloc, xn_cancel(at), Say::Fail(CauseName::Timeout))?;
     Ok(Row::keeps(terminal, says, context.serving()))
 }
 
 /// It is frozen: the SN status.
 #[tactic(auto, unfolding(unit_defs::specs::CpRows::handover_is_frozen))]
 pub fn handover_is_frozen<C: MessageCodec>(
-    alloc: Global,
-    _codec: &C,
-    at: &At<'_>,
+    at: &At<'_, C>,
     statuses: StatusList,
     terminal: &Terminal,
     context: &Context,
@@ -222,7 +206,7 @@ pub fn handover_is_frozen<C: MessageCodec>(
         deadline: None,
         awaited: false,
     };
-    let says = Items::one(alloc, transfer)?;
+    let says = Items::one(at.alloc, transfer)?;
     let context = context.attempted(StateName::Frozen, attempt);
     Ok(Row::keeps(terminal, says, context))
 }
@@ -230,9 +214,7 @@ pub fn handover_is_frozen<C: MessageCodec>(
 /// It could not be frozen.
 #[tactic(auto, unfolding(unit_defs::specs::CpRows::handover_is_not_frozen))]
 pub fn handover_is_not_frozen<C: MessageCodec>(
-    alloc: Global,
-    _codec: &C,
-    at: &At<'_>,
+    at: &At<'_, C>,
     cause: CauseName,
     terminal: &Terminal,
     context: &Context,
@@ -240,7 +222,7 @@ pub fn handover_is_not_frozen<C: MessageCodec>(
     ensures { RowGives
         (handover_is_not_frozen (octet_way C.codec) at.now cause terminal.now context.now) result }
 {
-    let says = two(alloc, xn_cancel(at), Say::Fail(cause))?;
+    let says = two(at.alloc, xn_cancel(at), Say::Fail(cause))?;
     Ok(Row::keeps(terminal, says, context.serving()))
 }
 
@@ -248,9 +230,7 @@ pub fn handover_is_not_frozen<C: MessageCodec>(
 
 #[tactic(auto, unfolding(unit_defs::specs::CpRows::command))]
 pub fn command<C: MessageCodec>(
-    alloc: Global,
-    codec: &C,
-    at: &At<'_>,
+    at: &At<'_, C>,
     terminal: &Terminal,
     context: &Context,
     attempt: Attempt,
@@ -258,7 +238,7 @@ pub fn command<C: MessageCodec>(
     ensures { RowGives
         (command (octet_way C.codec) at.now terminal.now context.now attempt) result }
 {
-    let says = Items::one(alloc, say_command(alloc, codec, at, context, &attempt)?)?;
+    let says = Items::one(at.alloc, say_command(at, context, &attempt)?)?;
     let context = context.attempted(StateName::Commanded, attempt);
     Ok(Row::keeps(terminal, says, context))
 }
@@ -267,24 +247,17 @@ pub fn command<C: MessageCodec>(
 
 /// An order: the attempt is given up, before the command alone.
 #[tactic(auto, unfolding(unit_defs::specs::CpRows::cancel))]
-pub fn cancel<C: MessageCodec>(
-    alloc: Global,
-    codec: &C,
-    at: &At<'_>,
-    terminal: &Terminal,
-) -> Result<Row, StepError>
+pub fn cancel<C: MessageCodec>(at: &At<'_, C>, terminal: &Terminal) -> Result<Row, StepError>
     ensures { RowGives (cancel (octet_way C.codec) at.now terminal.now) result }
 {
     match &terminal.context {
-        Some(context) => cancel_of(alloc, codec, at, terminal, context),
-        None => Row::refuses(alloc, terminal, RefuseReason::Empty),
+        Some(context) => cancel_of(at, terminal, context),
+        None => Row::refuses(at, terminal, RefuseReason::Empty),
     }
 }
 
 fn cancel_of<C: MessageCodec>(
-    alloc: Global,
-    codec: &C,
-    at: &At<'_>,
+    at: &At<'_, C>,
     terminal: &Terminal,
     context: &Context,
 ) -> Result<Row, StepError>
@@ -292,15 +265,13 @@ fn cancel_of<C: MessageCodec>(
         (cancel_of (octet_way C.codec) at.now terminal.now context.now context.now.attempt) result }
 {
     match &context.attempt {
-        Some(attempt) => cancel_attempt(alloc, codec, at, terminal, context, attempt),
-        None => Row::refuses(alloc, terminal, RefuseReason::Empty),
+        Some(attempt) => cancel_attempt(at, terminal, context, attempt),
+        None => Row::refuses(at, terminal, RefuseReason::Empty),
     }
 }
 
 fn cancel_attempt<C: MessageCodec>(
-    alloc: Global,
-    codec: &C,
-    at: &At<'_>,
+    at: &At<'_, C>,
     terminal: &Terminal,
     context: &Context,
     attempt: &Attempt,
@@ -310,14 +281,10 @@ fn cancel_attempt<C: MessageCodec>(
         attempt.now.kind attempt.now) result }
 {
     match context.state {
-        StateName::Preparing => cancel_while_preparing(
-            alloc, codec, at, terminal, context, attempt,
-        ),
-        StateName::Prepared => Row::refuses(alloc, terminal, RefuseReason::Busy),
-        StateName::Frozen => cancel_while_frozen(alloc, codec, at, terminal, context, attempt),
-        StateName::Commanded => cancel_while_commanded(
-            alloc, codec, at, terminal, context, attempt,
-        ),
+        StateName::Preparing => cancel_while_preparing(at, terminal, context, attempt),
+        StateName::Prepared => Row::refuses(at, terminal, RefuseReason::Busy),
+        StateName::Frozen => cancel_while_frozen(at, terminal, context, attempt),
+        StateName::Commanded => cancel_while_commanded(at, terminal, context, attempt),
         StateName::Idle
         | StateName::Attaching
         | StateName::Returning
@@ -325,14 +292,12 @@ fn cancel_attempt<C: MessageCodec>(
         | StateName::Offered
         | StateName::Ready
         | StateName::Arrived
-        | StateName::Serving => Row::refuses(alloc, terminal, RefuseReason::Empty),
+        | StateName::Serving => Row::refuses(at, terminal, RefuseReason::Empty),
     }
 }
 
 fn cancel_while_preparing<C: MessageCodec>(
-    alloc: Global,
-    _codec: &C,
-    at: &At<'_>,
+    at: &At<'_, C>,
     terminal: &Terminal,
     context: &Context,
     attempt: &Attempt,
@@ -343,20 +308,18 @@ fn cancel_while_preparing<C: MessageCodec>(
 {
     match attempt.kind {
         AttemptKind::BetweenGnbs => {
-            let says = Items::one(alloc, xn_cancel(at))?;
+            let says = Items::one(at.alloc, xn_cancel(at))?;
             Ok(Row::keeps(terminal, says, context.serving()))
         }
-        AttemptKind::BetweenDus => Row::refuses(alloc, terminal, RefuseReason::Busy),
+        AttemptKind::BetweenDus => Row::refuses(at, terminal, RefuseReason::Busy),
         AttemptKind::Attach | AttemptKind::Offer | AttemptKind::Return => {
-            Row::refuses(alloc, terminal, RefuseReason::Empty)
+            Row::refuses(at, terminal, RefuseReason::Empty)
         }
     }
 }
 
 fn cancel_while_frozen<C: MessageCodec>(
-    alloc: Global,
-    _codec: &C,
-    at: &At<'_>,
+    at: &At<'_, C>,
     terminal: &Terminal,
     context: &Context,
     attempt: &Attempt,
@@ -367,21 +330,19 @@ fn cancel_while_frozen<C: MessageCodec>(
 {
     match attempt.kind {
         AttemptKind::BetweenDus => {
-            let says = Items::one(alloc, du_release(at, attempt.du, false))?;
+            let says = Items::one(at.alloc, du_release(at, attempt.du, false))?;
             Ok(Row::keeps(terminal, says, context.serving()))
         }
         AttemptKind::Attach | AttemptKind::BetweenGnbs | AttemptKind::Offer | AttemptKind::Return =>
             {
-                let says = two(alloc, xn_cancel(at), say_resume(at, context))?;
+                let says = two(at.alloc, xn_cancel(at), say_resume(at, context))?;
                 Ok(Row::keeps(terminal, says, context.serving()))
             }
     }
 }
 
 fn cancel_while_commanded<C: MessageCodec>(
-    alloc: Global,
-    _codec: &C,
-    at: &At<'_>,
+    at: &At<'_, C>,
     terminal: &Terminal,
     context: &Context,
     attempt: &Attempt,
@@ -392,10 +353,10 @@ fn cancel_while_commanded<C: MessageCodec>(
 {
     match attempt.kind {
         AttemptKind::BetweenDus | AttemptKind::BetweenGnbs => {
-            Row::refuses(alloc, terminal, RefuseReason::TooLate)
+            Row::refuses(at, terminal, RefuseReason::TooLate)
         }
         AttemptKind::Attach | AttemptKind::Offer | AttemptKind::Return => {
-            Row::refuses(alloc, terminal, RefuseReason::Empty)
+            Row::refuses(at, terminal, RefuseReason::Empty)
         }
     }
 }

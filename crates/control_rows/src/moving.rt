@@ -6,12 +6,11 @@ ghost use Rattle.unit_octet_defs.specs.Codec.{octet_way};
 ghost use Rattle.control_says.specs.Rows.{RowGives};
 
 use control_contexts::{Attempt, Context, Terminal};
-use control_says::modifying::say_uplinks;
-use control_says::says::{EPOCHS, du_setup};
+use control_requests::{du_setup, say_uplinks};
+use control_says::says::EPOCHS;
 use control_says::{At, Row};
 use gnb_types::items::Items;
 use gnb_types::plans::{Plan, TunnelList};
-use std::alloc::Global;
 use unit_defs::{AttemptKind, StateName};
 use unit_messages::MessageCodec;
 use unit_steps::StepError;
@@ -19,9 +18,7 @@ use unit_steps::StepError;
 /// It begins with further uplinks. The epoch is the one that was accepted last.
 #[tactic(auto, unfolding(unit_defs::specs::CpRows::move_begins))]
 pub fn move_begins<C: MessageCodec>(
-    alloc: Global,
-    _codec: &C,
-    at: &At<'_>,
+    at: &At<'_, C>,
     goal: Plan,
     epoch: u32,
     terminal: &Terminal,
@@ -30,9 +27,9 @@ pub fn move_begins<C: MessageCodec>(
     ensures { RowGives
         (move_begins (octet_way C.codec) at.now goal epoch terminal.now context.now) result }
 {
-    let says = Items::one(alloc, say_uplinks(at, context))?;
+    let says = Items::one(at.alloc, say_uplinks(at, context))?;
     let next = u64::from(epoch) + 1;
-    let attempt = Attempt::new(alloc, AttemptKind::BetweenDus, next, context.up, goal.du);
+    let attempt = Attempt::new(at.alloc, AttemptKind::BetweenDus, next, context.up, goal.du);
     let context = context.attempted(StateName::Preparing, attempt);
     Ok(Row::keeps(terminal, says, context))
 }
@@ -40,9 +37,7 @@ pub fn move_begins<C: MessageCodec>(
 /// Its uplinks are there: the target DU gets the context. Past the last epoch the counter is spent.
 #[tactic(auto, unfolding(unit_defs::specs::CpRows::move_has_uplinks))]
 pub fn move_has_uplinks<C: MessageCodec>(
-    alloc: Global,
-    _codec: &C,
-    at: &At<'_>,
+    at: &At<'_, C>,
     uplinks: TunnelList,
     terminal: &Terminal,
     context: &Context,
@@ -56,7 +51,7 @@ pub fn move_has_uplinks<C: MessageCodec>(
         return Err(StepError::Spent { counter: EPOCHS });
     }
     let epoch = attempt.epoch as u32;
-    let says = Items::one(alloc, du_setup(at, context, attempt.du, epoch, uplinks))?;
+    let says = Items::one(at.alloc, du_setup(at, context, attempt.du, epoch, uplinks))?;
     let context = context.attempted(StateName::Preparing, attempt);
     Ok(Row::keeps(terminal, says, context))
 }
@@ -64,8 +59,7 @@ pub fn move_has_uplinks<C: MessageCodec>(
 /// The target DU is ready. Nothing was frozen, but the next step is the same.
 #[tactic(auto, unfolding(unit_defs::specs::CpRows::move_is_placed))]
 pub fn move_is_placed<C: MessageCodec>(
-    alloc: Global,
-    _codec: &C,
+    at: &At<'_, C>,
     downlinks: TunnelList,
     terminal: &Terminal,
     context: &Context,
@@ -76,5 +70,5 @@ pub fn move_is_placed<C: MessageCodec>(
 {
     attempt.downlinks = downlinks;
     let context = context.attempted(StateName::Frozen, attempt);
-    Ok(Row::keeps(terminal, Items::new(alloc), context))
+    Ok(Row::keeps(terminal, Items::new(at.alloc), context))
 }

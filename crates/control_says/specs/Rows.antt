@@ -1,11 +1,11 @@
 -- The rows of the code, as the definitions have them.
-use Rattle.std.specs.Prelude.{◌≡◌, ℕ, List, map, Result, Ok, Err}
+use Rattle.std.specs.Prelude.{◌≡◌, ℕ, List, map, Option, Some, None, Result, Ok, Err}
 use Rattle.unit_defs.specs.CpRecords as cp
 use Rattle.unit_messages.specs.Messages.{message_as}
 use Rattle.unit_steps.specs.declared.StepError.{StepError}
 use Rattle.unit_steps.specs.declared.StepError.TheVariants as errors
 use Rattle.control_says.specs.declared.says.Say.{Say}
-use Rattle.control_says.specs.declared.says.Say.TheVariants.{Ask, Cancel, Reply, ReplyLate, Send, Fail, Ignore, Refuse}
+use Rattle.control_says.specs.declared.says.Say.TheVariants.{Ask, Cancel, Reply, ReplyLate, Send, Fail, Ignore, Refuse, Forget}
 use Rattle.control_says.specs.declared.row.Row.{Row}
 
 abbrev pub say_as : Say → cp.Say (List ℕ)
@@ -17,6 +17,7 @@ say_as (Send to message) = cp.sends to (message_as message)
 say_as (Fail cause) = cp.fails cause
 say_as (Ignore reason) = cp.ignores reason
 say_as (Refuse reason) = cp.refuses reason
+say_as Forget = cp.forgets
 
 abbrev pub row_as : Row → cp.Row (List ℕ)
 row_as r = cp.row (map say_as r.says) r.after
@@ -26,3 +27,10 @@ abbrev pub RowGives : cp.Row (List ℕ) → Result Row StepError → Type 0
 RowGives wanted (Ok r) = wanted ≡ row_as r
 RowGives wanted (Err (errors.Spent counter)) = wanted ≡ cp.row_spent counter
 RowGives wanted (Err errors.Memory) = Unit {0}
+
+-- the same where a message may name no row
+abbrev pub SomeRowGives : Option (cp.Row (List ℕ)) → Result (Option Row) StepError → Type 0
+SomeRowGives wanted (Ok (Some r)) = wanted ≡ Some (row_as r)
+SomeRowGives wanted (Ok None) = wanted ≡ None
+SomeRowGives wanted (Err (errors.Spent counter)) = wanted ≡ Some (cp.row_spent counter)
+SomeRowGives wanted (Err errors.Memory) = Unit {0}

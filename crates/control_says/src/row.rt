@@ -4,6 +4,7 @@ ghost use Rattle.std.specs.Prelude.{◌≡◌, [], ◌∷◌, map, Some, None, I
 ghost use Rattle.unit_defs.specs.CpRecords.{stays, keeps, gives_up, refuses, ignores};
 ghost use Rattle.control_says.specs.Rows.{row_as, say_as, RowGives};
 
+use crate::lists::beside;
 use crate::says::{Say, Says};
 use control_contexts::{Context, Terminal};
 use gnb_types::items::{Items, Memory};
@@ -13,16 +14,18 @@ use std::alloc::Global;
 use std::marker::Model;
 use unit_steps::StepError;
 
-/// Who acts, and for which terminal.
-#[derive(Debug, Drop)]
-pub struct At<'a> {
+/// Who acts, and for which terminal; the memory that a row takes, and the codec that spells its messages. Contracts see the first two.
+#[derive(Drop)]
+pub struct At<'a, C> {
+    pub alloc: Global,
+    pub codec: &'a C,
     pub gnb: Gnb,
     pub ue: UeId,
     /// The units that are set up.
     pub units: &'a [NodeId],
 }
 
-impl<'a> Model for At<'a> {
+impl<'a, C> Model for At<'a, C> {
     ghost use Rattle.unit_defs.specs.CpRows.{CpAt};
 
     ghost Value = { CpAt };
@@ -42,7 +45,7 @@ impl Row {
     pub fn stays(alloc: Global, terminal: &Terminal, says: Says) -> Result<Row, Memory>
         ensures { IfOk result (λ r. row_as r ≡ stays terminal.now (map say_as says)) }
     {
-        let after = terminal.copy(alloc)?;
+        let (says, after) = beside(alloc, terminal, says)?;
         Ok(Row { says, after })
     }
 
@@ -72,25 +75,34 @@ impl Row {
         }
     }
 
+    /// It keeps the terminal as it is, and says one thing.
+    pub fn only_says<C>(at: &At<'_, C>, terminal: &Terminal, say: Say) -> Result<Row, StepError>
+        ensures { RowGives (stays terminal.now (say_as say ∷ [])) result }
+    {
+        let says = Items::one(at.alloc, say)?;
+        let row = Row::stays(at.alloc, terminal, says)?;
+        Ok(row)
+    }
+
     /// It keeps the terminal as it is, and refuses an order.
-    pub fn refuses(
-        alloc: Global,
+    pub fn refuses<C>(
+        at: &At<'_, C>,
         terminal: &Terminal,
         reason: RefuseReason,
     ) -> Result<Row, StepError>
         ensures { RowGives (stays terminal.now (refuses reason ∷ [])) result }
     {
-        let says = Items::one(alloc, Say::Refuse(reason))?;
-        let row = Row::stays(alloc, terminal, says)?;
-        Ok(row)
+        Row::only_says(at, terminal, Say::Refuse(reason))
     }
 
     /// It keeps the terminal as it is, and ignores its input.
-    pub fn ignores(alloc: Global, terminal: &Terminal, reason: DropReason) -> Result<Row, StepError>
+    pub fn ignores<C>(
+        at: &At<'_, C>,
+        terminal: &Terminal,
+        reason: DropReason,
+    ) -> Result<Row, StepError>
         ensures { RowGives (stays terminal.now (ignores reason ∷ [])) result }
     {
-        let says = Items::one(alloc, Say::Ignore(reason))?;
-        let row = Row::stays(alloc, terminal, says)?;
-        Ok(row)
+        Row::only_says(at, terminal, Say::Ignore(reason))
     }
 }

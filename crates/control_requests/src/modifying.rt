@@ -3,9 +3,9 @@
 ghost use Rattle.std.specs.Prelude.{◌≡◌, true, false};
 ghost use Rattle.unit_defs.specs.Messages.{mode_uplinks, mode_switch, mode_freeze, mode_status, mode_resume};
 
-use crate::row::At;
-use crate::says::{NO_INSTANCE, Say};
 use control_contexts::Context;
+use control_says::At;
+use control_says::says::{NO_INSTANCE, Say};
 use gnb_types::names::NodeId;
 use gnb_types::plans::{Peer, StatusList, TunnelList};
 use message_types::E1Message;
@@ -22,7 +22,7 @@ const STATUS: u32 = 3;
 
 const RESUME: u32 = 4;
 
-pub fn say_uplinks(at: &At<'_>, context: &Context) -> Say
+pub fn say_uplinks<C>(at: &At<'_, C>, context: &Context) -> Say
     ensures { result ≡ Say.Ask (NodeId.CuUp at.now.gnb context.now.up)
         (Message.E1 (E1Message.BearerContextModificationRequest at.now.ue 0 None mode_uplinks None None
         None None None)) None true }
@@ -45,7 +45,7 @@ pub fn say_uplinks(at: &At<'_>, context: &Context) -> Say
     }
 }
 
-pub fn say_switch(at: &At<'_>, context: &Context, downlinks: TunnelList) -> Say
+pub fn say_switch<C>(at: &At<'_, C>, context: &Context, downlinks: TunnelList) -> Say
     ensures { result ≡ Say.Ask (NodeId.CuUp at.now.gnb context.now.up)
         (Message.E1 (E1Message.BearerContextModificationRequest at.now.ue 0 (Some downlinks) mode_switch
         None None None None (Some context.now.du))) None true }
@@ -68,8 +68,8 @@ pub fn say_switch(at: &At<'_>, context: &Context, downlinks: TunnelList) -> Say
     }
 }
 
-pub fn say_freeze(
-    at: &At<'_>,
+pub fn say_freeze<C>(
+    at: &At<'_, C>,
     context: &Context,
     peer: Peer,
     forward_down: TunnelList,
@@ -97,7 +97,7 @@ pub fn say_freeze(
     }
 }
 
-pub fn say_status(at: &At<'_>, context: &Context, statuses: StatusList) -> Say
+pub fn say_status<C>(at: &At<'_, C>, context: &Context, statuses: StatusList) -> Say
     ensures { result ≡ Say.Ask (NodeId.CuUp at.now.gnb context.now.up)
         (Message.E1 (E1Message.BearerContextModificationRequest at.now.ue 0 None mode_status None None
         None (Some statuses) None)) None false }
@@ -120,7 +120,7 @@ pub fn say_status(at: &At<'_>, context: &Context, statuses: StatusList) -> Say
     }
 }
 
-pub fn say_resume(at: &At<'_>, context: &Context) -> Say
+pub fn say_resume<C>(at: &At<'_, C>, context: &Context) -> Say
     ensures { result ≡ Say.Ask (NodeId.CuUp at.now.gnb context.now.up)
         (Message.E1 (E1Message.BearerContextModificationRequest at.now.ue 0 None mode_resume None None
         None None None)) None false }

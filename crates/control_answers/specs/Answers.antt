@@ -1,0 +1,22 @@
+-- What an answer of the code is to an attempt, as the definitions have it.
+use Rattle.std.specs.Prelude.{◌≡◌, ℕ, List, Option, Some, None, Result, Ok, Err}
+use Rattle.unit_defs.specs.Ways.{Way}
+use Rattle.unit_defs.specs.CpRecords as cp
+use Rattle.unit_defs.specs.CuCp as rows
+use Rattle.unit_steps.specs.declared.StepError.{StepError}
+use Rattle.unit_steps.specs.declared.StepError.TheVariants as errors
+use Rattle.control_says.specs.declared.row.Row.{Row}
+use Rattle.control_says.specs.Rows.{row_as}
+use Rattle.control_answers.specs.declared.states.Answered.{Answered}
+use Rattle.control_answers.specs.declared.states.Answered.TheVariants as code
+
+abbrev pub some_row_as : Option Row → Option (cp.Row (List ℕ))
+some_row_as None = None
+some_row_as (Some r) = Some (row_as r)
+
+-- the code gives what the answer is, or the counter that stops its row; out of memory nothing is said
+abbrev pub AnswerGives : (way : Way (List ℕ) (List ℕ) (List ℕ)) → rows.Answered way → Result Answered StepError → Type 0
+AnswerGives way wanted (Ok code.NotAwaited) = wanted ≡ rows.answers_none
+AnswerGives way wanted (Ok (code.Awaited taken)) = wanted ≡ rows.answers_with (some_row_as taken)
+AnswerGives way wanted (Err (errors.Spent counter)) = wanted ≡ rows.answers_with (Some (cp.row_spent counter))
+AnswerGives way wanted (Err errors.Memory) = Unit {0}

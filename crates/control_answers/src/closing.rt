@@ -1,0 +1,45 @@
+//! An answer that no row names, and the causes of failures.
+
+ghost use Rattle.std.specs.Prelude.{◌≡◌};
+ghost use Rattle.unit_defs.specs.Messages.{cause_name};
+ghost use Rattle.unit_defs.specs.CuCp.{only_closes};
+ghost use Rattle.unit_octet_defs.specs.Codec.{octet_way};
+ghost use Rattle.control_says.specs.Rows.{row_as};
+
+use control_contexts::{Attempt, Context, Terminal};
+use control_says::{At, Row};
+use gnb_types::items::Items;
+use gnb_types::reasons::CauseName;
+use unit_messages::MessageCodec;
+
+// The causes of the profile's enumeration.
+const QUOTA: u32 = 0;
+
+const BUSY: u32 = 1;
+
+const NO_UNIT: u32 = 2;
+
+/// The answer only closes its request: it is awaited no more.
+pub(crate) fn only_closes<C: MessageCodec>(
+    at: &At<'_, C>,
+    terminal: &Terminal,
+    context: &Context,
+    attempt: Attempt,
+) -> Row
+    ensures { row_as result ≡ only_closes (octet_way C.codec) terminal.now context.now attempt }
+{
+    let context = context.attempted(context.state, attempt);
+    Row::keeps(terminal, Items::new(at.alloc), context)
+}
+
+/// The name of a cause; one past the root has none.
+pub(crate) fn cause_name(cause: u32) -> Option<CauseName>
+    ensures { result ≡ cause_name cause }
+{
+    match cause {
+        QUOTA => Some(CauseName::Quota),
+        BUSY => Some(CauseName::Busy),
+        NO_UNIT => Some(CauseName::Unit),
+        _ => None,
+    }
+}

@@ -1,0 +1,125 @@
+//! Tokens of a terminal by which it arrives at the target of an attach or of a handover between own DUs.
+
+ghost use Rattle.std.specs.Prelude.{◌≡◌, map, Some, false, IfOk};
+ghost use Rattle.unit_defs.specs.CpRows.{leave_old, leave_old_again, opens_path, completes, completes_again};
+ghost use Rattle.unit_octet_defs.specs.Codec.{octet_way};
+ghost use Rattle.control_says.specs.Rows.{say_as, RowGives};
+
+use crate::arriving::took;
+use control_contexts::{Attempt, Context, Terminal, copy_tunnels};
+use control_requests::{du_modify, du_release, path_switch, say_switch};
+use control_says::says::Says;
+use control_says::{At, Row, two, with_first};
+use gnb_types::items::{Items, Memory};
+use unit_defs::{AttemptKind, StateName};
+use unit_messages::MessageCodec;
+use unit_steps::StepError;
+
+/// Whether an attempt opens the path from the core.
+fn opens_path<C: MessageCodec>(_at: &At<'_, C>, kind: AttemptKind) -> bool
+    ensures { result ≡ opens_path (octet_way C.codec) kind }
+{
+    match kind {
+        AttemptKind::Attach => true,
+        AttemptKind::BetweenDus
+        | AttemptKind::BetweenGnbs
+        | AttemptKind::Offer
+        | AttemptKind::Return => false,
+    }
+}
+
+/// An attach opens the path from the core; in a handover the old DU lets go.
+fn leave_old<C: MessageCodec>(
+    at: &At<'_, C>,
+    old: &Context,
+    epoch: u32,
+    attempt: &Attempt,
+) -> Result<Says, Memory>
+    ensures { IfOk result (λ says. map say_as says
+        ≡ leave_old (octet_way C.codec) at.now old.now
+        (record old.now { du = attempt.now.du; epoch = Some epoch; finished = false }) attempt.now
+        attempt.now.kind) }
+{
+    match attempt.kind {
+        AttemptKind::Attach => {
+            let path = path_switch(at, old, attempt)?;
+            Items::one(at.alloc, path)
+        }
+        AttemptKind::BetweenDus
+        | AttemptKind::BetweenGnbs
+        | AttemptKind::Offer
+        | AttemptKind::Return => Items::one(at.alloc, du_release(at, old.du, false)),
+    }
+}
+
+/// It arrived: the bearers are switched, and the old DU lets go.
+#[tactic(auto, unfolding(unit_defs::specs::CpRows::completes))]
+pub fn completes<C: MessageCodec>(
+    at: &At<'_, C>,
+    epoch: u32,
+    terminal: &Terminal,
+    context: &Context,
+    mut attempt: Attempt,
+) -> Result<Row, StepError>
+    ensures { RowGives
+        (completes (octet_way C.codec) at.now epoch terminal.now context.now attempt) result }
+{
+    let downlinks = copy_tunnels(at.alloc, &attempt.downlinks)?;
+    let left = leave_old(at, context, epoch, &attempt)?;
+    let du = attempt.du;
+    attempt.path_open = opens_path(at, attempt.kind);
+    let mut there = context.attempted(StateName::Completing, attempt);
+    there.du = du;
+    there.epoch = Some(epoch);
+    there.finished = false;
+    let says = with_first(at.alloc, say_switch(at, &there, downlinks), left)?;
+    Ok(took(at, terminal, epoch, says, there))
+}
+
+fn leave_old_again<C: MessageCodec>(
+    at: &At<'_, C>,
+    old: &Context,
+    epoch: u32,
+    attempt: &Attempt,
+) -> Result<Says, Memory>
+    ensures { IfOk result (λ says. map say_as says
+        ≡ leave_old_again (octet_way C.codec) at.now old.now
+        (record old.now { du = attempt.now.du }) attempt.now attempt.now.kind epoch) }
+{
+    match attempt.kind {
+        AttemptKind::Attach => {
+            let path = path_switch(at, old, attempt)?;
+            two(at.alloc, du_modify(at, attempt.du, epoch), path)
+        }
+        AttemptKind::BetweenDus
+        | AttemptKind::BetweenGnbs
+        | AttemptKind::Offer
+        | AttemptKind::Return => two(
+            at.alloc,
+            du_release(at, old.du, false),
+            du_modify(at, attempt.du, epoch),
+        ),
+    }
+}
+
+/// It arrived there, and lost its radio before that was known.
+#[tactic(auto, unfolding(unit_defs::specs::CpRows::completes_again))]
+pub fn completes_again<C: MessageCodec>(
+    at: &At<'_, C>,
+    epoch: u32,
+    terminal: &Terminal,
+    context: &Context,
+    mut attempt: Attempt,
+) -> Result<Row, StepError>
+    ensures { RowGives
+        (completes_again (octet_way C.codec) at.now epoch terminal.now context.now attempt)
+        result }
+{
+    let says = leave_old_again(at, context, epoch, &attempt)?;
+    let du = attempt.du;
+    attempt.epoch = u64::from(epoch);
+    attempt.path_open = opens_path(at, attempt.kind);
+    let mut there = context.attempted(StateName::Returning, attempt);
+    there.du = du;
+    Ok(took(at, terminal, epoch, says, there))
+}

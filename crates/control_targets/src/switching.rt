@@ -1,0 +1,105 @@
+//! After an arrival or a return: the switch, the acceptance and the path switch.
+
+ghost use Rattle.std.specs.Prelude.{◌≡◌, map, IfOk, if◌then◌else◌};
+ghost use Rattle.unit_defs.specs.CpRecords.{serving};
+ghost use Rattle.unit_defs.specs.CpRows.{place_is_renewed, is_switched, let_source_go, path_is_switched};
+ghost use Rattle.unit_octet_defs.specs.Codec.{octet_way};
+ghost use Rattle.control_says.specs.Rows.{say_as, RowGives};
+
+use control_contexts::{Attempt, Context, Terminal};
+use control_requests::{say_switch, source_release};
+use control_says::says::Says;
+use control_says::{At, Row, say_accepted, told_epoch};
+use gnb_types::items::{Items, Memory};
+use gnb_types::plans::TunnelList;
+use unit_defs::StateName;
+use unit_messages::MessageCodec;
+use unit_steps::StepError;
+
+/// The DU has new downlinks: the switch.
+#[tactic(auto, unfolding(unit_defs::specs::CpRows::place_is_renewed))]
+pub fn place_is_renewed<C: MessageCodec>(
+    at: &At<'_, C>,
+    downlinks: TunnelList,
+    terminal: &Terminal,
+    context: &Context,
+    attempt: Attempt,
+) -> Result<Row, StepError>
+    ensures { RowGives
+        (place_is_renewed (octet_way C.codec) at.now downlinks terminal.now context.now attempt)
+        result }
+{
+    let says = Items::one(at.alloc, say_switch(at, context, downlinks))?;
+    let context = context.attempted(context.state, attempt);
+    Ok(Row::keeps(terminal, says, context))
+}
+
+/// The attempt of a context that is over ends.
+fn ended_where(is_over: bool, context: Context) -> Context
+    ensures { result ≡ (if is_over then serving context else context) }
+{
+    if is_over {
+        return context.serving();
+    }
+    context
+}
+
+/// The bearers were switched: the epoch is accepted. It is over where no path switch is open.
+#[tactic(auto, unfolding(unit_defs::specs::CpRows::is_switched))]
+pub fn is_switched<C: MessageCodec>(
+    at: &At<'_, C>,
+    terminal: &Terminal,
+    context: &Context,
+    mut attempt: Attempt,
+) -> Result<Row, StepError>
+    ensures { RowGives
+        (is_switched (octet_way C.codec) at.now terminal.now context.now attempt) result }
+{
+    let epoch = told_epoch(attempt.epoch)?;
+    let says = Items::one(at.alloc, say_accepted(at, context, epoch)?)?;
+    attempt.switched = true;
+    let is_over = !attempt.path_open;
+    let mut context = context.attempted(context.state, attempt);
+    context.epoch = Some(epoch);
+    context.finished = true;
+    Ok(Row::keeps(terminal, says, ended_where(is_over, context)))
+}
+
+/// The source of a handover is let go, once its terminal has arrived here.
+fn let_source_go<C: MessageCodec>(at: &At<'_, C>, state: StateName) -> Result<Says, Memory>
+    ensures { IfOk result
+        (λ says. map say_as says ≡ let_source_go (octet_way C.codec) at.now state) }
+{
+    match state {
+        StateName::Arrived => Items::one(at.alloc, source_release(at)),
+        StateName::Idle
+        | StateName::Attaching
+        | StateName::Preparing
+        | StateName::Prepared
+        | StateName::Frozen
+        | StateName::Commanded
+        | StateName::Returning
+        | StateName::Completing
+        | StateName::Offered
+        | StateName::Ready
+        | StateName::Serving => Ok(Items::new(at.alloc)),
+    }
+}
+
+/// The core has switched the path: a source between gNBs is let go. It is over where the bearers were switched.
+#[tactic(auto, using(crate::proofs::Over::over_where), unfolding(unit_defs::specs::CpRows::path_is_switched))]
+pub fn path_is_switched<C: MessageCodec>(
+    at: &At<'_, C>,
+    terminal: &Terminal,
+    context: &Context,
+    mut attempt: Attempt,
+) -> Result<Row, StepError>
+    ensures { RowGives
+        (path_is_switched (octet_way C.codec) at.now terminal.now context.now attempt) result }
+{
+    let says = let_source_go(at, context.state)?;
+    attempt.path_open = false;
+    let is_over = attempt.switched;
+    let context = context.attempted(context.state, attempt);
+    Ok(Row::keeps(terminal, says, ended_where(is_over, context)))
+}
