@@ -41,13 +41,14 @@ Answers step after (Ok outputs) = step ≡ stepped outputs after
 Answers step after (Err (errors.Spent counter)) = step ≡ stopped counter
 Answers step after (Err errors.Memory) = Unit {0}
 
--- the step of the tables; after an error the same error again, and nothing changes
-abbrev pub IsStepUnlessFailed : Option StepError → Codec → NodeState → Input → NodeState → Result (List Output) StepError → Type 0
-IsStepUnlessFailed None codec old input new result = Answers (step_after [] (ue_steps codec old.node input)) new.node result
-IsStepUnlessFailed (Some error) codec old input new result = (result ≡ Err error) × (new ≡ old)
+-- this step, by the error that was before; after one it comes again, and nothing changes
+abbrev pub IsStepUnlessFailed : Step UeNode → Option StepError → NodeState → NodeState → Result (List Output) StepError → Type 0
+IsStepUnlessFailed step None old new result = Answers step new.node result
+IsStepUnlessFailed step (Some error) old new result = (result ≡ Err error) × (new ≡ old)
 
+-- the step of the tables
 abbrev pub IsNodeStep : Codec → NodeState → Input → NodeState → Result (List Output) StepError → Type 0
-IsNodeStep codec old input new result = IsStepUnlessFailed old.failure codec old input new result
+IsNodeStep codec old input new result = IsStepUnlessFailed (step_after [] (ue_steps codec old.node input)) old.failure old new result
 
 -- the same of a terminal that is set up without messages
 abbrev pub IsPlacedUnlessFailed : Option StepError → NodeState → NodeState → Result (Unit {0}) StepError → Type 0

@@ -1,0 +1,11 @@
+//! Tests of a terminal, by public calls alone.
+#![tactic(auto)]
+
+#[cfg(test)]
+mod directions;
+#[cfg(test)]
+mod rows;
+#[cfg(test)]
+mod steps;
+#[cfg(test)]
+mod tokens;
