@@ -1,0 +1,4 @@
+pub mod Waits
+pub mod Verdicts
+pub mod Thens
+pub mod WaitSteps
