@@ -1,0 +1,5 @@
+use Rattle.law_codecs.proofs.Lawful.{lawful, reads_items, reads_pdus}
+use Rattle.law_codecs.proofs.a_lawful_codec_exists.Goals as goal
+
+pub returns : goal.returns
+returns c = (lawful, reads_items, reads_pdus)
