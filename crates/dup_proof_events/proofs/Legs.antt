@@ -19,7 +19,6 @@ use Rattle.dup_proof_events.specs.Kept.{IsCarried, KeepsLeg, IsOpen, IsKept, Are
 use Rattle.dup_proof_events.proofs.Lists.{of_above, counted_up, counted_one, above, above_counted, carried_raised}
 use Rattle.dup_proof_events.proofs.Numbering.{over, NumbersGood, waiting_good}
 use Rattle.dup_proof_events.proofs.Deliveries.{had_now, had_below}
-
 use Rattle.dup_proof_events.proofs.Outcomes.{lost_nothing, delivers_all, Good, quiet_good, puts_good, refused_good, found, leg_of, with_leg_kept, taken_kept, taken_lines, leg_carried, items_receiver, same_receiver, remainder_again}
 
 module _ (sn : SnBits) (quota : ℕ) (packets : List (List ℕ)) (s : DupRun) (kept : IsKept sn quota packets s) where

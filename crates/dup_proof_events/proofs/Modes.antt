@@ -15,10 +15,8 @@ use Rattle.dup_proof_events.specs.Counted.{AreOf, AreCounted, delivered_in}
 use Rattle.dup_proof_events.specs.Kept.{IsCarried, IsLeg, KeepsLeg, IsKept}
 use Rattle.dup_proof_events.proofs.Lists.{of_added}
 use Rattle.dup_proof_events.proofs.Numbering.{over, puts_append, NumbersGood}
-
 use Rattle.dup_proof_events.proofs.Outcomes.{lost_nothing, delivered_append, puts_all, Good, puts_good, no_lines, refused_good, same_receiver}
 use Rattle.dup_proof_events.proofs.Legs.{up_good}
-
 
 -- ---- a leg by whether it serves
 

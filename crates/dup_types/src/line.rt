@@ -24,37 +24,16 @@ pub enum DupRefusal {
 #[derive(Debug, PartialEq, Eq, Drop)]
 pub enum DupLine {
     /// The PDU of a COUNT is put on a leg.
-    Put {
-        leg: Leg,
-        count: u32,
-        pdu: Octets,
-    },
-    Got {
-        leg: Leg,
-        count: u32,
-        pdu: Octets,
-    },
-    Deliver {
-        count: u32,
-        packet: Octets,
-    },
+    Put { leg: Leg, count: u32, pdu: Octets },
+    Got { leg: Leg, count: u32, pdu: Octets },
+    Deliver { count: u32, packet: Octets },
     DropDuplicate,
     /// So many items are gone from a leg.
-    Lost {
-        leg: Leg,
-        items: u32,
-    },
-    Refused {
-        reason: DupRefusal,
-    },
+    Lost { leg: Leg, items: u32 },
+    Refused { reason: DupRefusal },
     /// Nothing is under way, and so many packets were delivered.
-    Quiet {
-        delivered: u32,
-    },
+    Quiet { delivered: u32 },
     Busy,
     /// How many COUNTs are outstanding, and how many may be.
-    Outstanding {
-        span: u32,
-        window: u32,
-    },
+    Outstanding { span: u32, window: u32 },
 }

@@ -104,8 +104,8 @@ module _ (sn : SnBits) (quota : ℕ) where
       counted = counted_then printed after.receiver.deliv good.2;
       of = of_then printed good.3;
       goes = subst
-      (λ (o : Option DupEnd). Goes (record script { happened = more printed; now = after }) after.receiver.deliv o) (sym going)
-      (subst (λ (hs : List (List ℕ)). IsKept sn quota hs after) (sym (accepted_more printed)) good.0, good.1, refl);
+          (λ (o : Option DupEnd). Goes (record script { happened = more printed; now = after }) after.receiver.deliv o) (sym going)
+          (subst (λ (hs : List (List ℕ)). IsKept sn quota hs after) (sym (accepted_more printed)) good.0, good.1, refl);
     }
     step_kept (stops printed why) going good = record {
       end = good.0;

@@ -165,7 +165,7 @@ full_quota = record {
       ∷ happens (Confirm Second) []
       ∷ offers 5 (put Second 4 5 ∷ [])
       ∷ happens Drain
-          (got Second 1 2 ∷ delivers 1 2 ∷ got Second 2 3 ∷ delivers 2 3 ∷ got Second 3 4 ∷ delivers 3 4 ∷ got Second 4 5 ∷ delivers 4 5 ∷ [])
+      (got Second 1 2 ∷ delivers 1 2 ∷ got Second 2 3 ∷ delivers 2 3 ∷ got Second 3 4 ∷ delivers 3 4 ∷ got Second 4 5 ∷ delivers 4 5 ∷ [])
       ∷ happens Ask (Quiet 5 ∷ [])
       ∷ [];
 }
