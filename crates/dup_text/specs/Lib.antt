@@ -1,0 +1,5 @@
+pub mod Arguments
+pub mod Grammar
+pub mod Texts
+pub mod Print
+pub mod inside

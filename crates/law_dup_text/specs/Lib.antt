@@ -1,0 +1,2 @@
+pub mod FirstWrong
+pub mod Lines
