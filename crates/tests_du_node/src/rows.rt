@@ -1,13 +1,11 @@
 //! Worked runs, as far as they are a DU's, and each reason for which it drops. The octets of packets were worked out by hand.
 
-use crate::steps::{CP, Call, Outcome, PLAN, Put, U1, UE, UP, is_as_told, new_node, outcome_of};
+use crate::steps::{CP, Call, Put, U1, UE, UP, is_as_told};
 use gnb_types::inputs::Order;
 use gnb_types::names::{Dir, Gnb, NodeId};
 use gnb_types::outputs::Tag;
 use gnb_types::reasons::DropReason;
-use std::alloc::Global;
 use std::test::Fail;
-use unit_steps::StepError;
 
 const NOTHING: &[Put] = &[];
 
@@ -39,10 +37,15 @@ const WAS_RELEASED: &[Put] = &[
 ];
 
 /// One context, one TEID, the same reply each time; and none of that once it was released.
-const SET_UP_THREE_TIMES: [(Call, &[Put]); 6] = [
+const SET_UP_THREE_TIMES: [(Call, &[Put]); 7] = [
     (SET_UP, WAS_SET_UP),
     (SET_UP, &[Put::Say(CP, 1, "1201010101")]),
     (SET_UP, &[Put::Say(CP, 1, "1201010101")]),
+    // Another terminal gets the second TEID.
+    (
+        Call::Give(CP, "020201010104"),
+        &[Put::Opened(2), Put::Say(CP, 2, "1202010102")],
+    ),
     (RELEASE, WAS_RELEASED),
     (RELEASE, &[Put::Say(CP, 1, "140102")]),
     (SET_UP, &[Put::Drop(DropReason::Stale)]),

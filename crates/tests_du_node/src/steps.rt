@@ -4,10 +4,9 @@ use crate::few_messages::FewMessages;
 use du_node::DuNode;
 use gnb_types::hex::hex_bytes;
 use gnb_types::inputs::{Input, Order};
-use gnb_types::names::{BearerId, Dir, Gnb, NodeId, SnBits, UeId};
+use gnb_types::names::{BearerId, Dir, Gnb, NodeId, UeId};
 use gnb_types::octets::Octets;
 use gnb_types::outputs::{Output, Outputs, Tag};
-use gnb_types::plans::Plan;
 use gnb_types::reasons::DropReason;
 use std::alloc::Global;
 use std::test::Fail;
@@ -22,18 +21,6 @@ pub const CP: NodeId = NodeId::CuCp(Gnb::A);
 pub const UP: NodeId = NodeId::CuUp(Gnb::A, 1);
 
 pub const U1: NodeId = NodeId::Ue(1);
-
-/// Terminal 1 at CU-UP 1 and DU 1 of gNB A, with numbers of 12 bits and one bearer.
-pub const PLAN: Plan = Plan {
-    ue: UE,
-    gnb: Gnb::A,
-    up: 1,
-    du: 1,
-    sn: SnBits::Len12,
-    bearers: 1,
-    quota: 64,
-};
-
 /// What the DU is given. Octets are hexadecimal digits.
 #[derive(Drop)]
 pub enum Call {
@@ -181,7 +168,7 @@ fn input_of(alloc: Global, given: &Call) -> Result<Input, Fail> {
 
 /// How a step went, or a run.
 #[derive(Clone, Copy, Debug, PartialEq, Eq)]
-pub enum Outcome {
+enum Outcome {
     /// It put out what it should.
     AsTold,
     Differs,
@@ -216,11 +203,7 @@ fn step_outcome(
 }
 
 /// Whether a DU puts out what it should in these steps.
-pub fn outcome_of(
-    alloc: Global,
-    node: &mut DuNode,
-    steps: &[(Call, &[Put])],
-) -> Result<Outcome, Fail> {
+fn outcome_of(alloc: Global, node: &mut DuNode, steps: &[(Call, &[Put])]) -> Result<Outcome, Fail> {
     for (given, puts) in steps {
         let outcome = step_outcome(alloc, node, given, puts)?;
         if outcome != Outcome::AsTold {
@@ -230,17 +213,12 @@ pub fn outcome_of(
     Ok(Outcome::AsTold)
 }
 
-/// DU 1 of gNB A.
-pub fn new_node(alloc: Global) -> DuNode {
-    DuNode::new(alloc, Gnb::A, 1)
-}
-
 fn run(alloc: Global, steps: &[(Call, &[Put])]) -> Result<Outcome, Fail> {
-    let mut node = new_node(alloc);
+    let mut node = DuNode::new(alloc, Gnb::A, 1);
     outcome_of(alloc, &mut node, steps)
 }
 
-/// Whether a new DU puts out what it should in these steps. Where memory runs out they are made again with another one.
+/// Whether a new DU 1 of gNB A puts out what it should in these steps. Where memory runs out they are made again with another one.
 pub fn is_as_told(alloc: Global, steps: &[(Call, &[Put])]) -> Result<bool, Fail> {
     let outcome = match run(alloc, steps)? {
         Outcome::OutOfMemory => run(alloc, steps)?,
