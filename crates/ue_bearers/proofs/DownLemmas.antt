@@ -1,8 +1,11 @@
 -- The receiver of a bearer with the octets of its packets, and with their places.
-use Rattle.std.proofs.Common.{◌≡◌, ◌==◌, ℕ, suc, ◌+◌, ◌-◌, ◌++◌, ◌<◌, Bool, true, false, cond, ◌||◌, nat_lt, List, [], ◌∷◌, length, drop, Option, Some, None, Ok, Err, refl, sym, ap, ◌∙◌, subst, arith, true≢false, length-drop}
+use Rattle.std.proofs.Common.{◌≡◌, ◌==◌, ℕ, suc, ◌+◌, ◌-◌, ◌++◌, ◌^◌, ◌<◌, ◌≤◌, Bool, true, false, cond, ◌||◌, nat_lt, List, [], ◌∷◌, length, drop, Option, Some, None, Ok, Err, refl, sym, ap, ◌∙◌, subst, arith, true≢false, length-drop}
+use Rattle.std.proofs.lemmas.Bool.Decides.{nat_tests}
 use Rattle.std.specs.Prelude.{Result, IfOk, IsSome, is_some, unwrap_or, IfSome, IfNone, replicate}
 use Rattle.std.specs.Option.{option_map}
 use Rattle.std.specs.Ordering.{nat_cmp}
+use Rattle.std.specs.List.{AllByRecursion, count_by}
+use Rattle.std.specs.Map.{values_of}
 use Rattle.gnb_types.specs.declared.names.SnBits.{SnBits}
 use Rattle.gnb_types.specs.declared.keys.EntityKey.{EntityKey}
 use Rattle.gnb_types.specs.Orders.{entity_cmp}
@@ -10,7 +13,7 @@ use Rattle.tables.specs.Tables.{find, put, without, at, map_values}
 use Rattle.tables.proofs.TableLaws.{find-mapped}
 use Rattle.pdcp_defs.specs.Counts.{near_count}
 use Rattle.pdcp_defs.specs.Receivers.{Receiver, Delivery, is_duplicate, is_ahead, stored, deliver, deliver_from, with_packet, bits_from, received_bits}
-use Rattle.pool_defs.specs.Pools.{Stored, PoolState, quota, packet_of, without_packet, with_quota, new_pool}
+use Rattle.pool_defs.specs.Pools.{Stored, PoolState, is_of, quota, used, packet_of, without_packet, with_quota, new_pool, IsPool}
 use Rattle.pool_defs.proofs.PoolLaws.{packet_at_take}
 use Rattle.pdcp_entities.specs.declared.rx.Taken.{Taken}
 use Rattle.pdcp_entities.specs.declared.rx.Ahead.{Ahead}
@@ -18,7 +21,9 @@ use Rattle.pdcp_entities.specs.Packets.{AreParked, Puts, Unparks, bytes_of, octe
 use Rattle.pdcp_entities.specs.Entities.{RxState, new_rx, receiver_in, taking, taken, stored_count, first_at, handed_up, advanced}
 use Rattle.pdcp_entities.proofs.ParkLemmas.{AllSame, octets_same, parked_taken}
 use Rattle.ue_bearers.specs.Downlinks.{DownlinkState, new_downlink, reception_of, received}
-use Rattle.ue_bearers.specs.inside.Views.{IsDownlink, downlink_state}
+use Rattle.ue_bearers.specs.inside.Views.{IsDownlink, IsAscending, downlink_state}
+use Rattle.ue_bearers.proofs.UpLemmas.{all_weaker}
+use Rattle.ue_bearers.proofs.StoredLemmas.{all_put, all_dropped, ascending_put, ascending_dropped, equal_is, own_spent}
 use Rattle.ue_bearers.proofs.RefLemmas.{at_here, length_put, length_without, held_found}
 use Rattle.ue_bearers.specs.declared.downlink.Reception.{Reception}
 use Rattle.ue_bearers.specs.declared.downlink.Reception.TheVariants as receptions
@@ -155,6 +160,34 @@ new_packet rx (Some d) c e = by (is_duplicate rx.receiver d) (is_ahead rx.quota 
         let number : c ≡ d = cc in
         ap (λ (n : ℕ). is_duplicate rx.receiver n) number ∙ dup
 
+-- it is stored under the COUNT that was found
+found_count : (rx : RxState) (o : Option ℕ) (c : ℕ) → answer (Some c) true ≡ taking rx o → o ≡ Some c
+found_count rx None c e = absurd (is_other (Some c) None e)
+found_count rx (Some d) c e = by (is_duplicate rx.receiver d) (is_ahead rx.quota rx.receiver d) e
+  where
+    by : (b a : Bool) → answer (Some c) true ≡ cond b (answer (Some d) false) (cond a ahead (answer (Some d) true)) → Some d ≡ Some c
+    by true a e = absurd (is_other (Some c) (Some d) e)
+    by false true e = absurd (is_ahead_no (Some c) e)
+    by false false e = sym (ap count_of e)
+
+-- what is stored is not ahead
+not_ahead : (rx : RxState) (o : Option ℕ) (c : ℕ) → answer (Some c) true ≡ taking rx o → is_ahead rx.quota rx.receiver c ≡ false
+not_ahead rx None c e = absurd (is_other (Some c) None e)
+not_ahead rx (Some d) c e = by (is_duplicate rx.receiver d) (is_ahead rx.quota rx.receiver d) refl e
+  where
+    by : (b a : Bool) → is_ahead rx.quota rx.receiver d ≡ a → answer (Some c) true ≡ cond b (answer (Some d) false) (cond a ahead (answer (Some d) true))
+        → is_ahead rx.quota rx.receiver c ≡ false
+    by true a is e = absurd (is_other (Some c) (Some d) e)
+    by false true is e = absurd (is_ahead_no (Some c) e)
+    by false false is e =
+        let counts : Some c ≡ Some d = ap count_of e in
+        let number : c ≡ d = cc in
+        ap (λ (n : ℕ). is_ahead rx.quota rx.receiver n) number ∙ is
+
+near_count_of : (rx : RxState) (limit c : ℕ) → rx.quota ≡ limit → is_ahead rx.quota rx.receiver c ≡ false → c < rx.receiver.deliv + limit
+unfolding is_ahead
+near_count_of rx limit c limit_is e = let l : c < rx.receiver.deliv + rx.quota = grind (arith, nat_tests) in omega (arith, l, limit_is)
+
 not_found : {X : Type 0} (o : Option X) (b : Bool) → (b || is_some o) ≡ false → o ≡ None
 not_found None b e = refl
 not_found (Some x) true e = cc
@@ -170,9 +203,11 @@ pub kept_taken : (sn : SnBits) (limit : ℕ) (key : EntityKey) (p q : PoolState)
     → IfSome (stored_count r) (λ c. (place : ℕ) × (ry ≡ record rx { receiver = stored rx.receiver c place }) × Puts packet (c, place) p q)
     → IfNone (stored_count r) ((ry ≡ rx) × (q ≡ p))
     → AreParked q ry.receiver.stored
+    → used q key + length rx.receiver.stored ≡ used p key + length ry.receiver.stored
+    → ((c : ℕ) → o ≡ Some c → c < 2 ^ 32 - 1)
     → IsDownlink sn limit key p rx → IsDownlink sn limit key q ry
 unfolding stored quota
-kept_taken sn limit key p q rx ry packet o r is after same parked old = shown r is after same
+kept_taken sn limit key p q rx ry packet o r is after same parked counted given old = shown r is after same
   where
     stays : (ry ≡ rx) × (q ≡ p) → IsDownlink sn limit key q ry
     stays s = subst (λ (y : PoolState). IsDownlink sn limit key y ry) (sym s.1) (subst (λ (x : RxState). IsDownlink sn limit key p x) (sym s.0) old)
@@ -191,6 +226,9 @@ kept_taken sn limit key p q rx ry packet o r is after same parked old = shown r 
         let refs_now : length q.refs ≡ length (put nat_cmp p.refs puts.reference packet) = ap (λ (s : PoolState). length s.refs) puts.pool in
         let stored_length : length ry.receiver.stored ≡ length (put nat_cmp rx.receiver.stored c place) = ap (λ (es : List (ℕ × ℕ)). length es) stored_now in
         let few = old.few in
+        let own = old.own in
+        let below = given c (found_count rx o c is) in
+        let close = near_count_of rx limit c old.quota_is (not_ahead rx o c is) in
         record {
           sn_is = ap (λ (x : RxState). x.sn) after.1 ∙ old.sn_is;
           quota_is = ap (λ (x : RxState). x.quota) after.1 ∙ old.quota_is;
@@ -198,6 +236,16 @@ kept_taken sn limit key p q rx ry packet o r is after same parked old = shown r 
           blocks = ap (λ (m : List (EntityKey × ℕ)). at entity_cmp 0 m key) puts.others.quotas ∙ old.blocks;
           parked = parked;
           few = omega (arith, more, refs, refs_now, stored_length, few);
+          own = omega (arith, more, refs, refs_now, stored_length, own, counted);
+          fits = subst (λ (es : List (ℕ × ℕ)). AllByRecursion (λ e. e.0 < 2 ^ 32 - 1) es) (sym stored_now)
+              (all_put (λ e. e.0 < 2 ^ 32 - 1) rx.receiver.stored c place old.fits
+              (λ k same. subst (λ (n : ℕ). n < 2 ^ 32 - 1) (equal_is c k same) below) below);
+          near = subst (λ (x : RxState). AllByRecursion (λ e. e.0 < x.receiver.deliv + limit) x.receiver.stored) (sym after.1)
+              (all_put (λ e. e.0 < rx.receiver.deliv + limit) rx.receiver.stored c place old.near
+              (λ k same. subst (λ (n : ℕ). n < rx.receiver.deliv + limit) (equal_is c k same) close) close);
+          small = old.small;
+          least = old.least;
+          ascending = subst (λ (es : List (ℕ × ℕ)). IsAscending es) (sym stored_now) (ascending_put rx.receiver.stored c place old.ascending);
         }
     by None false is after same = stays same
     by (Some c) false is after same = stays same
@@ -284,14 +332,16 @@ bits_in p rx = bits_mapped (octets_at p) (rx.receiver.deliv + 1) rx.receiver.sto
 pub kept_delivered : (sn : SnBits) (limit : ℕ) (key : EntityKey) (p q s : PoolState) (rx ry : RxState) (e : ℕ × ℕ) (r : ℕ)
     → handed_up rx ≡ Some e → ry ≡ record rx { receiver = advanced rx.receiver } → Unparks r e p q
     → IsSome (packet_of q r) → s ≡ without_packet q r → AreParked q ry.receiver.stored
-    → IsDownlink sn limit key p rx → IsDownlink sn limit key s ry
-unfolding quota
-kept_delivered sn limit key p q s rx ry e r is after unparks given taken parked old =
+    → IsPool 2048 q → IsDownlink sn limit key p rx → IsDownlink sn limit key s ry
+unfolding quota used receiver_in
+kept_delivered sn limit key p q s rx ry e r is after unparks given taken parked sound old =
     let less = length_without q.refs r (held_found q r given) in
     let refs : length q.refs ≡ length p.refs = ap (λ (x : PoolState). length x.refs) unparks.pool in
     let refs_now : length s.refs ≡ length (without nat_cmp q.refs r) = ap (λ (x : PoolState). length x.refs) taken in
     let stored_now : length ry.receiver.stored ≡ length (drop 1 rx.receiver.stored) = ap (λ (x : RxState). length x.receiver.stored) after in
     let few = old.few in
+    let list_now : ry.receiver.stored ≡ drop 1 rx.receiver.stored = ap (λ (x : RxState). x.receiver.stored) after in
+    let same_refs : q.refs ≡ p.refs = ap (λ (x : PoolState). x.refs) unparks.pool in
     record {
       sn_is = ap (λ (x : RxState). x.sn) after ∙ old.sn_is;
       quota_is = ap (λ (x : RxState). x.quota) after ∙ old.quota_is;
@@ -299,6 +349,15 @@ kept_delivered sn limit key p q s rx ry e r is after unparks given taken parked 
       blocks = ap (λ (m : List (EntityKey × ℕ)). at entity_cmp 0 m key) (ap (λ (x : PoolState). x.quotas) taken ∙ unparks.others.quotas) ∙ old.blocks;
       parked = subst (λ (x : PoolState). AreParked x ry.receiver.stored) (sym taken) (parked_taken q r given ry.receiver.stored parked);
       few = omega (arith, less, refs, refs_now, stored_now, length-drop 1 rx.receiver.stored, few);
+      own = subst (λ (x : PoolState). used x key ≡ length x.refs) (sym taken)
+          (own_spent q r key sound given (subst (λ (rs : List (ℕ × Stored)). count_by (is_of key) (values_of rs) ≡ length rs) (sym same_refs) old.own));
+      fits = subst (λ (es : List (ℕ × ℕ)). AllByRecursion (λ x. x.0 < 2 ^ 32 - 1) es) (sym list_now) (all_dropped (λ x. x.0 < 2 ^ 32 - 1) rx.receiver.stored old.fits);
+      near = subst (λ (x : RxState). AllByRecursion (λ v. v.0 < x.receiver.deliv + limit) x.receiver.stored) (sym after)
+          (all_weaker (λ v. v.0 < rx.receiver.deliv + limit) (λ v. v.0 < rx.receiver.deliv + 1 + limit) (λ v l. omega (arith, l)) (drop 1 rx.receiver.stored)
+          (all_dropped (λ v. v.0 < rx.receiver.deliv + limit) rx.receiver.stored old.near));
+      small = old.small;
+      least = old.least;
+      ascending = subst (λ (es : List (ℕ × ℕ)). IsAscending es) (sym list_now) (ascending_dropped rx.receiver.stored old.ascending);
     }
 
 -- one packet fewer is stored
@@ -315,10 +374,10 @@ octets_are (Some x) bytes e = cc
 
 -- ---- a new one
 
-pub begins : (sn : SnBits) (limit : ℕ) (key : EntityKey) (p : PoolState) (rx : RxState) → p ≡ with_quota (new_pool limit) key limit → rx ≡ new_rx sn 0 limit
+pub begins : (sn : SnBits) (limit : ℕ) (key : EntityKey) (p : PoolState) (rx : RxState) → 4 ≤ limit → limit ≤ 4096 → p ≡ with_quota (new_pool limit) key limit → rx ≡ new_rx sn 0 limit
     → IsDownlink sn limit key p rx
-unfolding quota
-begins sn limit key p rx pool entity =
+unfolding quota used receiver_in octets_in map_values
+begins sn limit key p rx least small pool entity =
     subst (λ (q : PoolState). IsDownlink sn limit key q rx) (sym pool)
     (subst (λ (x : RxState). IsDownlink sn limit key (with_quota (new_pool limit) key limit) x) (sym entity)
     (record {
@@ -328,6 +387,12 @@ begins sn limit key p rx pool entity =
       blocks = at_here key limit;
       parked = record { there = tt; apart = tt };
       few = omega arith;
+      own = refl;
+      fits = tt;
+      near = tt;
+      small = small;
+      least = least;
+      ascending = tt;
     }))
 
 pub begins_seen : (sn : SnBits) (limit : ℕ) (p : PoolState) (rx : RxState) → rx ≡ new_rx sn 0 limit → downlink_state sn limit p rx ≡ new_downlink sn limit

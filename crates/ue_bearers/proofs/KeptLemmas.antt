@@ -24,16 +24,17 @@ sender next es = record { next = next; unconfirmed = es }
 
 -- ---- a new one
 
-pub begins : (sn : SnBits) (limit : ℕ) (key : EntityKey) (p : PoolState) (tx : TxState) → limit ≤ 4096
+pub begins : (sn : SnBits) (limit : ℕ) (key : EntityKey) (p : PoolState) (tx : TxState) → 4 ≤ limit → limit ≤ 4096
     → p ≡ with_quota (new_pool limit) key limit → tx ≡ new_tx sn 0 limit → IsUplink sn limit key 0 p tx []
 unfolding quota sender_in octets_in map_values
-begins sn limit key p tx small pool entity =
+begins sn limit key p tx least small pool entity =
     subst (λ (q : PoolState). IsUplink sn limit key 0 q tx []) (sym pool)
     (subst (λ (x : TxState). IsUplink sn limit key 0 (with_quota (new_pool limit) key limit) x []) (sym entity)
     (record {
       sn_is = refl;
       quota_is = refl;
       small = small;
+      least = least;
       frozen = refl;
       blocks = at_here key limit;
       parked = record { there = tt; apart = tt };
@@ -59,7 +60,7 @@ unfolding map_values
 length_mapped f [] = refl
 length_mapped f (e ∷ es) = ap (λ n. suc n) (length_mapped f es)
 
-held_length : (p : PoolState) (tx : TxState) → length (sender_in p tx).unconfirmed ≡ length tx.sender.unconfirmed
+pub held_length : (p : PoolState) (tx : TxState) → length (sender_in p tx).unconfirmed ≡ length tx.sender.unconfirmed
 unfolding sender_in octets_in
 held_length p tx = length_mapped (octets_at p) tx.sender.unconfirmed
 
@@ -86,6 +87,7 @@ module _ (sn : SnBits) (limit : ℕ) (key : EntityKey) (held : ℕ) (p : PoolSta
         sn_is = old.sn_is;
         quota_is = old.quota_is;
         small = old.small;
+        least = old.least;
         frozen = old.frozen;
         blocks = old.blocks;
         parked = old.parked;
@@ -124,6 +126,7 @@ module _ (sn : SnBits) (limit : ℕ) (key : EntityKey) (held : ℕ) (p : PoolSta
         sn_is = ap (λ (x : TxState). x.sn) after ∙ old.sn_is;
         quota_is = ap (λ (x : TxState). x.quota) after ∙ old.quota_is;
         small = old.small;
+        least = old.least;
         frozen = ap (λ (x : TxState). x.frozen) after ∙ old.frozen;
         blocks = ap (λ (m : List (EntityKey × ℕ)). at entity_cmp 0 m key) frees.others.quotas ∙ old.blocks;
         parked = parked;

@@ -7,23 +7,19 @@ use Rattle.gnb_types.specs.declared.names.SnBits.{SnBits}
 use Rattle.gnb_types.specs.declared.keys.EntityKey.{EntityKey}
 use Rattle.gnb_types.specs.Orders.{entity_cmp}
 use Rattle.tables.specs.Queues.{first_item}
-use Rattle.tables.specs.Tables.{find, without, at}
-use Rattle.pdcp.specs.Pdus.{radio_data}
+use Rattle.tables.specs.Tables.{find, at}
 use Rattle.pdcp_defs.specs.Senders.{Sender, numbered}
-use Rattle.pool_defs.specs.Pools.{Stored, PoolState, quota, used, packet_of, packet_at, with_packet, without_packet, IsPool}
-use Rattle.pool_defs.proofs.PoolLaws.{packet_of_put, packet_at_put, packet_at_take, put_held}
+use Rattle.pool_defs.specs.Pools.{PoolState, quota, used, packet_of, with_packet, without_packet, IsPool}
 use Rattle.pdcp_entities.specs.declared.tx.NumberError.{NumberError}
 use Rattle.pdcp_entities.specs.declared.tx.NumberError.TheVariants as refusals
 use Rattle.pdcp_entities.specs.Packets.{AreParked, Parks, bytes_of}
 use Rattle.pdcp_entities.specs.Entities.{TxState, sender_in, refuses_number}
-use Rattle.pdcp_entities.proofs.ParkLemmas.{AllSame, octets_same, parked_put, parked_taken}
 use Rattle.unit_steps.specs.declared.StepError.{StepError}
-use Rattle.ue_bearers.specs.declared.uplink.Numbered.{Numbered}
-use Rattle.ue_bearers.specs.Uplinks.{UplinkState, Numbering, numbers, stays, ends, numbering, numbering_of, refusal, IsNumbering, IsPacket}
+use Rattle.ue_bearers.specs.declared.uplink.Counted.{Counted}
+use Rattle.ue_bearers.specs.Uplinks.{UplinkState, Numbering, numbers, stays, ends, numbering, numbering_of, refusal, IsCounting, IsPacket}
 use Rattle.ue_bearers.specs.inside.Views.{IsUplink, IsAscending, uplink_state}
-use Rattle.ue_bearers.proofs.RefLemmas.{length_put, length_without, held_found, used_few}
 use Rattle.ue_bearers.proofs.UpLemmas.{up, numbers_now, ends_now, stays_now, never_frozen, given_below, all_added, all_weaker, ascending_added}
-use Rattle.ue_bearers.proofs.KeptLemmas.{sender}
+use Rattle.ue_bearers.proofs.PutLemmas.{never_full_with, parked_with, given_with, more_with, seen_with, bytes_with, kept_spent, seen_spent}
 
 -- the packet that waits longest
 abbrev pub Front : List ℕ → List (List ℕ) → Type 0
@@ -38,94 +34,46 @@ same_front x y w after head is = let e : Some x ≡ Some y = head ∙ ap (λ (v 
 
 module _ (sn : SnBits) (limit : ℕ) (key : EntityKey) (held : ℕ) (p : PoolState) (tx : TxState) (waiting : List (List ℕ)) (old : IsUplink sn limit key held p tx waiting)
     (x : List ℕ) (head : Some x ≡ first_item waiting) where
-  pub never_full : used p key ≡ quota p key → ⊥
-  never_full full =
+  room_for : held < limit
+  room_for =
       let f = front x waiting head in
       let size : length waiting ≡ length (x ∷ f.0) = ap (λ (w : List (List ℕ)). length w) f.1 in
-      let few = old.few in
       let room = old.room in
-      let blocks = old.blocks in
-      absurd (omega (arith, used_few p key, size, few, room, blocks))
+      omega (arith, size, room)
+
+  pub never_full : used p key ≡ quota p key → ⊥
+  never_full full = never_full_with sn limit key held p tx waiting old room_for full
 
   module _ (r : ℕ) (b : List ℕ) (b_is : b ≡ x) (sound : IsPool 2048 p) (fresh : find nat_cmp p.refs r ≡ None) (q : PoolState)
       (put_is : q ≡ with_packet p r (record { key = key; bytes = b })) where
     pub put_parked : AreParked q tx.sender.unconfirmed
-    put_parked =
-        subst (λ (s : PoolState). AreParked s tx.sender.unconfirmed) (sym put_is)
-        (parked_put 2048 p sound r (record { key = key; bytes = b }) fresh tx.sender.unconfirmed old.parked)
+    put_parked = parked_with sn limit key held p tx waiting old x r b b_is sound fresh q put_is
 
     pub put_given : IsSome (packet_of q r)
-    put_given = put_held 2048 p q r (record { key = key; bytes = b }) sound fresh put_is
+    put_given = given_with sn limit key held p tx waiting old x r b b_is sound fresh q put_is
 
     put_more : length q.refs ≡ length p.refs + 1
-    put_more = ap (λ (s : PoolState). length s.refs) put_is ∙ length_put p.refs r (record { key = key; bytes = b }) fresh
-
-    put_same : (es : List (ℕ × ℕ)) → AllSame p q es
-    put_same [] = tt
-    put_same (e ∷ es) =
-        (ap (λ (s : PoolState). packet_at s e.1) put_is ∙ packet_at_put 2048 p sound r (record { key = key; bytes = b }) e.1 fresh, put_same es)
+    put_more = more_with sn limit key held p tx waiting old x r b b_is sound fresh q put_is
 
     put_seen : sender_in q tx ≡ sender_in p tx
-    unfolding sender_in
-    put_seen = ap (λ (es : List (ℕ × List ℕ)). sender tx.sender.next es) (octets_same p q tx.sender.unconfirmed (put_same tx.sender.unconfirmed))
+    put_seen = seen_with sn limit key held p tx waiting old x r b b_is sound fresh q put_is
 
     put_bytes : bytes_of (packet_of q r) ≡ x
-    put_bytes =
-        ap (λ (s : PoolState). bytes_of (packet_of s r)) put_is
-        ∙ (ap (λ (o : Option Stored). bytes_of o) (packet_of_put 2048 p sound r (record { key = key; bytes = b }) fresh) ∙ b_is)
+    put_bytes = bytes_with sn limit key held p tx waiting old x r b b_is sound fresh q put_is
 
     -- the packet is given up again
     module _ (q' s : PoolState) (r' : ℕ) (ty : TxState) (r_is : r' ≡ r) (ty_is : ty ≡ tx) (q_is : q' ≡ q) (spent : s ≡ without_packet q' r') where
-      spent_is : s ≡ without_packet q r
-      spent_is = spent ∙ (ap (λ (y : PoolState). without_packet y r') q_is ∙ ap (λ (n : ℕ). without_packet q n) r_is)
-
-      spent_same : (es : List (ℕ × ℕ)) → AllSame p s es
-      spent_same [] = tt
-      spent_same (e ∷ es) = (
-        ap (λ (y : PoolState). packet_at y e.1) spent_is
-            ∙ (packet_at_take q r e.1 put_given ∙ (ap (λ (y : PoolState). packet_at y e.1) put_is ∙ packet_at_put 2048 p sound r (record { key = key; bytes = b }) e.1 fresh)),
-        spent_same es,
-      )
-
-      spent_seen : sender_in s tx ≡ sender_in p tx
-      unfolding sender_in
-      spent_seen = ap (λ (es : List (ℕ × List ℕ)). sender tx.sender.next es) (octets_same p s tx.sender.unconfirmed (spent_same tx.sender.unconfirmed))
-
       pub kept_refused : IsUplink sn limit key held s ty waiting
-      unfolding quota
-      kept_refused =
-          let less = length_without q.refs r (held_found q r put_given) in
-          let refs : length s.refs ≡ length (without nat_cmp q.refs r) = ap (λ (y : PoolState). length y.refs) spent_is in
-          let more = put_more in
-          let few = old.few in
-          subst (λ (t : TxState). IsUplink sn limit key held s t waiting) (sym ty_is)
-          (record {
-            sn_is = old.sn_is;
-            quota_is = old.quota_is;
-            small = old.small;
-            frozen = old.frozen;
-            blocks = ap (λ (m : List (EntityKey × ℕ)). at entity_cmp 0 m key) (ap (λ (y : PoolState). y.quotas) spent_is ∙ ap (λ (y : PoolState). y.quotas) put_is) ∙ old.blocks;
-            parked = subst (λ (y : PoolState). AreParked y tx.sender.unconfirmed) (sym spent_is) (parked_taken q r put_given tx.sender.unconfirmed put_parked);
-            held_is = old.held_is;
-            few = omega (arith, less, refs, more, few);
-            room = old.room;
-            fits = old.fits;
-            ascending = old.ascending;
-            below = old.below;
-            packets = subst (λ (z : Sender (List ℕ)). AllByRecursion (λ e. IsPacket e.1) z.unconfirmed) (sym spent_seen) old.packets;
-            waiting_packets = old.waiting_packets;
-          })
+      kept_refused = kept_spent sn limit key held p tx waiting old x r b b_is sound fresh q put_is q' s r' ty r_is ty_is q_is spent
 
       refused_seen : (d : UplinkState) → uplink_state sn limit p tx waiting ≡ d → uplink_state sn limit s ty waiting ≡ d
-      refused_seen d seen =
-          ap (λ (t : TxState). uplink_state sn limit s t waiting) ty_is
-          ∙ (ap (λ (z : Sender (List ℕ)). up sn limit z waiting) spent_seen ∙ seen)
+      refused_seen d seen = seen_spent sn limit key held p tx waiting old x r b b_is sound fresh q put_is q' s r' ty r_is ty_is q_is spent d seen
 
       pub refused_is : (d : UplinkState) → uplink_state sn limit p tx waiting ≡ d → (error : NumberError) → refuses_number tx ≡ Some error
-          → (result : Result (Option Numbered) StepError) → result ≡ refusal error
-          → IsNumbering d.sn (numbering d) d (uplink_state sn limit s ty waiting) result
+          → (result : Result (Option Counted) StepError) → result ≡ refusal error
+          → IsCounting (numbering d) d (uplink_state sn limit s ty waiting) result
       refused_is d seen error why result result_is =
-          subst (λ (a : Result (Option Numbered) StepError). IsNumbering d.sn (numbering d) d (uplink_state sn limit s ty waiting) a) (sym result_is) (by error why)
+          subst (λ (a : Result (Option Counted) StepError). IsCounting (numbering d) d (uplink_state sn limit s ty waiting) a) (sym result_is) (by error why)
         where
           f : Front x waiting
           f = front x waiting head
@@ -138,8 +86,8 @@ module _ (sn : SnBits) (limit : ℕ) (key : EntityKey) (held : ℕ) (p : PoolSta
               (ap (λ (k : SnBits). numbering (up k limit (sender_in p tx) (x ∷ f.0))) old.sn_is)
               ∙ (sym (ap (λ (m : ℕ). numbering (up tx.sn m (sender_in p tx) (x ∷ f.0))) old.quota_is) ∙ e)))
 
-          by : (e : NumberError) → refuses_number tx ≡ Some e → IsNumbering d.sn (numbering d) d (uplink_state sn limit s ty waiting) (refusal e)
-          by refusals.CountSpent why = (is_now ends (ends_now p tx old.frozen x f.0 why), refl)
+          by : (e : NumberError) → refuses_number tx ≡ Some e → IsCounting (numbering d) d (uplink_state sn limit s ty waiting) (refusal e)
+          by refusals.CountSpent why = (is_now ends (ends_now p tx old.frozen x f.0 why), refl, refused_seen d seen)
           by refusals.WindowFull why = (is_now stays (stays_now p tx old.frozen x f.0 why), refused_seen d seen)
           by refusals.Frozen why = absurd (never_frozen tx old.frozen why)
 
@@ -172,6 +120,7 @@ module _ (sn : SnBits) (limit : ℕ) (key : EntityKey) (held : ℕ) (p : PoolSta
             sn_is = ap (λ (t : TxState). t.sn) ty_is ∙ old.sn_is;
             quota_is = ap (λ (t : TxState). t.quota) ty_is ∙ old.quota_is;
             small = old.small;
+            least = old.least;
             frozen = ap (λ (t : TxState). t.frozen) ty_is ∙ old.frozen;
             blocks = ap (λ (m : List (EntityKey × ℕ)). at entity_cmp 0 m key) (parks.others.quotas ∙ ap (λ (s : PoolState). s.quotas) put_is) ∙ old.blocks;
             parked = parked;
@@ -189,13 +138,12 @@ module _ (sn : SnBits) (limit : ℕ) (key : EntityKey) (held : ℕ) (p : PoolSta
             waiting_packets = packets_then.1;
           }
 
-      pub numbered_is : (d : UplinkState) → uplink_state sn limit p tx waiting ≡ d → (count : ℕ) → count ≡ tx.sender.next → (pdu z : List ℕ)
-          → pdu ≡ radio_data sn count z → z ≡ y
-          → (v : List ℕ) × (numbering d ≡ numbers count v (uplink_state sn limit q' ty after)) × (pdu ≡ radio_data d.sn count v)
-      numbered_is d seen count count_is pdu z pdu_is z_is =
+      pub numbered_is : (d : UplinkState) → uplink_state sn limit p tx waiting ≡ d → (count : ℕ) → count ≡ tx.sender.next
+          → (numbering d ≡ numbers count y (uplink_state sn limit q' ty after)) × IsPacket y
+      numbered_is d seen count count_is =
           let y_is = same_front x y waiting after head taken in
+          let packets_then = subst (λ (w : List (List ℕ)). AllByRecursion (λ v. IsPacket v) w) taken old.waiting_packets in
           let w_is : waiting ≡ x ∷ after = taken ∙ ap (λ (v : List ℕ). v ∷ after) y_is in (
-            x,
             sym (ap (λ (u : UplinkState). numbering u) seen)
                 ∙ (ap (λ (w : List (List ℕ)). numbering (up sn limit (sender_in p tx) w)) w_is
                 ∙ (sym (ap (λ (k : SnBits). numbering (up k limit (sender_in p tx) (x ∷ after))) old.sn_is)
@@ -204,6 +152,7 @@ module _ (sn : SnBits) (limit : ℕ) (key : EntityKey) (held : ℕ) (p : PoolSta
                 ∙ (sym (ap (λ (n : ℕ). numbers n x (up tx.sn tx.quota (numbered (sender_in p tx) x) after)) count_is)
                 ∙ (ap (λ (k : SnBits). numbers count x (up k tx.quota (numbered (sender_in p tx) x) after)) old.sn_is
                 ∙ (ap (λ (m : ℕ). numbers count x (up sn m (numbered (sender_in p tx) x) after)) old.quota_is
-                ∙ sym (ap (λ (s : Sender (List ℕ)). numbers count x (up sn limit s after)) octets_now)))))))),
-            pdu_is ∙ (ap (λ (v : List ℕ). radio_data sn count v) (z_is ∙ y_is) ∙ ap (λ (u : UplinkState). radio_data u.sn count x) seen),
+                ∙ (sym (ap (λ (s : Sender (List ℕ)). numbers count x (up sn limit s after)) octets_now)
+                ∙ sym (ap (λ (v : List ℕ). numbers count v (uplink_state sn limit q' ty after)) y_is))))))))),
+            packets_then.0,
           )

@@ -1,9 +1,11 @@
 -- The downlink of a bearer: the receiving entity (TS 38.323, 5.2.2).
-use Rattle.std.specs.Prelude.{◌≡◌, ℕ, ◌<◌, if◌then◌else◌, List, [], length, Option, Some, None, Result, Ok, Err}
+use Rattle.std.specs.Prelude.{◌≡◌, ℕ, ◌+◌, ◌-◌, ◌^◌, ◌<◌, ◌≤◌, if◌then◌else◌, List, [], ◌∷◌, length, Option, Some, None, Result, Ok, Err}
+use Rattle.std.specs.Borrow.{Bor}
 use Rattle.gnb_types.specs.declared.names.SnBits.{SnBits}
 use Rattle.pdcp_defs.specs.Receivers.{Receiver, new_receiver, is_duplicate, is_ahead, stored, deliver, with_packet}
 use Rattle.pdcp_entities.specs.declared.rx.Taken.{Taken}
 use Rattle.pdcp_entities.specs.declared.rx.Ahead.{Ahead}
+use Rattle.ue_bearers.specs.Uplinks.{from_on}
 use Rattle.ue_bearers.specs.declared.downlink.Reception.{Reception}
 use Rattle.ue_bearers.specs.declared.downlink.Reception.TheVariants as receptions
 use Rattle.ue_bearers.specs.declared.downlink.Delivered.{Delivered}
@@ -36,3 +38,8 @@ IsDelivered old new (Some d) =
     × (deliver old.receiver ≡ with_packet (d.count, d.packet) (deliver new.receiver))
     × (length new.receiver.stored < length old.receiver.stored)
 IsDelivered old new None = (new ≡ old) × (deliver old.receiver ≡ record { packets = []; after = old.receiver })
+
+-- the first packet that is stored from a COUNT on; another is above it
+abbrev pub IsLeastStored : ℕ → List (ℕ × List ℕ) → Option (ℕ × Bor (List ℕ)) → Type 0
+IsLeastStored from es (Some e) = (from_on from es ≡ (e.0, e.1.now) ∷ from_on (e.0 + 1) es) × (length e.1.now ≤ 2048) × (e.0 < 2 ^ 32 - 1)
+IsLeastStored from es None = from_on from es ≡ []

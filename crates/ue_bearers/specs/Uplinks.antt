@@ -1,15 +1,16 @@
 -- The uplink of a bearer: the sending entity (TS 38.323, 5.2.1) and the packets that wait for a COUNT.
-use Rattle.std.specs.Prelude.{◌≡◌, ℕ, ◌+◌, ◌-◌, ◌^◌, ◌<◌, ◌≤◌, not, nat_lt, nat_le, if◌then◌else◌, List, [], ◌∷◌, length, filter, Option, Some, None, Result, Ok, Err}
+use Rattle.std.specs.Prelude.{◌≡◌, ℕ, ◌+◌, ◌-◌, ◌^◌, ◌<◌, ◌≤◌, Bool, not, nat_lt, nat_le, if◌then◌else◌, List, [], ◌∷◌, length, filter, Option, Some, None, Result, Ok, Err}
 use Rattle.std.specs.Borrow.{Bor}
 use Rattle.gnb_types.specs.declared.names.SnBits.{SnBits}
 use Rattle.pdcp.specs.Near.{last_count}
 use Rattle.pdcp.specs.Pdus.{radio_data}
-use Rattle.pdcp_defs.specs.Senders.{Sender, new_sender, has_room, numbered}
+use Rattle.pdcp_defs.specs.Senders.{Sender, new_sender, has_room, numbered, restored}
 use Rattle.pdcp_entities.specs.declared.tx.NumberError.{NumberError}
 use Rattle.pdcp_entities.specs.declared.tx.NumberError.TheVariants as refusals
 use Rattle.unit_defs.specs.Ways.{counts_spent}
 use Rattle.unit_steps.specs.declared.StepError.{StepError}
 use Rattle.unit_steps.specs.declared.StepError.TheVariants as errors
+use Rattle.ue_bearers.specs.declared.uplink.Counted.{Counted}
 use Rattle.ue_bearers.specs.declared.uplink.Numbered.{Numbered}
 
 pub record UplinkState : Type 0 where
@@ -49,16 +50,28 @@ abbrev pub numbering : UplinkState → Numbering
 numbering u = numbering_of u u.waiting
 
 -- an entity's refusal: only the last COUNT is an error
-abbrev pub refusal : NumberError → Result (Option Numbered) StepError
+abbrev pub refusal : NumberError → Result (Option Counted) StepError
 refusal refusals.CountSpent = Err (errors.Spent counts_spent)
 refusal error = Ok None
 
--- what the call gives: the PDU of the packet with its COUNT
+-- the packet with its COUNT
+abbrev pub IsCounting : Numbering → UplinkState → UplinkState → Result (Option Counted) StepError → Type 0
+IsCounting n old new (Ok (Some d)) = (n ≡ numbers d.count d.packet new) × IsPacket d.packet
+IsCounting n old new (Ok None) = (n ≡ stays) × (new ≡ old)
+IsCounting n old new (Err (errors.Spent counter)) = (n ≡ ends) × (counter ≡ counts_spent) × (new ≡ old)
+IsCounting n old new (Err errors.Memory) = ⊥
+
+-- its PDU with its COUNT
 abbrev pub IsNumbering : SnBits → Numbering → UplinkState → UplinkState → Result (Option Numbered) StepError → Type 0
 IsNumbering sn n old new (Ok (Some d)) = (packet : List ℕ) × (n ≡ numbers d.count packet new) × (d.pdu ≡ radio_data sn d.count packet)
 IsNumbering sn n old new (Ok None) = (n ≡ stays) × (new ≡ old)
 IsNumbering sn n old new (Err (errors.Spent counter)) = (n ≡ ends) × (counter ≡ counts_spent)
 IsNumbering sn n old new (Err errors.Memory) = Unit {0}
+
+-- ---- a packet that another entity numbered
+
+abbrev pub restoring : UplinkState → ℕ → List ℕ → Bool → UplinkState
+restoring u count packet held = if held then record u { sender = restored u.sender count packet } else u
 
 -- ---- what nothing confirmed, from a COUNT on
 

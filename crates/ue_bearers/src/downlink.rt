@@ -1,16 +1,17 @@
 //! The downlink of a bearer: packets are stored, and delivered in the order of their COUNTs (TS 38.323, 5.2.2).
 
-ghost use Rattle.std.specs.Prelude.{◌≡◌, ◌<◌, ◌≤◌, length, IfOk, OnSome};
+ghost use Rattle.std.specs.Prelude.{◌≡◌, ◌<◌, ◌≤◌, [], length, IfOk, OnOk, OnErr};
 ghost use Rattle.pdcp_defs.specs.Counts.{near_count};
-ghost use Rattle.pdcp_defs.specs.Receivers.{received_bits};
+ghost use Rattle.pdcp_defs.specs.Receivers.{new_receiver, received_bits};
 ghost use Rattle.packet_pool.specs.declared.region.TheConstants.{BLOCK};
-ghost use Rattle.ue_bearers.specs.Downlinks.{new_downlink, reception_of, received, IsDelivered};
+ghost use Rattle.ue_bearers.specs.Downlinks.{new_downlink, reception_of, received, IsDelivered, IsLeastStored};
 
 use crate::blocks::own_pool;
 use gnb_types::bits::Bits;
 use gnb_types::names::SnBits;
 use gnb_types::octets::{Memory, Octets};
 use packet_pool::{Key, Pool};
+use pdcp::near;
 use pdcp_entities::{Ahead, Rx, Taken};
 use std::alloc::Global;
 use std::marker::Model;
@@ -97,10 +98,61 @@ impl Downlink {
 
     /// The status report of what was received: RX_DELIV, and whether each COUNT after it is stored, up to the last one that is.
     pub fn report(&self, alloc: Global) -> Result<(u32, Bits), Memory>
-        ensures { IfOk result (λ r. (r.0 ≡ self.now.receiver.deliv)
+        ensures ok { IfOk result (λ r. (r.0 ≡ self.now.receiver.deliv)
             × (r.1 ≡ received_bits self.now.receiver)) }
+        ensures short { length (received_bits self.now.receiver) ≤ 4096 }
     {
         self.rx.report(alloc)
+    }
+
+    /// The COUNT of a number near the awaited one, if there is one.
+    pub fn count_of(&self, number: u32) -> Option<u32>
+        ensures { result ≡ near_count self.now.sn self.now.receiver.deliv number }
+    {
+        near(self.sn, self.rx.deliv(), number)
+    }
+
+    /// The COUNT that is awaited, RX_DELIV.
+    pub fn awaited(&self) -> u32
+        ensures { result ≡ self.now.receiver.deliv }
+    {
+        self.rx.deliv()
+    }
+
+    /// How many packets are stored.
+    pub fn len(&self) -> u32
+        ensures { result ≡ length self.now.receiver.stored }
+    {
+        self.pool.used(self.key)
+    }
+
+    /// The least COUNT not below `from` that is stored, and its packet.
+    pub fn stored(&self, from: u32) -> Option<(u32, &[u8])>
+        ensures { IsLeastStored from self.now.receiver.stored result }
+    {
+        let Some((count, place)) = self.rx.stored(from) else {
+            return None;
+        };
+        Some((count, self.pool.parked_bytes(place)))
+    }
+
+    /// This COUNT is awaited. Out of memory nothing changes.
+    pub fn go_on_at(&mut self, alloc: Global, deliv: u32) -> Result<(), Memory>
+        requires { self.old.receiver.stored ≡ [] }
+        ensures ok { OnOk result (self.new ≡ record self.old { receiver = new_receiver deliv }) }
+        ensures err { OnErr result (self.new ≡ self.old) }
+    {
+        self.rx = Rx::new(alloc, self.sn, deliv, self.quota)?;
+        Ok(())
+    }
+
+    /// Gives up what is stored.
+    pub fn clear(&mut self)
+        ensures { self.new ≡ record self.old { receiver = record self.old.receiver { stored = [] } } }
+    {
+        // Its clause says that the pool is sound.
+        let _ = self.pool.used(self.key);
+        self.rx.clear(&mut self.pool);
     }
 }
 

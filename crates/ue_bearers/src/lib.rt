@@ -7,4 +7,4 @@ pub mod downlink;
 pub mod uplink;
 
 pub use downlink::{Delivered, Downlink, Reception};
-pub use uplink::{Numbered, Uplink};
+pub use uplink::{Counted, Numbered, Uplink};

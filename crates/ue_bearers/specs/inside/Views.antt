@@ -1,9 +1,9 @@
 -- Internal: how the fields of an uplink and of a downlink are seen, and what is always so of them.
-use Rattle.std.specs.Prelude.{◌≡◌, ℕ, ◌+◌, ◌^◌, ◌<◌, ◌≤◌, false, List, [], ◌∷◌, length}
+use Rattle.std.specs.Prelude.{◌≡◌, ℕ, ◌+◌, ◌-◌, ◌^◌, ◌<◌, ◌≤◌, false, List, [], ◌∷◌, length}
 use Rattle.std.specs.List.{AllByRecursion}
 use Rattle.gnb_types.specs.declared.names.SnBits.{SnBits}
 use Rattle.gnb_types.specs.declared.keys.EntityKey.{EntityKey}
-use Rattle.pool_defs.specs.Pools.{PoolState, quota}
+use Rattle.pool_defs.specs.Pools.{PoolState, quota, used}
 use Rattle.pdcp_entities.specs.Packets.{AreParked}
 use Rattle.pdcp_entities.specs.Entities.{TxState, RxState, sender_in, receiver_in}
 use Rattle.ue_bearers.specs.Uplinks.{UplinkState, IsPacket}
@@ -21,6 +21,7 @@ pub record IsUplink (sn : SnBits) (limit : ℕ) (key : EntityKey) (held : ℕ) (
   pub sn_is : tx.sn ≡ sn
   pub quota_is : tx.quota ≡ limit
   pub small : limit ≤ 4096
+  pub least : 4 ≤ limit
   pub frozen : tx.frozen ≡ false
   pub blocks : quota pool key ≡ limit
   pub parked : AreParked pool tx.sender.unconfirmed
@@ -43,3 +44,10 @@ pub record IsDownlink (sn : SnBits) (limit : ℕ) (key : EntityKey) (pool : Pool
   pub blocks : quota pool key ≡ limit
   pub parked : AreParked pool rx.receiver.stored
   pub few : length pool.refs ≤ length rx.receiver.stored
+  -- each reference is one of its own
+  pub own : used pool key ≡ length pool.refs
+  pub fits : AllByRecursion (λ e. e.0 < 2 ^ 32 - 1) rx.receiver.stored
+  pub near : AllByRecursion (λ e. e.0 < rx.receiver.deliv + limit) rx.receiver.stored
+  pub small : limit ≤ 4096
+  pub least : 4 ≤ limit
+  pub ascending : IsAscending rx.receiver.stored

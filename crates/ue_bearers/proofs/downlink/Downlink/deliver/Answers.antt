@@ -14,13 +14,13 @@ pub invariant_of-self-in_err-packet : goal.invariant_of-self-in_err-packet
 invariant_of-self-in_err-packet c =
     let some = c.in-Some.ensures.some in
     kept_delivered _ _ _ c.self.inside.pool c.next.new.pool c.take.new.self c.self.inside.rx c.next.new.self (c.in-Some.count, some.0) c.in-Some.r some.1 some.2
-    some.3 c.in-Some.ensures.given c.take.ensures.taken c.next.ensures.parked c.self.invariant
+    some.3 c.in-Some.ensures.given c.take.ensures.taken c.next.ensures.parked c.take.ensures.sound c.self.invariant
 
 pub invariant_of-self-2 : goal.invariant_of-self-2
 invariant_of-self-2 c =
     let some = c.in-Some.ensures.some in
     kept_delivered _ _ _ c.self.inside.pool c.next.new.pool c.take.new.self c.self.inside.rx c.next.new.self (c.in-Some.count, some.0) c.in-Some.r some.1 some.2
-    some.3 c.in-Some.ensures.given c.take.ensures.taken c.next.ensures.parked c.self.invariant
+    some.3 c.in-Some.ensures.given c.take.ensures.taken c.next.ensures.parked c.take.ensures.sound c.self.invariant
 
 pub returns : goal.returns
 returns c =

@@ -1,6 +1,11 @@
 use Rattle.ue_bearers.proofs.DownLemmas.{reported}
+use Rattle.ue_bearers.proofs.StoreLemmas.{short_seen}
 use Rattle.ue_bearers.proofs.downlink.Downlink.report.Goals as goal
 
 pub returns : goal.returns
 returns c =
-    reported c.self.inside.sn c.self.inside.quota c.self.inside.pool c.self.inside.rx c.args.self.now c.self.view_is c.report.result c.report.ensures
+    let i = c.self.inside in
+    record {
+      ok = reported i.sn i.quota i.pool i.rx c.args.self.now c.self.view_is c.report.result c.report.ensures;
+      short = short_seen i.sn i.quota i.key i.pool i.rx c.self.invariant c.args.self.now c.self.view_is;
+    }

@@ -1,5 +1,7 @@
 use Rattle.std.proofs.Common.{arith}
+use Rattle.pdcp_defs.specs.Counts.{near_count}
 use Rattle.pdcp_entities.specs.Entities.{taken}
+use Rattle.pdcp_entities.proofs.NearLemmas.{near_found}
 use Rattle.ue_bearers.proofs.RefLemmas.{used_few}
 use Rattle.ue_bearers.proofs.DownLemmas.{takes_seen, kept_taken}
 use Rattle.ue_bearers.proofs.downlink.Downlink.take.Goals as goal
@@ -10,8 +12,11 @@ take-requires-clause-used c = let few = used_few c.self.inside.pool c.self.insid
 pub invariant_of-self : goal.invariant_of-self
 unfolding taken
 invariant_of-self c =
-    kept_taken _ _ _ c.self.inside.pool c.take.new.pool c.self.inside.rx c.take.new.self _ _ c.take.result c.take.ensures.result
-    c.take.ensures.stored c.take.ensures.dropped c.take.ensures.parked c.self.invariant
+    let rx = c.self.inside.rx in
+    kept_taken _ _ _ c.self.inside.pool c.take.new.pool rx c.take.new.self _ (near_count rx.sn rx.receiver.deliv c.args.number) c.take.result c.take.ensures.result
+    c.take.ensures.stored c.take.ensures.dropped c.take.ensures.parked c.take.ensures.used
+    (λ count is. let given = (near_found rx.sn rx.receiver.deliv c.args.number count is).given in omega (arith, given))
+    c.self.invariant
 
 pub returns : goal.returns
 returns c =

@@ -6,7 +6,7 @@ use Rattle.ue_bearers.proofs.uplink.Uplink.new.Goals as goal
 pub invariant_of-result : goal.invariant_of-result
 invariant_of-result c =
     subst (λ (w : List (List ℕ)). IsUplink c.args.sn c.args.quota c.args.key 0 c.in_ok-pool.pool c.in_ok-tx.tx w) (sym c.new-2.ensures)
-    (begins c.args.sn c.args.quota c.args.key c.in_ok-pool.pool c.in_ok-tx.tx c.requires.most c.in_ok-pool.ensures c.in_ok-tx.ensures)
+    (begins c.args.sn c.args.quota c.args.key c.in_ok-pool.pool c.in_ok-tx.tx c.requires.least c.requires.most c.in_ok-pool.ensures c.in_ok-tx.ensures)
 
 pub returns : goal.returns
 returns c =

@@ -14,7 +14,7 @@ pub returns-clause-step : goal.returns-clause-step
 returns-clause-step c = λ codec.
     let u = terminal_of c.args.terminal.now in
     let b = kept c.args.self.now in
-    let f = c.in_ok-fmc.ensures in
+    let f = c.in_ok-fmc.ensures.ok in
     let report =
     c.in_ok-push.ensures.ok
     ∙ ap (λ (o : Output). c.args.out.now ++ o ∷ [])

@@ -1,6 +1,6 @@
 use Rattle.pdcp_entities.proofs.ParkLemmas.{still_given}
 use Rattle.ue_bearers.proofs.NumberLemmas.{never_full, put_parked, put_given, kept_refused, refused_is, kept_numbered, numbered_is}
-use Rattle.ue_bearers.proofs.uplink.Uplink.number.Goals as goal
+use Rattle.ue_bearers.proofs.uplink.Uplink.give_count.Goals as goal
 
 pub unreachable-requires : goal.unreachable-requires
 unreachable-requires c =
@@ -35,13 +35,6 @@ returns-in-Err-number c =
     let e = c.in-Err-number.ensures.err in
     refused_is i.sn i.quota i.key i.held i.pool i.tx i.waiting c.self.invariant c.in-Some.packet.now c.in-Some.ensures c.in-Ok.r c.as_slice.result.now c.as_slice.ensures c.put.ensures.sound c.in-Ok.ensures.fresh c.put.new.self c.in-Ok.ensures.ok c.number.new.pool c.take.new.self c.in-Err-number.r c.number.new.self e.1 e.2 e.3 c.take.ensures.taken c.args.self.now c.self.view_is c.in-Err-number.error e.0 c.refused.result c.refused.ensures
 
-pub invariant_of-self-in_err-pdu : goal.invariant_of-self-in_err-pdu
-invariant_of-self-in_err-pdu c =
-    let i = c.self.inside in
-    let f = c.in-Ok-number.ensures in
-    let h = f.held in
-    kept_numbered i.sn i.quota i.key i.held i.pool i.tx i.waiting c.self.invariant c.in-Some.packet.now c.in-Some.ensures c.in-Ok.r c.as_slice.result.now c.as_slice.ensures c.put.ensures.sound c.in-Ok.ensures.fresh c.put.new.self c.in-Ok.ensures.ok c.number.new.pool c.number.new.self h.0 c.take-2.new.self c.in-Some-take.packet f.ok h.1 h.2 f.octets c.number.ensures.parked c.in-Some-take.ensures
-
 pub invariant_of-self-2 : goal.invariant_of-self-2
 invariant_of-self-2 c =
     let i = c.self.inside in
@@ -54,5 +47,4 @@ returns c =
     let i = c.self.inside in
     let f = c.in-Ok-number.ensures in
     let h = f.held in
-    numbered_is i.sn i.quota i.key i.held i.pool i.tx i.waiting c.self.invariant c.in-Some.packet.now c.in-Some.ensures c.in-Ok.r c.as_slice.result.now c.as_slice.ensures c.put.ensures.sound c.in-Ok.ensures.fresh c.put.new.self c.in-Ok.ensures.ok c.number.new.pool c.number.new.self h.0 c.take-2.new.self c.in-Some-take.packet f.ok h.1 h.2 f.octets c.number.ensures.parked c.in-Some-take.ensures c.args.self.now c.self.view_is c.in-Ok-number.count f.count c.in_ok-pdu.pdu c.as_slice-2.result.now c.in_ok-pdu.ensures
-    c.as_slice-2.ensures
+    numbered_is i.sn i.quota i.key i.held i.pool i.tx i.waiting c.self.invariant c.in-Some.packet.now c.in-Some.ensures c.in-Ok.r c.as_slice.result.now c.as_slice.ensures c.put.ensures.sound c.in-Ok.ensures.fresh c.put.new.self c.in-Ok.ensures.ok c.number.new.pool c.number.new.self h.0 c.take-2.new.self c.in-Some-take.packet f.ok h.1 h.2 f.octets c.number.ensures.parked c.in-Some-take.ensures c.args.self.now c.self.view_is c.in-Ok-number.count f.count
