@@ -63,9 +63,9 @@ def short(chance):
 def flow(chance, length, far):
     """A flow of messages that are given nearly in order: numbers wrap."""
     link, lines = Link(chance), []
-    behind = chance.randint(1, 40)
+    in_flight = chance.randint(1, 40)
     for _ in range(length):
-        if len(link.on_link) <= behind:
+        if len(link.on_link) <= in_flight:
             lines.append(link.offer())
             continue
         word = chance.choice(["give"] * 30 + ["again", "lose", "tick", "ask"])
