@@ -23,7 +23,7 @@ module _ (caller : Caller (List ℕ)) (table : List (Channel × Waits)) (callee 
   unfolding waits_at at
   stands = refl
 
-  waits_as : (o : Option Waits) → find channel_cmp table c ≡ o → waits_at t c ≡ unwrap_or o []
+  pub waits_as : (o : Option Waits) → find channel_cmp table c ≡ o → waits_at t c ≡ unwrap_or o []
   waits_as o is =
       ap (λ (s : Kept). waits_at s c) (sym seen) ∙ stands ∙ ap (λ (x : Option Waits). unwrap_or x []) is
 
@@ -31,7 +31,7 @@ module _ (caller : Caller (List ℕ)) (table : List (Channel × Waits)) (callee 
   unfolding with_waiting
   then_here ws = refl
 
-  then_waits : (ws : Waits) → whole (waiting_then table c ws) ≡ with_waiting t c ws
+  pub then_waits : (ws : Waits) → whole (waiting_then table c ws) ≡ with_waiting t c ws
   then_waits ws = then_here ws ∙ ap (λ (s : Kept). with_waiting s c ws) seen
 
   -- nothing waits

@@ -20,7 +20,8 @@ use transactions::caller::{Caller, DueList, Reply};
 #[derive(Drop)]
 pub struct Requests {
     pub(crate) caller: Caller,
-    pub(crate) waiting: Table<Channel, Queue<Waiting>>,
+    /// What waits, by peer and terminal, the oldest first.
+    pub waiting: Table<Channel, Queue<Waiting>>,
     pub(crate) callee: Callee,
 }
 
