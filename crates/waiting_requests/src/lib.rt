@@ -1,5 +1,5 @@
 //! What waits of a unit's requests and isn't wanted any more: no attempt awaits the answers of a terminal whose attempt ended, and the
-//! release after a setup that failed isn't needed (TS 38.463, 8.3.1 and 8.3.3).
+//! release after a setup that failed isn't needed (TS 37.483, 8.3.1 and 8.3.3).
 #![tactic(auto)]
 
 mod forgetting;
