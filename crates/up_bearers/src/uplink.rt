@@ -1,0 +1,41 @@
+//! The uplink of a bearer: packets are delivered in the order of their COUNTs (TS 38.323, 5.2.2).
+
+ghost use Rattle.std.specs.Prelude.{OnOk};
+ghost use Rattle.unit_defs.specs.UpRecords.{UpBearer};
+ghost use Rattle.unit_defs.specs.UpBearers.{deliver_stored};
+ghost use Rattle.unit_octet_defs.specs.Codec.{Codec, octet_way};
+ghost use Rattle.unit_steps.specs.Steps.{IsStep, step_after};
+ghost use Rattle.up_tunnels.specs.Tunnels.{at_as};
+ghost use Rattle.up_bearers.specs.Bearers.{with_receiver, IsUp};
+
+use gnb_types::names::Dir;
+use gnb_types::outputs::{Output, Outputs};
+use std::alloc::Global;
+use ue_bearers::{Delivered, Downlink as Receiving};
+use unit_steps::StepError;
+use up_tunnels::At;
+
+/// Delivers in order what is stored.
+pub fn deliver_stored(
+    receiving: &mut Receiving,
+    alloc: Global,
+    at: &At,
+    out: &mut Outputs,
+) -> Result<(), StepError>
+    requires { IsUp at.now receiving.old }
+    ensures step { (codec : Codec) (b : UpBearer) → IsStep (step_after out.old
+        (deliver_stored (octet_way codec) (at_as at.now) (with_receiver b receiving.old)))
+        out.new (with_receiver b receiving.new) result }
+    ensures up { OnOk result (IsUp at.now receiving.new) }
+{
+    while let Some(Delivered { count, packet }) = receiving.deliver(alloc)? {
+        out.push(Output::Deliver {
+            ue: at.ue,
+            bearer: at.bearer,
+            dir: Dir::Ul,
+            count,
+            packet,
+        })?;
+    }
+    Ok(())
+}

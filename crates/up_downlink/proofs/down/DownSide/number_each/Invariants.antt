@@ -1,0 +1,17 @@
+use Rattle.std.proofs.Common.{◌≡◌, length}
+use Rattle.unit_defs.specs.UpRecords.{UpBearer}
+use Rattle.unit_octet_defs.specs.Codec.{Codec}
+use Rattle.unit_steps.specs.Steps.{step_after}
+use Rattle.up_downlink.specs.Downlinks.{IsDown}
+use Rattle.up_downlink.proofs.Numberings.{rest}
+use Rattle.up_downlink.proofs.down.DownSide.number_each.Given as goal
+
+-- what was put out, and what is numbered from here on, is all
+abbrev pub invariant-loop-count : goal.invariant-loop-count
+invariant-loop-count l = record {
+  all : (codec : Codec) (b : UpBearer) → step_after l.out (rest codec l.at b l.self) ≡ step_after l.initial.out (rest codec l.at b l.initial.self);
+  of : IsDown l.at l.self;
+}
+
+abbrev pub decreases-loop-count : goal.decreases-loop-count
+decreases-loop-count l = length l.self.sending.waiting
