@@ -133,7 +133,7 @@ impl CoreNode {
     {
         match self.requests.accept(channel, instance)? {
             Verdict::New => self.asked(alloc, codec, channel, message, outputs),
-            Verdict::Again => self.asked(alloc, codec, channel, message, outputs),
+            Verdict::Again => self.requests.answer_again(alloc, channel, outputs),
             Verdict::Stale => put(outputs, Output::Drop(DropReason::Stale)),
         }
     }
