@@ -67,5 +67,7 @@ abbrev pub IsOffered : List ℕ → DupTxState → DupTxState → Result (List P
 IsOffered packet old new (Err errors.Quota) = (old.ended ≡ None) × (is_full old.quota old.entity ≡ true) × (new ≡ old)
 IsOffered packet old new (Ok puts) =
     (is_full old.quota old.entity ≡ false) × IsAnswer (offered old.sn old.quota packet old.entity) old new (Ok puts)
-IsOffered packet old new (Err errors.Spent) = IsAnswer (offered old.sn old.quota packet old.entity) old new (Err errors.Spent)
+IsOffered packet old new (Err errors.Spent) =
+    HasEnded endings.Spent old new
+    ⊎ ((is_full old.quota old.entity ≡ false) × IsAnswer (offered old.sn old.quota packet old.entity) old new (Err errors.Spent))
 IsOffered packet old new (Err errors.Memory) = IsAnswer (offered old.sn old.quota packet old.entity) old new (Err errors.Memory)
