@@ -1,0 +1,19 @@
+use Rattle.std.proofs.Common.{ℕ, List, Option, None, sym, ap, ◌∙◌}
+use Rattle.gnb_types.specs.declared.outputs.Output.{Output}
+use Rattle.unit_defs.specs.UpItems.{closed_n3}
+use Rattle.unit_octet_defs.specs.Codec.{octet_way}
+use Rattle.unit_steps.specs.Steps.{step_after, stepped}
+use Rattle.up_downlink.proofs.Sequels.{nothing_more}
+use Rattle.up_bearers.specs.Bearers.{kept}
+use Rattle.up_ends.proofs.ending.close_n3.Goals as goal
+
+pub returns-in_default-clause-step : goal.returns-in_default-clause-step
+returns-in_default-clause-step c = λ codec.
+    let b = kept c.args.bearer.now in
+    ap (λ (o : Option ℕ). step_after c.args.out.now (closed_n3 (octet_way codec) b o)) c.in_default.is ∙ nothing_more c.args.out.now b
+
+pub returns-clause-step : goal.returns-clause-step
+returns-clause-step c = λ codec.
+    let b = kept c.args.bearer.now in
+    ap (λ (o : Option ℕ). step_after c.args.out.now (closed_n3 (octet_way codec) b o)) c.in-Some.is
+    ∙ ap (λ (os : List Output). stepped os (record b { n3 = None })) (sym c.in_ok-push.ensures.ok)
