@@ -1,0 +1,4 @@
+pub mod ReadMessages
+pub mod RowSteps
+pub mod SetUpSteps
+pub mod TickSteps

@@ -1,0 +1,120 @@
+//! Answers to the unit's own requests.
+
+ghost use Rattle.std.specs.Prelude.{◌≡◌, ℕ, List, Some};
+ghost use Rattle.unit_defs.specs.Ways as ways;
+ghost use Rattle.unit_defs.specs.CuCp.{answers_none, answers_with, is_setup_failure, answered_by, reply_came};
+ghost use Rattle.unit_octet_defs.specs.Codec.{octet_way};
+ghost use Rattle.unit_messages.specs.Messages.{message_as};
+ghost use Rattle.unit_steps.specs.Steps.{step_after, IsStep};
+ghost use Rattle.control_says.specs.Rows.{row_as};
+
+use crate::asked::at_of;
+use control_answers::{Answered, answer};
+use control_records::ControlRecord;
+use control_says::Row;
+use control_steps::{carry_out, put_next};
+use gnb_types::keys::Channel;
+use gnb_types::names::UeId;
+use gnb_types::outputs::{Output, Outputs};
+use gnb_types::reasons::DropReason;
+use message_types::E1Message;
+use std::alloc::Global;
+use unit_messages::{Message, MessageCodec};
+use unit_requests::put;
+use unit_steps::StepError;
+use waiting_requests::give_up_release;
+
+fn is_setup_failure<C: MessageCodec>(_codec: &C, message: &Message) -> bool
+    ensures { result ≡ is_setup_failure (octet_way C.codec) (message_as message.now) }
+{
+    match message {
+        Message::E1(E1Message::BearerContextSetupFailure { .. }) => true,
+        Message::E1(
+            E1Message::E1SetupRequest { .. }
+            | E1Message::E1SetupResponse { .. }
+            | E1Message::BearerContextSetupRequest { .. }
+            | E1Message::BearerContextSetupResponse { .. }
+            | E1Message::BearerContextModificationRequest { .. }
+            | E1Message::BearerContextModificationResponse { .. }
+            | E1Message::BearerContextModificationFailure { .. }
+            | E1Message::BearerContextReleaseCommand { .. }
+            | E1Message::BearerContextReleaseComplete { .. },
+        )
+        | Message::F1(_)
+        | Message::Xn(_)
+        | Message::Core(_)
+        | Message::Rrc(_) => false,
+    }
+}
+
+/// No attempt awaits the answer. Where a setup failed, the release that waits first is the one after it, and isn't needed.
+fn not_awaited<C: MessageCodec>(
+    record: &mut ControlRecord,
+    alloc: Global,
+    codec: &C,
+    channel: Channel,
+    message: &Message,
+    outputs: &mut Outputs,
+) -> Result<(), StepError>
+    ensures { IsStep
+        (step_after outputs.old
+        (answered_by (octet_way C.codec) (record { 0 = channel.ue }) channel
+        (message_as message.now) record.old answers_none))
+        outputs.new record.new result }
+{
+    record.requests.close(&channel);
+    if is_setup_failure(codec, message) {
+        give_up_release(&mut record.requests, &channel);
+    }
+    put_next(record, alloc, codec, channel, outputs)
+}
+
+/// The row of an awaited answer is carried out, and what waits longest is put.
+fn awaited<C: MessageCodec>(
+    record: &mut ControlRecord,
+    alloc: Global,
+    codec: &C,
+    channel: Channel,
+    row: Row,
+    outputs: &mut Outputs,
+) -> Result<(), StepError>
+    ensures { (message : ways.Message (List ℕ)) → IsStep
+        (step_after outputs.old
+        (answered_by (octet_way C.codec) (record { 0 = channel.ue }) channel message record.old
+        (answers_with (Some (row_as row)))))
+        outputs.new record.new result }
+{
+    record.requests.close(&channel);
+    carry_out(record, alloc, codec, UeId(channel.ue), row, outputs)?;
+    put_next(record, alloc, codec, channel, outputs)
+}
+
+/// An awaited answer closes its request; then its row is made, if the attempt awaits it, and what waits longest is put.
+#[tactic(auto, unfolding(unit_defs::specs::CuCp::reply_came))]
+pub(crate) fn reply_came<C: MessageCodec>(
+    record: &mut ControlRecord,
+    alloc: Global,
+    codec: &C,
+    channel: Channel,
+    instance: u32,
+    message: &Message,
+    outputs: &mut Outputs,
+) -> Result<(), StepError>
+    ensures { IsStep
+        (step_after outputs.old (reply_came (octet_way C.codec) (record { 0 = channel.ue }) channel
+        instance (message_as message.now) record.old))
+        outputs.new record.new result }
+{
+    let ue = UeId(channel.ue);
+    let terminal = record.terminal(alloc, ue)?;
+    let at = at_of(record, alloc, codec, ue);
+    match answer(&at, channel.peer, instance, message, &terminal)? {
+        Answered::NotAwaited => {
+            not_awaited(record, alloc, codec, channel, message, outputs)
+        }
+        Answered::Awaited(None) => put(outputs, Output::Drop(DropReason::Unexpected)),
+        Answered::Awaited(Some(row)) => {
+            awaited(record, alloc, codec, channel, row, outputs)
+        }
+    }
+}

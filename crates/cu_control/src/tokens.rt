@@ -1,0 +1,40 @@
+//! Tokens of terminals.
+
+ghost use Rattle.std.specs.Prelude.{◌≡◌};
+ghost use Rattle.unit_defs.specs.CuCp.{token_came};
+ghost use Rattle.unit_octet_defs.specs.Codec.{octet_way};
+ghost use Rattle.unit_steps.specs.Steps.{step_after, IsStep};
+
+use crate::asked::at_of;
+use control_records::ControlRecord;
+use control_steps::carry_out;
+use control_tokens as rows;
+use gnb_types::names::{NodeId, UeId};
+use gnb_types::octets::Octets;
+use gnb_types::outputs::Outputs;
+use std::alloc::Global;
+use unit_messages::MessageCodec;
+use unit_steps::StepError;
+
+/// A container came by a node.
+#[tactic(auto, unfolding(unit_defs::specs::CuCp::token_came))]
+pub(crate) fn token_came<C: MessageCodec>(
+    record: &mut ControlRecord,
+    alloc: Global,
+    codec: &C,
+    ue: UeId,
+    from: NodeId,
+    container: &Octets,
+    outputs: &mut Outputs,
+) -> Result<(), StepError>
+    ensures { IsStep
+        (step_after outputs.old
+        (token_came (octet_way C.codec) ue from container.now record.old))
+        outputs.new record.new result }
+{
+    let token = codec.read_token(alloc, container.as_slice())?;
+    let terminal = record.terminal(alloc, ue)?;
+    let at = at_of(record, alloc, codec, ue);
+    let row = rows::token_came(&at, from, &terminal, token)?;
+    carry_out(record, alloc, codec, ue, row, outputs)
+}
