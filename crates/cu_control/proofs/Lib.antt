@@ -1,4 +1,5 @@
 pub mod ReadMessages
+pub mod ReplySteps
 pub mod RowSteps
 pub mod SetUpSteps
 pub mod TickSteps

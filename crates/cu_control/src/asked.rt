@@ -10,7 +10,6 @@ ghost use Rattle.unit_octet_defs.specs.Codec.{octet_way};
 ghost use Rattle.unit_messages.specs.Messages.{message_as};
 ghost use Rattle.unit_steps.specs.Steps.{step_after, IsStep};
 
-use control_answers::copy_statuses;
 use control_records::ControlRecord;
 use control_rows::xn_released;
 use control_says::At;
@@ -22,6 +21,7 @@ use gnb_types::outputs::{Output, Outputs};
 use gnb_types::plans::StatusList;
 use gnb_types::reasons::DropReason;
 use message_types::{E1Message, F1, F1Message, XnMessage};
+use status_copies::copy_statuses;
 use std::alloc::Global;
 use unit_messages::{Message, MessageCodec};
 use unit_requests::{Requests, put};

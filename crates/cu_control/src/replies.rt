@@ -2,7 +2,7 @@
 
 ghost use Rattle.std.specs.Prelude.{◌≡◌, ℕ, List, Some};
 ghost use Rattle.unit_defs.specs.Ways as ways;
-ghost use Rattle.unit_defs.specs.CuCp.{answers_none, answers_with, is_setup_failure, answered_by, reply_came};
+ghost use Rattle.unit_defs.specs.CuCp.{answers_none, answers_with, is_setup_failure, after_failed_setup, closed_at, answered_by, reply_came};
 ghost use Rattle.unit_octet_defs.specs.Codec.{octet_way};
 ghost use Rattle.unit_messages.specs.Messages.{message_as};
 ghost use Rattle.unit_steps.specs.Steps.{step_after, IsStep};
@@ -20,7 +20,7 @@ use gnb_types::reasons::DropReason;
 use message_types::E1Message;
 use std::alloc::Global;
 use unit_messages::{Message, MessageCodec};
-use unit_requests::put;
+use unit_requests::{Requests, put};
 use unit_steps::StepError;
 use waiting_requests::give_up_release;
 
@@ -47,7 +47,30 @@ fn is_setup_failure<C: MessageCodec>(_codec: &C, message: &Message) -> bool
     }
 }
 
-/// No attempt awaits the answer. Where a setup failed, the release that waits first is the one after it, and isn't needed.
+/// The open request of a channel is closed.
+fn close<C: MessageCodec>(record: &mut ControlRecord, _codec: &C, channel: &Channel)
+    ensures { record.new ≡ closed_at (octet_way C.codec) channel.now record.old }
+{
+    record.requests.close(channel);
+}
+
+/// Where a setup failed, the release that waits first is the one after it, and isn't needed.
+fn after_failed_setup<C: MessageCodec>(
+    requests: &mut Requests,
+    codec: &C,
+    channel: &Channel,
+    message: &Message,
+)
+    ensures { requests.new
+        ≡ after_failed_setup (octet_way C.codec) (message_as message.now) channel.now requests.old }
+{
+    if !is_setup_failure(codec, message) {
+        return;
+    }
+    give_up_release(requests, channel);
+}
+
+/// No attempt awaits the answer: what waits longest is put, but no release after a setup that failed.
 fn not_awaited<C: MessageCodec>(
     record: &mut ControlRecord,
     alloc: Global,
@@ -62,10 +85,8 @@ fn not_awaited<C: MessageCodec>(
         (message_as message.now) record.old answers_none))
         outputs.new record.new result }
 {
-    record.requests.close(&channel);
-    if is_setup_failure(codec, message) {
-        give_up_release(&mut record.requests, &channel);
-    }
+    close(record, codec, &channel);
+    after_failed_setup(&mut record.requests, codec, &channel, message);
     put_next(record, alloc, codec, channel, outputs)
 }
 
@@ -84,7 +105,7 @@ fn awaited<C: MessageCodec>(
         (answers_with (Some (row_as row)))))
         outputs.new record.new result }
 {
-    record.requests.close(&channel);
+    close(record, codec, &channel);
     carry_out(record, alloc, codec, UeId(channel.ue), row, outputs)?;
     put_next(record, alloc, codec, channel, outputs)
 }
