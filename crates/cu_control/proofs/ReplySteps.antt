@@ -1,6 +1,6 @@
 -- Answers to the unit's own requests, over plain values.
 use Rattle.std.proofs.Common.{◌≡◌, ℕ, List, sym, ap, ◌∙◌, subst}
-use Rattle.std.specs.Prelude.{Some, Result, Err}
+use Rattle.std.specs.Prelude.{Option, Some, Result, Ok, Err}
 use Rattle.gnb_types.specs.declared.names.UeId.{UeId}
 use Rattle.gnb_types.specs.declared.keys.Channel.{Channel}
 use Rattle.gnb_types.specs.declared.outputs.Output.{Output}
@@ -12,10 +12,21 @@ use Rattle.unit_steps.specs.declared.StepError.{StepError}
 use Rattle.unit_steps.specs.declared.StepError.TheVariants as errors
 use Rattle.unit_steps.specs.Steps.{Step, stepped, step_after, IsStep}
 use Rattle.unit_requests.proofs.Thens.{goes_on, stops}
-use Rattle.control_answers.specs.Answers.{AnswerGives}
+use Rattle.control_says.specs.declared.row.Row.{Row as CodeRow}
+use Rattle.control_says.specs.Rows.{row_as}
+use Rattle.control_answers.specs.declared.states.Answered.{Answered as CodeAnswered}
+use Rattle.control_answers.specs.declared.states.Answered.TheVariants.{Awaited}
+use Rattle.control_answers.specs.Answers.{some_row_as, AnswerGives}
 
 abbrev OctetCp : Type 0
 OctetCp = CuCpRecord (List ℕ) (List ℕ)
+
+-- a row that the code found
+pub row_found : (codec : Codec) (given : Answered (octet_way codec)) (answered : CodeAnswered) (taken : Option CodeRow) (row : CodeRow)
+    → AnswerGives (octet_way codec) given (Ok answered) → answered ≡ Awaited taken → taken ≡ Some row → given ≡ answers_with (Some (row_as row))
+row_found codec given answered taken row is awaited some =
+    subst (λ (o : Option CodeRow). given ≡ answers_with (some_row_as o)) some
+    (subst (λ (a : CodeAnswered). AnswerGives (octet_way codec) given (Ok a)) awaited is)
 
 module _ (codec : Codec) (ue : UeId) (channel : Channel) (message : Message (List ℕ)) (r after : OctetCp) (before outputs : List Output) where
   abbrev answering : Answered (octet_way codec) → Step OctetCp
