@@ -77,7 +77,14 @@ fn set_up<C: MessageCodec>(
         outputs.new record.new result }
 {
     let channel = Channel { ue: 0, peer: from };
-    put_reply(&mut record.requests, alloc, codec, channel, response, outputs)?;
+    put_reply(
+        &mut record.requests,
+        alloc,
+        codec,
+        channel,
+        response,
+        outputs,
+    )?;
     record.set_up(from)?;
     Ok(())
 }

@@ -130,12 +130,8 @@ pub(crate) fn reply_came<C: MessageCodec>(
     let terminal = record.terminal(alloc, ue)?;
     let at = at_of(record, alloc, codec, ue);
     match answer(&at, channel.peer, instance, message, &terminal)? {
-        Answered::NotAwaited => {
-            not_awaited(record, alloc, codec, channel, message, outputs)
-        }
+        Answered::NotAwaited => { not_awaited(record, alloc, codec, channel, message, outputs) }
         Answered::Awaited(None) => put(outputs, Output::Drop(DropReason::Unexpected)),
-        Answered::Awaited(Some(row)) => {
-            awaited(record, alloc, codec, channel, row, outputs)
-        }
+        Answered::Awaited(Some(row)) => { awaited(record, alloc, codec, channel, row, outputs) }
     }
 }
