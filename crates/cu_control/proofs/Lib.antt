@@ -1,4 +1,3 @@
-pub mod ReadMessages
 pub mod RowSteps
 pub mod SetUpSteps
 pub mod TickSteps

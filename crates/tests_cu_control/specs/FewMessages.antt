@@ -12,7 +12,7 @@ use Rattle.message_types.specs.declared.f1.F1.TheVariants.{F1SetupRequest, F1Set
 use Rattle.message_types.specs.declared.e1.E1Message.{E1Message}
 use Rattle.message_types.specs.declared.e1.E1Message.TheVariants.{E1SetupRequest, E1SetupResponse, BearerContextSetupRequest, BearerContextSetupResponse, BearerContextModificationRequest, BearerContextModificationResponse, BearerContextReleaseCommand, BearerContextReleaseComplete}
 use Rattle.message_types.specs.declared.xn.XnMessage.{XnMessage}
-use Rattle.message_types.specs.declared.xn.XnMessage.TheVariants.{HandoverRequest, HandoverRequestAcknowledge, HandoverPreparationFailure, SnStatusTransfer, HandoverCancel, UeContextRelease, TransportConfirm}
+use Rattle.message_types.specs.declared.xn.XnMessage.TheVariants.{HandoverRequest, HandoverRequestAcknowledge, HandoverPreparationFailure, SnStatusTransfer, HandoverCancel, TransportConfirm}
 use Rattle.message_types.specs.declared.xn.CoreMessage.{CoreMessage}
 use Rattle.message_types.specs.declared.xn.CoreMessage.TheVariants.{PathSwitchRequest, PathSwitchAcknowledge}
 use Rattle.message_types.specs.declared.rrc.Token.{Token}
