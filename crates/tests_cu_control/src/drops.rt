@@ -19,45 +19,27 @@ const DROPPED: [(Call, &[Put]); 32] = [
     ),
     (Call::Place, NOTHING),
     // Octets that are no message, and a message with an element that it must know.
-    (
-        Call::Give(DU, ""),
-        &[Put::Drop(DropReason::Undecodable)],
-    ),
+    (Call::Give(DU, ""), &[Put::Drop(DropReason::Undecodable)]),
     (
         Call::Give(OTHER, "000000"),
         &[Put::Drop(DropReason::Undecodable)],
     ),
-    (
-        Call::Give(UP, "00"),
-        &[Put::Drop(DropReason::Criticality)],
-    ),
+    (Call::Give(UP, "00"), &[Put::Drop(DropReason::Criticality)]),
     // Nodes that share no interface with it, whatever they say.
     (Call::Give(NodeId::Du(Gnb::B, 1), "00"), UNEXPECTED),
     (Call::Give(NodeId::CuUp(Gnb::B, 1), "00"), UNEXPECTED),
     (Call::Give(NodeId::CuCp(Gnb::A), "00"), UNEXPECTED),
     (Call::Give(NodeId::Ue(1), "00"), UNEXPECTED),
     // Replies that nobody awaits.
-    (
-        Call::Give(UP, "230101"),
-        &[Put::Drop(DropReason::Stale)],
-    ),
+    (Call::Give(UP, "230101"), &[Put::Drop(DropReason::Stale)]),
     (
         Call::Give(NodeId::Core, "410101"),
         &[Put::Drop(DropReason::Stale)],
     ),
     // A cancel of nothing is confirmed, and again; an older one is not.
-    (
-        Call::Give(OTHER, "350102"),
-        &[Put::Say(OTHER, 1, "370102")],
-    ),
-    (
-        Call::Give(OTHER, "350102"),
-        &[Put::Say(OTHER, 1, "370102")],
-    ),
-    (
-        Call::Give(OTHER, "350101"),
-        &[Put::Drop(DropReason::Stale)],
-    ),
+    (Call::Give(OTHER, "350102"), &[Put::Say(OTHER, 1, "370102")]),
+    (Call::Give(OTHER, "350102"), &[Put::Say(OTHER, 1, "370102")]),
+    (Call::Give(OTHER, "350101"), &[Put::Drop(DropReason::Stale)]),
     // No token; that of another terminal; an epoch that is neither accepted nor next.
     (Call::Give(DU, "01050101"), UNEXPECTED),
     (Call::Give(DU, "01020201"), UNEXPECTED),
@@ -74,24 +56,15 @@ const DROPPED: [(Call, &[Put]); 32] = [
     (Call::Order(Order::Arrive(UE)), UNEXPECTED),
     (Call::Order(Order::Return(UE)), UNEXPECTED),
     (Call::Order(Order::Fail(UE)), UNEXPECTED),
-    (
-        Call::Order(Order::Poll(UE, BearerId(1))),
-        UNEXPECTED,
-    ),
+    (Call::Order(Order::Poll(UE, BearerId(1))), UNEXPECTED),
     (Call::Look(StateName::Serving, None, true), NOTHING),
     // It was prepared there, and comes back too early.
     (
         Call::Order(Order::Handover(THERE)),
         &[Put::Say(OTHER, 1, "31010102")],
     ),
-    (
-        Call::Give(OTHER, "320101"),
-        &[Put::Say(UP, 1, "23010102")],
-    ),
-    (
-        Call::Give(DU, "01030102"),
-        &[Put::Drop(DropReason::Busy)],
-    ),
+    (Call::Give(OTHER, "320101"), &[Put::Say(UP, 1, "23010102")]),
+    (Call::Give(DU, "01030102"), &[Put::Drop(DropReason::Busy)]),
 ];
 
 #[test]

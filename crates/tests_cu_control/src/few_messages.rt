@@ -62,13 +62,7 @@ fn marked(alloc: Global, kind: u8, ue: UeId, instance: u32) -> Result<Octets, Me
     Octets::from_slice(alloc, &[kind, ue.0, (instance % 256) as u8])
 }
 
-fn numbered(
-    alloc: Global,
-    kind: u8,
-    ue: UeId,
-    instance: u32,
-    number: u32,
-) -> Result<Octets, Memory>
+fn numbered(alloc: Global, kind: u8, ue: UeId, instance: u32, number: u32) -> Result<Octets, Memory>
     ensures { IfOk result (λ octets. octets ≡ numbered kind ue instance number) }
 {
     let instance = (instance % 256) as u8;

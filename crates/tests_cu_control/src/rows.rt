@@ -19,10 +19,7 @@ const ATTACH: [(Call, &[Put]); 20] = [
     (Call::Give(UP, "210001"), &[Put::Say(UP, 0, "210001")]),
     // Its newest request again is answered again, an older one is not.
     (Call::Give(DU, "110001"), &[Put::Say(DU, 0, "110001")]),
-    (
-        Call::Give(DU, "110000"),
-        &[Put::Drop(DropReason::Stale)],
-    ),
+    (Call::Give(DU, "110000"), &[Put::Drop(DropReason::Stale)]),
     (
         Call::Order(Order::Attach(HERE)),
         &[Put::Say(UP, 1, "220101")],
@@ -47,10 +44,7 @@ const ATTACH: [(Call, &[Put]); 20] = [
     (Call::Look(StateName::Serving, Some(1), true), NOTHING),
     (Call::Tick, NOTHING),
     // What it said comes again: it is told again that it is accepted.
-    (
-        Call::Give(DU, "01020101"),
-        &[Put::Say(DU, 1, "1501040101")],
-    ),
+    (Call::Give(DU, "01020101"), &[Put::Say(DU, 1, "1501040101")]),
     (
         Call::Order(Order::Attach(HERE)),
         &[Put::No(RefuseReason::Attached)],
@@ -69,10 +63,7 @@ const HANDOVER: (Call, &[Put]) = (
 );
 
 /// It is prepared there: the bearers are frozen here.
-const PREPARED: (Call, &[Put]) = (
-    Call::Give(OTHER, "320101"),
-    &[Put::Say(UP, 1, "23010102")],
-);
+const PREPARED: (Call, &[Put]) = (Call::Give(OTHER, "320101"), &[Put::Say(UP, 1, "23010102")]);
 
 /// They are: the SN status.
 const FROZEN: (Call, &[Put]) = (Call::Give(UP, "230101"), &[Put::Say(OTHER, 1, "340102")]);
@@ -88,10 +79,7 @@ const MISSED_ACCESS: [(Call, &[Put]); 20] = [
     ),
     PREPARED,
     // It is back too early, and so is the cancel.
-    (
-        Call::Give(DU, "01030102"),
-        &[Put::Drop(DropReason::Busy)],
-    ),
+    (Call::Give(DU, "01030102"), &[Put::Drop(DropReason::Busy)]),
     (
         Call::Order(Order::Cancel(UE)),
         &[Put::No(RefuseReason::Busy)],
@@ -113,10 +101,7 @@ const MISSED_ACCESS: [(Call, &[Put]); 20] = [
     (Call::Give(UP, "230102"), &[Put::Say(DU, 1, "1501040102")]),
     (Call::Look(StateName::Serving, Some(2), true), NOTHING),
     // The old acknowledge, and an arrival of the old epoch.
-    (
-        Call::Give(OTHER, "320101"),
-        &[Put::Drop(DropReason::Stale)],
-    ),
+    (Call::Give(OTHER, "320101"), &[Put::Drop(DropReason::Stale)]),
     (
         Call::Give(DU, "01020101"),
         &[Put::Drop(DropReason::Unexpected)],
@@ -137,10 +122,7 @@ const CANCELLED: [(Call, &[Put]); 11] = [
     ),
     (Call::Look(StateName::Serving, None, false), NOTHING),
     // Only the cancel is awaited any more.
-    (
-        Call::Give(OTHER, "370102"),
-        &[Put::Drop(DropReason::Stale)],
-    ),
+    (Call::Give(OTHER, "370102"), &[Put::Drop(DropReason::Stale)]),
     (Call::Give(OTHER, "370103"), NOTHING),
     (Call::Give(UP, "230102"), NOTHING),
     (Call::Look(StateName::Serving, None, true), NOTHING),
@@ -154,10 +136,7 @@ const CANCELLED: [(Call, &[Put]); 11] = [
 const DECLINED: [(Call, &[Put]); 4] = [
     (Call::Place, NOTHING),
     HANDOVER,
-    (
-        Call::Give(OTHER, "330101"),
-        &[Put::Failed(CauseName::Busy)],
-    ),
+    (Call::Give(OTHER, "330101"), &[Put::Failed(CauseName::Busy)]),
     (Call::Look(StateName::Serving, None, true), NOTHING),
 ];
 
@@ -182,10 +161,7 @@ const EXPIRED: [(Call, &[Put]); 16] = [
     ),
     (Call::Look(StateName::Serving, None, false), NOTHING),
     (Call::Tick, &[Put::Say(OTHER, 1, "350102")]),
-    (
-        Call::Give(OTHER, "320101"),
-        &[Put::Drop(DropReason::Stale)],
-    ),
+    (Call::Give(OTHER, "320101"), &[Put::Drop(DropReason::Stale)]),
     (Call::Give(OTHER, "370102"), NOTHING),
     (Call::Look(StateName::Serving, None, true), NOTHING),
 ];

@@ -194,10 +194,7 @@ fn step_outcome(
     }
     if let Call::Look(state, taken, rests) = given {
         let is_left = unit.state(UE) == *state && unit.taken(UE) == *taken;
-        return Ok(outcome_if(
-            is_left && unit.rests(UE) == *rests,
-            Outcome::AsTold,
-        ));
+        return Ok(outcome_if(is_left && unit.rests(UE) == *rests, Outcome::AsTold));
     }
     let input = input_of(alloc, given)?;
     match unit.step(&FewMessages, input) {
