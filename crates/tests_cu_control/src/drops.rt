@@ -1,4 +1,4 @@
-//! Each reason for which a CU-CP drops its input. After all of them it is as it was.
+//! Each reason for which a CU-CP drops its input. It is left as it was.
 
 use crate::steps::{Call, DU, OTHER, Put, THERE, UE, UP, is_as_told};
 use gnb_types::inputs::Order;
@@ -11,7 +11,8 @@ const NOTHING: &[Put] = &[];
 
 const UNEXPECTED: &[Put] = &[Put::Drop(DropReason::Unexpected)];
 
-const DROPPED: [(Call, &[Put]); 32] = [
+/// What is dropped for the message that it is, or isn't.
+const MESSAGES: [(Call, &[Put]); 15] = [
     // No terminal is served: what relays a token, whatever it is.
     (
         Call::Give(DU, "01020101"),
@@ -40,6 +41,12 @@ const DROPPED: [(Call, &[Put]); 32] = [
     (Call::Give(OTHER, "350102"), &[Put::Say(OTHER, 1, "370102")]),
     (Call::Give(OTHER, "350102"), &[Put::Say(OTHER, 1, "370102")]),
     (Call::Give(OTHER, "350101"), &[Put::Drop(DropReason::Stale)]),
+    (Call::Look(StateName::Serving, None, true), NOTHING),
+];
+
+/// What is dropped for what it says, or for the kind of input that it is.
+const INPUTS: [(Call, &[Put]); 19] = [
+    (Call::Place, NOTHING),
     // No token; that of another terminal; an epoch that is neither accepted nor next.
     (Call::Give(DU, "01050101"), UNEXPECTED),
     (Call::Give(DU, "01020201"), UNEXPECTED),
@@ -69,6 +76,8 @@ const DROPPED: [(Call, &[Put]); 32] = [
 
 #[test]
 fn drops(rt: HostRuntime) -> Result<(), Fail> {
-    assert!(rt; is_as_told(rt.alloc(), &DROPPED)?);
+    let alloc = rt.alloc();
+    assert!(rt; is_as_told(alloc, &MESSAGES)?);
+    assert!(rt; is_as_told(alloc, &INPUTS)?);
     Ok(())
 }
