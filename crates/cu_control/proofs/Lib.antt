@@ -1,4 +1,3 @@
-pub mod ReadMessages
 pub mod ReplySteps
 pub mod RowSteps
 pub mod SetUpSteps

@@ -7,17 +7,18 @@ use Rattle.gnb_types.specs.declared.outputs.Output.{Output}
 use Rattle.transaction_defs.specs.Callers as callers
 use Rattle.transactions.specs.declared.caller.Due.{Due}
 use Rattle.transactions.specs.Answers.{due_as}
-use Rattle.unit_defs.specs.CpRecords.{CuCpRecord, terminal_of}
-use Rattle.unit_defs.specs.CuCp.{at_of, by_row, command_on, command_each, due_one, due_each}
+use Rattle.unit_defs.specs.Ways.{◌then◌}
+use Rattle.unit_defs.specs.CpRecords.{CuCpRecord, terminal_of, with_transactions}
+use Rattle.unit_defs.specs.CuCp.{at_of, by_row, command_on, command_each, due_each, ues_of, tick}
 use Rattle.unit_octet_defs.specs.Codec.{Codec, octet_way}
 use Rattle.unit_octet_defs.specs.Units.{OctetAnswer}
 use Rattle.unit_steps.specs.declared.StepError.{StepError}
 use Rattle.unit_steps.specs.Steps.{Step, stepped, step_after, IsStep}
 use Rattle.unit_steps.proofs.StepLaws.{step_then}
-use Rattle.unit_requests.proofs.Thens.{stops}
+use Rattle.unit_requests.proofs.Thens.{goes_on, stops}
 use Rattle.cu_control.specs.inside.Dues.{due_in}
 
-abbrev Kept : Type 0
+abbrev pub Kept : Type 0
 Kept = CuCpRecord (List ℕ) (List ℕ)
 
 pub dues_same : (ds : List (callers.Due (List ℕ))) → map due_in (map due_as ds) ≡ ds
@@ -30,41 +31,45 @@ rest_at i xs d within =
     let next : suc i ≡ i + 1 = omega arith in
     drop-cons xs i d within ∙ ap (λ (j : ℕ). get_or xs i d ∷ drop j xs) next
 
+-- ---- the commands
 module _ (codec : Codec) (before mid : List Output) (i : ℕ) (r s : Kept) (all : Step Kept) where
-  -- ---- what is due
-  module _ (ds : List Due) (d : Due) (within : i < length ds)
-      (so_far : step_after before (due_each (octet_way codec) (map due_in (drop i ds)) r) ≡ all) where
-    due_split : step_after before (due_each (octet_way codec) (map due_in (get_or ds i d ∷ drop (i + 1) ds)) r) ≡ all
-    due_split = ap (λ (es : List Due). step_after before (due_each (octet_way codec) (map due_in es) r)) (sym (rest_at i ds d within)) ∙ so_far
-
-    pub due_goes : step_after before (due_one (octet_way codec) r (due_in (get_or ds i d))) ≡ stepped mid s
-        → step_after mid (due_each (octet_way codec) (map due_in (drop (i + 1) ds)) s) ≡ all
-    due_goes e =
-        sym (step_then before mid (due_one (octet_way codec) r (due_in (get_or ds i d))) (due_each (octet_way codec) (map due_in (drop (i + 1) ds))) s e)
-        ∙ due_split
-
-    pub due_stops : (X Y : Type 0) (outputs : List Output) (t : Kept) (e : StepError)
-        → IsStep {X = X} (step_after before (due_one (octet_way codec) r (due_in (get_or ds i d)))) mid s (Err e) → IsStep {X = Y} all outputs t (Err e)
-    due_stops X Y outputs t e h =
-        subst (λ (a : Step Kept). IsStep {X = Y} a outputs t (Err e)) due_split
-        (stops before mid (due_one (octet_way codec) r (due_in (get_or ds i d))) (due_each (octet_way codec) (map due_in (drop (i + 1) ds))) X Y outputs s t e h)
-
-  -- ---- the commands
   abbrev commanded : UeId → OctetAnswer Kept
   commanded ue = by_row (octet_way codec) ue (command_on (octet_way codec) (at_of r ue) (terminal_of r ue) (terminal_of r ue).context) r
 
-  module _ (ues : List UeId) (u : UeId) (within : i < length ues)
-      (so_far : step_after before (command_each (octet_way codec) (drop i ues) r) ≡ all) where
-    ues_split : step_after before (command_each (octet_way codec) (get_or ues i u ∷ drop (i + 1) ues) r) ≡ all
-    ues_split = ap (λ (es : List UeId). step_after before (command_each (octet_way codec) es r)) (sym (rest_at i ues u within)) ∙ so_far
+  pub command_goes : (ues : List UeId) (u : UeId) → i < length ues
+      → step_after before (command_each (octet_way codec) (drop i ues) r) ≡ all → step_after before (commanded (get_or ues i u)) ≡ stepped mid s
+      → step_after mid (command_each (octet_way codec) (drop (i + 1) ues) s) ≡ all
+  command_goes ues u within so_far e =
+      sym (step_then before mid (commanded (get_or ues i u)) (command_each (octet_way codec) (drop (i + 1) ues)) s e)
+      ∙ (ap (λ (es : List UeId). step_after before (command_each (octet_way codec) es r)) (sym (rest_at i ues u within)) ∙ so_far)
 
-    pub command_goes : step_after before (commanded (get_or ues i u)) ≡ stepped mid s
-        → step_after mid (command_each (octet_way codec) (drop (i + 1) ues) s) ≡ all
-    command_goes e =
-        sym (step_then before mid (commanded (get_or ues i u)) (command_each (octet_way codec) (drop (i + 1) ues)) s e) ∙ ues_split
+-- ---- a tick: what is due, and then the commands
+module _ (codec : Codec) (before mid outputs : List Output) (r ticked s t : Kept) (dues : List Due)
+    (ticked_is : ticked ≡ with_transactions r (record r.transactions { caller = callers.after_tick r.transactions.caller }))
+    (dues_are : dues ≡ map due_as (callers.due r.transactions.caller)) where
+  abbrev due_now : OctetAnswer Kept
+  due_now = due_each (octet_way codec) (map due_in dues) ticked
 
-    pub command_stops : (X Y : Type 0) (outputs : List Output) (t : Kept) (e : StepError)
-        → IsStep {X = X} (step_after before (commanded (get_or ues i u))) mid s (Err e) → IsStep {X = Y} all outputs t (Err e)
-    command_stops X Y outputs t e h =
-        subst (λ (a : Step Kept). IsStep {X = Y} a outputs t (Err e)) ues_split
-        (stops before mid (commanded (get_or ues i u)) (command_each (octet_way codec) (drop (i + 1) ues)) X Y outputs s t e h)
+  abbrev commands : Kept → OctetAnswer Kept
+  commands k = command_each (octet_way codec) (ues_of (octet_way codec) k) k
+
+  ticks_as : tick (octet_way codec) r ≡ (due_now then commands)
+  unfolding tick
+  ticks_as =
+      ap (λ (ds : List (callers.Due (List ℕ))). due_each (octet_way codec) ds (with_transactions r (record r.transactions { caller = callers.after_tick r.transactions.caller })) then commands)
+      (sym (ap (λ (ds : List Due). map due_in ds) dues_are ∙ dues_same (callers.due r.transactions.caller)))
+      ∙ ap (λ (k : Kept). due_each (octet_way codec) (map due_in dues) k then commands) (sym ticked_is)
+
+  pub tick_goes : {Y : Type 0} (ues : List UeId) (result : Result Y StepError) → step_after before due_now ≡ stepped mid s
+      → ues ≡ map (λ e. e.0) s.terminals → IsStep (step_after mid (command_each (octet_way codec) ues s)) outputs t result
+      → IsStep (step_after before (tick (octet_way codec) r)) outputs t result
+  tick_goes {Y = Y} ues result h ues_are commanded_all =
+      subst (λ (a : OctetAnswer Kept). IsStep (step_after before a) outputs t result) (sym ticks_as)
+      (goes_on before mid due_now commands outputs s t result h
+      (subst (λ (us : List UeId). IsStep (step_after mid (command_each (octet_way codec) us s)) outputs t result) ues_are commanded_all))
+
+  pub tick_stops : (X Y : Type 0) (e : StepError) → IsStep {X = X} (step_after before due_now) mid s (Err e)
+      → IsStep {X = Y} (step_after before (tick (octet_way codec) r)) outputs t (Err e)
+  tick_stops X Y e h =
+      subst (λ (a : OctetAnswer Kept). IsStep {X = Y} (step_after before a) outputs t (Err e)) (sym ticks_as)
+      (stops before mid due_now commands X Y outputs s t e h)

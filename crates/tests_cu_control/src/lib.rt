@@ -1,7 +1,11 @@
-//! Tests of a CU-CP as a whole.
+//! Tests of the steps of a CU-CP, by public calls alone.
 #![tactic(auto)]
 
 #[cfg(test)]
-mod deadline;
+mod drops;
 #[cfg(test)]
-mod toy;
+mod few_messages;
+#[cfg(test)]
+mod rows;
+#[cfg(test)]
+mod steps;
