@@ -9,6 +9,7 @@ ghost use Rattle.unit_messages.specs.Messages.{message_as};
 ghost use Rattle.control_says.specs.Rows.{SomeRowGives};
 
 use crate::closing::{cause_name, only_closes};
+use crate::copies::{both_name_bearers, copy_both};
 use control_contexts::{Attempt, Context, Terminal, copy_tunnels};
 use control_rows::{attach_fails, attach_has_tunnels, attach_is_placed};
 use control_says::{At, Row};
@@ -80,14 +81,10 @@ fn tunnels_came<C: MessageCodec>(
         (listed (octet_way C.codec) (name_bearers context.now uplinks.now && name_bearers context.now n3.now)
         (attach_has_tunnels (octet_way C.codec) at.now uplinks.now n3.now terminal.now context.now attempt)) result }
 {
-    if !name_bearers(at.alloc, context, uplinks)? {
+    if !both_name_bearers(at.alloc, context, uplinks, n3)? {
         return Ok(None);
     }
-    if !name_bearers(at.alloc, context, n3)? {
-        return Ok(None);
-    }
-    let uplinks = copy_tunnels(at.alloc, uplinks)?;
-    let n3 = copy_tunnels(at.alloc, n3)?;
+    let (uplinks, n3) = copy_both(at.alloc, uplinks, n3)?;
     Ok(Some(attach_has_tunnels(at, uplinks, n3, terminal, context, attempt)?))
 }
 

@@ -111,6 +111,19 @@ fn copied(
     })
 }
 
+/// Whether all four lists name the bearers of the context.
+fn are_named(alloc: Global, context: &Context, tunnels: &OfferTunnels) -> Result<bool, Memory>
+    ensures { IfOk result (λ named. named
+        ≡ (name_bearers context.now tunnels.now.uplinks && name_bearers context.now tunnels.now.n3
+        && name_bearers context.now tunnels.now.forward_down
+        && name_bearers context.now tunnels.now.forward_up)) }
+{
+    Ok(name_bearers(alloc, context, &tunnels.uplinks)?
+        && name_bearers(alloc, context, &tunnels.n3)?
+        && name_bearers(alloc, context, &tunnels.forward_down)?
+        && name_bearers(alloc, context, &tunnels.forward_up)?)
+}
+
 fn tunnels_came<C: MessageCodec>(
     at: &At<'_, C>,
     tunnels: OfferTunnels,
@@ -126,16 +139,7 @@ fn tunnels_came<C: MessageCodec>(
         (offer_has_tunnels (octet_way C.codec) at.now tunnels.uplinks tunnels.n3
         tunnels.forward_down tunnels.forward_up terminal.now context.now attempt)) result }
 {
-    if !name_bearers(at.alloc, context, &tunnels.uplinks)? {
-        return Ok(None);
-    }
-    if !name_bearers(at.alloc, context, &tunnels.n3)? {
-        return Ok(None);
-    }
-    if !name_bearers(at.alloc, context, &tunnels.forward_down)? {
-        return Ok(None);
-    }
-    if !name_bearers(at.alloc, context, &tunnels.forward_up)? {
+    if !are_named(at.alloc, context, &tunnels)? {
         return Ok(None);
     }
     Ok(Some(offer_has_tunnels(at, tunnels, terminal, context, attempt)?))
