@@ -9,11 +9,10 @@ ghost use Rattle.unit_messages.specs.Messages.{message_as};
 ghost use Rattle.control_says.specs.Rows.{SomeRowGives};
 
 use crate::closing::{cause_name, only_closes};
-use crate::copies::{both_name_bearers, copy_both};
-use control_contexts::{Attempt, Context, Terminal, copy_tunnels};
+use crate::copies::{both_name_bearers, copy_both, copy_named};
+use control_contexts::{Attempt, Context, Terminal};
 use control_rows::{attach_fails, attach_has_tunnels, attach_is_placed};
 use control_says::{At, Row};
-use control_targets::name_bearers;
 use gnb_types::plans::TunnelList;
 use message_types::{E1Message, F1, F1Message};
 use unit_messages::{Message, MessageCodec};
@@ -141,9 +140,8 @@ fn du_came<C: MessageCodec>(
         (listed (octet_way C.codec) (name_bearers context.now downlinks.now)
         (attach_is_placed (octet_way C.codec) at.now downlinks.now terminal.now context.now attempt)) result }
 {
-    if !name_bearers(at.alloc, context, downlinks)? {
+    let Some(downlinks) = copy_named(at.alloc, context, downlinks)? else {
         return Ok(None);
-    }
-    let downlinks = copy_tunnels(at.alloc, downlinks)?;
+    };
     Ok(Some(attach_is_placed(at, downlinks, terminal, context, attempt)?))
 }

@@ -1,13 +1,28 @@
-//! Two lists of tunnels at once.
+//! Lists of tunnels that are to name the bearers of a context.
 
 ghost use Rattle.std.specs.Prelude.{◌≡◌, ◌&&◌, IfOk};
 ghost use Rattle.unit_defs.specs.CpRows.{name_bearers};
+ghost use Rattle.control_answers.specs.Answers.{CopiesNamed};
 
 use control_contexts::{Context, copy_tunnels};
 use control_targets::name_bearers;
 use gnb_types::items::Memory;
 use gnb_types::plans::TunnelList;
 use std::alloc::Global;
+
+/// A copy of a list that names the bearers of the context.
+pub(crate) fn copy_named(
+    alloc: Global,
+    context: &Context,
+    tunnels: &TunnelList,
+) -> Result<Option<TunnelList>, Memory>
+    ensures { IfOk result (λ copy. CopiesNamed (name_bearers context.now tunnels.now) tunnels.now copy) }
+{
+    if !name_bearers(alloc, context, tunnels)? {
+        return Ok(None);
+    }
+    Ok(Some(copy_tunnels(alloc, tunnels)?))
+}
 
 /// Whether both lists name the bearers of the context.
 pub(crate) fn both_name_bearers(

@@ -9,6 +9,7 @@ ghost use Rattle.unit_messages.specs.Messages.{message_as};
 ghost use Rattle.control_says.specs.Rows.{SomeRowGives};
 
 use crate::closing::{cause_name, only_closes};
+use crate::copies::copy_named;
 use control_contexts::{Attempt, Context, Terminal, copy_tunnels};
 use control_says::{At, Row};
 use control_targets::{
@@ -200,9 +201,8 @@ fn du_came<C: MessageCodec>(
         (listed (octet_way C.codec) (name_bearers context.now downlinks.now)
         (offer_is_placed (octet_way C.codec) at.now downlinks.now terminal.now context.now attempt)) result }
 {
-    if !name_bearers(at.alloc, context, downlinks)? {
+    let Some(downlinks) = copy_named(at.alloc, context, downlinks)? else {
         return Ok(None);
-    }
-    let downlinks = copy_tunnels(at.alloc, downlinks)?;
+    };
     Ok(Some(offer_is_placed(at, downlinks, terminal, context, attempt)?))
 }
