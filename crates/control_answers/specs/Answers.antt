@@ -1,5 +1,6 @@
 -- What an answer of the code is to an attempt, as the definitions have it.
-use Rattle.std.specs.Prelude.{◌≡◌, ℕ, List, Option, Some, None, Result, Ok, Err}
+use Rattle.std.specs.Prelude.{◌≡◌, ℕ, Bool, true, false, List, Option, Some, None, Result, Ok, Err}
+use Rattle.gnb_types.specs.declared.plans.Tunnel.{Tunnel}
 use Rattle.unit_defs.specs.Ways.{Way}
 use Rattle.unit_defs.specs.CpRecords as cp
 use Rattle.unit_defs.specs.CuCp as rows
@@ -20,3 +21,13 @@ AnswerGives way wanted (Ok code.NotAwaited) = wanted ≡ rows.answers_none
 AnswerGives way wanted (Ok (code.Awaited taken)) = wanted ≡ rows.answers_with (some_row_as taken)
 AnswerGives way wanted (Err (errors.Spent counter)) = wanted ≡ rows.answers_with (Some (cp.row_spent counter))
 AnswerGives way wanted (Err errors.Memory) = Unit {0}
+
+-- tunnels that name the bearers of their context, and their copy
+pub record AreCopied (name : Bool) (tunnels copy : List Tunnel) : Type 0 where
+  pub named : name ≡ true
+  pub same : copy ≡ tunnels
+
+-- a copy of the tunnels where they name the bearers of their context, and none where they don't
+abbrev pub CopiesNamed : Bool → List Tunnel → Option (List Tunnel) → Type 0
+CopiesNamed named tunnels None = named ≡ false
+CopiesNamed named tunnels (Some copy) = AreCopied named tunnels copy

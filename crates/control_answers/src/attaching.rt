@@ -9,10 +9,10 @@ ghost use Rattle.unit_messages.specs.Messages.{message_as};
 ghost use Rattle.control_says.specs.Rows.{SomeRowGives};
 
 use crate::closing::{cause_name, only_closes};
-use control_contexts::{Attempt, Context, Terminal, copy_tunnels};
+use crate::copies::{both_name_bearers, copy_both, copy_named};
+use control_contexts::{Attempt, Context, Terminal};
 use control_rows::{attach_fails, attach_has_tunnels, attach_is_placed};
 use control_says::{At, Row};
-use control_targets::name_bearers;
 use gnb_types::plans::TunnelList;
 use message_types::{E1Message, F1, F1Message};
 use unit_messages::{Message, MessageCodec};
@@ -80,14 +80,10 @@ fn tunnels_came<C: MessageCodec>(
         (listed (octet_way C.codec) (name_bearers context.now uplinks.now && name_bearers context.now n3.now)
         (attach_has_tunnels (octet_way C.codec) at.now uplinks.now n3.now terminal.now context.now attempt)) result }
 {
-    if !name_bearers(at.alloc, context, uplinks)? {
+    if !both_name_bearers(at.alloc, context, uplinks, n3)? {
         return Ok(None);
     }
-    if !name_bearers(at.alloc, context, n3)? {
-        return Ok(None);
-    }
-    let uplinks = copy_tunnels(at.alloc, uplinks)?;
-    let n3 = copy_tunnels(at.alloc, n3)?;
+    let (uplinks, n3) = copy_both(at.alloc, uplinks, n3)?;
     Ok(Some(attach_has_tunnels(at, uplinks, n3, terminal, context, attempt)?))
 }
 
@@ -144,9 +140,8 @@ fn du_came<C: MessageCodec>(
         (listed (octet_way C.codec) (name_bearers context.now downlinks.now)
         (attach_is_placed (octet_way C.codec) at.now downlinks.now terminal.now context.now attempt)) result }
 {
-    if !name_bearers(at.alloc, context, downlinks)? {
+    let Some(downlinks) = copy_named(at.alloc, context, downlinks)? else {
         return Ok(None);
-    }
-    let downlinks = copy_tunnels(at.alloc, downlinks)?;
+    };
     Ok(Some(attach_is_placed(at, downlinks, terminal, context, attempt)?))
 }

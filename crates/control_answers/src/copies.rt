@@ -1,39 +1,50 @@
-//! Copies of SN statuses.
+//! Lists of tunnels that are to name the bearers of a context.
 
-ghost use Rattle.std.specs.Prelude.{◌≡◌, IfOk};
+ghost use Rattle.std.specs.Prelude.{◌≡◌, ◌&&◌, IfOk};
+ghost use Rattle.unit_defs.specs.CpRows.{name_bearers};
+ghost use Rattle.control_answers.specs.Answers.{CopiesNamed};
 
-use gnb_types::bits::Bits;
-use gnb_types::items::{Items, Memory};
-use gnb_types::plans::{SnStatus, StatusList};
+use control_contexts::{Context, copy_tunnels};
+use control_targets::name_bearers;
+use gnb_types::items::Memory;
+use gnb_types::plans::TunnelList;
 use std::alloc::Global;
 
-fn copy_bits(alloc: Global, bits: &Option<Bits>) -> Result<Option<Bits>, Memory>
-    ensures { IfOk result (λ copy. copy ≡ bits.now) }
+/// A copy of a list that names the bearers of the context.
+pub(crate) fn copy_named(
+    alloc: Global,
+    context: &Context,
+    tunnels: &TunnelList,
+) -> Result<Option<TunnelList>, Memory>
+    ensures { IfOk result (λ copy. CopiesNamed (name_bearers context.now tunnels.now) tunnels.now copy) }
 {
-    match bits {
-        Some(bits) => Ok(Some(Items::from_slice(alloc, bits.as_slice())?)),
-        None => Ok(None),
+    if !name_bearers(alloc, context, tunnels)? {
+        return Ok(None);
     }
+    Ok(Some(copy_tunnels(alloc, tunnels)?))
 }
 
-fn copy_status(alloc: Global, status: &SnStatus) -> Result<SnStatus, Memory>
-    ensures { IfOk result (λ copy. copy ≡ status.now) }
+/// Whether both lists name the bearers of the context.
+pub(crate) fn both_name_bearers(
+    alloc: Global,
+    context: &Context,
+    one: &TunnelList,
+    other: &TunnelList,
+) -> Result<bool, Memory>
+    ensures { IfOk result (λ named. named
+        ≡ (name_bearers context.now one.now && name_bearers context.now other.now)) }
 {
-    let ul_received = copy_bits(alloc, &status.ul_received)?;
-    Ok(SnStatus {
-        bearer: status.bearer,
-        dl_next: status.dl_next,
-        ul_first: status.ul_first,
-        ul_received,
-    })
+    Ok(name_bearers(alloc, context, one)? && name_bearers(alloc, context, other)?)
 }
 
-pub(crate) fn copy_statuses(alloc: Global, statuses: &StatusList) -> Result<StatusList, Memory>
-    ensures { IfOk result (λ copy. copy ≡ statuses.now) }
+pub(crate) fn copy_both(
+    alloc: Global,
+    one: &TunnelList,
+    other: &TunnelList,
+) -> Result<(TunnelList, TunnelList), Memory>
+    ensures one { IfOk result (λ copies. copies.0 ≡ one.now) }
+    ensures other { IfOk result (λ copies. copies.1 ≡ other.now) }
 {
-    let mut copy = Items::new(alloc);
-    for status in statuses.as_slice() {
-        copy.push(copy_status(alloc, status)?)?;
-    }
-    Ok(copy)
+    let one = copy_tunnels(alloc, one)?;
+    Ok((one, copy_tunnels(alloc, other)?))
 }

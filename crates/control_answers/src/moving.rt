@@ -7,10 +7,10 @@ ghost use Rattle.unit_messages.specs.Messages.{message_as};
 ghost use Rattle.control_says.specs.Rows.{SomeRowGives};
 
 use crate::closing::only_closes;
-use control_contexts::{Attempt, Context, Terminal, copy_tunnels};
+use crate::copies::copy_named;
+use control_contexts::{Attempt, Context, Terminal};
 use control_rows::{move_has_uplinks, move_is_placed};
 use control_says::{At, Row};
-use control_targets::name_bearers;
 use gnb_types::plans::TunnelList;
 use message_types::{E1Message, F1, F1Message};
 use unit_messages::{Message, MessageCodec};
@@ -80,10 +80,9 @@ fn uplinks_came<C: MessageCodec>(
         (move_has_uplinks (octet_way C.codec) at.now uplinks.now terminal.now context.now attempt))
         result }
 {
-    if !name_bearers(at.alloc, context, uplinks)? {
+    let Some(uplinks) = copy_named(at.alloc, context, uplinks)? else {
         return Ok(None);
-    }
-    let uplinks = copy_tunnels(at.alloc, uplinks)?;
+    };
     Ok(Some(move_has_uplinks(at, uplinks, terminal, context, attempt)?))
 }
 
@@ -125,9 +124,8 @@ fn du_came<C: MessageCodec>(
         (listed (octet_way C.codec) (name_bearers context.now downlinks.now)
         (move_is_placed (octet_way C.codec) downlinks.now terminal.now context.now attempt)) result }
 {
-    if !name_bearers(at.alloc, context, downlinks)? {
+    let Some(downlinks) = copy_named(at.alloc, context, downlinks)? else {
         return Ok(None);
-    }
-    let downlinks = copy_tunnels(at.alloc, downlinks)?;
+    };
     Ok(Some(move_is_placed(at, downlinks, terminal, context, attempt)?))
 }

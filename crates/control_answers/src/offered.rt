@@ -9,6 +9,7 @@ ghost use Rattle.unit_messages.specs.Messages.{message_as};
 ghost use Rattle.control_says.specs.Rows.{SomeRowGives};
 
 use crate::closing::{cause_name, only_closes};
+use crate::copies::copy_named;
 use control_contexts::{Attempt, Context, Terminal, copy_tunnels};
 use control_says::{At, Row};
 use control_targets::{
@@ -111,6 +112,19 @@ fn copied(
     })
 }
 
+/// Whether all four lists name the bearers of the context.
+fn are_named(alloc: Global, context: &Context, tunnels: &OfferTunnels) -> Result<bool, Memory>
+    ensures { IfOk result (λ named. named
+        ≡ (name_bearers context.now tunnels.now.uplinks && name_bearers context.now tunnels.now.n3
+        && name_bearers context.now tunnels.now.forward_down
+        && name_bearers context.now tunnels.now.forward_up)) }
+{
+    Ok(name_bearers(alloc, context, &tunnels.uplinks)?
+        && name_bearers(alloc, context, &tunnels.n3)?
+        && name_bearers(alloc, context, &tunnels.forward_down)?
+        && name_bearers(alloc, context, &tunnels.forward_up)?)
+}
+
 fn tunnels_came<C: MessageCodec>(
     at: &At<'_, C>,
     tunnels: OfferTunnels,
@@ -126,16 +140,7 @@ fn tunnels_came<C: MessageCodec>(
         (offer_has_tunnels (octet_way C.codec) at.now tunnels.uplinks tunnels.n3
         tunnels.forward_down tunnels.forward_up terminal.now context.now attempt)) result }
 {
-    if !name_bearers(at.alloc, context, &tunnels.uplinks)? {
-        return Ok(None);
-    }
-    if !name_bearers(at.alloc, context, &tunnels.n3)? {
-        return Ok(None);
-    }
-    if !name_bearers(at.alloc, context, &tunnels.forward_down)? {
-        return Ok(None);
-    }
-    if !name_bearers(at.alloc, context, &tunnels.forward_up)? {
+    if !are_named(at.alloc, context, &tunnels)? {
         return Ok(None);
     }
     Ok(Some(offer_has_tunnels(at, tunnels, terminal, context, attempt)?))
@@ -196,9 +201,8 @@ fn du_came<C: MessageCodec>(
         (listed (octet_way C.codec) (name_bearers context.now downlinks.now)
         (offer_is_placed (octet_way C.codec) at.now downlinks.now terminal.now context.now attempt)) result }
 {
-    if !name_bearers(at.alloc, context, downlinks)? {
+    let Some(downlinks) = copy_named(at.alloc, context, downlinks)? else {
         return Ok(None);
-    }
-    let downlinks = copy_tunnels(at.alloc, downlinks)?;
+    };
     Ok(Some(offer_is_placed(at, downlinks, terminal, context, attempt)?))
 }

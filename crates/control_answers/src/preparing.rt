@@ -10,15 +10,16 @@ ghost use Rattle.unit_messages.specs.Messages.{message_as};
 ghost use Rattle.control_says.specs.Rows.{SomeRowGives};
 
 use crate::closing::{cause_name, only_closes};
-use crate::copies::copy_statuses;
-use control_contexts::{Attempt, Context, Terminal, copy_tunnels};
+use crate::copies::{both_name_bearers, copy_both};
+use control_contexts::{Attempt, Context, Terminal};
 use control_rows::{
     handover_is_acknowledged, handover_is_declined, handover_is_frozen, handover_is_not_frozen,
 };
 use control_says::{At, Row};
-use control_targets::{name_bearers, statuses_name_bearers};
+use control_targets::statuses_name_bearers;
 use gnb_types::plans::{Peer, StatusList, TunnelList};
 use message_types::{E1Message, XnMessage};
+use status_copies::copy_statuses;
 use unit_messages::{Message, MessageCodec};
 use unit_steps::StepError;
 
@@ -96,14 +97,10 @@ fn target_came<C: MessageCodec>(
         (handover_is_acknowledged (octet_way C.codec) at.now peer forward_down.now forward_up.now terminal.now
         context.now attempt)) result }
 {
-    if !name_bearers(at.alloc, context, forward_down)? {
+    if !both_name_bearers(at.alloc, context, forward_down, forward_up)? {
         return Ok(None);
     }
-    if !name_bearers(at.alloc, context, forward_up)? {
-        return Ok(None);
-    }
-    let forward_down = copy_tunnels(at.alloc, forward_down)?;
-    let forward_up = copy_tunnels(at.alloc, forward_up)?;
+    let (forward_down, forward_up) = copy_both(at.alloc, forward_down, forward_up)?;
     Ok(Some(handover_is_acknowledged(
         at,
         peer,

@@ -7,9 +7,10 @@ ghost use Rattle.unit_messages.specs.Messages.{message_as};
 ghost use Rattle.control_says.specs.Rows.{SomeRowGives};
 
 use crate::closing::only_closes;
-use control_contexts::{Attempt, Context, Terminal, copy_tunnels};
+use crate::copies::copy_named;
+use control_contexts::{Attempt, Context, Terminal};
 use control_says::{At, Row};
-use control_targets::{is_switched, name_bearers, path_is_switched, place_is_renewed};
+use control_targets::{is_switched, path_is_switched, place_is_renewed};
 use gnb_types::plans::TunnelList;
 use message_types::{CoreMessage, E1Message, F1, F1Message};
 use unit_messages::{Message, MessageCodec};
@@ -73,10 +74,9 @@ fn du_came<C: MessageCodec>(
         (listed (octet_way C.codec) (name_bearers context.now downlinks.now)
         (place_is_renewed (octet_way C.codec) at.now downlinks.now terminal.now context.now attempt)) result }
 {
-    if !name_bearers(at.alloc, context, downlinks)? {
+    let Some(downlinks) = copy_named(at.alloc, context, downlinks)? else {
         return Ok(None);
-    }
-    let downlinks = copy_tunnels(at.alloc, downlinks)?;
+    };
     Ok(Some(place_is_renewed(at, downlinks, terminal, context, attempt)?))
 }
 

@@ -6,14 +6,14 @@ use Rattle.pool_defs.specs.Pools.{PoolState, packet_of, with_packet}
 use Rattle.pool_defs.proofs.PoolLaws.{put_held, new_other}
 use Rattle.packet_pool.specs.declared.accounts.QuotaUsed.{QuotaUsed}
 use Rattle.tests_entities.proofs.QuotaLemmas.{no_quota, no_other_quota, beside, spared}
-use Rattle.tests_entities.proofs.quotas.a_block_is_used_again.Goals as goal
+use Rattle.tests_entities.proofs.quotas.is_used_beside_another.Goals as goal
 
 pub reserve_quota-requires : goal.reserve_quota-requires
-reserve_quota-requires g c = no_quota _ _ _ c.in_ok-pool.ensures
+reserve_quota-requires g c = no_quota _ _ _ c.requires
 
 pub reserve_quota-requires-2 : goal.reserve_quota-requires-2
 reserve_quota-requires-2 g c =
-    no_other_quota _ _ _ _ _ _ c.in_ok-pool.ensures c.in_ok-reserve_quota.ensures.ok refl
+    no_other_quota _ _ _ _ _ _ c.requires c.in_ok-reserve_quota.ensures.ok refl
 
 pub take-requires : goal.take-requires
 take-requires g c =
@@ -24,7 +24,7 @@ take-requires g c =
     (subst (λ (o : Result ℕ QuotaUsed). IfOk o P) c.expect-first.ensures c.put.ensures.fresh)
     (subst (λ (o : Result ℕ QuotaUsed). IfOk o Q) c.expect-first.ensures c.put.ensures.ok) in
     let kept : c.put-2.new.self ≡ c.put.new.self =
-    subst (λ (o : Result ℕ QuotaUsed). OnErr o (c.put-2.new.self ≡ c.put.new.self)) c.expect_err-refused.ensures c.put-2.ensures.err in
+    subst (λ (o : Result ℕ QuotaUsed). OnErr o (c.put-2.new.self ≡ c.put.new.self)) c.expect_err.ensures c.put-2.ensures.err in
     let first : IsSome (packet_of c.put-2.new.self c.expect-first.result) =
     subst (λ (p : PoolState). IsSome (packet_of p c.expect-first.result)) (sym kept) first in
     let R : ℕ → Type 0 = λ r. find nat_cmp c.put-2.new.self.refs r ≡ None in
@@ -42,7 +42,7 @@ bytes-requires g c =
     (subst (λ (o : Result ℕ QuotaUsed). IfOk o P) c.expect-first.ensures c.put.ensures.fresh)
     (subst (λ (o : Result ℕ QuotaUsed). IfOk o Q) c.expect-first.ensures c.put.ensures.ok) in
     let kept : c.put-2.new.self ≡ c.put.new.self =
-    subst (λ (o : Result ℕ QuotaUsed). OnErr o (c.put-2.new.self ≡ c.put.new.self)) c.expect_err-refused.ensures c.put-2.ensures.err in
+    subst (λ (o : Result ℕ QuotaUsed). OnErr o (c.put-2.new.self ≡ c.put.new.self)) c.expect_err.ensures c.put-2.ensures.err in
     let first : IsSome (packet_of c.put-2.new.self c.expect-first.result) =
     subst (λ (p : PoolState). IsSome (packet_of p c.expect-first.result)) (sym kept) first in
     let R : ℕ → Type 0 = λ r. find nat_cmp c.put-2.new.self.refs r ≡ None in
@@ -80,7 +80,7 @@ take-requires-3 g c =
     (subst (λ (o : Result ℕ QuotaUsed). IfOk o P) c.expect-first.ensures c.put.ensures.fresh)
     (subst (λ (o : Result ℕ QuotaUsed). IfOk o Q) c.expect-first.ensures c.put.ensures.ok) in
     let kept : c.put-2.new.self ≡ c.put.new.self =
-    subst (λ (o : Result ℕ QuotaUsed). OnErr o (c.put-2.new.self ≡ c.put.new.self)) c.expect_err-refused.ensures c.put-2.ensures.err in
+    subst (λ (o : Result ℕ QuotaUsed). OnErr o (c.put-2.new.self ≡ c.put.new.self)) c.expect_err.ensures c.put-2.ensures.err in
     let first : IsSome (packet_of c.put-2.new.self c.expect-first.result) =
     subst (λ (p : PoolState). IsSome (packet_of p c.expect-first.result)) (sym kept) first in
     let R : ℕ → Type 0 = λ r. find nat_cmp c.put-2.new.self.refs r ≡ None in
