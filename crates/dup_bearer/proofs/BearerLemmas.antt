@@ -1,20 +1,20 @@
 -- Parts of an event, one after another.
-use Rattle.std.proofs.Common.{◌≡◌, ◌==◌, ℕ, ◌+◌, ◌-◌, ◌≤◌, Bool, true, false, cond, nat_lt, min, fold, List, [], ◌∷◌, ◌++◌, length, map, Option, Some, None, Ok, Err, refl, sym, ap, ◌∙◌, subst, arith, append_assoc, append-nil}
-use Rattle.std.specs.List.{AllByRecursion}
-use Rattle.std.proofs.lemmas.List.{map-append}
+use Rattle.std.proofs.Common.{◌≡◌, ℕ, ◌-◌, Bool, true, false, cond, nat_lt, min, fold, List, [], ◌∷◌, ◌++◌, map, Some, refl, sym, ap, ◌∙◌, arith, append_assoc}
+use Rattle.std.specs.Ordering.{nat_cmp}
 use Rattle.std.proofs.lemmas.Bool.Decides.{nat_tests}
 use Rattle.gnb_types.specs.declared.names.SnBits.{SnBits}
-use Rattle.pdcp_defs.specs.Receivers.{Receiver, is_duplicate, stored, deliver}
+use Rattle.tables.specs.Tables.{put}
+use Rattle.pdcp_defs.specs.Receivers.{Receiver, is_duplicate, stored, deliver, deliver_from}
 use Rattle.dup_types.specs.declared.leg.Leg.{Leg}
 use Rattle.dup_types.specs.declared.leg.Leg.TheVariants as legs
 use Rattle.dup_types.specs.declared.line.DupLine.{DupLine}
 use Rattle.dup_types.specs.declared.line.DupLine.TheVariants as lines
 use Rattle.dup_types.specs.declared.put.Put.{Put}
-use Rattle.dup_defs.specs.Senders.{DupSender, DupPut, DupNumbers, gives, spends}
-use Rattle.dup_run_defs.specs.Run.{LegItems, DupRun, DupOutcome, goes_on, counts_spent, lines_first, and_then, items_of, with_items, with_put, with_puts, put_line, puts_out, counts_on, undelivered, outstanding, span_from, span}
+use Rattle.dup_defs.specs.Senders.{DupPut}
+use Rattle.dup_run_defs.specs.Run.{received, handed_up, LegItems, DupRun, DupOutcome, goes_on, counts_spent, lines_first, and_then, items_of, with_items, with_put, with_puts, put_line, counts_on, undelivered, outstanding, span_from, span}
 use Rattle.dup_pdcp.specs.Entity.{DupTxState, put_of, puts_of_code}
 use Rattle.dup_legs.specs.Legs.{LegsState, leg_of, with_leg}
-use Rattle.dup_bearer.specs.Bearers.{BearerState, with_run}
+use Rattle.dup_bearer.specs.Bearers.{BearerState, deliver_line}
 use Rattle.dup_bearer.specs.inside.Views.{run_state, bearer_state}
 use Rattle.dup_bearer.specs.inside.Parts.{IsPart}
 
@@ -109,3 +109,39 @@ span_is s least is =
     ∙ (ap (λ n. fold min n counts) (sym (awaited_least next s.receiver.deliv))
     ∙ (sym (fold_append next (undelivered s) counts) ∙ ap (λ (xs : List ℕ). fold min next xs) (sym (append_assoc (undelivered s) (counts_on s.first) (counts_on s.second))))))
     ∙ span_least next (outstanding s)
+
+-- ---- a packet is received
+
+pub is_dropped : (packet : List ℕ) (s : DupRun) (count : ℕ) → is_duplicate s.receiver count ≡ true → received packet s (Some count) ≡ goes_on (lines.DropDuplicate ∷ []) s
+is_dropped packet s count is =
+    ap (λ b. cond b (goes_on (lines.DropDuplicate ∷ []) s) (handed_up s (deliver (stored s.receiver count packet)))) is
+
+pub is_stored : (packet : List ℕ) (s : DupRun) (count : ℕ) → is_duplicate s.receiver count ≡ false
+    → received packet s (Some count) ≡ handed_up s (deliver (stored s.receiver count packet))
+is_stored packet s count is =
+    ap (λ b. cond b (goes_on (lines.DropDuplicate ∷ []) s) (handed_up s (deliver (stored s.receiver count packet)))) is
+
+pub drops : (o : DupOutcome) (old : BearerState) (a b : List DupLine) → o ≡ goes_on (lines.DropDuplicate ∷ []) old.run → b ≡ a ++ lines.DropDuplicate ∷ []
+    → IsPart o old old a b
+drops o old a b is pushed = record {
+  lines = ap (λ (d : DupOutcome). lines_first a d) is ∙ ap (λ (ls : List DupLine). goes_on ls old.run) (sym pushed);
+  same = refl;
+}
+
+-- what is stored, and what is handed up from it
+pub delivers : (n : SnBits) (tx : DupTxState) (l : LegsState) (deliv next : ℕ) (es fs gs : List (ℕ × List ℕ)) (count : ℕ) (packet : List ℕ) (ups : List (ℕ × List ℕ)) (a b : List DupLine)
+    → fs ≡ put nat_cmp es count packet → ups ≡ (deliver_from deliv fs).packets → (deliver_from deliv fs).after ≡ record { deliv = next; stored = gs }
+    → b ≡ a ++ map deliver_line ups
+    → IsPart (handed_up (run_state tx l deliv es) (deliver (stored (record { deliv = deliv; stored = es }) count packet)))
+    (bearer_state n tx l deliv es) (bearer_state n tx l next gs) a b
+unfolding deliver stored
+delivers n tx l deliv next es fs gs count packet ups a b put_is up after printed =
+    let s = run_state tx l deliv es in
+    record {
+      lines =
+          ap (λ (xs : List (ℕ × List ℕ)). goes_on (a ++ map deliver_line (deliver_from deliv xs).packets) (record s { receiver = (deliver_from deliv xs).after })) (sym put_is)
+          ∙ (ap (λ (xs : List (ℕ × List ℕ)). goes_on (a ++ map deliver_line xs) (record s { receiver = (deliver_from deliv fs).after })) (sym up)
+          ∙ (ap (λ (r : Receiver (List ℕ)). goes_on (a ++ map deliver_line ups) (record s { receiver = r })) after
+          ∙ ap (λ (ls : List DupLine). goes_on ls (run_state tx l next gs)) (sym printed)));
+      same = refl;
+    }
