@@ -28,7 +28,12 @@ use Rattle.command_um.specs.declared.end.ScriptEnd.{ScriptEnd}
 use Rattle.command_um.specs.Ends.{script_status, StopsAtEvent}
 use Rattle.command_um.specs.Run.{UmMeets}
 use Rattle.command_um.specs.Whole.{RunsWholly as RunsWhollyUm}
-use Rattle.scenario_cli.specs.declared.top.Form.TheVariants.{Run, Check, Profile, Um, Other}
+use Rattle.command_dup.specs.declared.config.DupConfig.{DupConfig}
+use Rattle.command_dup.specs.declared.end.ScriptEnd.{ScriptEnd as DupScriptEnd}
+use Rattle.command_dup.specs.Ends.{script_status as dup_script_status, StopsAtEvent as StopsAtDupEvent}
+use Rattle.command_dup.specs.Run.{DupMeets}
+use Rattle.command_dup.specs.Whole.{RunsWholly as RunsWhollyDup}
+use Rattle.scenario_cli.specs.declared.top.Form.TheVariants.{Run, Check, Profile, Um, Dup, Other}
 use Rattle.scenario_cli.specs.Gnb.{FormMeets, WritesProfile}
 use Rattle.scenario_cli.specs.inside.Timed.{IsTimed}
 
@@ -91,6 +96,8 @@ pub record Holds (form : Form) (before after : OutsideAt) (status : Status) : Ty
   pub complete : form ≡ Run → RunsWholly before after status
   pub bearer : (config : UmConfig) → form ≡ Um config → RunsWhollyUm config before after status
   pub near_event : (config : UmConfig) → form ≡ Um config → StopsAtEvent before.source after.source status
+  pub legs : (config : DupConfig) → form ≡ Dup config → RunsWhollyDup config before after status
+  pub near_leg_event : (config : DupConfig) → form ≡ Dup config → StopsAtDupEvent before.source after.source status
   pub checks : form ≡ Check → ChecksWholly before after status
   pub writes : WritesProfile form before after status
 
@@ -114,6 +121,8 @@ run_holds before after end meets near complete = record {
   complete = λ (e : Run ≡ Run). complete;
   bearer = λ config (e : Run ≡ Um config). absurd (cc);
   near_event = λ config (e : Run ≡ Um config). absurd (cc);
+  legs = λ config (e : Run ≡ Dup config). absurd (cc);
+  near_leg_event = λ config (e : Run ≡ Dup config). absurd (cc);
   checks = λ (e : Run ≡ Check). absurd (cc);
   writes = tt;
 }
@@ -130,6 +139,8 @@ check_holds before after end meets near complete = record {
   complete = λ (e : Check ≡ Run). absurd (cc);
   bearer = λ config (e : Check ≡ Um config). absurd (cc);
   near_event = λ config (e : Check ≡ Um config). absurd (cc);
+  legs = λ config (e : Check ≡ Dup config). absurd (cc);
+  near_leg_event = λ config (e : Check ≡ Dup config). absurd (cc);
   checks = λ (e : Check ≡ Check). complete;
   writes = tt;
 }
@@ -146,6 +157,8 @@ usage_holds before after status u =
       complete = λ (e : Other ≡ Run). absurd (cc);
       bearer = λ config (e : Other ≡ Um config). absurd (cc);
       near_event = λ config (e : Other ≡ Um config). absurd (cc);
+      legs = λ config (e : Other ≡ Dup config). absurd (cc);
+      near_leg_event = λ config (e : Other ≡ Dup config). absurd (cc);
       checks = λ (e : Other ≡ Check). absurd (cc);
       writes = tt;
     }
@@ -188,6 +201,8 @@ profile_holds version before after status p complete =
       complete = λ (e : Profile version ≡ Run). absurd (cc);
       bearer = λ config (e : Profile version ≡ Um config). absurd (cc);
       near_event = λ config (e : Profile version ≡ Um config). absurd (cc);
+      legs = λ config (e : Profile version ≡ Dup config). absurd (cc);
+      near_leg_event = λ config (e : Profile version ≡ Dup config). absurd (cc);
       checks = λ (e : Profile version ≡ Check). absurd (cc);
       writes = complete;
     }
@@ -209,7 +224,32 @@ um_holds config before after end meets near complete = record {
   complete = λ (e : Um config ≡ Run). absurd (cc);
   bearer = λ other (e : Um config ≡ Um other). subst (λ (c : UmConfig). RunsWhollyUm c before after (script_status end)) (same_config e) complete;
   near_event = λ other (e : Um config ≡ Um other). near;
+  legs = λ other (e : Um config ≡ Dup other). absurd (cc);
+  near_leg_event = λ other (e : Um config ≡ Dup other). absurd (cc);
   checks = λ (e : Um config ≡ Check). absurd (cc);
+  writes = tt;
+}
+
+-- ---- with the word `duplicate`
+
+same_legs : {config other : DupConfig} → Dup config ≡ Dup other → config ≡ other
+same_legs e = cc
+
+dup_holds : (config : DupConfig) (before after : OutsideAt) (end : DupScriptEnd) → DupMeets config before after end
+    → StopsAtDupEvent before.source after.source (dup_script_status end) → RunsWhollyDup config before after (dup_script_status end)
+    → Holds (Dup config) before after (dup_script_status end)
+dup_holds config before after end meets near complete = record {
+  headline = record { end = end; status_is = refl; meets = meets };
+  read = read_rose meets.calls.reads;
+  write = write_rose meets.calls.writes;
+  calls = meets.calls;
+  near = λ bytes known (stop : (dup_script_status end).code ≡ 4). near bytes known (inl stop);
+  complete = λ (e : Dup config ≡ Run). absurd (cc);
+  bearer = λ other (e : Dup config ≡ Um other). absurd (cc);
+  near_event = λ other (e : Dup config ≡ Um other). absurd (cc);
+  legs = λ other (e : Dup config ≡ Dup other). subst (λ (c : DupConfig). RunsWhollyDup c before after (dup_script_status end)) (same_legs e) complete;
+  near_leg_event = λ other (e : Dup config ≡ Dup other). near;
+  checks = λ (e : Dup config ≡ Check). absurd (cc);
   writes = tt;
 }
 
@@ -250,6 +290,17 @@ pub runs_bearer : {before after : OutsideAt} (form found : Form) (config : UmCon
 runs_bearer {before = before} {after = after} form found config end status e f same meets near complete =
     holds_at form found (Um config) status (script_status end) e f same (um_holds config before after end meets near complete)
 
+pub runs_legs : {before after : OutsideAt} (form found : Form) (config : DupConfig) (end : DupScriptEnd) (status : Status) → found ≡ form
+    → found ≡ Dup config → status ≡ dup_script_status end → DupMeets config before after end
+    → StopsAtDupEvent before.source after.source (dup_script_status end) → RunsWhollyDup config before after (dup_script_status end)
+    → Holds form before after status
+runs_legs {before = before} {after = after} form found config end status e f same meets near complete =
+    holds_at form found (Dup config) status (dup_script_status end) e f same (dup_holds config before after end meets near complete)
+
 -- the timer of the form that was found has ticks
 pub timed : (found : Form) (config : UmConfig) → found ≡ Um config → IsTimed found → IsTimed (Um config)
 timed found config e h = subst (λ (f : Form). IsTimed f) e h
+
+-- and its quota is one that an entity takes
+pub fitting : (found : Form) (config : DupConfig) → found ≡ Dup config → IsTimed found → IsTimed (Dup config)
+fitting found config e h = subst (λ (f : Form). IsTimed f) e h

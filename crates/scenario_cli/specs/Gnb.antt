@@ -17,6 +17,10 @@ use Rattle.command_um.specs.declared.config.UmConfig.{UmConfig}
 use Rattle.command_um.specs.declared.end.ScriptEnd.{ScriptEnd}
 use Rattle.command_um.specs.Ends.{script_status}
 use Rattle.command_um.specs.Run.{UmMeets}
+use Rattle.command_dup.specs.declared.config.DupConfig.{DupConfig}
+use Rattle.command_dup.specs.declared.end.ScriptEnd.{ScriptEnd as DupScriptEnd}
+use Rattle.command_dup.specs.Ends.{script_status as dup_script_status}
+use Rattle.command_dup.specs.Run.{DupMeets}
 use Rattle.scenario_cli.specs.declared.top.Form.{Form}
 use Rattle.scenario_cli.specs.declared.top.Form.TheVariants as forms
 
@@ -36,12 +40,22 @@ um_form_with None ticks = forms.Other
 abbrev pub um_form : List ℕ → List ℕ → Form
 um_form bits ticks = um_form_with (sn_bits_of bits) (number_of 1 1000 ticks)
 
--- the words of a form: one, `profile 2`, or `um N T`
+-- the two words after `duplicate`: 12 or 18 bits of a sequence number, and a quota of 4 to 4,096 packets
+abbrev pub dup_form_with : Option SnBits → Option ℕ → Form
+dup_form_with (Some sn) (Some quota) = forms.Dup (record { sn = sn; quota = quota })
+dup_form_with (Some sn) None = forms.Other
+dup_form_with None quota = forms.Other
+
+abbrev pub dup_form : List ℕ → List ℕ → Form
+dup_form bits quota = dup_form_with (sn_bits_of bits) (number_of 4 4096 quota)
+
+-- the words of a form: one, `profile 2`, `um N T`, or `duplicate N Q`
 abbrev pub form_of : List (List ℕ) → Form
 form_of (word ∷ []) = form_of_one word
 form_of (word ∷ number ∷ []) =
     if bytes_eq word (codes "profile") && bytes_eq number (codes "2") then forms.Profile Two else forms.Other
-form_of (word ∷ bits ∷ ticks ∷ []) = if bytes_eq word (codes "um") then um_form bits ticks else forms.Other
+form_of (word ∷ bits ∷ last ∷ []) =
+    if bytes_eq word (codes "um") then um_form bits last else (if bytes_eq word (codes "duplicate") then dup_form bits last else forms.Other)
 form_of words = forms.Other
 
 -- with the word `run`
@@ -62,11 +76,18 @@ pub record RunsBearer (config : UmConfig) (before after : OutsideAt) (status : S
   pub status_is : status ≡ script_status end
   pub meets : UmMeets config before after end
 
+-- with the word `duplicate`
+pub record RunsLegs (config : DupConfig) (before after : OutsideAt) (status : Status) : Type 0 where
+  pub end : DupScriptEnd
+  pub status_is : status ≡ dup_script_status end
+  pub meets : DupMeets config before after end
+
 abbrev pub FormMeets : Form → OutsideAt → OutsideAt → Status → Type 0
 FormMeets forms.Run before after status = RunsScript before after status
 FormMeets forms.Check before after status = ChecksModule before after status
 FormMeets (forms.Profile version) before after status = ProfileMeets version before after status
 FormMeets (forms.Um config) before after status = RunsBearer config before after status
+FormMeets (forms.Dup config) before after status = RunsLegs config before after status
 FormMeets forms.Other before after status = UsageMeets before after status
 
 -- with the word `profile` all of the text is written, where no write fails
@@ -75,4 +96,5 @@ WritesProfile (forms.Profile version) before after status = WritesWholly version
 WritesProfile forms.Run before after status = Unit {0}
 WritesProfile forms.Check before after status = Unit {0}
 WritesProfile (forms.Um config) before after status = Unit {0}
+WritesProfile (forms.Dup config) before after status = Unit {0}
 WritesProfile forms.Other before after status = Unit {0}

@@ -41,7 +41,7 @@ pub fn explain(rt: &impl Eprint, status: Status) -> io::Result<()> {
     } = status;
     match code {
         2 => eprintln!(rt;
-            "gnb: usage: gnb run < SCRIPT, or gnb check < MODULE, or gnb profile, or gnb profile 2, or gnb um N T < SCRIPT"
+            "gnb: usage: gnb run < SCRIPT, or gnb check < MODULE, or gnb profile, or gnb profile 2, or gnb um N T < SCRIPT, or gnb duplicate N Q < SCRIPT"
         ),
         3 if reason == 20 => eprintln!(rt; "gnb: the module is not the profile, version 1"),
         3 => {

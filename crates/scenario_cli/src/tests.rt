@@ -62,6 +62,12 @@ const LATE_PACKET: &str =
 const LATE: &str =
     "> offer 01\nput #1 0 800001\n> offer 02\nput #2 1 800102\n> offer 03\nput #3 2 800203\n> give #1\ngot #1 0 800001\ndeliver 0 01\n> give #3\ngot #3 2 800203\n> tick\n> tick\ndeliver 2 03\n> give #2\ngot #2 1 800102\ndrop Late\n> ask\nwaiting 3 3 0\nend 9\n";
 
+/// A packet goes over two legs.
+const TWO_LEGS: &str = "offer 01\ncarry 2\ncarry 1\nconfirm 2\nconfirm 1\nask\n";
+
+const DUPLICATED: &str =
+    "> offer 01\nput L1 0 800001\nput L2 0 800001\n> carry 2\ngot L2 0 800001\ndeliver 0 01\n> carry 1\ngot L1 0 800001\ndrop Duplicate\n> confirm 2\n> confirm 1\n> ask\nquiet 1\nend 6\n";
+
 const MODULE: &str = "module text\nM DEFINITIONS AUTOMATIC TAGS ::= BEGIN\nT ::= BOOLEAN\nEND\n";
 
 /// What a call is given, and the numbers of the reads and writes that fail. A space stands between two words.
@@ -169,6 +175,22 @@ fn whole_calls(rt: HostRuntime) -> Result<(), Fail> {
         ("um 12 0", LATE_PACKET, status(2, 0, 0), "stop 2 0 0\n"),
         ("um 12 1001", LATE_PACKET, status(2, 0, 0), "stop 2 0 0\n"),
         ("um 12 2 2", LATE_PACKET, status(2, 0, 0), "stop 2 0 0\n"),
+        ("duplicate 12 4", TWO_LEGS, status(0, 0, 0), DUPLICATED),
+        ("duplicate 18 4096", "", status(0, 0, 0), "end 0\n"),
+        (
+            "duplicate 12 4",
+            "ask\ncarry 0\n",
+            status(4, 2, 2),
+            "> ask\nquiet 0\nstop 4 2 2\n",
+        ),
+        ("duplicate 12", TWO_LEGS, status(2, 0, 0), "stop 2 0 0\n"),
+        ("duplicate 12 3", TWO_LEGS, status(2, 0, 0), "stop 2 0 0\n"),
+        (
+            "duplicate 12 4097",
+            TWO_LEGS,
+            status(2, 0, 0),
+            "stop 2 0 0\n",
+        ),
         ("check", "", status(4, 1, 1), "stop 4 1 1\n"),
         ("check", "module", status(4, 1, 1), "stop 4 1 1\n"),
         ("check", "module x\n", status(4, 1, 1), "stop 4 1 1\n"),

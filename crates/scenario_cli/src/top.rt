@@ -10,11 +10,15 @@ ghost use Rattle.command_check.specs.Whole.{ChecksWholly};
 ghost use Rattle.command_um.specs.declared.config.UmConfig.{UmConfig as Config};
 ghost use Rattle.command_um.specs.Ends.{StopsAtEvent};
 ghost use Rattle.command_um.specs.Whole.{RunsWholly as RunsWhollyUm};
-ghost use Rattle.scenario_cli.specs.Gnb.{form_of_one, um_form as um_form_of, form_of as form_of_words, FormMeets, WritesProfile};
+ghost use Rattle.command_dup.specs.declared.config.DupConfig.{DupConfig as Legs};
+ghost use Rattle.command_dup.specs.Ends.{StopsAtEvent as StopsAtDupEvent};
+ghost use Rattle.command_dup.specs.Whole.{RunsWholly as RunsWhollyDup};
+ghost use Rattle.scenario_cli.specs.Gnb.{form_of_one, um_form as um_form_of, dup_form as dup_form_of, form_of as form_of_words, FormMeets, WritesProfile};
 ghost use Rattle.scenario_cli.specs.inside.Timed.{IsTimed};
 
 use command_check::check_input;
 use command_defs::{CommonEnd, Status};
+use command_dup::{DupConfig, run_duplicate};
 use command_output::{common_status, stop_line, write_lines};
 use command_profile::write_profile;
 use command_run::run_script;
@@ -27,6 +31,11 @@ use std::alloc::Global;
 /// The ticks of a timer at most.
 const MOST_TICKS: u32 = 1000;
 
+/// The packets of a bearer with duplication at least, and at most.
+const LEAST_QUOTA: u32 = 4;
+
+const MOST_QUOTA: u32 = 4096;
+
 /// The forms of the program.
 #[derive(Clone, Copy, Debug, PartialEq, Eq)]
 pub enum Form {
@@ -38,6 +47,8 @@ pub enum Form {
     Profile(Version),
     /// A script of one unacknowledged bearer is run.
     Um(UmConfig),
+    /// A script of one bearer with duplication is run.
+    Dup(DupConfig),
     /// The words are no form.
     Other,
 }
@@ -72,6 +83,21 @@ fn um_form(bits: &[u8], ticks: &[u8]) -> Form
     Form::Um(UmConfig { sn, ticks })
 }
 
+/// The form of `duplicate` with the length of numbers and the quota that these two words are.
+fn dup_form(bits: &[u8], quota: &[u8]) -> Form
+    ensures exact { result ≡ dup_form_of bits.now quota.now }
+    ensures timed { IsTimed result }
+{
+    let Some(sn) = sn_bits(bits) else {
+        return Form::Other;
+    };
+    let Some(quota) = number(quota, LEAST_QUOTA, MOST_QUOTA) else {
+        return Form::Other;
+    };
+    let quota = quota as u16;
+    Form::Dup(DupConfig { sn, quota })
+}
+
 /// The form that the words are.
 fn form_of(words: &[String]) -> Form
     ensures exact { result ≡ form_of_words (map string_bytes words.now) }
@@ -84,6 +110,9 @@ fn form_of(words: &[String]) -> Form
         }
         [word, bits, ticks] if word.as_str() == "um" => {
             um_form(bits.as_bytes(), ticks.as_bytes())
+        }
+        [word, bits, quota] if word.as_str() == "duplicate" => {
+            dup_form(bits.as_bytes(), quota.as_bytes())
         }
         _ => Form::Other,
     }
@@ -139,6 +168,13 @@ pub fn gnb<S: Source, K: Sink>(
     ensures near_event { (config : Config) → form_of_words (map string_bytes words.now) ≡ Form.Um config
         → StopsAtEvent (S.at input.old) (S.at input.new) result }
 
+    // The same of a script of one bearer with duplication.
+    ensures legs { (config : Legs) → form_of_words (map string_bytes words.now) ≡ Form.Dup config
+        → RunsWhollyDup config (outside (S.at input.old) (K.at output.old))
+        (outside (S.at input.new) (K.at output.new)) result }
+    ensures near_leg_event { (config : Legs) → form_of_words (map string_bytes words.now) ≡ Form.Dup config
+        → StopsAtDupEvent (S.at input.old) (S.at input.new) result }
+
     // A whole module is reported, likewise.
     ensures checks { form_of_words (map string_bytes words.now) ≡ Form.Check
         → ChecksWholly (outside (S.at input.old) (K.at output.old))
@@ -154,6 +190,7 @@ pub fn gnb<S: Source, K: Sink>(
         Form::Check => check_input(alloc, input, output).status(),
         Form::Profile(version) => write_profile(version, input, output),
         Form::Um(config) => run_um(alloc, config, input, output).status(),
+        Form::Dup(config) => run_duplicate(alloc, config, input, output).status(),
         Form::Other => report_usage(alloc, input, output),
     }
 }

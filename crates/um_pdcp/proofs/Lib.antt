@@ -1,2 +1,2 @@
-mod StoredLemmas
+pub mod StoredLemmas
 mod UmLemmas

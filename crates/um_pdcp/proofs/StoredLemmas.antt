@@ -17,7 +17,8 @@ use Rattle.pdcp.specs.Near.{last_count}
 use Rattle.pdcp_defs.specs.Receivers.{deliver_from, with_packet}
 use Rattle.um_types.specs.declared.out.Out.{Out}
 use Rattle.um_defs.specs.Receivers.{up_to_reord, entry, entries}
-use Rattle.um_pdcp.specs.inside.Stored.{first_count, first_at, first_below, left_by, below, from, AreGiven}
+use Rattle.um_pdcp.specs.inside.Stored.{first_count, first_at, first_below, left_by, below, from}
+use Rattle.um_pdcp.specs.Stored.{AreGiven}
 
 abbrev pub key_in : {X : Type 0} → Option (ℕ × X) → Option ℕ
 key_in None = None

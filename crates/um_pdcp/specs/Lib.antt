@@ -1,2 +1,3 @@
 pub mod Entity
+pub mod Stored
 pub mod inside

@@ -2,7 +2,7 @@
 #![tactic(auto)]
 
 pub mod rx;
-mod stored;
+pub mod stored;
 
 pub use um_types::error::UmError;
 pub use um_types::out::{Out, Outs};

@@ -6,7 +6,8 @@ ghost use Rattle.tables.specs.Tables.{first_entry};
 ghost use Rattle.pdcp.specs.Near.{last_count};
 ghost use Rattle.pdcp_defs.specs.Receivers.{deliver_from};
 ghost use Rattle.um_defs.specs.Receivers.{entry, entries};
-ghost use Rattle.um_pdcp.specs.inside.Stored.{first_count, first_at, first_below, left_by, below, from, AreGiven};
+ghost use Rattle.um_pdcp.specs.inside.Stored.{first_count, first_at, first_below, left_by, below, from};
+ghost use Rattle.um_pdcp.specs.Stored.{AreGiven};
 
 use gnb_types::items::Memory;
 use gnb_types::octets::Octets;
@@ -68,11 +69,7 @@ fn take_below(stored: &mut Table<u32, Octets>, count: u32) -> Option<Out>
 }
 
 /// Hands up the packets from `deliv` on without a gap, and gives the first COUNT after them.
-pub(crate) fn hand_up(
-    stored: &mut Table<u32, Octets>,
-    deliv: u32,
-    outs: &mut Outs,
-) -> Result<u32, Memory>
+pub fn hand_up(stored: &mut Table<u32, Octets>, deliv: u32, outs: &mut Outs) -> Result<u32, Memory>
     requires given { AreGiven stored.old }
     requires deliv { deliv ≤ last_count + 1 }
     ensures up { IfOk result (λ next. entries outs.new

@@ -1,10 +1,11 @@
--- Internal: the timer of a form has ticks.
+-- Internal: the timer of a form has ticks, and the quota of a form is one that an entity takes.
 use Rattle.std.specs.Prelude.{◌≤◌}
 use Rattle.scenario_cli.specs.declared.top.Form.{Form}
 use Rattle.scenario_cli.specs.declared.top.Form.TheVariants as forms
 
 abbrev pub IsTimed : Form → Type 0
 IsTimed (forms.Um config) = (1 ≤ config.ticks) × (config.ticks ≤ 1000)
+IsTimed (forms.Dup config) = (4 ≤ config.quota) × (config.quota ≤ 4096)
 IsTimed forms.Run = Unit {0}
 IsTimed forms.Check = Unit {0}
 IsTimed (forms.Profile version) = Unit {0}

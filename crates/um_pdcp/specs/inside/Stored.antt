@@ -1,6 +1,5 @@
 -- Internal: the first of what is stored, and what is handed up from it.
-use Rattle.std.specs.Prelude.{◌==◌, ◌≤◌, ℕ, nat_lt, if◌then◌else◌, List, [], ◌∷◌, drop, Option, Some, None, ⊤}
-use Rattle.pdcp.specs.Near.{last_count}
+use Rattle.std.specs.Prelude.{◌==◌, ℕ, nat_lt, if◌then◌else◌, List, [], ◌∷◌, drop, Option, Some, None}
 
 abbrev pub first_count : {X : Type 0} → List (ℕ × X) → Option ℕ
 first_count [] = None
@@ -29,8 +28,3 @@ below count (e ∷ es) = if nat_lt e.0 count then e ∷ below count es else []
 abbrev pub from : {X : Type 0} → ℕ → List (ℕ × X) → List (ℕ × X)
 from count [] = []
 from count (e ∷ es) = if nat_lt e.0 count then from count es else e ∷ es
-
--- each COUNT is one that is given
-abbrev pub AreGiven : {X : Type 0} → List (ℕ × X) → Type 0
-AreGiven [] = ⊤
-AreGiven (e ∷ es) = (e.0 ≤ last_count) × AreGiven es

@@ -4,7 +4,7 @@ use Rattle.gnb_types.specs.declared.names.SnBits.{SnBits}
 use Rattle.pdcp.specs.Near.{last_count}
 use Rattle.um_defs.specs.Receivers.{UmReceiver}
 use Rattle.um_pdcp.specs.Entity.{UmState}
-use Rattle.um_pdcp.specs.inside.Stored.{AreGiven}
+use Rattle.um_pdcp.specs.Stored.{AreGiven}
 
 -- no COUNT above the last one that is given is stored or was delivered
 pub record IsUmRx (rx_deliv rx_next rx_reord : ℕ) (packets : List (ℕ × List ℕ)) : Type 0 where

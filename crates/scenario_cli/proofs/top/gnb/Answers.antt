@@ -1,20 +1,20 @@
-use Rattle.scenario_cli.proofs.Joined.{runs, checks_at, prints_at, runs_bearer, timed, reports}
+use Rattle.scenario_cli.proofs.Joined.{runs, checks_at, prints_at, runs_bearer, timed, runs_legs, fitting, reports}
 use Rattle.scenario_cli.proofs.top.gnb.Goals as goal
 
 pub returns-in-Run : goal.returns-in-Run
 returns-in-Run g c =
     let h = runs _ _ _ _ c.form_of.ensures.exact c.in-Run.is c.status.ensures c.run_script.ensures.meets c.run_script.ensures.near c.run_script.ensures.complete in
-    record { headline = h.headline; read = h.read; write = h.write; calls = h.calls; near = h.near; complete = h.complete; bearer = h.bearer; near_event = h.near_event; checks = h.checks; writes = h.writes }
+    record { headline = h.headline; read = h.read; write = h.write; calls = h.calls; near = h.near; complete = h.complete; bearer = h.bearer; near_event = h.near_event; legs = h.legs; near_leg_event = h.near_leg_event; checks = h.checks; writes = h.writes }
 
 pub returns-in-Check : goal.returns-in-Check
 returns-in-Check g c =
     let h = checks_at _ _ _ _ c.form_of.ensures.exact c.in-Check.is c.status-in-Check.ensures c.check_input.ensures.meets c.check_input.ensures.near c.check_input.ensures.complete in
-    record { headline = h.headline; read = h.read; write = h.write; calls = h.calls; near = h.near; complete = h.complete; bearer = h.bearer; near_event = h.near_event; checks = h.checks; writes = h.writes }
+    record { headline = h.headline; read = h.read; write = h.write; calls = h.calls; near = h.near; complete = h.complete; bearer = h.bearer; near_event = h.near_event; legs = h.legs; near_leg_event = h.near_leg_event; checks = h.checks; writes = h.writes }
 
 pub returns-in-Profile : goal.returns-in-Profile
 returns-in-Profile g c =
     let h = prints_at _ _ _ _ c.form_of.ensures.exact c.in-Profile.is c.write_profile.ensures.meets c.write_profile.ensures.complete in
-    record { headline = h.headline; read = h.read; write = h.write; calls = h.calls; near = h.near; complete = h.complete; bearer = h.bearer; near_event = h.near_event; checks = h.checks; writes = h.writes }
+    record { headline = h.headline; read = h.read; write = h.write; calls = h.calls; near = h.near; complete = h.complete; bearer = h.bearer; near_event = h.near_event; legs = h.legs; near_leg_event = h.near_leg_event; checks = h.checks; writes = h.writes }
 
 pub run_um-requires-clause-least : goal.run_um-requires-clause-least
 run_um-requires-clause-least g c = (timed _ c.in-Um.config c.in-Um.is c.form_of.ensures.timed).0
@@ -25,9 +25,20 @@ run_um-requires-clause-most g c = (timed _ c.in-Um.config c.in-Um.is c.form_of.e
 pub returns-in-Um : goal.returns-in-Um
 returns-in-Um g c =
     let h = runs_bearer _ _ _ _ _ c.form_of.ensures.exact c.in-Um.is c.status-in-Um.ensures c.run_um.ensures.meets c.run_um.ensures.near c.run_um.ensures.complete in
-    record { headline = h.headline; read = h.read; write = h.write; calls = h.calls; near = h.near; complete = h.complete; bearer = h.bearer; near_event = h.near_event; checks = h.checks; writes = h.writes }
+    record { headline = h.headline; read = h.read; write = h.write; calls = h.calls; near = h.near; complete = h.complete; bearer = h.bearer; near_event = h.near_event; legs = h.legs; near_leg_event = h.near_leg_event; checks = h.checks; writes = h.writes }
+
+pub run_duplicate-requires-clause-least : goal.run_duplicate-requires-clause-least
+run_duplicate-requires-clause-least g c = (fitting _ c.in-Dup.config c.in-Dup.is c.form_of.ensures.timed).0
+
+pub run_duplicate-requires-clause-most : goal.run_duplicate-requires-clause-most
+run_duplicate-requires-clause-most g c = (fitting _ c.in-Dup.config c.in-Dup.is c.form_of.ensures.timed).1
+
+pub returns-in-Dup : goal.returns-in-Dup
+returns-in-Dup g c =
+    let h = runs_legs _ _ _ _ _ c.form_of.ensures.exact c.in-Dup.is c.status-in-Dup.ensures c.run_duplicate.ensures.meets c.run_duplicate.ensures.near c.run_duplicate.ensures.complete in
+    record { headline = h.headline; read = h.read; write = h.write; calls = h.calls; near = h.near; complete = h.complete; bearer = h.bearer; near_event = h.near_event; legs = h.legs; near_leg_event = h.near_leg_event; checks = h.checks; writes = h.writes }
 
 pub returns-in-Other : goal.returns-in-Other
 returns-in-Other g c =
     let h = reports _ _ _ c.form_of.ensures.exact c.in-Other.is c.report_usage.ensures in
-    record { headline = h.headline; read = h.read; write = h.write; calls = h.calls; near = h.near; complete = h.complete; bearer = h.bearer; near_event = h.near_event; checks = h.checks; writes = h.writes }
+    record { headline = h.headline; read = h.read; write = h.write; calls = h.calls; near = h.near; complete = h.complete; bearer = h.bearer; near_event = h.near_event; legs = h.legs; near_leg_event = h.near_leg_event; checks = h.checks; writes = h.writes }

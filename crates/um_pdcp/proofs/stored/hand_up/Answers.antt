@@ -1,7 +1,8 @@
 use Rattle.std.proofs.Common.{◌+◌, ◌++◌, sym, ap, ◌∙◌, subst, arith}
 use Rattle.pdcp_defs.specs.Receivers.{deliver_from}
 use Rattle.um_defs.specs.Receivers.{entry, entries}
-use Rattle.um_pdcp.specs.inside.Stored.{first_at, AreGiven}
+use Rattle.um_pdcp.specs.inside.Stored.{first_at}
+use Rattle.um_pdcp.specs.Stored.{AreGiven}
 use Rattle.um_pdcp.proofs.StoredLemmas.{given_left, given_at, one_up, one_more}
 use Rattle.um_pdcp.proofs.stored.hand_up.Goals as goal
 

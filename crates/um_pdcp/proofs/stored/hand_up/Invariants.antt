@@ -2,7 +2,7 @@ use Rattle.std.proofs.Common.{◌≡◌, ◌+◌, ◌≤◌, ◌++◌, length}
 use Rattle.pdcp.specs.Near.{last_count}
 use Rattle.pdcp_defs.specs.Receivers.{deliver_from}
 use Rattle.um_defs.specs.Receivers.{entries}
-use Rattle.um_pdcp.specs.inside.Stored.{AreGiven}
+use Rattle.um_pdcp.specs.Stored.{AreGiven}
 use Rattle.um_pdcp.proofs.stored.hand_up.Given as goal
 
 abbrev pub invariant-loop-out : goal.invariant-loop-out

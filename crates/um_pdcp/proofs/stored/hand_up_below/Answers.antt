@@ -1,6 +1,7 @@
 use Rattle.std.proofs.Common.{◌++◌, sym, ap, ◌∙◌, subst}
 use Rattle.um_defs.specs.Receivers.{entry, entries}
-use Rattle.um_pdcp.specs.inside.Stored.{first_below, below, AreGiven}
+use Rattle.um_pdcp.specs.inside.Stored.{first_below, below}
+use Rattle.um_pdcp.specs.Stored.{AreGiven}
 use Rattle.um_pdcp.proofs.StoredLemmas.{given_left, one_below, one_more}
 use Rattle.um_pdcp.proofs.stored.hand_up_below.Goals as goal
 

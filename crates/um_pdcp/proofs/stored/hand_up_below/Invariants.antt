@@ -1,6 +1,7 @@
 use Rattle.std.proofs.Common.{◌≡◌, ◌++◌, length}
 use Rattle.um_defs.specs.Receivers.{entries}
-use Rattle.um_pdcp.specs.inside.Stored.{below, from, AreGiven}
+use Rattle.um_pdcp.specs.inside.Stored.{below, from}
+use Rattle.um_pdcp.specs.Stored.{AreGiven}
 use Rattle.um_pdcp.proofs.stored.hand_up_below.Given as goal
 
 abbrev pub invariant-loop-out : goal.invariant-loop-out

@@ -3,7 +3,7 @@ use Rattle.pdcp_defs.specs.Receivers.{stored}
 use Rattle.um_defs.specs.Receivers.{kept}
 use Rattle.um_pdcp.specs.Entity.{UmState, with_entity}
 use Rattle.um_pdcp.specs.inside.Views.{um_state, um_receiver}
-use Rattle.um_pdcp.specs.inside.Stored.{AreGiven}
+use Rattle.um_pdcp.specs.Stored.{AreGiven}
 use Rattle.um_pdcp.proofs.StoredLemmas.{given_put}
 use Rattle.um_pdcp.proofs.rx.UmRx.store.Goals as goal
 
