@@ -1,6 +1,6 @@
 use Rattle.command_dup.proofs.Finished.{um_meets}
 use Rattle.command_dup.proofs.Whole.{complete, near}
-use Rattle.command_dup.proofs.run.run_um.Goals as goal
+use Rattle.command_dup.proofs.run.run_duplicate.Goals as goal
 
 pub returns : goal.returns
 returns g c =
