@@ -1,6 +1,5 @@
 -- One turn of a script: what the calls in it give together.
 use Rattle.std.proofs.Common.{◌≡◌, ◌<◌, ◌≤◌, ℕ, List, [], ◌∷◌, ◌++◌, Bool, true, false, cond, Option, Some, None, Result, Ok, Err, refl, sym, ap, ◌∙◌, subst, inl, inr, arith, nat_lt}
-use Rattle.std.proofs.lemmas.Bool.Decides.{nat_tests}
 use Rattle.gnb_base.specs.declared.lines.Line.{Line}
 use Rattle.gnb_base.specs.Reading.{NextMeets}
 use Rattle.input_defs.specs.declared.InputEnd.{InputEnd}
@@ -10,17 +9,14 @@ use Rattle.script_words.specs.declared.reason.TextError.{TextError}
 use Rattle.script_words.specs.declared.reason.TextError.TheVariants as texts
 use Rattle.script_words.specs.Answers.{GivesOrMemory}
 use Rattle.scenario_text.specs.Grammar.{is_skipped}
-use Rattle.pdcp.specs.Numbers.{half}
 use Rattle.dup_types.specs.declared.event.DupEvent.{DupEvent}
 use Rattle.dup_types.specs.declared.line.DupLine.{DupLine}
-use Rattle.dup_types.specs.declared.line.DupLine.TheVariants as lines
 use Rattle.dup_types.specs.declared.stop.DupEnd.{DupEnd}
 use Rattle.dup_types.specs.declared.stop.DupEnd.TheVariants as ends
 use Rattle.dup_types.specs.declared.stop.DupStop.{DupStop}
 use Rattle.dup_types.specs.declared.stop.DupStop.TheVariants as stop_variants
-use Rattle.dup_run_defs.specs.Run.{does_event, span}
-use Rattle.dup_run_defs.specs.Steps.{DupStep, passes, stops, step_of, steps, printed_of}
-use Rattle.dup_run.specs.Runs.{DupState, IsApplied, IsEnding, EndsIn}
+use Rattle.dup_run_defs.specs.Steps.{DupStep, passes, stops}
+use Rattle.dup_run.specs.Runs.{DupState, IsApplied, IsEnding}
 use Rattle.dup_text.specs.Grammar.{event_of}
 use Rattle.dup_text.specs.Print.{print, happens_text}
 use Rattle.command_defs.specs.declared.CommonEnd.TheVariants.{WriteFault}
@@ -32,7 +28,7 @@ use Rattle.command_dup.specs.declared.script.Meaning.{Meaning}
 use Rattle.command_dup.specs.declared.script.Meaning.TheVariants as meanings
 use Rattle.command_dup.specs.declared.script.Happening.{Happening}
 use Rattle.command_dup.specs.Ends.{end_at}
-use Rattle.command_dup.specs.inside.Turns.{WorkAt, RunAt, IsEvent, LineStops, Refused, Means, step_at, Comes, IsHappening, text_at, Applies, ApplyStops, Ended, Faulty, TakesLine, Happens, TurnStops, Unread, Unapplied, Unfinished, TurnMeets}
+use Rattle.command_dup.specs.inside.Turns.{WorkAt, RunAt, IsEvent, LineStops, Refused, Means, printed_of, step_at, Comes, IsHappening, text_at, Applies, ApplyStops, Ended, Faulty, TakesLine, Happens, TurnStops, Unread, Unapplied, Unfinished, TurnMeets}
 
 -- ---- a line
 
@@ -44,52 +40,31 @@ is_refused line text error reason e same skip gives =
 
 -- ---- an event is applied
 
-not_less : (a b : ℕ) → b ≤ a → nat_lt a b ≡ false
-not_less a b h = grind (arith, nat_tests)
-
-is_less : (a b : ℕ) → a < b → nat_lt a b ≡ true
-is_less a b h = grind (arith, nat_tests)
-
--- the event's outcome, as a step of a script
-pub passes_on : (event : DupEvent) (old new : DupState) (printed : List DupLine) → IsApplied event old new (Ok printed)
+pub passes_on : (event : DupEvent) (old new : DupState) (printed : List DupLine) → IsApplied (step_at old event) old new (Ok printed)
     → Comes event old new printed None
-unfolding steps
-passes_on event old new printed h =
-    let within : nat_lt (half old.sn) (span new.run) ≡ false = not_less (half old.sn) (span new.run) h.2 in (
-      ap (step_of old.sn) h.1
-          ∙ ap (λ (b : Bool). cond b (stops (printed ++ lines.Outstanding (span new.run) (half old.sn) ∷ []) (ends.Outstanding (span new.run) (half old.sn))) (passes printed new.run)) within,
-      h.3,
-    )
-
-ends_in : (event : DupEvent) (old new : DupState) (end : DupEnd) (printed : List DupLine)
-    → EndsIn old.sn (does_event old.sn old.quota event old.run) new.run end printed → step_at old event ≡ stops printed end
-unfolding steps
-ends_in event old new (ends.Outstanding far window) printed (front, outcome, shown, is_far, is_window, above) =
-    ap (step_of old.sn) outcome
-    ∙ ap (λ (b : Bool). cond b (stops (front ++ lines.Outstanding (span new.run) (half old.sn) ∷ []) (ends.Outstanding (span new.run) (half old.sn))) (passes front new.run)) (is_less (half old.sn) (span new.run) above)
-    ∙ ap (λ (n : ℕ). stops (front ++ lines.Outstanding n (half old.sn) ∷ []) (ends.Outstanding n (half old.sn))) (sym is_far)
-    ∙ ap (λ (n : ℕ). stops (front ++ lines.Outstanding far n ∷ []) (ends.Outstanding far n)) (sym is_window)
-    ∙ ap (λ (ls : List DupLine). stops ls (ends.Outstanding far window)) (sym shown)
-ends_in event old new (ends.Spent counter) printed (outcome, shown) =
-    ap (step_of old.sn) outcome ∙ ap (λ (ls : List DupLine). stops ls (ends.Spent counter)) (sym shown)
+passes_on event old new printed h = (h.2, h.3)
 
 -- a run that hasn't ended ends in the event
-ends_now : (event : DupEvent) (old new : DupState) (end : DupEnd) (printed : List DupLine) → old.ended ≡ None
-    → IsEnding event old new end printed → step_at old event ≡ stops printed end
-ends_now event old new end printed goes (inl h) = absurd (let clash : None ≡ Some end = sym goes ∙ h.0 in cc)
-ends_now event old new end printed goes (inr h) = ends_in event old new end printed h.2
+ends_now : (step : DupStep) (old new : DupState) (end : DupEnd) (printed : List DupLine) → old.ended ≡ None
+    → IsEnding step old new end printed → step ≡ stops printed end
+ends_now step old new end printed goes (inl h) = absurd (let clash : None ≡ Some end = sym goes ∙ h.0 in cc)
+ends_now step old new end printed goes (inr h) = h.2
 
 pub outstanding_now : (event : DupEvent) (old new : DupState) (stop : DupStop) (far window : ℕ) (printed : List DupLine)
-    → stop ≡ stop_variants.Outstanding far window printed → old.ended ≡ None → IsApplied event old new (Err stop)
+    → stop ≡ stop_variants.Outstanding far window printed → old.ended ≡ None → IsApplied (step_at old event) old new (Err stop)
     → step_at old event ≡ stops printed (ends.Outstanding far window)
 outstanding_now event old new stop far window printed e goes h =
-    ends_now event old new (ends.Outstanding far window) printed goes (subst (λ (s : DupStop). IsApplied event old new (Err s)) e h)
+    let is : IsApplied (step_at old event) old new (Err (stop_variants.Outstanding far window printed)) =
+        subst (λ (s : DupStop). IsApplied (step_at old event) old new (Err s)) e h in
+    ends_now (step_at old event) old new (ends.Outstanding far window) printed goes is.1
 
-pub spent_now : (event : DupEvent) (old new : DupState) (stop : DupStop) (counter : ℕ) (printed : List DupLine)
-    → stop ≡ stop_variants.Spent counter printed → old.ended ≡ None → IsApplied event old new (Err stop)
-    → step_at old event ≡ stops printed (ends.Spent counter)
-spent_now event old new stop counter printed e goes h =
-    ends_now event old new (ends.Spent counter) printed goes (subst (λ (s : DupStop). IsApplied event old new (Err s)) e h)
+pub counts_spent_now : (event : DupEvent) (old new : DupState) (stop : DupStop) (printed : List DupLine)
+    → stop ≡ stop_variants.CountsSpent printed → old.ended ≡ None → IsApplied (step_at old event) old new (Err stop)
+    → step_at old event ≡ stops printed ends.CountsSpent
+counts_spent_now event old new stop printed e goes h =
+    let is : IsApplied (step_at old event) old new (Err (stop_variants.CountsSpent printed)) =
+        subst (λ (s : DupStop). IsApplied (step_at old event) old new (Err s)) e h in
+    ends_now (step_at old event) old new ends.CountsSpent printed goes is.1
 
 printed_is : (step : DupStep) (printed : List DupLine) (next : DupStep) → step ≡ next → printed_of next ≡ printed → printed_of step ≡ printed
 printed_is step printed next e f = ap printed_of e ∙ f
@@ -102,25 +77,25 @@ shown event old new h is = by h.end is
     by None c = ap (λ (ls : List DupLine). happens_text event ++ print ls) (sym (printed_is (step_at old event) h.lines (passes h.lines new.run) c.0 refl))
     by (Some end) c = ap (λ (ls : List DupLine). happens_text event ++ print ls) (sym (printed_is (step_at old event) h.lines (stops h.lines end) c refl))
 
-module _ (old new : WorkAt) (event : DupEvent) (h : Happening) (is : IsHappening event old.world new.world h) (text : List ℕ) (shows : text ≡ happens_text event ++ print h.lines) where
+module _ (old new : WorkAt) (event : DupEvent) (h : Happening) (is : IsHappening event old.dup new.dup h) (text : List ℕ) (shows : text ≡ happens_text event ++ print h.lines) where
   pub event_written : h.end ≡ None → WritesAll old.sink new.sink text → Applies old new event
   event_written none w =
-      let c : Comes event old.world new.world h.lines None = subst (λ (o : Option DupEnd). Comes event old.world new.world h.lines o) none is in
+      let c : Comes event old.dup new.dup h.lines None = subst (λ (o : Option DupEnd). Comes event old.dup new.dup h.lines o) none is in
       record {
         printed = h.lines;
         passes_on = c.0;
         same = c.1;
-        writes = subst (λ (t : List ℕ). WritesAll old.sink new.sink t) (shows ∙ shown event old.world new.world h is) w;
+        writes = subst (λ (t : List ℕ). WritesAll old.sink new.sink t) (shows ∙ shown event old.dup new.dup h is) w;
       }
 
   pub event_ends : (place : ℕ) (why : DupEnd) (end : ScriptEnd) → h.end ≡ Some why → end ≡ end_at place why → WritesAll old.sink new.sink text
       → ApplyStops old new place event end
   event_ends place why end some e w =
-      let c : Comes event old.world new.world h.lines (Some why) = subst (λ (o : Option DupEnd). Comes event old.world new.world h.lines o) some is in
-      Ended h.lines why c e (subst (λ (t : List ℕ). WritesAll old.sink new.sink t) (shows ∙ shown event old.world new.world h is) w)
+      let c : Comes event old.dup new.dup h.lines (Some why) = subst (λ (o : Option DupEnd). Comes event old.dup new.dup h.lines o) some is in
+      Ended h.lines why c e (subst (λ (t : List ℕ). WritesAll old.sink new.sink t) (shows ∙ shown event old.dup new.dup h is) w)
 
   pub event_cut : (place : ℕ) → WritesFront old.sink new.sink text → ApplyStops old new place event (Common WriteFault)
-  event_cut place w = Faulty refl (subst (λ (t : List ℕ). WritesFront old.sink new.sink t) (shows ∙ shown event old.world new.world h is) w)
+  event_cut place w = Faulty refl (subst (λ (t : List ℕ). WritesFront old.sink new.sink t) (shows ∙ shown event old.dup new.dup h is) w)
 
 -- ---- a turn
 

@@ -12,7 +12,7 @@ use Rattle.command_output.specs.Writes.{WritesAll, WritesFront, WritesLines}
 use Rattle.command_output.proofs.Written.{none_then_none, none_then_last, prints_more, front_more, front_all}
 use Rattle.command_dup.specs.declared.config.DupConfig.{DupConfig}
 use Rattle.command_dup.specs.declared.end.ScriptEnd.{ScriptEnd}
-use Rattle.command_dup.specs.declared.end.ScriptEnd.TheVariants.{Done, Script, Outstanding, Spent, Common}
+use Rattle.command_dup.specs.declared.end.ScriptEnd.TheVariants.{Done, Script, Outstanding, CountsSpent, Common}
 use Rattle.command_dup.specs.Ends.{script_status, script_last_lines, end_text}
 use Rattle.command_dup.specs.Run.{PrintsScript, DupMeets}
 use Rattle.command_dup.specs.inside.Stops.{RunsTo, PrintsTo, ReadsUntil, WritesUntil, Finishes, Silent, Written, Cut, Unwritten}
@@ -23,7 +23,7 @@ reads_end : (a b : SourceAt) (end : ScriptEnd) → ReadsUntil a b end → ReadsT
 reads_end a b (Done n) h = AllRead h (λ (e : 0 ≡ 6). omega arith)
 reads_end a b (Script place reason) h = AllRead h (λ (e : 4 ≡ 6). omega arith)
 reads_end a b (Outstanding place) h = AllRead h (λ (e : 5 ≡ 6). omega arith)
-reads_end a b (Spent place counter) h = AllRead h (λ (e : 10 ≡ 6). omega arith)
+reads_end a b (CountsSpent place) h = AllRead h (λ (e : 10 ≡ 6). omega arith)
 reads_end a b (Common (ReadFault taken)) h = ReadStopped h (inl refl)
 reads_end a b (Common TooLong) h = AllRead h (λ (e : 11 ≡ 6). omega arith)
 reads_end a b (Common WriteFault) h = AllRead h (λ (e : 7 ≡ 6). omega arith)
@@ -34,7 +34,7 @@ reads_cut : (a b : SourceAt) (end : ScriptEnd) → ReadsUntil a b end → ReadsT
 reads_cut a b (Done n) h = AllRead h (λ (e : 7 ≡ 6). omega arith)
 reads_cut a b (Script place reason) h = AllRead h (λ (e : 7 ≡ 6). omega arith)
 reads_cut a b (Outstanding place) h = AllRead h (λ (e : 7 ≡ 6). omega arith)
-reads_cut a b (Spent place counter) h = AllRead h (λ (e : 7 ≡ 6). omega arith)
+reads_cut a b (CountsSpent place) h = AllRead h (λ (e : 7 ≡ 6). omega arith)
 reads_cut a b (Common (ReadFault taken)) h = ReadStopped h (inr (inl refl))
 reads_cut a b (Common TooLong) h = AllRead h (λ (e : 7 ≡ 6). omega arith)
 reads_cut a b (Common WriteFault) h = AllRead h (λ (e : 7 ≡ 6). omega arith)
@@ -44,7 +44,7 @@ reads_out : (a b : SourceAt) (end : ScriptEnd) → ReadsUntil a b end → ReadsT
 reads_out a b (Done n) h = AllRead h (λ (e : 9 ≡ 6). omega arith)
 reads_out a b (Script place reason) h = AllRead h (λ (e : 9 ≡ 6). omega arith)
 reads_out a b (Outstanding place) h = AllRead h (λ (e : 9 ≡ 6). omega arith)
-reads_out a b (Spent place counter) h = AllRead h (λ (e : 9 ≡ 6). omega arith)
+reads_out a b (CountsSpent place) h = AllRead h (λ (e : 9 ≡ 6). omega arith)
 reads_out a b (Common (ReadFault taken)) h = ReadStopped h (inr (inr refl))
 reads_out a b (Common TooLong) h = AllRead h (λ (e : 9 ≡ 6). omega arith)
 reads_out a b (Common WriteFault) h = AllRead h (λ (e : 9 ≡ 6). omega arith)
@@ -57,7 +57,7 @@ silent_writes : (a b : SinkAt) (end : ScriptEnd) → script_last_lines end ≡ [
 silent_writes a b (Done n) e h = absurd (cc)
 silent_writes a b (Script place reason) e h = absurd (cc)
 silent_writes a b (Outstanding place) e h = absurd (cc)
-silent_writes a b (Spent place counter) e h = absurd (cc)
+silent_writes a b (CountsSpent place) e h = absurd (cc)
 silent_writes a b (Common (ReadFault taken)) e h = absurd (cc)
 silent_writes a b (Common TooLong) e h = absurd (cc)
 silent_writes a b (Common WriteFault) e h = WriteStopped h refl
@@ -68,7 +68,7 @@ silent_prints : (a b : SinkAt) (Meets : ScriptEnd → Type 0) (text : List ℕ) 
 silent_prints a b Meets text (Done n) e h = absurd (cc)
 silent_prints a b Meets text (Script place reason) e h = absurd (cc)
 silent_prints a b Meets text (Outstanding place) e h = absurd (cc)
-silent_prints a b Meets text (Spent place counter) e h = absurd (cc)
+silent_prints a b Meets text (CountsSpent place) e h = absurd (cc)
 silent_prints a b Meets text (Common (ReadFault taken)) e h = absurd (cc)
 silent_prints a b Meets text (Common TooLong) e h = absurd (cc)
 silent_prints a b Meets text (Common WriteFault) e h = (None, tt, h)
@@ -80,7 +80,7 @@ text_before : (a b : SinkAt) (text : List ℕ) (end : ScriptEnd) (line : OutLine
 text_before a b text (Done n) line e h = h
 text_before a b text (Script place reason) line e h = h
 text_before a b text (Outstanding place) line e h = h
-text_before a b text (Spent place counter) line e h = h
+text_before a b text (CountsSpent place) line e h = h
 text_before a b text (Common (ReadFault taken)) line e h = h
 text_before a b text (Common TooLong) line e h = h
 text_before a b text (Common WriteFault) line e h = absurd (cc)
@@ -91,7 +91,7 @@ none_before : (a b : SinkAt) (end : ScriptEnd) (line : OutLine) → script_last_
 none_before a b (Done n) line e h = h
 none_before a b (Script place reason) line e h = h
 none_before a b (Outstanding place) line e h = h
-none_before a b (Spent place counter) line e h = h
+none_before a b (CountsSpent place) line e h = h
 none_before a b (Common (ReadFault taken)) line e h = h
 none_before a b (Common TooLong) line e h = h
 none_before a b (Common WriteFault) line e h = absurd (cc)
@@ -101,7 +101,7 @@ not_seven : (end : ScriptEnd) (line : OutLine) → script_last_lines end ≡ lin
 not_seven (Done n) line e f = omega arith
 not_seven (Script place reason) line e f = omega arith
 not_seven (Outstanding place) line e f = omega arith
-not_seven (Spent place counter) line e f = omega arith
+not_seven (CountsSpent place) line e f = omega arith
 not_seven (Common (ReadFault taken)) line e f = omega arith
 not_seven (Common TooLong) line e f = omega arith
 not_seven (Common WriteFault) line e f = cc
@@ -113,19 +113,19 @@ written_prints : (a b : SinkAt) (Meets : ScriptEnd → Type 0) (text : List ℕ)
 written_prints a b Meets text (Done n) line e h = h
 written_prints a b Meets text (Script place reason) line e h = h
 written_prints a b Meets text (Outstanding place) line e h = h
-written_prints a b Meets text (Spent place counter) line e h = h
+written_prints a b Meets text (CountsSpent place) line e h = h
 written_prints a b Meets text (Common (ReadFault taken)) line e h = h
 written_prints a b Meets text (Common TooLong) line e h = h
 written_prints a b Meets text (Common WriteFault) line e h = absurd (cc)
 written_prints a b Meets text (Common Memory) line e h = absurd (cc)
 
--- ---- with the word `um`
+-- ---- with the word `duplicate`
 
-pub um_meets : {config : DupConfig} {first : OutsideAt} {source : SourceAt} {sink last : SinkAt} (end result : ScriptEnd)
+pub dup_meets : {config : DupConfig} {first : OutsideAt} {source : SourceAt} {sink last : SinkAt} (end result : ScriptEnd)
     → RunsTo config first (outside source sink) end
     → Finishes sink last end result
     → DupMeets config first (outside source last) result
-um_meets {config = config} {first = first} {source = source} {sink = sink} {last = last} end result r (Silent none same kept) =
+dup_meets {config = config} {first = first} {source = source} {sink = sink} {last = last} end result r (Silent none same kept) =
     subst (λ (e : ScriptEnd). DupMeets config first (outside source last) e) (sym same)
     (subst (λ (s : SinkAt). DupMeets config first (outside source s) end) (sym kept)
     (record {
@@ -137,7 +137,7 @@ um_meets {config = config} {first = first} {source = source} {sink = sink} {last
       prints = silent_prints first.sink sink _ _ end none r.prints;
       calls = record { reads = reads_end _ _ end r.reads; writes = silent_writes first.sink sink end none r.writes };
     }))
-um_meets {config = config} {first = first} {source = source} {sink = sink} {last = last} end result r (Written line some same written) =
+dup_meets {config = config} {first = first} {source = source} {sink = sink} {last = last} end result r (Written line some same written) =
     subst (λ (e : ScriptEnd). DupMeets config first (outside source last) e) (sym same)
     (record {
       split = r.split;
@@ -152,7 +152,7 @@ um_meets {config = config} {first = first} {source = source} {sink = sink} {last
         writes = AllWritten (none_then_none (none_before first.sink sink end line some r.writes) written.none) (not_seven end line some);
       };
     })
-um_meets {config = config} {first = first} {source = source} {sink = sink} {last = last} end result r (Cut line some same cut) =
+dup_meets {config = config} {first = first} {source = source} {sink = sink} {last = last} end result r (Cut line some same cut) =
     subst (λ (e : ScriptEnd). DupMeets config first (outside source last) e) (sym same)
     (record {
       split = r.split;
@@ -170,7 +170,7 @@ um_meets {config = config} {first = first} {source = source} {sink = sink} {last
         writes = WriteStopped (none_then_last (none_before first.sink sink end line some r.writes) cut.last) refl;
       };
     })
-um_meets {config = config} {first = first} {source = source} {sink = sink} {last = last} end result r (Unwritten line some same kept) =
+dup_meets {config = config} {first = first} {source = source} {sink = sink} {last = last} end result r (Unwritten line some same kept) =
     subst (λ (e : ScriptEnd). DupMeets config first (outside source last) e) (sym same)
     (subst (λ (s : SinkAt). DupMeets config first (outside source s) (Common Memory)) (sym kept)
     (record {

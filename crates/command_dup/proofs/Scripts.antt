@@ -7,11 +7,11 @@ use Rattle.std.specs.List.{flat_map}
 use Rattle.scenario_text.specs.Grammar.{is_skipped}
 use Rattle.dup_types.specs.declared.event.DupEvent.{DupEvent}
 use Rattle.dup_types.specs.declared.stop.DupEnd.{DupEnd}
-use Rattle.dup_run_defs.specs.Steps.{DupStep, passes, stops, steps, printed_of, DupHappening, DupScript, new_script, with_step, with_event, with_event_at, script_of}
+use Rattle.dup_run_defs.specs.Steps.{DupStep, passes, stops, steps, DupHappening, DupScript, new_script, with_step, with_event, with_event_at, script_of}
 use Rattle.dup_text.specs.Print.{print, happens_text}
 use Rattle.command_dup.specs.declared.config.DupConfig.{DupConfig}
 use Rattle.command_dup.specs.Run.{meanings, AreEvents, run_of, happening_text, script_text}
-use Rattle.command_dup.specs.inside.Turns.{IsEvent}
+use Rattle.command_dup.specs.inside.Turns.{IsEvent, printed_of}
 
 -- ---- what lines mean
 

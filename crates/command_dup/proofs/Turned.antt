@@ -17,8 +17,8 @@ use Rattle.scenario_text.specs.Grammar.{is_skipped}
 use Rattle.dup_types.specs.declared.event.DupEvent.{DupEvent}
 use Rattle.dup_types.specs.declared.stop.DupEnd.{DupEnd}
 use Rattle.dup_types.specs.declared.stop.DupEnd.TheVariants as ends
-use Rattle.dup_run_defs.specs.Steps.{DupStep, passes, steps, printed_of, DupScript, with_step}
-use Rattle.dup_run.specs.Runs.{DupState, new_world}
+use Rattle.dup_run_defs.specs.Steps.{DupStep, passes, steps, DupScript, with_step}
+use Rattle.dup_run.specs.Runs.{DupState, new_dup}
 use Rattle.dup_text.specs.Print.{print, happens_text}
 use Rattle.command_defs.specs.declared.CommonEnd.TheVariants.{Memory}
 use Rattle.command_defs.specs.Ends.{end_of_input}
@@ -32,7 +32,7 @@ use Rattle.command_dup.specs.declared.end.ScriptEnd.TheVariants.{Done, Common}
 use Rattle.command_dup.specs.Ends.{end_at}
 use Rattle.command_dup.specs.Run.{AreEvents, run_of, IsWrongLine, EndsInLast, EndMeets, script_text}
 use Rattle.command_dup.specs.inside.Stops.{RunsTo, PrintsTo, ReadsUntil, WritesUntil}
-use Rattle.command_dup.specs.inside.Turns.{WorkAt, RunAt, run_at, IsEvent, LineStops, Refused, NoMemory, step_at, text_at, Applies, ApplyStops, Ended, Faulty, NoRoom, LineApplies, Skips, Happens, TakesLine, TakesEnd, TurnStops, Unread, Unapplied, Unfinished, TurnMeets}
+use Rattle.command_dup.specs.inside.Turns.{printed_of, WorkAt, RunAt, run_at, IsEvent, LineStops, Refused, NoMemory, step_at, text_at, Applies, ApplyStops, Ended, Faulty, NoRoom, LineApplies, Skips, Happens, TakesLine, TakesEnd, TurnStops, Unread, Unapplied, Unfinished, TurnMeets}
 use Rattle.command_dup.proofs.Scripts.{run_begins, no_text, script_skips, script_more, event_means, run_more, text-more}
 
 -- the source and the sink at a moment of a run
@@ -40,8 +40,8 @@ abbrev pub outside_of : RunAt → OutsideAt
 outside_of r = outside r.source r.work.sink
 
 -- the run of these events, as the code has it
-abbrev pub world_of : DupConfig → DupScript → DupState
-world_of config script = record { sn = config.sn; quota = config.quota; run = script.now; ended = script.ended }
+abbrev pub dup_of : DupConfig → DupScript → DupState
+dup_of config script = record { sn = config.sn; quota = config.quota; run = script.now; ended = script.ended; lacks_memory = false }
 
 -- the lines that were handed out give these events, whose text was written; their run goes on, and the code has it
 pub record SoFar (config : DupConfig) (first : OutsideAt) (now : RunAt) (count : ℕ) : Type 0 where
@@ -51,7 +51,7 @@ pub record SoFar (config : DupConfig) (first : OutsideAt) (now : RunAt) (count :
   pub stands : StandsAfter first.source now.source now.reading taken lines
   pub are : AreEvents lines events
   pub writes : WritesAll first.sink now.work.sink (script_text config events)
-  pub world : now.work.world ≡ world_of config (run_of config events)
+  pub dup : now.work.dup ≡ dup_of config (run_of config events)
   pub goes : (run_of config events).ended ≡ None
   pub counted : count ≡ length events
   pub few : count ≤ now.reading.lines
@@ -64,22 +64,22 @@ goes_first : (config : DupConfig) → (run_of config []).ended ≡ None
 goes_first config = ap (λ (s : DupScript). s.ended) (run_begins config)
 
 -- while a script goes on, so does the code's run
-pub world_goes : {config : DupConfig} {first : OutsideAt} {now : RunAt} {count : ℕ} → SoFar config first now count → now.work.world.ended ≡ None
-world_goes s = ap (λ (w : DupState). w.ended) s.world ∙ s.goes
+pub dup_goes : {config : DupConfig} {first : OutsideAt} {now : RunAt} {count : ℕ} → SoFar config first now count → now.work.dup.ended ≡ None
+dup_goes s = ap (λ (w : DupState). w.ended) s.dup ∙ s.goes
 
 -- ---- the begin
 
-pub begins : (config : DupConfig) (source : SourceAt) (sink : SinkAt) (reading : Reading) (world : DupState) → reading ≡ fresh
-    → world ≡ new_world config.sn config.quota
-    → SoFar config (outside source sink) (run_at reading source world sink) 0
-begins config source sink reading world f e = record {
+pub begins : (config : DupConfig) (source : SourceAt) (sink : SinkAt) (reading : Reading) (dup : DupState) → reading ≡ fresh
+    → dup ≡ new_dup config.sn config.quota
+    → SoFar config (outside source sink) (run_at reading source dup sink) 0
+begins config source sink reading dup f e = record {
   taken = [];
   lines = [];
   events = [];
   stands = subst (λ (r : Reading). StandsAfter source source r [] []) (sym f) (stands_first source);
   are = refl;
   writes = writes_none config sink;
-  world = e ∙ ap (λ (s : DupScript). world_of config s) (sym (run_begins config));
+  dup = e ∙ ap (λ (s : DupScript). dup_of config s) (sym (run_begins config));
   goes = goes_first config;
   counted = refl;
   few = omega arith;
@@ -90,15 +90,15 @@ begins config source sink reading world f e = record {
 
 module _ {config : DupConfig} {first : OutsideAt} {old : RunAt} {count : ℕ} (s : SoFar config first old count) where
   -- the step of the definitions is that of the code's run
-  step_is : (event : DupEvent) → step_at old.work.world event ≡ steps config.sn config.quota event (run_of config s.events).now
-  step_is event = ap (λ (w : DupState). step_at w event) s.world
+  step_is : (event : DupEvent) → step_at old.work.dup event ≡ steps config.sn config.quota event (run_of config s.events).now
+  step_is event = ap (λ (w : DupState). step_at w event) s.dup
 
-  text_more : (event : DupEvent) → script_text config (s.events ++ event ∷ []) ≡ script_text config s.events ++ text_at old.work.world event
+  text_more : (event : DupEvent) → script_text config (s.events ++ event ∷ []) ≡ script_text config s.events ++ text_at old.work.dup event
   text_more event =
       text-more config s.events event s.goes
       ∙ ap (λ (step : DupStep). script_text config s.events ++ (happens_text event ++ print (printed_of step))) (sym (step_is event))
 
-  run_steps : (event : DupEvent) → run_of config (s.events ++ event ∷ []) ≡ with_step (run_of config s.events) event (step_at old.work.world event)
+  run_steps : (event : DupEvent) → run_of config (s.events ++ event ∷ []) ≡ with_step (run_of config s.events) event (step_at old.work.dup event)
   run_steps event =
       run_more config s.events event s.goes
       ∙ ap (λ (step : DupStep). with_step (run_of config s.events) event step) (sym (step_is event))
@@ -115,7 +115,7 @@ module _ {config : DupConfig} {first : OutsideAt} {old : RunAt} {count : ℕ} (s
       stands = stands_more;
       are = script_skips s.lines line.text s.events s.are skip;
       writes = subst (λ (work : WorkAt). WritesAll first.sink work.sink (script_text config s.events)) (sym same) s.writes;
-      world = ap (λ (work : WorkAt). work.world) same ∙ s.world;
+      dup = ap (λ (work : WorkAt). work.dup) same ∙ s.dup;
       goes = s.goes;
       counted = s.counted;
       few = omega (arith, s.few, m.answers.lines, m.answers.number);
@@ -124,7 +124,7 @@ module _ {config : DupConfig} {first : OutsideAt} {old : RunAt} {count : ℕ} (s
 
     happens_more : (event : DupEvent) → IsEvent line.text event → Applies old.work new.work event → SoFar config first new (count + 1)
     happens_more event is applies =
-        let after : run_of config (s.events ++ event ∷ []) ≡ with_step (run_of config s.events) event (passes applies.printed new.work.world.run) = run_steps event
+        let after : run_of config (s.events ++ event ∷ []) ≡ with_step (run_of config s.events) event (passes applies.printed new.work.dup.run) = run_steps event
         ∙ ap (λ (step : DupStep). with_step (run_of config s.events) event step) applies.passes_on in
         let goes : (run_of config (s.events ++ event ∷ [])).ended ≡ None = ap (λ (x : DupScript). x.ended) after ∙ s.goes in
         record {
@@ -134,9 +134,9 @@ module _ {config : DupConfig} {first : OutsideAt} {old : RunAt} {count : ℕ} (s
           stands = stands_more;
           are = script_more s.lines line.text s.events event s.are is;
           writes = subst (λ (text : List ℕ). WritesAll first.sink new.work.sink text) (sym (text_more event)) (all_more s.writes applies.writes);
-          world =
-              applies.same ∙ ap (λ (w : DupState). record w { run = new.work.world.run }) s.world
-              ∙ ap (λ (x : DupScript). world_of config x) (sym after);
+          dup =
+              applies.same ∙ ap (λ (w : DupState). record w { run = new.work.dup.run }) s.dup
+              ∙ ap (λ (x : DupScript). dup_of config x) (sym after);
           goes = goes;
           counted = ap (λ (n : ℕ). n + 1) s.counted ∙ sym (length-append s.events (event ∷ []));
           few = omega (arith, s.few, m.answers.lines, m.answers.number);
@@ -258,22 +258,22 @@ by_stop {config = config} {first = first} {old = old} new line end s m (NoMemory
 prints_end : {before after : SinkAt} {text : List ℕ} (place : ℕ) (why : DupEnd) → Prints before after text
     → PrintsTo before after text (end_at place why)
 prints_end place (ends.Outstanding far window) h = h
-prints_end place (ends.Spent counter) h = h
+prints_end place ends.CountsSpent h = h
 
 meets_end : (config : DupConfig) (left : Option (List ℕ)) (split : InputSplit) (events : List DupEvent) (place : ℕ) (why : DupEnd)
     → EndsInLast config split events place why → EndMeets config left split events (end_at place why)
 meets_end config left split events place (ends.Outstanding far window) h = (far, window, h)
-meets_end config left split events place (ends.Spent counter) h = h
+meets_end config left split events place ends.CountsSpent h = h
 
 reads_end : {before after : SourceAt} (place : ℕ) (why : DupEnd) → ReadsUntil before after (Done 0)
     → ReadsUntil before after (end_at place why)
 reads_end place (ends.Outstanding far window) h = h
-reads_end place (ends.Spent counter) h = h
+reads_end place ends.CountsSpent h = h
 
 writes_end : {before after : SinkAt} (place : ℕ) (why : DupEnd) → WritesUntil before after (Done 0)
     → WritesUntil before after (end_at place why)
 writes_end place (ends.Outstanding far window) h = h
-writes_end place (ends.Spent counter) h = h
+writes_end place ends.CountsSpent h = h
 
 by_apply : {config : DupConfig} {first : OutsideAt} {old : RunAt} (new : RunAt) {count : ℕ} (line : Line) (event : DupEvent) (end : ScriptEnd)
     → SoFar config first old count
@@ -330,7 +330,7 @@ by_apply {config = config} {first = first} {old = old} new line event end s m is
       are = script_more s.lines line.text s.events event s.are is;
       ends = tt;
       prints = subst (λ (text : List ℕ). PrintsFront first.sink old.work.sink text) (sym (text_more s event))
-          (front_of (text_at old.work.world event) (front_all s.writes.prints));
+          (front_of (text_at old.work.dup event) (front_all s.writes.prints));
       reads = stands.reads;
       writes = s.writes.none;
     }))

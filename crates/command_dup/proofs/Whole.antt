@@ -21,7 +21,7 @@ use Rattle.command_defs.specs.Outside.{OutsideAt, NoneFailed}
 use Rattle.command_defs.specs.Output.{Prints}
 use Rattle.command_dup.specs.declared.config.DupConfig.{DupConfig}
 use Rattle.command_dup.specs.declared.end.ScriptEnd.{ScriptEnd}
-use Rattle.command_dup.specs.declared.end.ScriptEnd.TheVariants.{Done, Script, Outstanding, Spent, Common}
+use Rattle.command_dup.specs.declared.end.ScriptEnd.TheVariants.{Done, Script, Outstanding, CountsSpent, Common}
 use Rattle.command_dup.specs.Ends.{script_status, StopsAtEvent}
 use Rattle.command_dup.specs.Run.{AreEvents, meanings, run_of, IsWrongLine, EndsInLast, EndMeets, script_text, text_to, DupMeets}
 use Rattle.command_dup.specs.Whole.{IsWhole, RunsAll, RunsWholly}
@@ -138,9 +138,9 @@ by_end config before after (Script place reason) r input events known w none =
 by_end config before after (Outstanding place) r input events known w none =
     let e = meets_known config before after (Outstanding place) r input known in
     absurd (of_ended w (takes_known input known r.input) r.events place (ends.Outstanding e.0 e.1) r.are e.2)
-by_end config before after (Spent place counter) r input events known w none =
-    let e = meets_known config before after (Spent place counter) r input known in
-    absurd (of_ended w (takes_known input known r.input) r.events place (ends.Spent counter) r.are e)
+by_end config before after (CountsSpent place) r input events known w none =
+    let e = meets_known config before after (CountsSpent place) r input known in
+    absurd (of_ended w (takes_known input known r.input) r.events place ends.CountsSpent r.are e)
 by_end config before after (Common (ReadFault taken)) r input events known w none = absurd (no_read_fault refl none.reads r.calls.reads)
 by_end config before after (Common TooLong) r input events known w none =
     let t = takes_known input known r.input in
@@ -164,7 +164,7 @@ near_by : (config : DupConfig) (before after : OutsideAt) (end : ScriptEnd) → 
 near_by config before after (Done count) r bytes known stop = absurd (other_code 0 stop (λ e. omega arith) (λ e. omega arith) (λ e. omega arith))
 near_by config before after (Script place reason) r bytes known stop = near_next r.ends.1.line place r.input r.ends.1.next r.ends.1.at bytes known
 near_by config before after (Outstanding place) r bytes known stop = near_handed place r.input r.ends.2.few (sym r.ends.2.at) bytes known
-near_by config before after (Spent place counter) r bytes known stop = near_handed place r.input r.ends.few (sym r.ends.at) bytes known
+near_by config before after (CountsSpent place) r bytes known stop = near_handed place r.input r.ends.few (sym r.ends.at) bytes known
 near_by config before after (Common (ReadFault taken)) r bytes known stop = absurd (other_code 6 stop (λ e. omega arith) (λ e. omega arith) (λ e. omega arith))
 near_by config before after (Common TooLong) r bytes known stop = absurd (other_code 11 stop (λ e. omega arith) (λ e. omega arith) (λ e. omega arith))
 near_by config before after (Common WriteFault) r bytes known stop = absurd (other_code 7 stop (λ e. omega arith) (λ e. omega arith) (λ e. omega arith))

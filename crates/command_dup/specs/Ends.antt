@@ -10,38 +10,34 @@ use Rattle.dup_types.specs.declared.stop.DupEnd.TheVariants as ends
 use Rattle.command_defs.specs.declared.Status.{Status}
 use Rattle.command_defs.specs.Statuses.{done_status, line_status, common_status, stop_line, common_last_lines}
 use Rattle.command_dup.specs.declared.end.ScriptEnd.{ScriptEnd}
-use Rattle.command_dup.specs.declared.end.ScriptEnd.TheVariants.{Done, Script, Outstanding, Spent, Common}
+use Rattle.command_dup.specs.declared.end.ScriptEnd.TheVariants.{Done, Script, Outstanding, CountsSpent, Common}
 
 -- after the event at this line more COUNTs are outstanding than may be
 abbrev pub outstanding_status : ℕ → Status
 outstanding_status place = record { code = 5; place = place; reason = 0 }
 
--- in the event at this line a counter would pass its last value
-abbrev pub spent_status : ℕ → ℕ → Status
-spent_status place counter = record { code = 10; place = place; reason = counter }
+-- in the event at this line the counter of COUNTs, which is the fourth, would pass its last value
+abbrev pub counts_spent_status : ℕ → Status
+counts_spent_status place = record { code = 10; place = place; reason = 4 }
 
 abbrev pub script_status : ScriptEnd → Status
 script_status (Done events) = done_status
 script_status (Script place reason) = line_status place reason
 script_status (Outstanding place) = outstanding_status place
-script_status (Spent place counter) = spent_status place counter
+script_status (CountsSpent place) = counts_spent_status place
 script_status (Common end) = common_status end
-
--- the counter of COUNTs
-abbrev pub counts_counter : ℕ
-counts_counter = 4
 
 -- the end of a script whose run ends so in the event at this line
 abbrev pub end_at : ℕ → DupEnd → ScriptEnd
 end_at place (ends.Outstanding far window) = Outstanding place
-end_at place ends.CountsSpent = Spent place counts_counter
+end_at place ends.CountsSpent = CountsSpent place
 
 -- `end N`, or a `stop` line; after a write that failed, and out of memory, nothing is written
 abbrev pub script_last_lines : ScriptEnd → List OutLine
 script_last_lines (Done events) = lines.End events ∷ []
 script_last_lines (Script place reason) = stop_line (line_status place reason) ∷ []
 script_last_lines (Outstanding place) = stop_line (outstanding_status place) ∷ []
-script_last_lines (Spent place counter) = stop_line (spent_status place counter) ∷ []
+script_last_lines (CountsSpent place) = stop_line (counts_spent_status place) ∷ []
 script_last_lines (Common end) = common_last_lines end
 
 abbrev pub end_text : ScriptEnd → List ℕ

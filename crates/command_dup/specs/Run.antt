@@ -18,8 +18,8 @@ use Rattle.command_defs.specs.Outside.{OutsideAt, CallsTo}
 use Rattle.command_defs.specs.Output.{Prints, PrintsFront}
 use Rattle.command_dup.specs.declared.config.DupConfig.{DupConfig}
 use Rattle.command_dup.specs.declared.end.ScriptEnd.{ScriptEnd}
-use Rattle.command_dup.specs.declared.end.ScriptEnd.TheVariants.{Done, Script, Outstanding, Spent, Common}
-use Rattle.command_dup.specs.Ends.{counts_counter, script_status, end_text}
+use Rattle.command_dup.specs.declared.end.ScriptEnd.TheVariants.{Done, Script, Outstanding, CountsSpent, Common}
+use Rattle.command_dup.specs.Ends.{script_status, end_text}
 
 -- ---- the input
 
@@ -65,7 +65,7 @@ EndMeets config left split events (Done count) =
 EndMeets config left split events (Script place reason) = ((run_of config events).ended ≡ None) × IsWrongLine left split place reason
 EndMeets config left split events (Outstanding place) =
     (far : ℕ) × (window : ℕ) × EndsInLast config split events place (ends.Outstanding far window)
-EndMeets config left split events (Spent place counter) = EndsInLast config split events place ends.CountsSpent × (counter ≡ counts_counter)
+EndMeets config left split events (CountsSpent place) = EndsInLast config split events place ends.CountsSpent
 EndMeets config left split events (Common (ReadFault taken)) = ((run_of config events).ended ≡ None) × IsReadFault split taken
 EndMeets config left split events (Common TooLong) = ((run_of config events).ended ≡ None) × IsTooLong split
 EndMeets config left split events (Common WriteFault) = Unit {0}

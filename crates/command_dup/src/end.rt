@@ -14,7 +14,7 @@ use scenario_text::line::OutLine;
 use script_words::reason::TextReason;
 
 /// The counter of COUNTs.
-const COUNTS: u8 = 4;
+const COUNTS: u16 = 4;
 
 /// How a script ended.
 #[derive(Clone, Copy, Debug, PartialEq, Eq)]
@@ -25,8 +25,8 @@ pub enum ScriptEnd {
     Script { place: u64, reason: TextReason },
     /// After the event at line `place` more COUNTs are outstanding than half a space.
     Outstanding { place: u64 },
-    /// In the event at line `place` a counter, by its number, would pass its last value.
-    Spent { place: u64, counter: u8 },
+    /// In the event at line `place` a packet could be numbered, but the last COUNT was given.
+    CountsSpent { place: u64 },
     /// An end that each word has.
     Common(CommonEnd),
 }
@@ -53,10 +53,7 @@ pub(crate) fn end_at(place: u64, end: DupEnd) -> ScriptEnd
 {
     match end {
         DupEnd::Outstanding { .. } => ScriptEnd::Outstanding { place },
-        DupEnd::CountsSpent => ScriptEnd::Spent {
-            place,
-            counter: COUNTS,
-        },
+        DupEnd::CountsSpent => ScriptEnd::CountsSpent { place },
     }
 }
 
@@ -77,10 +74,10 @@ impl ScriptEnd {
                 place,
                 reason: 0,
             },
-            ScriptEnd::Spent { place, counter } => Status {
+            ScriptEnd::CountsSpent { place } => Status {
                 code: 10,
                 place,
-                reason: u16::from(counter),
+                reason: COUNTS,
             },
             ScriptEnd::Common(end) => common_status(end),
         }
@@ -92,7 +89,7 @@ impl ScriptEnd {
     {
         match self {
             ScriptEnd::Done { events } => Some(OutLine::End { events }),
-            ScriptEnd::Script { .. } | ScriptEnd::Outstanding { .. } | ScriptEnd::Spent { .. } => {
+            ScriptEnd::Script { .. } | ScriptEnd::Outstanding { .. } | ScriptEnd::CountsSpent { .. } => {
                 Some(stop_line(self.status()))
             }
             ScriptEnd::Common(end) => common_last_line(end),

@@ -54,12 +54,12 @@ struct Happening {
 }
 
 /// Applies an event to a run that goes on.
-fn happen(alloc: Global, world: &mut Dup, event: &DupEvent) -> Result<Happening, Memory>
+fn happen(alloc: Global, dup: &mut Dup, event: &DupEvent) -> Result<Happening, Memory>
     requires range { InRange event.now }
-    requires going { world.old.ended ≡ None }
-    ensures { IfOk result (IsHappening event.now world.old world.new) }
+    requires going { dup.old.ended ≡ None }
+    ensures { IfOk result (IsHappening event.now dup.old dup.new) }
 {
-    match world.apply(alloc, event) {
+    match dup.apply(alloc, event) {
         Ok(lines) => Ok(Happening { lines, end: None }),
         Err(
             DupStop::Outstanding {
@@ -82,16 +82,16 @@ fn happen(alloc: Global, world: &mut Dup, event: &DupEvent) -> Result<Happening,
 /// Applies the event of the line at this place, and writes all its lines.
 fn apply_event<K: Sink>(
     alloc: Global,
-    world: &mut Dup,
+    dup: &mut Dup,
     place: u64,
     event: &DupEvent,
     output: &mut K,
 ) -> Result<(), ScriptEnd>
     requires range { InRange event.now }
-    requires going { world.old.ended ≡ None }
-    ensures { ApplyMeets (work_at world.old (K.at output.old)) (work_at world.new (K.at output.new)) place event.now result }
+    requires going { dup.old.ended ≡ None }
+    ensures { ApplyMeets (work_at dup.old (K.at output.old)) (work_at dup.new (K.at output.new)) place event.now result }
 {
-    let Ok(Happening { lines, end }) = happen(alloc, world, event) else {
+    let Ok(Happening { lines, end }) = happen(alloc, dup, event) else {
         return Err(ScriptEnd::Common(CommonEnd::Memory));
     };
     let Ok(text) = print_happening(alloc, event, lines.as_slice()) else {
@@ -110,13 +110,13 @@ fn apply_event<K: Sink>(
 fn apply_line<S: Source, K: Sink>(
     alloc: Global,
     reader: &mut LineReader,
-    world: &mut Dup,
+    dup: &mut Dup,
     input: &mut S,
     output: &mut K,
 ) -> Result<Option<u64>, ScriptEnd>
-    requires going { world.old.ended ≡ None }
-    ensures { TurnMeets (run_at reader.old (S.at input.old) world.old (K.at output.old))
-        (run_at reader.new (S.at input.new) world.new (K.at output.new)) result }
+    requires going { dup.old.ended ≡ None }
+    ensures { TurnMeets (run_at reader.old (S.at input.old) dup.old (K.at output.old))
+        (run_at reader.new (S.at input.new) dup.new (K.at output.new)) result }
 {
     let Some(line) = next_line(reader, input)? else {
         return Ok(None);
@@ -124,7 +124,7 @@ fn apply_line<S: Source, K: Sink>(
     match meaning_of(alloc, &line)? {
         Meaning::Skipped => Ok(Some(0)),
         Meaning::Event(event) => {
-            apply_event(alloc, world, line.number, &event, output)?;
+            apply_event(alloc, dup, line.number, &event, output)?;
             Ok(Some(1))
         }
     }
@@ -145,12 +145,12 @@ pub fn run<S: Source, K: Sink>(
     let Ok(mut reader) = LineReader::new(alloc) else {
         return ScriptEnd::Common(CommonEnd::Memory);
     };
-    let Ok(mut world) = Dup::new(alloc, config.sn, config.quota) else {
+    let Ok(mut dup) = Dup::new(alloc, config.sn, config.quota) else {
         return ScriptEnd::Common(CommonEnd::Memory);
     };
     let mut events = 0;
     loop {
-        match apply_line(alloc, &mut reader, &mut world, input, output) {
+        match apply_line(alloc, &mut reader, &mut dup, input, output) {
             Ok(Some(more)) => events += more,
             Ok(None) => return ScriptEnd::Done { events },
             Err(end) => return end,

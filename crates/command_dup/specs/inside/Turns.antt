@@ -9,7 +9,7 @@ use Rattle.scenario_text.specs.Grammar.{is_skipped}
 use Rattle.dup_types.specs.declared.event.DupEvent.{DupEvent}
 use Rattle.dup_types.specs.declared.line.DupLine.{DupLine}
 use Rattle.dup_types.specs.declared.stop.DupEnd.{DupEnd}
-use Rattle.dup_run_defs.specs.Steps.{DupStep, passes, stops, steps, printed_of}
+use Rattle.dup_run_defs.specs.Steps.{DupStep, passes, stops, steps}
 use Rattle.dup_run.specs.Runs.{DupState}
 use Rattle.dup_text.specs.Grammar.{event_of}
 use Rattle.dup_text.specs.Texts.{InRange}
@@ -27,11 +27,11 @@ use Rattle.command_dup.specs.Ends.{end_at}
 -- ---- the parts of a run at one moment
 
 pub record WorkAt : Type 0 where
-  pub world : DupState
+  pub dup : DupState
   pub sink : SinkAt
 
 abbrev pub work_at : DupState → SinkAt → WorkAt
-work_at world sink = record { world = world; sink = sink }
+work_at dup sink = record { dup = dup; sink = sink }
 
 pub record RunAt : Type 0 where
   pub reading : Reading
@@ -39,7 +39,7 @@ pub record RunAt : Type 0 where
   pub work : WorkAt
 
 abbrev pub run_at : Reading → SourceAt → DupState → SinkAt → RunAt
-run_at reading source world sink = record { reading = reading; source = source; work = work_at world sink }
+run_at reading source dup sink = record { reading = reading; source = source; work = work_at dup sink }
 
 -- ---- a line
 
@@ -63,7 +63,7 @@ Means line (Err end) = LineStops line end
 -- ---- an event is applied
 
 abbrev pub step_at : DupState → DupEvent → DupStep
-step_at world event = steps world.sn world.quota event world.run
+step_at dup event = steps dup.sn dup.quota event dup.run
 
 -- The run goes on, or ends so.
 abbrev pub Comes : DupEvent → DupState → DupState → List DupLine → Option DupEnd → Type 0
@@ -73,21 +73,26 @@ Comes event old new printed (Some end) = step_at old event ≡ stops printed end
 abbrev pub IsHappening : DupEvent → DupState → DupState → Happening → Type 0
 IsHappening event old new h = Comes event old new h.lines h.end
 
+-- what a step prints
+abbrev pub printed_of : DupStep → List DupLine
+printed_of (passes printed after) = printed
+printed_of (stops printed end) = printed
+
 -- what is written of an event
 abbrev pub text_at : DupState → DupEvent → List ℕ
-text_at world event = happens_text event ++ print (printed_of (step_at world event))
+text_at dup event = happens_text event ++ print (printed_of (step_at dup event))
 
 pub record Applies (old new : WorkAt) (event : DupEvent) : Type 0 where
   pub printed : List DupLine
-  pub passes_on : step_at old.world event ≡ passes printed new.world.run
-  pub same : new.world ≡ record old.world { run = new.world.run }
-  pub writes : WritesAll old.sink new.sink (text_at old.world event)
+  pub passes_on : step_at old.dup event ≡ passes printed new.dup.run
+  pub same : new.dup ≡ record old.dup { run = new.dup.run }
+  pub writes : WritesAll old.sink new.sink (text_at old.dup event)
 
 -- The run ends in the event; or a write failed after a front of its lines, or memory ran out before the first.
 pub data ApplyStops (old new : WorkAt) (place : ℕ) (event : DupEvent) (end : ScriptEnd) : Type 0 where
-  Ended : (printed : List DupLine) (why : DupEnd) → step_at old.world event ≡ stops printed why → end ≡ end_at place why
-      → WritesAll old.sink new.sink (text_at old.world event) → ApplyStops old new place event end
-  Faulty : end ≡ Common WriteFault → WritesFront old.sink new.sink (text_at old.world event) → ApplyStops old new place event end
+  Ended : (printed : List DupLine) (why : DupEnd) → step_at old.dup event ≡ stops printed why → end ≡ end_at place why
+      → WritesAll old.sink new.sink (text_at old.dup event) → ApplyStops old new place event end
+  Faulty : end ≡ Common WriteFault → WritesFront old.sink new.sink (text_at old.dup event) → ApplyStops old new place event end
   NoRoom : end ≡ Common Memory → new.sink ≡ old.sink → ApplyStops old new place event end
 
 abbrev pub ApplyMeets : WorkAt → WorkAt → ℕ → DupEvent → Result (Unit {0}) ScriptEnd → Type 0

@@ -7,7 +7,7 @@ use Rattle.command_dup.proofs.script.run.Given as goal
 -- what was run so far
 abbrev pub invariant-loop-more : goal.invariant-loop-more
 invariant-loop-more g l =
-    SoFar l.fn.config (outside (g.S.Source.at l.fn.input) (g.K.Sink.at l.fn.output)) (run_at l.reader (g.S.Source.at l.input) l.world (g.K.Sink.at l.output)) l.events
+    SoFar l.fn.config (outside (g.S.Source.at l.fn.input) (g.K.Sink.at l.fn.output)) (run_at l.reader (g.S.Source.at l.input) l.dup (g.K.Sink.at l.output)) l.events
 
 abbrev pub decreases-loop-more : goal.decreases-loop-more
 decreases-loop-more g l = still_to_come l.reader
