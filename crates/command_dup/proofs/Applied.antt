@@ -1,5 +1,5 @@
 -- One turn of a script: what the calls in it give together.
-use Rattle.std.proofs.Common.{◌≡◌, ◌<◌, ◌≤◌, ℕ, List, [], ◌∷◌, ◌++◌, Bool, true, false, cond, Option, Some, None, Result, Ok, Err, refl, sym, ap, ◌∙◌, subst, inl, inr, arith, nat_lt}
+use Rattle.std.proofs.Common.{◌≡◌, ℕ, List, ◌++◌, false, Option, Some, None, Result, Ok, Err, refl, sym, ap, ◌∙◌, subst, inl, inr}
 use Rattle.gnb_base.specs.declared.lines.Line.{Line}
 use Rattle.gnb_base.specs.Reading.{NextMeets}
 use Rattle.input_defs.specs.declared.InputEnd.{InputEnd}
@@ -55,7 +55,7 @@ pub outstanding_now : (event : DupEvent) (old new : DupState) (stop : DupStop) (
     → step_at old event ≡ stops printed (ends.Outstanding far window)
 outstanding_now event old new stop far window printed e goes h =
     let is : IsApplied (step_at old event) old new (Err (stop_variants.Outstanding far window printed)) =
-        subst (λ (s : DupStop). IsApplied (step_at old event) old new (Err s)) e h in
+    subst (λ (s : DupStop). IsApplied (step_at old event) old new (Err s)) e h in
     ends_now (step_at old event) old new (ends.Outstanding far window) printed goes is.1
 
 pub counts_spent_now : (event : DupEvent) (old new : DupState) (stop : DupStop) (printed : List DupLine)
@@ -63,7 +63,7 @@ pub counts_spent_now : (event : DupEvent) (old new : DupState) (stop : DupStop) 
     → step_at old event ≡ stops printed ends.CountsSpent
 counts_spent_now event old new stop printed e goes h =
     let is : IsApplied (step_at old event) old new (Err (stop_variants.CountsSpent printed)) =
-        subst (λ (s : DupStop). IsApplied (step_at old event) old new (Err s)) e h in
+    subst (λ (s : DupStop). IsApplied (step_at old event) old new (Err s)) e h in
     ends_now (step_at old event) old new ends.CountsSpent printed goes is.1
 
 printed_is : (step : DupStep) (printed : List DupLine) (next : DupStep) → step ≡ next → printed_of next ≡ printed → printed_of step ≡ printed

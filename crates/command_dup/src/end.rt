@@ -89,9 +89,9 @@ impl ScriptEnd {
     {
         match self {
             ScriptEnd::Done { events } => Some(OutLine::End { events }),
-            ScriptEnd::Script { .. } | ScriptEnd::Outstanding { .. } | ScriptEnd::CountsSpent { .. } => {
-                Some(stop_line(self.status()))
-            }
+            ScriptEnd::Script { .. }
+            | ScriptEnd::Outstanding { .. }
+            | ScriptEnd::CountsSpent { .. } => { Some(stop_line(self.status())) }
             ScriptEnd::Common(end) => common_last_line(end),
         }
     }

@@ -1,4 +1,4 @@
-use Rattle.command_dup.proofs.Turned.{no_room, begins, turns_at, ends_at_done, turn_stops}
+use Rattle.command_dup.proofs.Turned.{no_room, begins, dup_goes, turns_at, ends_at_done, turn_stops}
 use Rattle.command_dup.proofs.script.run.Goals as goal
 
 pub returns-in_default : goal.returns-in_default
@@ -9,6 +9,9 @@ returns-in_default-new g c = no_room _ _ _
 
 pub loop-more-init : goal.loop-more-init
 loop-more-init g c = begins _ _ _ _ _ c.in-Ok.ensures c.in-Ok-new.ensures
+
+pub apply_line-requires : goal.apply_line-requires
+apply_line-requires g c = record { going = dup_goes c.loop-more.invariant }
 
 pub loop-more-preserved : goal.loop-more-preserved
 loop-more-preserved g c = turns_at _ _ _ c.loop-more.invariant c.in-Ok-Some.field-0-is c.in-Ok-Some.ensures
