@@ -1,7 +1,7 @@
 #!/usr/bin/env python3
-"""Runs each example, and compares what the program prints with the transcript beside it (`NAME.script`, `NAME.check`, `NAME.um` or
-`NAME.words`, and `NAME.out`). A script is the input of `run`, a check that of `check`; words are those of a call that reads nothing. A script
-of `um` has the words of its call in its first line, after `; gnb`.
+"""Runs each example, and compares what the program prints with the transcript beside it (`NAME.script`, `NAME.check`, `NAME.um`,
+`NAME.dup` or `NAME.words`, and `NAME.out`). A script is the input of `run`, a check that of `check`; words are those of a call that reads nothing.
+A script of `um` or of `duplicate` has the words of its call in its first line, after `; gnb`.
 
 The last line of a transcript has the status: it is `stop STATUS ..`, or the status is 0. Standard error has one line that begins with `gnb: `
 where the status isn't 0, and else nothing.
@@ -15,6 +15,7 @@ import sys
 
 TOP = pathlib.Path(__file__).resolve().parents[1]
 WORDS = {".script": "run", ".check": "check"}
+WITH_WORDS = (".um", ".dup")
 
 
 def status_of(transcript):
@@ -23,7 +24,7 @@ def status_of(transcript):
 
 
 def is_input(path):
-    return path.suffix in (*WORDS, ".um")
+    return path.suffix in (*WORDS, *WITH_WORDS)
 
 
 def call_of(path):
@@ -31,7 +32,7 @@ def call_of(path):
     if path.suffix == ".words":
         return path.read_text().split(), b""
     given = path.read_bytes()
-    if path.suffix == ".um":
+    if path.suffix in WITH_WORDS:
         return given.decode().splitlines()[0].removeprefix("; gnb ").split(), given
     return [WORDS[path.suffix]], given
 

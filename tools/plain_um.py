@@ -5,38 +5,23 @@ RX_DELIV, RX_NEXT and RX_REORD. It is what random scripts are compared with; the
 Usage: tools/plain_um.py um N T < SCRIPT
 """
 
-import re
 import sys
 
-LIMIT = 16_777_216  # bytes of an input
+from plain_script import LONGEST_PACKET, NUMBER, Spent, WrongLine, answer, hexadecimal, number_of, packet_of, pdu, received_count
+
 MOST_MESSAGES = 1_000_000
-LONGEST_PACKET = 2_048
+MESSAGES = 1  # the counter of messages
 AHEAD = 1_024  # a COUNT as far above RX_DELIV is held
-WORD, NUMBER, HEX, EXTRA = 1, 2, 3, 4  # why a line is no event
-
-
-class WrongLine(Exception):
-    pass
 
 
 class Bearer:
     """The receiving entity: the packets that it stores under their COUNTs, and the ticks that t-Reordering has left, where it runs."""
 
-    def __init__(self, bits, ticks):
-        self.bits, self.ticks = bits, ticks
+    def __init__(self, ticks):
+        self.ticks = ticks
         self.rx_deliv = self.rx_next = self.rx_reord = 0
         self.left = None
         self.stored = {}
-
-    def count_of(self, rcvd_sn):
-        """5.2.2.1: RCVD_COUNT from RCVD_SN."""
-        window = 1 << (self.bits - 1)
-        hfn, sn = self.rx_deliv >> self.bits, self.rx_deliv % (1 << self.bits)
-        if rcvd_sn < sn - window:
-            hfn += 1
-        elif rcvd_sn >= sn + window:
-            hfn -= 1
-        return (hfn << self.bits) + rcvd_sn
 
     def refusal(self, count):
         if count < self.rx_deliv:
@@ -84,29 +69,37 @@ class Bearer:
         return up + more
 
 
+def message_of(word):
+    number = number_of(word[1:], 1, 0xFFFFFFFF) if word[:1] == "#" else None
+    if number is None:
+        raise WrongLine(NUMBER)
+    return number
+
+
+def delivered(up):
+    return [f"deliver {count} {hexadecimal(packet)}" for count, packet in up]
+
+
 class Script:
     """The sender, the link and the receiving entity."""
 
+    ARGUMENTS = {"offer": [packet_of], "give": [message_of], "again": [message_of], "lose": [message_of], "tick": [], "ask": []}
+
     def __init__(self, bits, ticks):
-        self.bits = bits
-        self.rx = Bearer(bits, ticks)
+        self.bits, self.window = bits, 1 << (bits - 1)
+        self.rx = Bearer(ticks)
         self.packets = []  # of message M at M - 1, whose COUNT is M - 1 too
         self.on_link = set()
-
-    def pdu(self, count):
-        sn = count % (1 << self.bits)
-        octets = (0x800000 | sn).to_bytes(3, "big") if self.bits == 18 else (0x8000 | sn).to_bytes(2, "big")
-        return hexadecimal(octets + self.packets[count])
 
     def offer(self, packet):
         if len(packet) > LONGEST_PACKET:
             return ["refused Size"]
         if len(self.packets) == MOST_MESSAGES:
-            return None
+            raise Spent(MESSAGES)
         count = len(self.packets)
         self.packets.append(packet)
         self.on_link.add(count)
-        return [f"put #{count + 1} {count} {self.pdu(count)}"]
+        return [f"put #{count + 1} {count} {pdu(self.bits, count, packet)}"]
 
     def of_message(self, number, done):
         if number > len(self.packets):
@@ -120,21 +113,20 @@ class Script:
         return [f"lost #{count + 1} 1"]
 
     def give(self, count, stays):
-        found = self.rx.count_of(count % (1 << self.bits))
+        found = received_count(self.bits, self.rx.rx_deliv, count % (1 << self.bits))
         why = self.rx.refusal(found)
         if why == "held":
             return [f"held #{count + 1} Ahead"]
         if not stays:
             self.on_link.remove(count)
-        got = f"got #{count + 1} {count} {self.pdu(count)}"
+        got = f"got #{count + 1} {count} {pdu(self.bits, count, self.packets[count])}"
         return [got, why] if why else [got, *delivered(self.rx.receive(found, self.packets[count]))]
 
     def span(self):
         """From the least COUNT that is awaited or on the link up to the last one that was numbered."""
         return len(self.packets) - min(self.on_link | {self.rx.rx_deliv}) if self.packets else 0
 
-    def does(self, word, value):
-        """The lines of an event, None where a counter would pass its last value."""
+    def lines(self, word, value):
         if word == "offer":
             return self.offer(value)
         if word == "tick":
@@ -144,87 +136,20 @@ class Script:
         done = self.lose if word == "lose" else lambda count: self.give(count, word == "again")
         return self.of_message(value, done)
 
+    def does(self, word, value):
+        """Each event is one step."""
+        yield self.lines(word, value)
 
-def hexadecimal(octets):
-    return octets.hex().upper()
-
-
-def delivered(up):
-    return [f"deliver {count} {hexadecimal(packet)}" for count, packet in up]
-
-
-def packet_of(word):
-    if not re.fullmatch("([0-9A-Fa-f]{2})+", word):
-        raise WrongLine(HEX)
-    return bytes.fromhex(word)
+    def shown(self, value):
+        return f"#{value}" if isinstance(value, int) else hexadecimal(value)
 
 
-def message_of(word):
-    if not re.fullmatch("#[1-9][0-9]{0,9}", word) or int(word[1:]) > 0xFFFFFFFF:
-        raise WrongLine(NUMBER)
-    return int(word[1:])
-
-
-ARGUMENTS = {"offer": [packet_of], "give": [message_of], "again": [message_of], "lose": [message_of], "tick": [], "ask": []}
-
-
-def event_of(line):
-    """An event's word, and what the word after it stands for."""
-    first, *words = line.split(" ")
-    if first not in ARGUMENTS:
-        raise WrongLine(WORD)
-    value = None
-    for read in ARGUMENTS[first]:
-        if not words:
-            raise WrongLine(WORD)
-        value = read(words.pop(0))
-    if words:
-        raise WrongLine(EXTRA)
-    return first, value
-
-
-def shown(word, value):
-    return f"> {word}" if value is None else f"> {word} {hexadecimal(value) if word == 'offer' else f'#{value}'}"
-
-
-def lines_of(octets):
-    """The lines among the first bytes, and whether the input is longer."""
-    longer = len(octets) > LIMIT
-    *lines, last = octets[:LIMIT].decode("latin-1").split("\n")
-    return lines + [last] * (last != "" and not longer), longer
-
-
-def run(bits, ticks, octets):
-    """The lines that are printed, the `stop` line among them, and the status."""
-    script, printed, events = Script(bits, ticks), [], 0
-    window = 1 << (bits - 1)
-    lines, longer = lines_of(octets)
-    for place, line in enumerate(lines, 1):
-        if line == "" or line[0] == ";":
-            continue
-        try:
-            word, value = event_of(line)
-        except WrongLine as wrong:
-            return [*printed, f"stop 4 {place} {wrong.args[0]}"], 4
-        printed.append(shown(word, value))
-        more = script.does(word, value)
-        if more is None:
-            return [*printed, f"stop 10 {place} 1"], 10
-        printed += more
-        if script.span() > window:
-            return [*printed, f"outstanding {script.span()} {window}", f"stop 5 {place} 0"], 5
-        events += 1
-    if longer:
-        return [*printed, f"stop 11 {LIMIT + 1} 0"], 11
-    return [*printed, f"end {events}"], 0
-
-
-def main(words):
-    is_form = len(words) == 3 and words[0] == "um" and words[1] in ("12", "18") and re.fullmatch("[1-9][0-9]{0,3}", words[2]) and int(words[2]) <= 1000
-    printed, status = run(int(words[1]), int(words[2]), sys.stdin.buffer.read()) if is_form else (["stop 2 0 0"], 2)
-    sys.stdout.write("".join(f"{line}\n" for line in printed))
-    return status
+def script_of(words):
+    ticks = number_of(words[2], 1, 1000) if len(words) == 3 else None
+    return Script(int(words[1]), ticks) if ticks is not None and words[0] == "um" and words[1] in ("12", "18") else None
 
 
 if __name__ == "__main__":
-    sys.exit(main(sys.argv[1:]))
+    text, status = answer(script_of(sys.argv[1:]), sys.stdin.buffer.read())
+    sys.stdout.write(text)
+    sys.exit(status)
