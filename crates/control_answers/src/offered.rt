@@ -119,10 +119,12 @@ fn are_named(alloc: Global, context: &Context, tunnels: &OfferTunnels) -> Result
         && name_bearers context.now tunnels.now.forward_down
         && name_bearers context.now tunnels.now.forward_up)) }
 {
-    Ok(name_bearers(alloc, context, &tunnels.uplinks)?
-        && name_bearers(alloc, context, &tunnels.n3)?
-        && name_bearers(alloc, context, &tunnels.forward_down)?
-        && name_bearers(alloc, context, &tunnels.forward_up)?)
+    Ok(
+        name_bearers(alloc, context, &tunnels.uplinks)?
+            && name_bearers(alloc, context, &tunnels.n3)?
+            && name_bearers(alloc, context, &tunnels.forward_down)?
+            && name_bearers(alloc, context, &tunnels.forward_up)?,
+    )
 }
 
 fn tunnels_came<C: MessageCodec>(
