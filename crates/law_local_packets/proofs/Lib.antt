@@ -1,0 +1,4 @@
+pub mod Lines
+pub mod Known
+pub mod Steps
+pub mod Runs

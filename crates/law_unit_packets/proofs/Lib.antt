@@ -1,0 +1,6 @@
+pub mod Answers
+pub mod UpBearers
+pub mod CuUps
+pub mod Terminals
+pub mod Dus
+pub mod Controls
