@@ -1,77 +1,18 @@
--- Parts of an event, one after another.
-use Rattle.std.proofs.Common.{◌≡◌, ◌==◌, ℕ, ◌+◌, ◌-◌, ◌≤◌, Bool, true, false, cond, nat_lt, min, fold, List, [], ◌∷◌, ◌++◌, length, map, Option, Some, None, Ok, Err, refl, sym, ap, ◌∙◌, subst, arith, append_assoc, append-nil}
-use Rattle.std.specs.List.{AllByRecursion}
-use Rattle.std.proofs.lemmas.List.{map-append}
+-- What is outstanding, and what comes of a packet that is received.
+use Rattle.std.proofs.Common.{◌≡◌, ℕ, ◌-◌, Bool, true, false, cond, nat_lt, min, fold, List, [], ◌∷◌, ◌++◌, map, Some, refl, sym, ap, ◌∙◌, arith, append_assoc}
+use Rattle.std.specs.Ordering.{nat_cmp}
 use Rattle.std.proofs.lemmas.Bool.Decides.{nat_tests}
 use Rattle.gnb_types.specs.declared.names.SnBits.{SnBits}
-use Rattle.pdcp_defs.specs.Receivers.{Receiver, is_duplicate, stored, deliver}
-use Rattle.dup_types.specs.declared.leg.Leg.{Leg}
-use Rattle.dup_types.specs.declared.leg.Leg.TheVariants as legs
+use Rattle.tables.specs.Tables.{put}
+use Rattle.pdcp_defs.specs.Receivers.{Receiver, is_duplicate, stored, deliver, deliver_from}
 use Rattle.dup_types.specs.declared.line.DupLine.{DupLine}
 use Rattle.dup_types.specs.declared.line.DupLine.TheVariants as lines
-use Rattle.dup_types.specs.declared.put.Put.{Put}
-use Rattle.dup_defs.specs.Senders.{DupSender, DupPut, DupNumbers, gives, spends}
-use Rattle.dup_run_defs.specs.Run.{LegItems, DupRun, DupOutcome, goes_on, counts_spent, lines_first, and_then, items_of, with_items, with_put, with_puts, put_line, puts_out, counts_on, undelivered, outstanding, span_from, span}
-use Rattle.dup_pdcp.specs.Entity.{DupTxState, put_of, puts_of_code}
-use Rattle.dup_legs.specs.Legs.{LegsState, leg_of, with_leg}
-use Rattle.dup_bearer.specs.Bearers.{BearerState, with_run}
+use Rattle.dup_run_defs.specs.Run.{received, handed_up, DupRun, DupOutcome, goes_on, lines_first, counts_on, undelivered, outstanding, span_from, span}
+use Rattle.dup_pdcp.specs.Entity.{DupTxState}
+use Rattle.dup_legs.specs.Legs.{LegsState}
+use Rattle.dup_bearer.specs.Bearers.{BearerState, deliver_line}
 use Rattle.dup_bearer.specs.inside.Views.{run_state, bearer_state}
 use Rattle.dup_bearer.specs.inside.Parts.{IsPart}
-
--- ---- the legs of a run
-
-pub leg_is : (tx : DupTxState) (l : LegsState) (deliv : ℕ) (es : List (ℕ × List ℕ)) (leg : Leg) → leg_of leg l ≡ items_of leg (run_state tx l deliv es)
-leg_is tx l deliv es legs.First = refl
-leg_is tx l deliv es legs.Second = refl
-
-pub with_leg_is : (tx : DupTxState) (l : LegsState) (deliv : ℕ) (es : List (ℕ × List ℕ)) (leg : Leg) (items : LegItems)
-    → run_state tx (with_leg leg items l) deliv es ≡ with_items leg items (run_state tx l deliv es)
-with_leg_is tx l deliv es legs.First items = refl
-with_leg_is tx l deliv es legs.Second items = refl
-
--- ---- lines before an outcome
-
-pub first_both : (xs ys : List DupLine) (o : DupOutcome) → lines_first (xs ++ ys) o ≡ lines_first xs (lines_first ys o)
-first_both xs ys (goes_on printed s) = ap (λ (ls : List DupLine). goes_on ls s) (append_assoc xs ys printed)
-first_both xs ys counts_spent = refl
-
-pub first_none : (o : DupOutcome) → lines_first [] o ≡ o
-first_none (goes_on printed s) = refl
-first_none counts_spent = refl
-
--- an outcome that went on, and what comes after it
-pub then_is : (before middle : List DupLine) (o : DupOutcome) (run : DupRun) (more : DupRun → DupOutcome) → lines_first before o ≡ goes_on middle run
-    → lines_first before (and_then o more) ≡ lines_first middle (more run)
-then_is before middle (goes_on printed s) run more is =
-    let lines_are : before ++ printed ≡ middle = cc in
-    let run_is : s ≡ run = cc in
-    sym (first_both before printed (more s))
-    ∙ (ap (λ (ls : List DupLine). lines_first ls (more s)) lines_are ∙ ap (λ (t : DupRun). lines_first middle (more t)) run_is)
-then_is before middle counts_spent run more is = absurd (cc)
-
--- ---- puts
-
-pub puts_append : (xs ys : List DupPut) (s : DupRun) → with_puts (xs ++ ys) s ≡ with_puts ys (with_puts xs s)
-puts_append [] ys s = refl
-puts_append (x ∷ xs) ys s = puts_append xs ys (with_put s x)
-
--- one put, and then the others
-pub puts_one : (sn : SnBits) (old middle : BearerState) (a b : List DupLine) (put : Put) (puts : List Put)
-    → IsPart (goes_on (map (put_line sn) (puts_of_code sn (put ∷ []))) (with_puts (puts_of_code sn (put ∷ [])) old.run)) old middle a b
-    → goes_on (b ++ map (put_line sn) (puts_of_code sn puts)) (with_puts (puts_of_code sn puts) middle.run)
-    ≡ goes_on (a ++ map (put_line sn) (puts_of_code sn (put ∷ puts))) (with_puts (puts_of_code sn (put ∷ puts)) old.run)
-puts_one sn old middle a b put puts one =
-    let lines_are = lines_in one.lines in
-    let run_is = run_in one.lines in
-    ap (λ (ls : List DupLine). goes_on (ls ++ map (put_line sn) (puts_of_code sn puts)) (with_puts (puts_of_code sn puts) middle.run)) (sym lines_are)
-    ∙ (ap (λ (s : DupRun). goes_on ((a ++ put_line sn (put_of sn put) ∷ []) ++ map (put_line sn) (puts_of_code sn puts)) (with_puts (puts_of_code sn puts) s)) (sym run_is)
-    ∙ ap (λ (ls : List DupLine). goes_on ls (with_puts (puts_of_code sn puts) (with_put old.run (put_of sn put)))) (append_assoc a (put_line sn (put_of sn put) ∷ []) (map (put_line sn) (puts_of_code sn puts))))
-  where
-    lines_in : {xs ys : List DupLine} {s t : DupRun} → goes_on xs s ≡ goes_on ys t → xs ≡ ys
-    lines_in e = cc
-
-    run_in : {xs ys : List DupLine} {s t : DupRun} → goes_on xs s ≡ goes_on ys t → s ≡ t
-    run_in e = cc
 
 -- ---- what is outstanding
 
@@ -109,3 +50,39 @@ span_is s least is =
     ∙ (ap (λ n. fold min n counts) (sym (awaited_least next s.receiver.deliv))
     ∙ (sym (fold_append next (undelivered s) counts) ∙ ap (λ (xs : List ℕ). fold min next xs) (sym (append_assoc (undelivered s) (counts_on s.first) (counts_on s.second))))))
     ∙ span_least next (outstanding s)
+
+-- ---- a packet is received
+
+pub is_dropped : (packet : List ℕ) (s : DupRun) (count : ℕ) → is_duplicate s.receiver count ≡ true → received packet s (Some count) ≡ goes_on (lines.DropDuplicate ∷ []) s
+is_dropped packet s count is =
+    ap (λ b. cond b (goes_on (lines.DropDuplicate ∷ []) s) (handed_up s (deliver (stored s.receiver count packet)))) is
+
+pub is_stored : (packet : List ℕ) (s : DupRun) (count : ℕ) → is_duplicate s.receiver count ≡ false
+    → received packet s (Some count) ≡ handed_up s (deliver (stored s.receiver count packet))
+is_stored packet s count is =
+    ap (λ b. cond b (goes_on (lines.DropDuplicate ∷ []) s) (handed_up s (deliver (stored s.receiver count packet)))) is
+
+pub drops : (o : DupOutcome) (old : BearerState) (a b : List DupLine) → o ≡ goes_on (lines.DropDuplicate ∷ []) old.run → b ≡ a ++ lines.DropDuplicate ∷ []
+    → IsPart o old old a b
+drops o old a b is pushed = record {
+  lines = ap (λ (d : DupOutcome). lines_first a d) is ∙ ap (λ (ls : List DupLine). goes_on ls old.run) (sym pushed);
+  same = refl;
+}
+
+-- what is stored, and what is handed up from it
+pub delivers : (n : SnBits) (tx : DupTxState) (l : LegsState) (deliv next : ℕ) (es fs gs : List (ℕ × List ℕ)) (count : ℕ) (packet : List ℕ) (ups : List (ℕ × List ℕ)) (a b : List DupLine)
+    → fs ≡ put nat_cmp es count packet → ups ≡ (deliver_from deliv fs).packets → (deliver_from deliv fs).after ≡ record { deliv = next; stored = gs }
+    → b ≡ a ++ map deliver_line ups
+    → IsPart (handed_up (run_state tx l deliv es) (deliver (stored (record { deliv = deliv; stored = es }) count packet)))
+    (bearer_state n tx l deliv es) (bearer_state n tx l next gs) a b
+unfolding deliver stored
+delivers n tx l deliv next es fs gs count packet ups a b put_is up after printed =
+    let s = run_state tx l deliv es in
+    record {
+      lines =
+          ap (λ (xs : List (ℕ × List ℕ)). goes_on (a ++ map deliver_line (deliver_from deliv xs).packets) (record s { receiver = (deliver_from deliv xs).after })) (sym put_is)
+          ∙ (ap (λ (xs : List (ℕ × List ℕ)). goes_on (a ++ map deliver_line xs) (record s { receiver = (deliver_from deliv fs).after })) (sym up)
+          ∙ (ap (λ (r : Receiver (List ℕ)). goes_on (a ++ map deliver_line ups) (record s { receiver = r })) after
+          ∙ ap (λ (ls : List DupLine). goes_on ls (run_state tx l next gs)) (sym printed)));
+      same = refl;
+    }

@@ -9,7 +9,7 @@ use Rattle.dup_types.specs.declared.stop.DupEnd.TheVariants as ends
 use Rattle.dup_types.specs.declared.stop.DupStop.{DupStop}
 use Rattle.dup_types.specs.declared.stop.DupStop.TheVariants as stops
 use Rattle.dup_run_defs.specs.Run.{DupRun, new_run}
-use Rattle.dup_run_defs.specs.Steps.{DupStep, passes, stops as ends_so, steps}
+use Rattle.dup_run_defs.specs.Steps.{DupStep, passes, stops as ends_so}
 
 pub record DupState : Type 0 where
   pub sn : SnBits

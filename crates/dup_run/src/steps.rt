@@ -3,7 +3,7 @@
 ghost use Rattle.std.specs.Prelude.{◌≡◌, None, IfOk};
 ghost use Rattle.pdcp.specs.Numbers.{half};
 ghost use Rattle.dup_types.specs.declared.line.DupRefusal.TheVariants.{Down};
-ghost use Rattle.dup_run_defs.specs.Run.{DupRun, DupOutcome, refused};
+ghost use Rattle.dup_run_defs.specs.Run.{DupRun, DupOutcome, refused, where_up, carry, confirm};
 ghost use Rattle.dup_run_defs.specs.Steps.{DupStep, step_of as step_by, printed_first};
 ghost use Rattle.dup_bearer.specs.Bearers.{with_run, IsOutcome};
 ghost use Rattle.dup_run.specs.Runs.{IsEvent, stop_of};
@@ -11,6 +11,7 @@ ghost use Rattle.dup_run.specs.inside.Views.{IsStep, outcome_by};
 
 use dup_bearer::{Bearer, DupFault};
 use dup_types::event::DupEvent;
+use dup_types::leg::Leg;
 use dup_types::line::{DupLine, DupRefusal};
 use dup_types::stop::{DupEnd, DupLines, DupStop};
 use gnb_types::items::Items;
@@ -88,6 +89,29 @@ fn refused_down(alloc: Global) -> Result<DupLines, DupFault>
     Ok(Items::one(alloc, DupLine::Refused { reason })?)
 }
 
+fn carry(alloc: Global, bearer: &mut Bearer, leg: Leg) -> Result<DupLines, DupFault>
+    requires { bearer.old.gone ≡ None }
+    ensures outcome { IsOutcome (where_up leg bearer.old.run (carry bearer.old.sn leg bearer.old.run)) bearer.new.run result }
+    ensures same { IfOk result (λ lines. bearer.new ≡ with_run bearer.old bearer.new.run) }
+{
+    if !bearer.is_up(leg) {
+        return refused_down(alloc);
+    }
+    bearer.carry(alloc, leg)
+}
+
+fn confirm(alloc: Global, bearer: &mut Bearer, leg: Leg) -> Result<DupLines, DupFault>
+    requires { bearer.old.gone ≡ None }
+    ensures outcome { IsOutcome (where_up leg bearer.old.run
+        (confirm bearer.old.sn bearer.old.quota leg bearer.old.run)) bearer.new.run result }
+    ensures same { IfOk result (λ lines. bearer.new ≡ with_run bearer.old bearer.new.run) }
+{
+    if !bearer.is_up(leg) {
+        return refused_down(alloc);
+    }
+    bearer.confirm(alloc, leg)
+}
+
 /// What an event that isn't a drain comes to.
 #[tactic(auto, unfolding(dup_run_defs::specs::Steps::steps))]
 pub(crate) fn outcome(
@@ -102,9 +126,8 @@ pub(crate) fn outcome(
 {
     match event {
         DupEvent::Offer { packet } => bearer.offer(alloc, packet.as_slice()),
-        DupEvent::Carry { leg } if bearer.is_up(*leg) => bearer.carry(alloc, *leg),
-        DupEvent::Confirm { leg } if bearer.is_up(*leg) => bearer.confirm(alloc, *leg),
-        DupEvent::Carry { .. } | DupEvent::Confirm { .. } => refused_down(alloc),
+        DupEvent::Carry { leg } => carry(alloc, bearer, *leg),
+        DupEvent::Confirm { leg } => confirm(alloc, bearer, *leg),
         DupEvent::Fail { leg } => bearer.fail(alloc, *leg),
         DupEvent::Mend { leg } => bearer.mend(alloc, *leg),
         DupEvent::SetMode { mode } => bearer.change_mode(alloc, *mode),

@@ -1,11 +1,10 @@
 -- Internal: parts of an event, with lines after earlier ones.
-use Rattle.std.specs.Prelude.{◌≡◌, ℕ, List, [], ◌∷◌, ◌++◌, map, Result, Ok, Err}
-use Rattle.gnb_types.specs.declared.names.SnBits.{SnBits}
+use Rattle.std.specs.Prelude.{◌≡◌, List, map, Result, Ok, Err}
 use Rattle.dup_types.specs.declared.error.DupError.{DupError}
 use Rattle.dup_types.specs.declared.error.DupError.TheVariants as errors
 use Rattle.dup_types.specs.declared.line.DupLine.{DupLine}
 use Rattle.dup_types.specs.declared.put.Put.{Put}
-use Rattle.dup_run_defs.specs.Run.{DupRun, DupOutcome, goes_on, counts_spent, lines_first, put_line, with_puts}
+use Rattle.dup_run_defs.specs.Run.{DupOutcome, goes_on, lines_first, put_line, with_puts}
 use Rattle.dup_pdcp.specs.Entity.{puts_of_code}
 use Rattle.dup_bearer.specs.Bearers.{BearerState, with_run}
 use Rattle.dup_bearer.specs.declared.fault.DupFault.{DupFault}

@@ -1,5 +1,5 @@
 -- Internal: what the code of a run keeps, and what its steps come to.
-use Rattle.std.specs.Prelude.{◌≡◌, Bool, true, false, List, Option, None, Result, Ok, Err}
+use Rattle.std.specs.Prelude.{◌≡◌, Bool, false, List, Option, None, Result, Ok, Err}
 use Rattle.dup_types.specs.declared.event.DupEvent.{DupEvent}
 use Rattle.dup_types.specs.declared.event.DupEvent.TheVariants as events
 use Rattle.dup_types.specs.declared.line.DupLine.{DupLine}
