@@ -212,7 +212,7 @@ module _ (t : OwnedTunnel) where
     answer_numbers k r d es (steps os bs) p h = (
       h.0,
       h.1,
-      λ u x b y at found. by u x b y (eq_by_cmp ue_cmp u ue) refl (sym (find-put ue_total r.contexts ue (record d { bearers = bs }) u) ∙ at) found,
+      (p.0, λ u x b y at found. by u x b y (eq_by_cmp ue_cmp u ue) refl (sym (find-put ue_total r.contexts ue (record d { bearers = bs }) u) ∙ at) found),
       λ none. h.3 (nowhere es (no_owner none)),
     )
       where
@@ -225,7 +225,7 @@ module _ (t : OwnedTunnel) where
             subst (λ (v : UeId). BearerCounts t h.0 v b y.downlink) (sym same)
             (found_all (λ c z. BearerCounts t h.0 ue c z.downlink) bs h.2 b y (subst (λ (z : UpContext). find bearer_cmp z.bearers b ≡ Some y) (sym those) found))
         by u x b y false off e found =
-            counts_on k h.0 u b y.downlink (p u x b y e found) (λ own. h.3 (nowhere es (other_owner u b (other_ue u ue off) own)))
+            counts_on k h.0 u b y.downlink (p.1 u x b y e found) (λ own. h.3 (nowhere es (other_owner u b (other_ue u ue off) own)))
 
     pub bearer_numbers : (k : ℕ) (r : CuUp M C) (c : UpContext) (bearer : BearerId) (x : UpBearer) (a : Answer M P UpBearer) → UpCounts t k r
         → find ue_cmp r.contexts ue ≡ Some c → find bearer_cmp c.bearers bearer ≡ Some x → NumbersFrom x.downlink a
@@ -234,12 +234,12 @@ module _ (t : OwnedTunnel) where
     bearer_numbers k r c bearer x (gives os b) p at found numbers = (
       first.0,
       first.1,
-      λ u z y w here found. by u z y w (eq_by_cmp ue_cmp u ue) refl (sym (find-put ue_total r.contexts ue (record c { bearers = put bearer_cmp c.bearers bearer b }) u) ∙ here) found,
+      (p.0, λ u z y w here found. by u z y w (eq_by_cmp ue_cmp u ue) refl (sym (find-put ue_total r.contexts ue (record c { bearers = put bearer_cmp c.bearers bearer b }) u) ∙ here) found),
       λ none. only (no_owner none bearer),
     )
       where
         stands : BearerCounts t k ue bearer x.downlink
-        stands = p ue c bearer x at found
+        stands = p.1 ue c bearer x at found
 
         first : Went t.end k x.downlink (frames_by os) b.downlink
         first = went t.end k x.downlink (frames_by os) b.downlink numbers (λ l. (stands l).1)
@@ -255,7 +255,7 @@ module _ (t : OwnedTunnel) where
             subst (λ (v : BearerId). BearerCounts t first.0 ue v w.downlink) (sym same)
             (subst (λ (v : UpBearer). BearerCounts t first.0 ue bearer v.downlink) it (λ l. let now = first.2 l in ((stands now.1).0, now.0)))
         in_context y w false off e =
-            counts_on k first.0 ue y w.downlink (p ue c y w at e) (λ own. only (λ mine. other_bearer y bearer off (one_bearer bearer y mine own)))
+            counts_on k first.0 ue y w.downlink (p.1 ue c y w at e) (λ own. only (λ mine. other_bearer y bearer off (one_bearer bearer y mine own)))
 
         by : (u : UeId) (z : UpContext) (y : BearerId) (w : UpBearer) (tie : Bool) → eq_by_cmp ue_cmp u ue ≡ tie
             → cond tie (Some (record c { bearers = put bearer_cmp c.bearers bearer b })) (find ue_cmp r.contexts u) ≡ Some z → find bearer_cmp z.bearers y ≡ Some w
@@ -267,4 +267,4 @@ module _ (t : OwnedTunnel) where
             (in_context y w (eq_by_cmp bearer_cmp y bearer) refl
             (sym (find-put bearer_total c.bearers bearer b y) ∙ subst (λ (v : UpContext). find bearer_cmp v.bearers y ≡ Some w) (sym those) there))
         by u z y w false off e there =
-            counts_on k first.0 u y w.downlink (p u z y w e there) (λ own. only (λ mine. absurd (other_owner u y (other_ue u ue off) own bearer mine)))
+            counts_on k first.0 u y w.downlink (p.1 u z y w e there) (λ own. only (λ mine. absurd (other_owner u y (other_ue u ue off) own bearer mine)))

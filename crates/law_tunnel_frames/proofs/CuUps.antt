@@ -157,14 +157,14 @@ module _ (t : OwnedTunnel) {M C P : Type 0} (way : Way M C P) where
   ended_numbers k r ue c p = (
     k,
     none_counts k _ (none_closings way c.bearers),
-    λ u x b y at found. by u x b y (eq_by_cmp ue_cmp u ue) (sym (find-without ue_total r.contexts ue u) ∙ at) found,
+    (p.0, λ u x b y at found. by u x b y (eq_by_cmp ue_cmp u ue) (sym (find-without ue_total r.contexts ue u) ∙ at) found),
     λ e. refl,
   )
     where
       by : (u : UeId) (x : UpContext) (b : BearerId) (y : UpBearer) (tie : Bool) → cond tie None (find ue_cmp r.contexts u) ≡ Some x
           → find bearer_cmp x.bearers b ≡ Some y → BearerCounts t k u b y.downlink
       by u x b y true e found = absurd cc
-      by u x b y false e found = p u x b y e found
+      by u x b y false e found = p.1 u x b y e found
 
   over_numbers : (k : ℕ) (ue : UeId) (r : CuUp M C) → UpCounts t k r → Numbers k (end_where_over way ue r)
   unfolding end_where_over
@@ -190,16 +190,17 @@ module _ (t : OwnedTunnel) {M C P : Type 0} (way : Way M C P) where
 
   released_counts : (k : ℕ) (r : CuUp M C) (ue : UeId) (c : UpContext) → UpCounts t k r → find ue_cmp r.contexts ue ≡ Some c
       → UpCounts t k (with_context ue r (as_released way c))
-  released_counts k r ue c p is u x b y at found = by (eq_by_cmp ue_cmp u ue) refl (sym (find-put ue_total r.contexts ue (as_released way c) u) ∙ at)
+  released_counts k r ue c p is = (p.0, λ u x b y at found. by u x b y found (eq_by_cmp ue_cmp u ue) refl (sym (find-put ue_total r.contexts ue (as_released way c) u) ∙ at))
     where
-      by : (tie : Bool) → eq_by_cmp ue_cmp u ue ≡ tie → cond tie (Some (as_released way c)) (find ue_cmp r.contexts u) ≡ Some x → BearerCounts t k u b y.downlink
-      by true tie e =
+      by : (u : UeId) (x : UpContext) (b : BearerId) (y : UpBearer) → find bearer_cmp x.bearers b ≡ Some y → (tie : Bool) → eq_by_cmp ue_cmp u ue ≡ tie
+          → cond tie (Some (as_released way c)) (find ue_cmp r.contexts u) ≡ Some x → BearerCounts t k u b y.downlink
+      by u x b y found true tie e =
           let same : u ≡ ue = ue_exact u ue ((Equal-is (ue_cmp u ue)).0 tie) in
           let those : as_released way c ≡ x = cc in
           let it = released_found c.bearers b y (subst (λ (z : UpContext). find bearer_cmp z.bearers b ≡ Some y) (sym {b = x} those) found) in
           subst (λ (v : UeId). BearerCounts t k v b y.downlink) (sym same)
-          (subst (λ (d : Option Downlink). BearerCounts t k ue b d) (sym it.2) (p ue c b it.0 is it.1))
-      by false off e = p u x b y e found
+          (subst (λ (d : Option Downlink). BearerCounts t k ue b d) (sym it.2) (p.1 ue c b it.0 is it.1))
+      by u x b y found false off e = p.1 u x b y e found
 
   released_numbers : (k : ℕ) (ue : UeId) (is_final : Bool) (r : CuUp M C) → UpCounts t k r → (c : Option UpContext) → find ue_cmp r.contexts ue ≡ c
       → Numbers k (released_on way ue is_final r c)
@@ -236,13 +237,13 @@ module _ (t : OwnedTunnel) {M C P : Type 0} (way : Way M C P) where
           found_all (λ c z. z.downlink ≡ None) (bearers_made target r.next_teid (bearers_from 1 count)) (new_none target r.next_teid (bearers_from 1 count)) b y
           (subst (λ (z : UpContext). find bearer_cmp z.bearers b ≡ Some y) (sym those) found) in
           λ l. absurd (subst (Leads t.end) none l)
-      at_new u x b y false e found = p u x b y e found
+      at_new u x b y false e found = p.1 u x b y e found
 
       by : (b : Bool) → Numbers k (if b then with_new way ue r (count * teids_of_bearer target) (new_context way r sn quota target count) else spent teids_spent)
       by true = (
         k,
         none_counts k _ (none_opened way target r.next_teid (bearers_from 1 count)),
-        λ u x b y at found. at_new u x b y (eq_by_cmp ue_cmp u ue) (sym (find-put ue_total r.contexts ue (new_context way r sn quota target count) u) ∙ at) found,
+        (p.0, λ u x b y at found. at_new u x b y (eq_by_cmp ue_cmp u ue) (sym (find-put ue_total r.contexts ue (new_context way r sn quota target count) u) ∙ at) found),
         λ e. refl,
       )
       by false = tt
@@ -325,7 +326,7 @@ module _ (t : OwnedTunnel) {M C P : Type 0} (way : Way M C P) where
 
   module _ (k : ℕ) (ch : Channel) (ue : UeId) (instance : ℕ) (r : CuUp M C) (order : BearersInOrder r) (p : UpCounts t k r) where
     each_counts : (c : UpContext) → find ue_cmp r.contexts ue ≡ Some c → Apart c.bearers → EachCounts t way ue (stood t way ue) k c.bearers
-    each_counts c is apart = each_found (λ b x. BearerCounts t k ue b x.downlink) c.bearers apart (λ b x found. p ue c b x is found)
+    each_counts c is apart = each_found (λ b x. BearerCounts t k ue b x.downlink) c.bearers apart (λ b x found. p.1 ue c b x is found)
 
     uplinks_numbers : (c : UpContext) → find ue_cmp r.contexts ue ≡ Some c → Apart c.bearers → Numbers k (add_uplinks way ch ue instance c r)
     unfolding add_uplinks

@@ -18,8 +18,9 @@ use Rattle.unit_defs.specs.Messages.{mode_switch, channel}
 use Rattle.unit_defs.specs.UpRecords.{Downlink, UpBearer, UpContext, CuUp}
 use Rattle.law_frames.specs.Numbered.{Frame, frames_by}
 
--- a tunnel, and the bearer of this CU-UP to which it was given, if it was
+-- a tunnel, the bearer of a CU-UP to which it was given, if it was, and the gNB of this CU-UP
 pub record OwnedTunnel : Type 0 where
+  pub gnb : Gnb
   pub end : TunnelEnd
   pub owner : Option (UeId × BearerId)
 
@@ -52,8 +53,10 @@ abbrev pub BearerCounts : OwnedTunnel → ℕ → UeId → BearerId → Option D
 BearerCounts t count ue bearer d = Leads t.end d → (t.owner ≡ Some (ue, bearer)) × NextIs count d
 
 abbrev pub UpCounts : {M C : Type 0} → OwnedTunnel → ℕ → CuUp M C → Type 0
-UpCounts t count r = (ue : UeId) (c : UpContext) (bearer : BearerId) (b : UpBearer) → find ue_cmp r.contexts ue ≡ Some c
-    → find bearer_cmp c.bearers bearer ≡ Some b → BearerCounts t count ue bearer b.downlink
+UpCounts t count r =
+    (r.gnb ≡ t.gnb)
+    × ((ue : UeId) (c : UpContext) (bearer : BearerId) (b : UpBearer) → find ue_cmp r.contexts ue ≡ Some c
+    → find bearer_cmp c.bearers bearer ≡ Some b → BearerCounts t count ue bearer b.downlink)
 
 -- the bearers of each context are in ascending order
 abbrev pub BearersInOrder : {M C : Type 0} → CuUp M C → Type 0
