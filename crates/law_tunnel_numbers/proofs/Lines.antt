@@ -1,6 +1,6 @@
 -- The lines of a step tell what the unit puts on a tunnel.
-use Rattle.std.proofs.Common.{◌≡◌, ◌==◌, ℕ, ◌+◌, Bool, true, false, ◌&&◌, List, [], ◌∷◌, ◌++◌, map, Option, Some, None, inl, inr, refl, sym, ap, ◌∙◌, subst, eqb-true}
-use Rattle.std.specs.Prelude.{if◌then◌else◌, ◌⊎◌}
+use Rattle.std.proofs.Common.{◌≡◌, ◌==◌, ℕ, ◌+◌, Bool, true, false, ◌&&◌, List, [], ◌∷◌, ◌++◌, map, Option, Some, None, inl, inr, refl, sym, ap, subst, eqb-true}
+use Rattle.std.specs.Prelude.{if◌then◌else◌}
 use Rattle.std.specs.List.{flat_map}
 use Rattle.std.specs.Ordering.{eq_by_cmp}
 use Rattle.std.proofs.lemmas.Grind.{flat_map-append}
@@ -10,7 +10,6 @@ use Rattle.gnb_types.specs.declared.names.UeId.{UeId}
 use Rattle.gnb_types.specs.declared.names.SnBits.{SnBits}
 use Rattle.gnb_types.specs.declared.keys.EntityKey.{EntityKey}
 use Rattle.gnb_types.specs.declared.keys.TunnelEnd.{TunnelEnd}
-use Rattle.gnb_types.specs.declared.outputs.Tag.{Tag}
 use Rattle.gnb_types.specs.Orders.{ue_cmp, tunnel_cmp, node_cmp}
 use Rattle.tables.specs.Tables.{find, at}
 use Rattle.message_types.specs.declared.rrc.Token.{Token}
@@ -18,17 +17,16 @@ use Rattle.unit_defs.specs.Ways.{Message, Pdu, Load, fresh, numbered, frame, upl
 use Rattle.unit_octet_defs.specs.Writing.{load_octets, written_load}
 use Rattle.transport_defs.specs.declared.Item.{Item}
 use Rattle.transport_defs.specs.Links.{is_epoch, emptied}
-use Rattle.run_defs.specs.Lines.{RunLine, put_item, got_message, lost_items, tunnel_link, radio_link, shown}
-use Rattle.run_defs.specs.Said.{same_link}
+use Rattle.run_defs.specs.Lines.{RunLine, put_item, lost_items, tunnel_link, radio_link, shown}
 use Rattle.run_defs.specs.Units.{Units}
-use Rattle.run_defs.specs.States.{State, World, Stop, Lengths, goes, stops, told_before, ◌next◌, goes_on, Within, entity, radio_of, with_radio}
+use Rattle.run_defs.specs.States.{State, Stop, Lengths, goes, stops, told_before, ◌next◌, goes_on, Within, entity, radio_of, with_radio}
 use Rattle.run_defs.specs.Steps.{first_outstanding, entities_of, checked_by, check_spans, noted, count_beside, item_of, on_tunnel, put_on_tunnel, put_on_connected, put_on_radio, put_control, opens, closes, lost_if, radio_lost, lose_each, lose_radios_of, lose_radios, radios_of, same_epoch, epoch_now, connect_in, reconnect, reconnect_node, put_out, put_out_all, carried_out}
 use Rattle.run_defs.specs.Written.{Written, written_pdu, written_put}
 use Rattle.run_defs.specs.Runs.{Reading, plain_world}
 use Rattle.law_steps.specs.Causes.{Cause, by_order, by_tick, by_octets, by_octets_on, by_attach, by_release, by_offer, by_item, by_air, by_ack, by_letter, node_of, count_of, first_of}
-use Rattle.law_frames.specs.Numbered.{Frame, frame_of, frames_in, frames_by}
+use Rattle.law_frames.specs.Numbered.{frame_of, frames_in, frames_by}
 use Rattle.law_tunnel_frames.specs.OneTunnel.{is_tunnel, number_on, numbers_on, CountTo}
-use Rattle.law_tunnel_numbers.specs.Tunnels.{IsDataFrame, IsNoFrame, IsOther, AreNumbered, put_on}
+use Rattle.law_tunnel_numbers.specs.Tunnels.{IsNoFrame, AreNumbered, put_on}
 
 pub numbered_then : (teid a : ℕ) (xs : List (List ℕ)) (b : ℕ) (ys : List (List ℕ)) (c : ℕ) → AreNumbered teid a xs b → AreNumbered teid b ys c
     → AreNumbered teid a (xs ++ ys) c

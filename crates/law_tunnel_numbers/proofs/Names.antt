@@ -1,5 +1,5 @@
 -- Which bearers the lines of a step name: those of the request that the step takes.
-use Rattle.std.proofs.Common.{◌≡◌, ℕ, Bool, true, false, List, [], ◌∷◌, ◌++◌, map, Option, Some, None, refl, ◌∙◌}
+use Rattle.std.proofs.Common.{◌≡◌, ℕ, Bool, true, false, List, [], ◌∷◌, ◌++◌, Option, Some, None, refl, ◌∙◌}
 use Rattle.std.specs.Prelude.{if◌then◌else◌}
 use Rattle.std.specs.List.{flat_map}
 use Rattle.std.proofs.lemmas.Grind.{flat_map-append}
@@ -13,7 +13,6 @@ use Rattle.gnb_types.specs.declared.keys.EntityKey.{EntityKey}
 use Rattle.gnb_types.specs.declared.keys.TunnelEnd.{TunnelEnd}
 use Rattle.gnb_types.specs.Orders.{ue_cmp, tunnel_cmp}
 use Rattle.tables.specs.Tables.{find, at}
-use Rattle.message_types.specs.declared.rrc.Token.{Token}
 use Rattle.unit_defs.specs.Ways.{Message, Put, control, packet, radio, deliver, dropped, held, opened, closed, failed, no}
 use Rattle.transport_defs.specs.declared.Item.{Item}
 use Rattle.transport_defs.specs.Links.{is_epoch, emptied}

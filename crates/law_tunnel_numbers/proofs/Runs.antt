@@ -19,42 +19,42 @@ use Rattle.gnb_types.specs.declared.keys.TunnelEnd.{TunnelEnd}
 use Rattle.gnb_types.specs.declared.plans.Plan.{Plan}
 use Rattle.gnb_types.specs.Orders.{node_cmp, ue_cmp, bearer_cmp}
 use Rattle.gnb_types.proofs.OrderLemmas.{ue_total, ue_exact, node_exact}
-use Rattle.tables.specs.Tables.{find, put, at}
+use Rattle.tables.specs.Tables.{find, at}
 use Rattle.tables.proofs.TableLaws.{find-put}
 use Rattle.message_types.specs.declared.rrc.Token.{Token}
 use Rattle.scenario_text.specs.declared.event.Event.{Event}
 use Rattle.scenario_text.specs.declared.event.Event.TheVariants as events
 use Rattle.unit_defs.specs.Ways.{Message, Pdu, Load, Put, Output}
 use Rattle.unit_defs.specs.Ue.{new_ue, placed}
-use Rattle.unit_defs.specs.UpRecords.{Downlink, UpBearer, UpContext, CuUp}
+use Rattle.unit_defs.specs.UpRecords.{UpBearer, UpContext, CuUp}
 use Rattle.unit_defs.specs.CuUp.{new_cu_up, bearers_from, bearers_made}
 use Rattle.unit_defs.specs.Static.{up_has_room, up_has_teids, du_has_teids, with_downlinks, up_context, up_placed, du_placed, cp_placed, up_set_up}
 use Rattle.unit_defs.specs.CpRecords.{CuCpRecord}
 use Rattle.run_defs.specs.Lines.{RunLine, got_message, held_at, tunnel_link, radio_link}
-use Rattle.run_defs.specs.Units.{Units, new_units, cp_of, with_cp, up_of, with_up, du_of, with_du, ue_of, with_ue}
-use Rattle.run_defs.specs.Written.{Written, written_put, WrittenStepped, written_step}
-use Rattle.run_defs.specs.States.{State, new_state, World, Stop, stepped, goes, stops, told_before, ◌next◌, goes_on, Within, Outcome, RunStep, as_step, step_of, refused, spent_counter, sn_of, was_attached, letter_for}
+use Rattle.run_defs.specs.Units.{Units, new_units, cp_of, with_cp, up_of, with_up, du_of, with_du, with_ue}
+use Rattle.run_defs.specs.Written.{Written, written_put, written_step}
+use Rattle.run_defs.specs.States.{State, new_state, stepped, goes, stops, told_before, ◌next◌, goes_on, Within, Outcome, RunStep, as_step, step_of, refused, spent_counter, sn_of, was_attached}
 use Rattle.gnb_types.specs.declared.reasons.RefuseReason.TheVariants.{Attached, Quota}
 use Rattle.unit_defs.specs.Ways.{teids_spent}
 use Rattle.run_defs.specs.Steps.{check_spans, put_out_all, carried_out}
 use Rattle.run_defs.specs.Conditions.{is_held_by_units, units_placed, all_set_up, statically, epoch_of, receiver_of}
 use Rattle.transport_defs.specs.Links.{landed}
-use Rattle.run_defs.specs.Events.{landed_as, offered, static}
-use Rattle.run_defs.specs.Runs.{Reading, Transcript, Happened, plain_world, plain_by, input_of, happens, run_on, run_from, run, Run}
+use Rattle.run_defs.specs.Events.{landed_as, static}
+use Rattle.run_defs.specs.Runs.{Reading, Happened, plain_world, plain_by, input_of, happens, run_on, run_from, run, Run}
 use Rattle.law_steps.specs.Causes.{Cause, by_order, by_tick, by_octets, by_octets_on, by_attach, by_release, by_offer, by_item, by_air, by_ack, by_letter, node_of, given_of, count_of, first_of}
-use Rattle.law_steps.specs.Made.{Made, IsRemark, stays, ends, then_made, sets_up, starts, acts, holds_item, holds_pdu, offers, core_takes, core_reads, lands, loses_letter, loses_item, remarks}
+use Rattle.law_steps.specs.Made.{Made, stays, ends, then_made, sets_up, starts, acts, holds_item, holds_pdu, offers, core_takes, core_reads, lands, loses_letter, loses_item, remarks}
 use Rattle.law_steps.proofs.Runs.{made_of_steps}
 use Rattle.law_steps.proofs.Frames.{HasUnits, then_units, keep_checked, keep_put_on_tunnel, keep_put_all, units_by, act_units}
 use Rattle.law_teids.proofs.Placed.{find_mapped}
 use Rattle.law_owner_facts.specs.Owned.{AreOwned}
 use Rattle.law_tunnel_owners.proofs.Placed.{placed_owned, first_owned}
 use Rattle.law_frames.specs.Numbered.{frames_by}
-use Rattle.law_tunnel_frames.specs.OneTunnel.{OwnedTunnel, is_tunnel, numbers_on, CountTo, Leads, BearerCounts, UpCounts, SwitchesFirst}
+use Rattle.law_tunnel_frames.specs.OneTunnel.{OwnedTunnel, is_tunnel, numbers_on, CountTo, BearerCounts, UpCounts}
 use Rattle.law_tunnel_frames.proofs.Contexts.{found_all}
-use Rattle.law_tunnel_numbers.specs.Tunnels.{AreNumbered, put_on, puts_by, puts_in, put_there, named_on, names_by, names_in, leads, led_by, placed_names, event_names, names_then, names_from, AtMostOne}
+use Rattle.law_tunnel_numbers.specs.Tunnels.{AreNumbered, put_on, puts_by, puts_in, put_there, named_on, names_by, names_in, led_by, placed_names, event_names, names_then, names_from, AtMostOne}
 use Rattle.law_tunnel_numbers.proofs.Lines.{numbered_then, Tells, act_tells}
 use Rattle.law_tunnel_numbers.proofs.Names.{Named, cause_names, act_named}
-use Rattle.law_tunnel_numbers.proofs.Units.{clash, Phase, owner_at, seen_at, IsFirst, Ups, Left, take_names, with_up_counts, ue_of_message, switches_named, CountBy, InputIs, AnsweredWell, answered_well}
+use Rattle.law_tunnel_numbers.proofs.Units.{clash, Phase, owner_at, seen_at, Ups, Left, take_names, with_up_counts, ue_of_message, switches_named, CountBy, InputIs, AnsweredWell, answered_well}
 
 appended : {X : Type 0} (xs ys zs : List X) → (xs ++ ys) ++ zs ≡ xs ++ (ys ++ zs)
 appended [] ys zs = refl

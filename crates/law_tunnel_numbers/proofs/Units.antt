@@ -1,7 +1,6 @@
 -- Of all CU-UPs only one bearer's downlink leads to the tunnel, from when it is named; and whatever a unit is given, it is so afterwards.
-use Rattle.std.proofs.Common.{◌≡◌, ◌==◌, ℕ, ◌+◌, Bool, true, false, cond, ◌&&◌, List, [], ◌∷◌, ◌++◌, map, Option, Some, None, refl, sym, ap, ◌∙◌, subst, eqb-true, eq-eqb}
-use Rattle.std.specs.Prelude.{if◌then◌else◌, unwrap_or}
-use Rattle.std.specs.Option.{option_map}
+use Rattle.std.proofs.Common.{◌≡◌, ℕ, Bool, true, false, cond, List, [], ◌∷◌, ◌++◌, map, Option, Some, None, refl, sym, ap, ◌∙◌, subst, eq-eqb}
+use Rattle.std.specs.Prelude.{if◌then◌else◌}
 use Rattle.std.specs.List.{flat_map, AllByRecursion}
 use Rattle.std.specs.Ordering.{eq_by_cmp, is_eq}
 use Rattle.std.specs.Cmp.{tied_itself, Equal-is}
@@ -13,22 +12,21 @@ use Rattle.gnb_types.specs.declared.names.UeId.{UeId}
 use Rattle.gnb_types.specs.declared.names.BearerId.{BearerId}
 use Rattle.gnb_types.specs.declared.keys.TunnelEnd.{TunnelEnd}
 use Rattle.gnb_types.specs.declared.plans.Tunnel.{Tunnel}
-use Rattle.gnb_types.specs.Orders.{node_cmp, ue_cmp, bearer_cmp}
+use Rattle.gnb_types.specs.Orders.{node_cmp}
 use Rattle.gnb_types.proofs.OrderLemmas.{node_total, node_exact}
-use Rattle.tables.specs.Tables.{find, at}
 use Rattle.tables.proofs.TableLaws.{at-put}
 use Rattle.message_types.specs.declared.rrc.Token.{Token}
 use Rattle.message_types.specs.declared.e1.E1Message.TheVariants as e1s
-use Rattle.unit_defs.specs.Ways.{Message, e1, Pdu, Load, Input, control_input, packet_input, radio_input, confirm_input, offer_input, tick_input, order_input, Output, dropped, gives, spent}
+use Rattle.unit_defs.specs.Ways.{Message, e1, Pdu, Input, control_input, Output, dropped, gives, spent}
 use Rattle.unit_defs.specs.Messages.{mode_switch}
 use Rattle.unit_defs.specs.Ue.{UeNode, ue_acts}
-use Rattle.unit_defs.specs.UpRecords.{UpBearer, UpContext, CuUp}
+use Rattle.unit_defs.specs.UpRecords.{CuUp}
 use Rattle.unit_defs.specs.CuUp.{new_cu_up, cu_up_acts}
 use Rattle.unit_defs.specs.Du.{Du, du_acts}
 use Rattle.unit_defs.specs.CpRecords.{CuCpRecord}
 use Rattle.unit_defs.specs.CuCp.{cu_cp_acts}
 use Rattle.run_defs.specs.Units.{Units, cp_of, with_cp, up_of, with_up, du_of, with_du, ue_of, with_ue}
-use Rattle.run_defs.specs.Written.{Written, written_put, PlainStepped, WrittenStepped, written_step}
+use Rattle.run_defs.specs.Written.{written_put, PlainStepped, WrittenStepped, written_step}
 use Rattle.run_defs.specs.States.{Lengths, stepped, step_spent}
 use Rattle.run_defs.specs.Runs.{Reading, PlainGiven, Plain, plain_way, input_of, stepped_with, ue_stepped, acts_on, plain_by, fault_of}
 use Rattle.law_answers.specs.After.{HoldsAfter}
@@ -37,7 +35,7 @@ use Rattle.law_tunnel_owners.proofs.CuUps.{cu_up_owns}
 use Rattle.law_tunnel_owners.proofs.Dus.{du_owns}
 use Rattle.law_tunnel_owners.proofs.Placed.{with_up_owned, with_du_owned, with_cp_owned}
 use Rattle.law_frames.specs.Numbered.{frames_by}
-use Rattle.law_tunnel_frames.specs.OneTunnel.{OwnedTunnel, is_tunnel, numbers_on, CountTo, BearerCounts, UpCounts, BearersInOrder, IsGiven, SwitchesFirst, NumbersTunnel}
+use Rattle.law_tunnel_frames.specs.OneTunnel.{OwnedTunnel, is_tunnel, numbers_on, CountTo, UpCounts, IsGiven, SwitchesFirst, NumbersTunnel}
 use Rattle.law_tunnel_frames.proofs.Contexts.{counts_on}
 use Rattle.law_tunnel_frames.proofs.CuUps.{cu_up_numbers}
 use Rattle.law_tunnel_numbers.specs.Tunnels.{switched_by, named_in, AtMostOne}
@@ -122,9 +120,12 @@ module _ (end : TunnelEnd) where
 
   pub with_up_counts : (q : Phase) (k j : ℕ) (u : Units (Message Token) Token) (gnb : Gnb) (number : ℕ) (r : CuUp (Message Token) Token) → Ups q k u
       → UpCounts (seen_at q gnb number) j r → (owner_at q gnb number ≡ None → j ≡ k) → Ups q j (with_up u gnb number r)
-  with_up_counts q k j u gnb number r ups counts none = (first_after q k j gnb number ups.0 none, λ g n.
-      subst (λ (s : CuUp (Message Token) Token). UpCounts (seen_at q g n) j s) (sym (at-put node_total (new_cu_up g n) u.ups (up_id gnb number) r (up_id g n)))
-      (by g n (eq_by_cmp node_cmp (up_id g n) (up_id gnb number)) refl))
+  with_up_counts q k j u gnb number r ups counts none = (
+    first_after q k j gnb number ups.0 none,
+    λ g n.
+        subst (λ (s : CuUp (Message Token) Token). UpCounts (seen_at q g n) j s) (sym (at-put node_total (new_cu_up g n) u.ups (up_id gnb number) r (up_id g n)))
+        (by g n (eq_by_cmp node_cmp (up_id g n) (up_id gnb number)) refl),
+  )
     where
       by : (g : Gnb) (n : ℕ) (t : Bool) → eq_by_cmp node_cmp (up_id g n) (up_id gnb number) ≡ t → UpCounts (seen_at q g n) j (cond t r (up_of u g n))
       by g n true tie =
@@ -133,9 +134,11 @@ module _ (end : TunnelEnd) where
           let numbers : number ≡ n = cc in
           subst (λ (p : Gnb × ℕ). UpCounts (seen_at q p.0 p.1) j r) (λ i. (gnbs i, numbers i)) counts
       by g n false off =
-          let old = ups.1 g n in
-          (old.0, λ ue c b x at found. counts_on (seen_at q g n) k j ue b x.downlink (old.1 ue c b x at found)
-              (λ own. none (apart_owner q g gnb n number (ue, b) off own)))
+          let old = ups.1 g n in (
+            old.0,
+            λ ue c b x at found. counts_on (seen_at q g n) k j ue b x.downlink (old.1 ue c b x at found)
+                (λ own. none (apart_owner q g gnb n number (ue, b) off own)),
+          )
 
   -- ---- what a request names is what it switches
 
