@@ -28,9 +28,10 @@ use Rattle.message_types.specs.declared.f1.F1.{F1}
 use Rattle.law_channel.specs.Replies.{Talk, answers}
 use Rattle.law_channel.specs.Moves.{asks, ages, Net, sent_by}
 use Rattle.law_channel.proofs.Nets.{Good}
-use Rattle.law_channel_rows.specs.Made.{ReadsWell, Made, WasSent, IsPutTo, NoneExpired}
+use Rattle.law_channel_rows.specs.Made.{ReadsWell, NoneDue, Made, MadeWhole, WasSent, IsPutTo, NoneExpired}
+use Rattle.law_channel_rows.proofs.Tickless.{whole}
 use Rattle.law_channel_rows.proofs.Askers.{one_made, reply_made, transfer_made}
-use Rattle.law_channel_rows.proofs.Ticks.{moves_due, tick_plays}
+use Rattle.law_channel_rows.proofs.Ticks.{moves_due, tick_none, tick_plays}
 use Rattle.law_channel_rows.proofs.Requests.{sent_both, Leaves, Replies, leaves_then, leaves_replies, replies_then, replies_here, request_made, leaves_made, drops_made}
 
 module _ {M C P : Type 0} (talk : Talk M C P) (n : NodeId) where
@@ -268,30 +269,44 @@ module _ {M C P : Type 0} (talk : Talk M C P) (n : NodeId) where
           (record { message = f1 (f1s.F1SetupRequest no_instance (node_text (du_node r))); deadline = None; awaited = false })) (
             (λ i. reads.kinds (with_instance i (f1 (f1s.F1SetupRequest no_instance (node_text (du_node r))))) ∙ is_setup_request i (node_text (du_node r))),
             none (channel 0 (CuCp r.gnb)),
-          ) refl (λ a. with_transactions r a.transactions) (λ a. refl))
+          ) tt refl (λ a. with_transactions r a.transactions) (λ a. refl))
 
-  tick_made : (net : Net M C) → Good talk net → (r : Du M C) → net.nodes n ≡ r.transactions → Made talk net n kept (tick talk.way r)
+  tick_made : (net : Net M C) → Good talk net → NoneExpired talk net n → (r : Du M C) → net.nodes n ≡ r.transactions → NoneDue r.transactions
+      → MadeWhole talk net n kept (tick talk.way r)
   unfolding tick
-  tick_made net good r at =
-      subst (λ (t : Transactions M C). Made talk net n kept (gives (flat_map (due_output talk.way) (due t.caller))
+  tick_made net good none r at late =
+      subst (λ (t : Transactions M C). MadeWhole talk net n kept (gives (flat_map (due_output talk.way) (due t.caller))
       (with_transactions r (record t { caller = after_tick t.caller })))) at (
-        ages ∷ moves_due talk n (due (net.nodes n).caller),
+        ages ∷ moves_due (due (net.nodes n).caller),
         tick_plays talk n (due_output talk.way) (λ c x. refl) (λ c. refl) net good,
+        tick_none talk n net none (subst (λ (t : Transactions M C). NoneDue t) (sym at) late) (due (net.nodes n).caller),
       )
 
-  pub du_made : ReadsWell talk → (net : Net M C) → Good talk net → NoneExpired talk net n → (r : Du M C) → net.nodes n ≡ r.transactions
-      → (input : Input C P) → IsPutTo talk net n input → Made talk net n kept (du_acts talk.way r input)
+  -- of all inputs but a tick
+  abbrev MadeBut : Net M C → Input C P → Answer M P (Du M C) → Type 0
+  MadeBut net tick_input a = Unit {0}
+  MadeBut net input a = Made talk net n kept a
+
+  but_made : ReadsWell talk → (net : Net M C) → Good talk net → NoneExpired talk net n → (r : Du M C) → net.nodes n ≡ r.transactions
+      → (input : Input C P) → IsPutTo talk net n input → MadeBut net input (du_acts talk.way r input)
   unfolding du_acts pass_up confirm
-  du_made reads net good none r at (control_input from m) put = control_made reads net good r at from m put
-  du_made reads net good none r at (packet_input teid item) put = no_move net r (take talk.way teid item r) at (take_leaves teid item r)
-  du_made reads net good none r at (radio_input ue bearer Ul pdu content) put =
+  but_made reads net good none r at (control_input from m) put = control_made reads net good r at from m put
+  but_made reads net good none r at (packet_input teid item) put = no_move net r (take talk.way teid item r) at (take_leaves teid item r)
+  but_made reads net good none r at (radio_input ue bearer Ul pdu content) put =
       no_move net r _ at (context_leaves r (λ c b. puts (packet b.up b.uplink ue bearer Ul Same (uplink pdu)) r) bearer (context_of r ue) (λ d b. (refl, refl)))
-  du_made reads net good none r at (radio_input ue bearer Dl pdu content) put = drops_made talk n net kept r Unexpected at
-  du_made reads net good none r at (confirm_input ue bearer Dl pdu content) put =
+  but_made reads net good none r at (radio_input ue bearer Dl pdu content) put = drops_made talk n net kept r Unexpected at
+  but_made reads net good none r at (confirm_input ue bearer Dl pdu content) put =
       no_move net r _ at (context_leaves r (λ c b. confirmed talk.way ue bearer r b (talk.way.number c.sn pdu)) bearer (context_of r ue)
       (λ d b. confirmed_leaves ue bearer r b (talk.way.number d.sn pdu)))
-  du_made reads net good none r at (confirm_input ue bearer Ul pdu content) put = drops_made talk n net kept r Unexpected at
-  du_made reads net good none r at (offer_input ue bearer p) put = drops_made talk n net kept r Unexpected at
-  du_made reads net good none r at tick_input put = tick_made net good r at
-  du_made reads net good none r at (order_input orders.Start) put = start_made reads net r at none
-  du_made reads net good none r at (order_input order) put = drops_made talk n net kept r Unexpected at
+  but_made reads net good none r at (confirm_input ue bearer Ul pdu content) put = drops_made talk n net kept r Unexpected at
+  but_made reads net good none r at (offer_input ue bearer p) put = drops_made talk n net kept r Unexpected at
+  but_made reads net good none r at tick_input put = tt
+  but_made reads net good none r at (order_input orders.Start) put = start_made reads net r at none
+  but_made reads net good none r at (order_input order) put = drops_made talk n net kept r Unexpected at
+
+  pub du_made : ReadsWell talk → (net : Net M C) → Good talk net → NoneExpired talk net n → (r : Du M C) → net.nodes n ≡ r.transactions
+      → NoneDue r.transactions → (input : Input C P) → IsPutTo talk net n input → MadeWhole talk net n kept (du_acts talk.way r input)
+  unfolding du_acts
+  du_made reads net good none r at late tick_input put = tick_made net good none r at late
+  du_made reads net good none r at late input put =
+      whole talk n net kept (du_acts talk.way r input) none (but_made reads net good none r at input put)

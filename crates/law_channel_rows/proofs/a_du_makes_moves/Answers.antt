@@ -4,5 +4,5 @@ use Rattle.law_channel_rows.proofs.Dus.{du_made}
 use Rattle.law_channel_rows.proofs.a_du_makes_moves.Goals as goal
 
 pub returns : goal.returns
-returns g c = λ talk reads orders may n none r at input put.
-    du_made talk n reads (after talk new_net orders) (good_of talk orders may) none r at input put
+returns g c = λ talk reads orders may n none r at late input put.
+    du_made talk n reads (after talk new_net orders) (good_of talk orders may) none r at late input put
