@@ -15,3 +15,4 @@ pub mod Requests
 pub mod Says
 pub mod Tickless
 pub mod Ticks
+pub mod Undated

@@ -1,14 +1,14 @@
 -- A unit's step as moves on channels: what it puts of control messages, and what it keeps of requests and replies then, are those
 -- of a list of moves, each of which may be made.
-use Rattle.std.specs.Prelude.{◌≡◌, ℕ, false, List, ◌++◌, map, Some}
+use Rattle.std.specs.Prelude.{◌≡◌, ℕ, false, List, ◌++◌, map, Some, None}
 use Rattle.std.specs.List.{AllByRecursion, Contains}
 use Rattle.gnb_types.specs.declared.names.NodeId.{NodeId}
 use Rattle.gnb_types.specs.declared.keys.Channel.{Channel}
 use Rattle.transaction_defs.specs.Callers.{Opened, opened_at, is_last}
 use Rattle.unit_defs.specs.Ways.{Message, Input, control_input, Answer, gives, spent}
-use Rattle.unit_defs.specs.Transactions.{transfer, Transactions, kind_of}
+use Rattle.unit_defs.specs.Transactions.{transfer, Waiting, Transactions, kind_of}
 use Rattle.law_channel.specs.Replies.{Talk, answers, overtakes}
-use Rattle.law_channel.specs.Ends.{same_node, Sent}
+use Rattle.law_channel.specs.Ends.{same_node, Asking, asking_at, Sent}
 use Rattle.law_channel.specs.Moves.{Move, ages, Net, new_net, asked_by, sent_by, Order, after, MayAll}
 
 -- a move is no tick; none of these is
@@ -18,6 +18,16 @@ IsTickless move = Unit {0}
 
 abbrev pub AreTickless : {M C : Type 0} → List (Move M C) → Type 0
 AreTickless moves = AllByRecursion IsTickless moves
+
+-- a request that is open, and none that waits, has a deadline; so it is of all that is asked
+abbrev pub HasNoDeadline : {C : Type 0} → Waiting C → Type 0
+HasNoDeadline w = w.deadline ≡ None
+
+abbrev pub IsUndated : {M C : Type 0} → Asking M C → Type 0
+IsUndated {M = M} a = ((o : Opened M) → a.opened ≡ Some o → o.deadline ≡ None) × AllByRecursion HasNoDeadline a.waits
+
+abbrev pub AreUndated : {M C : Type 0} → Transactions M C → Type 0
+AreUndated t = (c : Channel) → IsUndated (asking_at t c)
 
 -- at no tick to come next a request expires
 abbrev pub NoneDue : {M C : Type 0} → Transactions M C → Type 0

@@ -15,9 +15,10 @@ ghost use Rattle.unit_defs.specs.CpRecords.{CuCpRecord};
 ghost use Rattle.unit_defs.specs.CuCp.{cu_cp_acts};
 ghost use Rattle.law_channel.specs.Replies.{Talk};
 ghost use Rattle.law_channel.specs.Example.{plain_talk};
+ghost use Rattle.law_channel.specs.Exactly.{IfGives};
 ghost use Rattle.law_channel.specs.Moves.{Net, new_net, sent_by, Order, after, MayAll};
 ghost use Rattle.law_channel_rows.specs.Owed.{Owes, Cancels};
-ghost use Rattle.law_channel_rows.specs.Made.{ReadsWell, WasSent, IsPutTo, NoneExpired, NoneDue, MadeWhole, GoesOn};
+ghost use Rattle.law_channel_rows.specs.Made.{ReadsWell, WasSent, IsPutTo, NoneExpired, AreUndated, MadeWhole, GoesOn};
 
 /// What the core does with a message that was put to it is a list of orders that may be made: none; a request taken, and answered
 /// or not; or the kept reply put again. As of each node, no request of it expired without its cancel then, if none had before.
@@ -30,14 +31,15 @@ pub fn the_core_makes_moves<M, C, P>()
 {}
 
 /// The same of a DU and every input, after any list of orders that were made when they might be, where none of its requests
-/// expires at a tick.
+/// has a deadline; and so it is then.
 pub fn a_du_makes_moves<M, C, P>()
     ensures { (talk : Talk M C P) → ReadsWell talk → (orders : List (Order talk))
         → MayAll talk new_net orders
         → (n : NodeId) → NoneExpired talk (after talk new_net orders) n
-        → (r : Du M C) → (after talk new_net orders).nodes n ≡ r.transactions → NoneDue r.transactions
+        → (r : Du M C) → (after talk new_net orders).nodes n ≡ r.transactions → AreUndated r.transactions
         → (input : Input C P) → IsPutTo talk (after talk new_net orders) n input
-        → MadeWhole talk (after talk new_net orders) n (λ s. s.transactions) (du_acts talk.way r input) }
+        → MadeWhole talk (after talk new_net orders) n (λ s. s.transactions) (du_acts talk.way r input)
+        × IfGives (λ s. AreUndated s.transactions) (du_acts talk.way r input) }
 {}
 
 /// The same of a CU-UP.
@@ -45,9 +47,10 @@ pub fn a_cu_up_makes_moves<M, C, P>()
     ensures { (talk : Talk M C P) → ReadsWell talk → (orders : List (Order talk))
         → MayAll talk new_net orders
         → (n : NodeId) → NoneExpired talk (after talk new_net orders) n
-        → (r : CuUp M C) → (after talk new_net orders).nodes n ≡ r.transactions → NoneDue r.transactions
+        → (r : CuUp M C) → (after talk new_net orders).nodes n ≡ r.transactions → AreUndated r.transactions
         → (input : Input C P) → IsPutTo talk (after talk new_net orders) n input
-        → MadeWhole talk (after talk new_net orders) n (λ s. s.transactions) (cu_up_acts talk.way r input) }
+        → MadeWhole talk (after talk new_net orders) n (λ s. s.transactions) (cu_up_acts talk.way r input)
+        × IfGives (λ s. AreUndated s.transactions) (cu_up_acts talk.way r input) }
 {}
 
 /// The same of a CU-CP, where the request of each offered target is the newest that it took, unanswered, and what expires at a
