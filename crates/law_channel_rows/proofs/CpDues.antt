@@ -26,11 +26,11 @@ use Rattle.unit_defs.specs.CpRows.{other_cp, handover_expires}
 use Rattle.unit_defs.specs.CuCp.{at_of, expired_on, due_one, due_each}
 use Rattle.law_channel.specs.Replies.{Talk}
 use Rattle.law_channel.specs.Ends.{Sent, same_node}
-use Rattle.law_channel.specs.Moves.{Move, asks_at_once, ages, repeats, Net, asked_by, sent_by, with_route, expires_now, moved, after_answer, after_move, after}
-use Rattle.law_channel.proofs.Keys.{node_same, with_route_here, with_route_other, route_cases}
+use Rattle.law_channel.specs.Moves.{Move, asks_at_once, ages, repeats, Net, asked_by, sent_by, expires_now, after_answer, after_move, after}
+use Rattle.law_channel.proofs.Keys.{node_same, with_route_here}
 use Rattle.law_channel_rows.specs.Made.{ReadsWell, orders_of, Plays, MadeWhole, NoneExpired}
 use Rattle.law_channel_rows.specs.Owed.{Cancels}
-use Rattle.law_channel_rows.specs.Rows.{IsAllowed, RowPlays}
+use Rattle.law_channel_rows.specs.Rows.{RowPlays}
 use Rattle.law_channel_rows.proofs.Plays.{plays_none, plays_one, plays_then, after_both}
 use Rattle.law_channel_rows.proofs.Requests.{sent_both}
 use Rattle.law_channel_rows.proofs.Tickless.{shrinks}

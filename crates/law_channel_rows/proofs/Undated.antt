@@ -1,12 +1,12 @@
 -- Requests without a deadline stay so: what a DU and a CU-UP ask has none.
 use Rattle.std.proofs.Common.{◌≡◌, ◌==◌, ℕ, ◌+◌, Bool, true, false, not, ◌||◌, List, [], ◌∷◌, ◌++◌, Option, Some, None, refl, sym, ap, ◌∙◌, subst}
-use Rattle.std.specs.Prelude.{if◌then◌else◌, is_some}
+use Rattle.std.specs.Prelude.{if◌then◌else◌}
 use Rattle.std.specs.List.{AllByRecursion}
 use Rattle.gnb_types.specs.declared.names.NodeId.{NodeId}
 use Rattle.gnb_types.specs.declared.keys.Channel.{Channel}
 use Rattle.gnb_types.specs.Orders.{channel_cmp}
 use Rattle.gnb_types.specs.declared.reasons.DropReason.TheVariants.{Stale}
-use Rattle.tables.specs.Tables.{at, find, IsSorted}
+use Rattle.tables.specs.Tables.{at, IsSorted}
 use Rattle.transaction_defs.specs.Callers.{Opened, opened_at, spent as begins_no_more, begin, begin_after, begun_with, last_instance, is_open, is_awaited, is_last, one_less, after_tick, close}
 use Rattle.transaction_defs.specs.Callees.{Verdict, new, again, stale, verdict, kept_reply, taken}
 use Rattle.unit_defs.specs.Ways.{Way, Answer, gives, spent, ◌then◌, nothing, drops}

@@ -1,5 +1,5 @@
 -- In every run what each step keeps goes on to hold.
-use Rattle.std.proofs.Common.{◌≡◌, ℕ, true, false, ◌&&◌, Bool, cond, List, [], ◌∷◌, ◌++◌, Option, Some, None, refl, sym, ap, ◌∙◌, subst}
+use Rattle.std.proofs.Common.{◌≡◌, ℕ, true, false, Bool, cond, List, [], ◌∷◌, Some, None, refl, sym, subst}
 use Rattle.std.proofs.lemmas.Bool.{or_parts}
 use Rattle.std.proofs.lemmas.List.Elements.{Contains-append_left, Contains-append_right, Contains-push}
 use Rattle.std.specs.Prelude.{map}
@@ -14,7 +14,7 @@ use Rattle.scenario_text.specs.declared.event.Event.{Event}
 use Rattle.transport_defs.specs.declared.Letter.{Letter}
 use Rattle.transport_defs.specs.Links.{letter, landed}
 use Rattle.run_defs.specs.Units.{up_of}
-use Rattle.run_defs.specs.States.{State, World, Given, letter_for, octets_from, goes, stops, told_before, ◌next◌, Ending, Within, Outcome, as_step, sn_of, was_attached}
+use Rattle.run_defs.specs.States.{State, World, Given, letter_for, octets_from, goes, stops, told_before, ◌next◌, Ending, Outcome, sn_of, was_attached}
 use Rattle.run_defs.specs.Steps.{check_spans, put_out_all}
 use Rattle.run_defs.specs.Conditions.{n3_from}
 use Rattle.run_defs.specs.Events.{landed_as}
