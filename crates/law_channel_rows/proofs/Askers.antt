@@ -12,7 +12,7 @@ use Rattle.law_channel.specs.Replies.{Talk}
 use Rattle.law_channel.specs.Ends.{told, Sent, Put}
 use Rattle.law_channel.specs.Moves.{Move, advances, closes, transfers, Net, asked_by, sent_by, moved, after, May}
 use Rattle.law_channel.proofs.Nets.{Good}
-use Rattle.law_channel_rows.specs.Made.{orders_of, Plays, Made}
+use Rattle.law_channel_rows.specs.Made.{orders_of, Plays, IsTickless, Made}
 use Rattle.law_channel_rows.proofs.Plays.{plays_one, plays_then}
 use Rattle.law_channel_rows.proofs.Requests.{drops_made}
 
@@ -25,10 +25,10 @@ module _ {M C P : Type 0} (talk : Talk M C P) (n : NodeId) where
       subst (λ (s : List (Sent M)). Plays talk net n a.transactions s (m ∷ [])) (ap (sent_by n) (append-nil os))
       (plays_one talk net n m may (os ++ []) a.transactions (is ∙ ap (λ (y : Answer M P (Asked M C)). y then (λ b. nothing b.transactions)) e))
 
-  pub one_made : {R : Type 0} (kept : R → Transactions M C) (net : Net M C) (m : Move M C) (x : Answer M P (Asked M C)) → May talk net n m
+  pub one_made : {R : Type 0} (kept : R → Transactions M C) (net : Net M C) (m : Move M C) (x : Answer M P (Asked M C)) → May talk net n m → IsTickless m
       → moved talk (net.nodes n) m ≡ (x then (λ a. nothing a.transactions))
       → (f : Asked M C → R) → ((a : Asked M C) → kept (f a) ≡ a.transactions) → Made talk net n kept (x then (λ a. nothing (f a)))
-  one_made kept net m x may is f keeps = by x refl
+  one_made kept net m x may plain is f keeps = by x refl
     where
       by : (y : Answer M P (Asked M C)) → x ≡ y → Made talk net n kept (y then (λ a. nothing (f a)))
       by (gives os a) e = (
@@ -36,6 +36,7 @@ module _ {M C P : Type 0} (talk : Talk M C P) (n : NodeId) where
         subst (λ (t : Transactions M C). Plays talk net n t (sent_by n (os ++ [])) (m ∷ [])) (sym (keeps a))
             (subst (λ (s : List (Sent M)). Plays talk net n a.transactions s (m ∷ [])) (sym (ap (sent_by n) (append-nil os)))
             (one_plays net m x may is os a e)),
+        (plain, tt),
       )
       by (spent k) e = tt
 
@@ -72,6 +73,7 @@ module _ {M C P : Type 0} (talk : Talk M C P) (n : NodeId) where
               (plays_then talk net n closed_here a.transactions [] (sent_by n os) (closes c ∷ []) (advances c ∷ []) closes_plays
               (one_plays closed_net (advances c) (advance talk.way closed_here c) may_advance
               (ap (λ (t : Transactions M C). moved talk t (advances c)) closes_plays.node) os a e))),
+          (tt, (tt, tt)),
         )
         by (spent k) e = tt
 
@@ -98,4 +100,5 @@ module _ {M C P : Type 0} (talk : Talk M C P) (n : NodeId) where
     transfers to ue x ∷ [],
     subst (λ (t : Transactions M C). Plays talk net n t (record { from = n; to = to; ue = ue; message = x } ∷ []) (transfers to ue x ∷ [])) at
         (plays_one talk net n (transfers to ue x) (u, is) (control to ue x ∷ []) (net.nodes n) refl),
+    (tt, tt),
   )

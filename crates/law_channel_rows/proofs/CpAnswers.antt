@@ -27,11 +27,12 @@ use Rattle.law_channel.specs.Ends.{told, Sent, Put}
 use Rattle.law_channel.specs.Moves.{Move, asks, asks_at_once, advances, waits_as, closes, replies, replies_late, Net, asked_by, sent_by, moved, after_move, after, IsRequest}
 use Rattle.law_channel.proofs.Keys.{with_node_here}
 use Rattle.law_channel.proofs.Nets.{Good}
-use Rattle.law_channel_rows.specs.Made.{ReadsWell, orders_of, Plays, Made, NoneExpired}
+use Rattle.law_channel_rows.specs.Made.{ReadsWell, orders_of, Plays, AreTickless, Made, NoneExpired}
 use Rattle.law_channel_rows.specs.Owed.{MayAnswerLate, Owes}
 use Rattle.law_channel_rows.specs.Rows.{moves_of, moves_of_all, IsAllowed, RowPlays, RowSpeaks}
 use Rattle.law_channel_rows.proofs.Plays.{plays_one, plays_then, good_moves, after_both}
 use Rattle.law_channel_rows.proofs.Requests.{sent_both, drops_made}
+use Rattle.law_channel_rows.proofs.Tickless.{tickless_both, says_tickless}
 use Rattle.law_channel_rows.proofs.Says.{kept, Gives, row_says, from_move, begun_keeps}
 use Rattle.law_channel_rows.proofs.CpRows.{has_tunnels_fine, is_placed_fine, fails_fine, move_has_uplinks_fine, move_is_placed_fine, acknowledged_fine, declined_fine, is_frozen_fine, is_not_frozen_fine, offer_has_tunnels_fine, renewed_fine, is_switched_fine, path_is_switched_fine}
 use Rattle.law_channel_rows.proofs.CpMoves.{none_after, at_once_stays, row_may}
@@ -193,9 +194,10 @@ module _ {M C P : Type 0} (talk : Talk M C P) (n : NodeId) where
 
   -- moves, and then those of an answer
   pub made_after : {R : Type 0} (k : R → Transactions M C) (net : Net M C) (ms : List (Move M C)) (t : Transactions M C) → Plays talk net n t [] ms
-      → (a : Answer M P R) → Made talk (after talk net (orders_of talk n ms)) n k a → Made talk net n k a
-  made_after k net ms t first (gives os r) second = (ms ++ second.0, plays_then talk net n t (k r) [] (sent_by n os) ms second.0 first second.1)
-  made_after k net ms t first (spent j) second = tt
+      → AreTickless ms → (a : Answer M P R) → Made talk (after talk net (orders_of talk n ms)) n k a → Made talk net n k a
+  made_after k net ms t first plain (gives os r) second =
+      (ms ++ second.0, plays_then talk net n t (k r) [] (sent_by n os) ms second.0 first second.1, tickless_both ms second.0 plain second.2)
+  made_after k net ms t first plain (spent j) second = tt
 
   row_then : (net : Net M C) (ue : UeId) (what : Row C) (a : Answer M P (CuCpRecord M C)) (f : CuCpRecord M C → Answer M P (CuCpRecord M C))
       → NoneExpired talk net n → RowPlays talk net n ue what a
@@ -210,21 +212,22 @@ module _ {M C P : Type 0} (talk : Talk M C P) (n : NodeId) where
         moves_of_all talk ue says ++ second.0,
         subst (λ (out : List (Sent M)). Plays talk net n x.transactions out (moves_of_all talk ue says ++ second.0)) (sym (sent_both n os more))
             (plays_then talk net n q.transactions x.transactions (sent_by n os) (sent_by n more) (moves_of_all talk ue says) second.0 plays second.1),
+        tickless_both (moves_of_all talk ue says) second.0 (says_tickless talk ue says) second.2,
       )
       by (spent k) second = tt
   row_then net ue (row says now) (spent k) f none plays next = tt
   row_then net ue (row_spent j) (gives os q) f none plays next = absurd plays
   row_then net ue (row_spent j) (spent k) f none plays next = tt
 
-  gives_made : {R : Type 0} (k : R → Transactions M C) (net : Net M C) (ms : List (Move M C)) (a : Answer M P R)
+  gives_made : {R : Type 0} (k : R → Transactions M C) (net : Net M C) (ms : List (Move M C)) → AreTickless ms → (a : Answer M P R)
       → Gives talk n (λ os x. Plays talk net n (k x) (sent_by n os) ms) a → Made talk net n k a
-  gives_made k net ms (gives os r) plays = (ms, plays)
-  gives_made k net ms (spent j) plays = tt
+  gives_made k net ms plain (gives os r) plays = (ms, plays, plain)
+  gives_made k net ms plain (spent j) plays = tt
 
   next_made : (ue : UeId) (ch : Channel) (net : Net M C) (q : CuCpRecord M C) → NoneExpired talk net n → net.nodes n ≡ q.transactions
       → Made talk net n (kept talk n) (put_next talk.way ue ch q)
   next_made ue ch net q none at =
-      gives_made (kept talk n) net (advances ch ∷ []) (put_next talk.way ue ch q)
+      gives_made (kept talk n) net (advances ch ∷ []) (tt, tt) (put_next talk.way ue ch q)
       (from_move talk n net (advances ch) (advance talk.way q.transactions ch) (λ a. a.transactions) (after_asked talk.way ue ch.peer q) (none ch)
       (ap (λ (t : Transactions M C). moved talk t (advances ch)) at)
       (λ a. begun_keeps talk n ue ch.peer (with_transactions q a.transactions) a.awaited))
@@ -269,7 +272,7 @@ module _ {M C P : Type 0} (talk : Talk M C P) (n : NodeId) where
           let all : AllByRecursion (IsRequest talk ch.ue) ws = kept_requests ch.ue (waits_at t ch)
           (subst (λ (u : Transactions M C). AllByRecursion (IsRequest talk ch.ue) (waits_at u ch)) closed_at_is (good_closed.waits (asked_by n ch))) in
           let second = plays_one talk closed_net n (waits_as ch ws) all [] (with_waiting t ch ws) (ap (λ (u : Transactions M C). moved talk u (waits_as ch ws)) closed_at_is) in
-          made_after (kept talk n) closed_net (waits_as ch ws ∷ []) (with_waiting t ch ws) second
+          made_after (kept talk n) closed_net (waits_as ch ws ∷ []) (with_waiting t ch ws) second (tt, tt)
           (put_next talk.way owner ch (with_transactions (closed_at talk.way ch r) (with_waiting t ch ws)))
           (next_made owner ch (after talk closed_net (orders_of talk n (waits_as ch ws ∷ []))) (with_transactions (closed_at talk.way ch r) (with_waiting t ch ws))
           none second.node)
@@ -277,10 +280,10 @@ module _ {M C P : Type 0} (talk : Talk M C P) (n : NodeId) where
       by_answer : (a : Answered talk.way) → FineAnswer reads closed_net none (at_of r owner) a
           → Made talk net n (kept talk n) (answered_by talk.way owner ch m r a)
       by_answer answers_none fine =
-          made_after (kept talk n) net (closes ch ∷ []) closed first _ (unanswered (is_setup_failure talk.way m))
+          made_after (kept talk n) net (closes ch ∷ []) closed first (tt, tt) _ (unanswered (is_setup_failure talk.way m))
       by_answer (answers_with None) fine = drops_made talk n net (kept talk n) r Unexpected at
       by_answer (answers_with (Some what)) fine =
-          made_after (kept talk n) net (closes ch ∷ []) closed first _
+          made_after (kept talk n) net (closes ch ∷ []) closed first (tt, tt) _
           (row_then closed_net owner what (carry_out talk.way owner (closed_at talk.way ch r) what) (put_next talk.way owner ch) none
           (row_says talk n closed_net owner (closed_at talk.way ch r) closed_at_is what fine)
           (λ x q free node. next_made owner ch x q free node))

@@ -24,6 +24,7 @@ use Rattle.law_channel_rows.specs.Rows.{moves_of, moves_of_all, IsAllowed, RowPl
 use Rattle.law_channel_rows.proofs.Plays.{may_both}
 use Rattle.law_channel_rows.proofs.Requests.{drops_made}
 use Rattle.law_channel_rows.proofs.Says.{kept, row_says}
+use Rattle.law_channel_rows.proofs.Tickless.{says_tickless}
 use Rattle.law_channel_rows.proofs.CpRows.{attach_fine, handover_fine, cancel_fine, release_fine, completes_fine, completes_again_fine, returns_fine, arrives_fine, arrives_again_fine, accepted_one}
 
 module _ {M C P : Type 0} (talk : Talk M C P) (n : NodeId) where
@@ -75,7 +76,7 @@ module _ {M C P : Type 0} (talk : Talk M C P) (n : NodeId) where
   row_may net ue (row_spent k) none is = tt
 
   pub plays_made : (net : Net M C) (ue : UeId) (what : Row C) (a : Answer M P (CuCpRecord M C)) → RowPlays talk net n ue what a → Made talk net n (kept talk n) a
-  plays_made net ue (row says after) (gives os r) plays = (moves_of_all talk ue says, plays)
+  plays_made net ue (row says after) (gives os r) plays = (moves_of_all talk ue says, plays, says_tickless talk ue says)
   plays_made net ue (row says after) (spent k) plays = tt
   plays_made net ue (row_spent j) (gives os r) plays = absurd plays
   plays_made net ue (row_spent j) (spent k) plays = tt

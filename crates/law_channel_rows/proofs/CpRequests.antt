@@ -92,6 +92,7 @@ module _ {M C P : Type 0} (talk : Talk M C P) (n : NodeId) where
       replies (channel 0 from) answer ∷ [],
       plays_one talk net n (replies (channel 0 from) answer) (may_for 0 instance own same answer kind fits) _ _
           (ap (λ (t : Transactions M C). moved talk t (replies (channel 0 from) answer)) at),
+      (tt, tt),
     )
 
     module _ (owner : UeId) (instance : ℕ) (own : owner.0 ≡ ue) (same : instance ≡ i) where

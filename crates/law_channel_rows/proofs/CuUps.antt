@@ -1,5 +1,5 @@
 -- A CU-UP: contexts are set up, modified and released on requests, each answered once at most; other inputs leave them.
-use Rattle.std.proofs.Common.{inl, ◌≡◌, ℕ, ◌+◌, ◌*◌, Bool, true, false, not, ◌&&◌, ◌||◌, List, [], ◌∷◌, ◌++◌, length, Option, Some, None, refl, sym, ◌∙◌, subst}
+use Rattle.std.proofs.Common.{inl, inr, ◌≡◌, ℕ, ◌+◌, ◌*◌, Bool, true, false, not, ◌&&◌, ◌||◌, List, [], ◌∷◌, ◌++◌, length, Option, Some, None, refl, sym, ◌∙◌, subst}
 use Rattle.std.specs.Prelude.{map, if◌then◌else◌, ◌==◌}
 use Rattle.std.specs.List.{flat_map, list_all}
 use Rattle.std.specs.Ordering.{nat_cmp}
@@ -18,8 +18,8 @@ use Rattle.gnb_types.specs.declared.reasons.HeldReason.{HeldReason}
 use Rattle.gnb_types.specs.declared.reasons.DropReason.TheVariants.{Unexpected}
 use Rattle.gnb_types.specs.declared.reasons.RefuseReason.TheVariants.{Empty, NoRadio}
 use Rattle.gnb_types.specs.Names.{node_text}
-use Rattle.gnb_types.specs.Orders.{bearer_cmp}
-use Rattle.tables.specs.Tables.{find}
+use Rattle.gnb_types.specs.Orders.{bearer_cmp, channel_cmp}
+use Rattle.tables.specs.Tables.{find, IsSorted}
 use Rattle.transaction_defs.specs.Callers.{due, after_tick}
 use Rattle.transaction_defs.specs.Callees.{taken}
 use Rattle.message_types.specs.declared.e1.E1Message.{E1Message}
@@ -27,7 +27,7 @@ use Rattle.message_types.specs.declared.e1.E1Message.TheVariants as e1s
 use Rattle.unit_defs.specs.Ways.{Message, e1, Taken, opened, closed, no, Input, control_input, packet_input, tick_input, order_input, Answer, gives, spent, ◌then◌, nothing, puts, drops, teids_spent}
 use Rattle.unit_defs.specs.Messages.{cause_busy, cause_quota, mode_uplinks, mode_switch, mode_freeze, mode_status, mode_resume, channel, are_bearers, bearers_of, statuses_of, teid_of}
 use Rattle.unit_defs.specs.Teids.{teids_are_left}
-use Rattle.unit_defs.specs.Transactions.{Kind, request, reply, transfer, kind_of, with_instance, no_instance, Transactions, ask, on_request}
+use Rattle.unit_defs.specs.Transactions.{Kind, request, reply, transfer, kind_of, with_instance, no_instance, Waiting, Transactions, waits_at, ask, on_request}
 use Rattle.unit_defs.specs.UpRecords.{UpBearer, UpContext, CuUp, UpTunnel, up_at}
 use Rattle.unit_defs.specs.UpBearers.{teids_of_bearer, with_uplink, switched, frozen_to, with_status, resumed, is_over, open_teids, has_downlink, framed}
 use Rattle.unit_defs.specs.UpItems.{held_reason, took}
@@ -35,10 +35,12 @@ use Rattle.unit_defs.specs.CuUp.{with_context, context_of, with_transactions, up
 use Rattle.law_channel.specs.Replies.{Talk, answers}
 use Rattle.law_channel.specs.Moves.{asks, ages, Net, sent_by}
 use Rattle.law_channel.proofs.Nets.{Good}
-use Rattle.law_channel_rows.specs.Made.{ReadsWell, Made, WasSent, IsPutTo, NoneExpired}
+use Rattle.law_channel_rows.specs.Made.{ReadsWell, AreUndated, NoneDue, Made, MadeWhole, WasSent, IsPutTo, NoneExpired}
+use Rattle.law_channel_rows.proofs.Tickless.{whole}
+use Rattle.law_channel_rows.proofs.Undated.{After, ticked_undated, ask_undated, asked_then, reply_undated, request_undated}
 use Rattle.law_channel_rows.proofs.Requests.{sent_both, Leaves, Replies, leaves_then, leaves_replies, replies_then, replies_here, request_made, leaves_made, drops_made}
 use Rattle.law_channel_rows.proofs.Askers.{one_made, reply_made}
-use Rattle.law_channel_rows.proofs.Ticks.{moves_due, tick_plays}
+use Rattle.law_channel_rows.proofs.Ticks.{moves_due, tick_none, tick_plays}
 use Rattle.law_channel_rows.proofs.Bearers.{Quiet, poll_quiet, uplink_quiet, switched_quiet, frozen_quiet, status_quiet, resumed_quiet, took_quiet}
 
 module _ {M C P : Type 0} (talk : Talk M C P) (n : NodeId) where
@@ -414,23 +416,98 @@ module _ {M C P : Type 0} (talk : Talk M C P) (n : NodeId) where
           (record { message = e1 (e1s.E1SetupRequest no_instance (node_text (up_node r))); deadline = None; awaited = false })) (
             (λ i. reads.kinds (with_instance i (e1 (e1s.E1SetupRequest no_instance (node_text (up_node r))))) ∙ is_setup_request i (node_text (up_node r))),
             none (channel 0 (CuCp r.gnb)),
-          ) refl (λ a. with_transactions r a.transactions) (λ a. refl))
+          ) tt refl (λ a. with_transactions r a.transactions) (λ a. refl))
 
-  tick_made : (net : Net M C) → Good talk net → (r : CuUp M C) → net.nodes n ≡ r.transactions → Made talk net n kept (tick talk.way r)
+  tick_made : (net : Net M C) → Good talk net → NoneExpired talk net n → (r : CuUp M C) → net.nodes n ≡ r.transactions → NoneDue r.transactions
+      → MadeWhole talk net n kept (tick talk.way r)
   unfolding tick
-  tick_made net good r at =
-      subst (λ (t : Transactions M C). Made talk net n kept (gives (flat_map (due_output talk.way) (due t.caller))
+  tick_made net good none r at late =
+      subst (λ (t : Transactions M C). MadeWhole talk net n kept (gives (flat_map (due_output talk.way) (due t.caller))
       (with_transactions r (record t { caller = after_tick t.caller })))) at (
-        ages ∷ moves_due talk n (due (net.nodes n).caller),
+        ages ∷ moves_due (due (net.nodes n).caller),
         tick_plays talk n (due_output talk.way) (λ c x. refl) (λ c. refl) net good,
+        tick_none talk n net none (subst (λ (t : Transactions M C). NoneDue t) (sym at) late) (due (net.nodes n).caller),
       )
 
-  pub cu_up_made : ReadsWell talk → (net : Net M C) → Good talk net → NoneExpired talk net n → (r : CuUp M C) → net.nodes n ≡ r.transactions
-      → (input : Input C P) → IsPutTo talk net n input → Made talk net n kept (cu_up_acts talk.way r input)
+  -- of all inputs but a tick
+  abbrev MadeBut : Net M C → Input C P → Answer M P (CuUp M C) → Type 0
+  MadeBut net tick_input a = Unit {0}
+  MadeBut net input a = Made talk net n kept a
+
+  but_made : ReadsWell talk → (net : Net M C) → Good talk net → NoneExpired talk net n → (r : CuUp M C) → net.nodes n ≡ r.transactions
+      → (input : Input C P) → IsPutTo talk net n input → MadeBut net input (cu_up_acts talk.way r input)
   unfolding cu_up_acts
-  cu_up_made reads net good none r at (control_input from m) put = control_made reads net good r at from m put
-  cu_up_made reads net good none r at (packet_input teid item) put = no_move net r (take talk.way teid item r) at (take_leaves teid item r)
-  cu_up_made reads net good none r at tick_input put = tick_made net good r at
-  cu_up_made reads net good none r at (order_input orders.Start) put = start_made reads net r at none
-  cu_up_made reads net good none r at (order_input (orders.Poll ue bearer)) put = no_move net r (poll talk.way ue bearer r) at (poll_leaves ue bearer r)
-  cu_up_made reads net good none r at input put = drops_made talk n net kept r Unexpected at
+  but_made reads net good none r at (control_input from m) put = control_made reads net good r at from m put
+  but_made reads net good none r at (packet_input teid item) put = no_move net r (take talk.way teid item r) at (take_leaves teid item r)
+  but_made reads net good none r at tick_input put = tt
+  but_made reads net good none r at (order_input orders.Start) put = start_made reads net r at none
+  but_made reads net good none r at (order_input (orders.Poll ue bearer)) put = no_move net r (poll talk.way ue bearer r) at (poll_leaves ue bearer r)
+  but_made reads net good none r at input put = drops_made talk n net kept r Unexpected at
+
+  pub cu_up_made : ReadsWell talk → (net : Net M C) → Good talk net → NoneExpired talk net n → (r : CuUp M C) → net.nodes n ≡ r.transactions
+      → NoneDue r.transactions → (input : Input C P) → IsPutTo talk net n input → MadeWhole talk net n kept (cu_up_acts talk.way r input)
+  unfolding cu_up_acts
+  cu_up_made reads net good none r at late tick_input put = tick_made net good none r at late
+  cu_up_made reads net good none r at late input put =
+      whole talk n net kept (cu_up_acts talk.way r input) none (but_made reads net good none r at input put)
+
+  -- ---- what it asks has no deadline
+
+  abbrev Undated : Answer M P (CuUp M C) → Type 0
+  Undated a = After talk.way kept a
+
+  leaves_undated : (t : Transactions M C) (a : Answer M P (CuUp M C)) → AreUndated t → Leaves talk n kept t a → Undated a
+  leaves_undated t (gives os r) all leaves = subst AreUndated (sym leaves.1) all
+  leaves_undated t (spent k) all leaves = tt
+
+  replies_undated : (t : Transactions M C) (c : Channel) (m : Message C) (i : ℕ) (a : Answer M P (CuUp M C)) → AreUndated t → Replies talk n kept t c m i a → Undated a
+  unfolding waits_at
+  replies_undated t c m i (gives os r) all (inl none) = subst AreUndated (sym none.1) all
+  replies_undated t c m i (gives os r) all (inr one) = subst AreUndated (sym one.kept) all
+  replies_undated t c m i (spent k) all replies = tt
+
+  control_by_undated : (r : CuUp M C) (from : NodeId) (m : Message C) → AreUndated r.transactions → (k : Kind) → kind_of m ≡ k
+      → Undated (control_by talk.way (channel (ue_in talk.way k) from) m r k)
+  unfolding set_up waits_at
+  control_by_undated r from m all (request ue i) is =
+      let t : Transactions M C = record r.transactions { callee = taken r.transactions.callee (channel ue from) i } in
+      request_undated talk.way kept r r.transactions (channel ue from) i (λ u. asked talk.way (channel ue from) m (with_transactions r u)) all
+      (replies_undated t (channel ue from) m i (asked talk.way (channel ue from) m (with_transactions r t)) all (asked_replies r t from m ue i is))
+  control_by_undated r from m all (reply ue i) is =
+      reply_undated talk.way kept r r.transactions (channel ue from) i (λ a. record r { is_set_up = true; transactions = a.transactions }) (λ a. refl) all all
+  control_by_undated r from m all (transfer ue) is = all
+
+  control_undated : (r : CuUp M C) (from : NodeId) (m : Message C) → AreUndated r.transactions → Undated (control_came talk.way from m r)
+  unfolding control_came
+  control_undated r from m all = by (is_own_cp talk.way r.gnb from)
+    where
+      by : (b : Bool) → Undated (if b then control_by talk.way (channel (ue_in talk.way (kind_of m)) from) m r (kind_of m) else drops Unexpected r)
+      by true = control_by_undated r from m all (kind_of m) refl
+      by false = all
+
+  start_undated : (r : CuUp M C) → AreUndated r.transactions → Undated (start talk.way r)
+  unfolding start
+  start_undated r all = by r.is_set_up
+    where
+      first : Waiting C
+      first = record { message = e1 (e1s.E1SetupRequest no_instance (node_text (up_node r))); deadline = None; awaited = false }
+
+      by : (b : Bool) → Undated (if b then nothing r else
+          (ask talk.way r.transactions (channel 0 (CuCp r.gnb))
+          (record { message = e1 (e1s.E1SetupRequest no_instance (node_text (up_node r))); deadline = None; awaited = false })
+          then (λ a. nothing (with_transactions r a.transactions))))
+      by true = all
+      by false =
+          asked_then talk.way kept (ask talk.way r.transactions (channel 0 (CuCp r.gnb)) first) (λ a. with_transactions r a.transactions) (λ a. refl)
+          (ask_undated talk.way r.transactions (channel 0 (CuCp r.gnb)) first refl all)
+
+  pub cu_up_undated : (r : CuUp M C) → IsSorted channel_cmp r.transactions.caller.opened → AreUndated r.transactions → (input : Input C P)
+      → Undated (cu_up_acts talk.way r input)
+  unfolding cu_up_acts tick
+  cu_up_undated r sorted all (control_input from m) = control_undated r from m all
+  cu_up_undated r sorted all (packet_input teid item) = leaves_undated r.transactions (take talk.way teid item r) all (take_leaves teid item r)
+  cu_up_undated r sorted all tick_input = ticked_undated r.transactions sorted all
+  cu_up_undated r sorted all (order_input orders.Start) = start_undated r all
+  cu_up_undated r sorted all (order_input (orders.Poll ue bearer)) =
+      leaves_undated r.transactions (poll talk.way ue bearer r) all (poll_leaves ue bearer r)
+  cu_up_undated r sorted all input = all

@@ -1,5 +1,5 @@
 -- A DU: contexts are set up, modified and released on requests, each answered once at most; other inputs leave them.
-use Rattle.std.proofs.Common.{inl, ◌≡◌, ℕ, ◌+◌, Bool, true, false, not, ◌||◌, List, [], ◌∷◌, ◌++◌, Option, Some, None, refl, sym, ◌∙◌, subst}
+use Rattle.std.proofs.Common.{inl, inr, ◌≡◌, ℕ, ◌+◌, Bool, true, false, not, ◌||◌, List, [], ◌∷◌, ◌++◌, Option, Some, None, refl, sym, ◌∙◌, subst}
 use Rattle.std.specs.Prelude.{map, if◌then◌else◌, length, ◌==◌}
 use Rattle.std.specs.List.{flat_map}
 use Rattle.gnb_types.specs.declared.names.NodeId.{NodeId}
@@ -15,12 +15,12 @@ use Rattle.message_types.specs.declared.f1.F1.TheVariants as f1s
 use Rattle.unit_defs.specs.Ways.{Message, f1, Output, status, uplink, rrc, Taken, frame_item, Input, control_input, packet_input, radio_input, confirm_input, offer_input, tick_input, order_input, Answer, gives, spent, ◌then◌, nothing, puts, drops, closed, opened, packet, end_marker, teids_spent}
 use Rattle.unit_defs.specs.Messages.{channel, is_same_gnb, are_first_bearers, bearers_of}
 use Rattle.unit_defs.specs.Teids.{teids_are_left}
-use Rattle.unit_defs.specs.Transactions.{Kind, request, reply, transfer, kind_of, with_instance, no_instance, Transactions, ask, on_request}
+use Rattle.unit_defs.specs.Transactions.{Kind, request, reply, transfer, kind_of, with_instance, no_instance, Waiting, Transactions, waits_at, ask, on_request}
 use Rattle.unit_defs.specs.Du.{Du, DuContext, DuBearer, context_of, with_transactions, replies, replaces, closings, openings, old_downlinks, replaced, setup, context_with, modify, modify_on, release, released_on, end_markers, downlinks_of, asked, downlink_list, relayed_up, relayed_down, relay_up, relay_down, transferred, of_terminal, token_ue, set_up, of_cp, control_came, told, is_missing, missing, carried, frame_came, with_bearer, gap_after, take, taken_in, taken_of, taken_on, DuTunnel, of_context, of_bearer, confirmed, pass_up, confirm, start, du_node, due_output, tick, du_acts}
 use Rattle.gnb_types.specs.Names.{node_text}
-use Rattle.gnb_types.specs.Orders.{bearer_cmp}
+use Rattle.gnb_types.specs.Orders.{bearer_cmp, channel_cmp}
 use Rattle.std.specs.Ordering.{nat_cmp}
-use Rattle.tables.specs.Tables.{find}
+use Rattle.tables.specs.Tables.{find, IsSorted}
 use Rattle.transaction_defs.specs.Callers.{due, after_tick}
 use Rattle.transaction_defs.specs.Callees.{taken}
 use Rattle.message_types.specs.declared.rrc.Token.{Token}
@@ -28,9 +28,11 @@ use Rattle.message_types.specs.declared.f1.F1.{F1}
 use Rattle.law_channel.specs.Replies.{Talk, answers}
 use Rattle.law_channel.specs.Moves.{asks, ages, Net, sent_by}
 use Rattle.law_channel.proofs.Nets.{Good}
-use Rattle.law_channel_rows.specs.Made.{ReadsWell, Made, WasSent, IsPutTo, NoneExpired}
+use Rattle.law_channel_rows.specs.Made.{ReadsWell, AreUndated, NoneDue, Made, MadeWhole, WasSent, IsPutTo, NoneExpired}
+use Rattle.law_channel_rows.proofs.Tickless.{whole}
+use Rattle.law_channel_rows.proofs.Undated.{After, ticked_undated, ask_undated, asked_then, reply_undated, request_undated}
 use Rattle.law_channel_rows.proofs.Askers.{one_made, reply_made, transfer_made}
-use Rattle.law_channel_rows.proofs.Ticks.{moves_due, tick_plays}
+use Rattle.law_channel_rows.proofs.Ticks.{moves_due, tick_none, tick_plays}
 use Rattle.law_channel_rows.proofs.Requests.{sent_both, Leaves, Replies, leaves_then, leaves_replies, replies_then, replies_here, request_made, leaves_made, drops_made}
 
 module _ {M C P : Type 0} (talk : Talk M C P) (n : NodeId) where
@@ -268,30 +270,131 @@ module _ {M C P : Type 0} (talk : Talk M C P) (n : NodeId) where
           (record { message = f1 (f1s.F1SetupRequest no_instance (node_text (du_node r))); deadline = None; awaited = false })) (
             (λ i. reads.kinds (with_instance i (f1 (f1s.F1SetupRequest no_instance (node_text (du_node r))))) ∙ is_setup_request i (node_text (du_node r))),
             none (channel 0 (CuCp r.gnb)),
-          ) refl (λ a. with_transactions r a.transactions) (λ a. refl))
+          ) tt refl (λ a. with_transactions r a.transactions) (λ a. refl))
 
-  tick_made : (net : Net M C) → Good talk net → (r : Du M C) → net.nodes n ≡ r.transactions → Made talk net n kept (tick talk.way r)
+  tick_made : (net : Net M C) → Good talk net → NoneExpired talk net n → (r : Du M C) → net.nodes n ≡ r.transactions → NoneDue r.transactions
+      → MadeWhole talk net n kept (tick talk.way r)
   unfolding tick
-  tick_made net good r at =
-      subst (λ (t : Transactions M C). Made talk net n kept (gives (flat_map (due_output talk.way) (due t.caller))
+  tick_made net good none r at late =
+      subst (λ (t : Transactions M C). MadeWhole talk net n kept (gives (flat_map (due_output talk.way) (due t.caller))
       (with_transactions r (record t { caller = after_tick t.caller })))) at (
-        ages ∷ moves_due talk n (due (net.nodes n).caller),
+        ages ∷ moves_due (due (net.nodes n).caller),
         tick_plays talk n (due_output talk.way) (λ c x. refl) (λ c. refl) net good,
+        tick_none talk n net none (subst (λ (t : Transactions M C). NoneDue t) (sym at) late) (due (net.nodes n).caller),
       )
 
-  pub du_made : ReadsWell talk → (net : Net M C) → Good talk net → NoneExpired talk net n → (r : Du M C) → net.nodes n ≡ r.transactions
-      → (input : Input C P) → IsPutTo talk net n input → Made talk net n kept (du_acts talk.way r input)
+  -- of all inputs but a tick
+  abbrev MadeBut : Net M C → Input C P → Answer M P (Du M C) → Type 0
+  MadeBut net tick_input a = Unit {0}
+  MadeBut net input a = Made talk net n kept a
+
+  but_made : ReadsWell talk → (net : Net M C) → Good talk net → NoneExpired talk net n → (r : Du M C) → net.nodes n ≡ r.transactions
+      → (input : Input C P) → IsPutTo talk net n input → MadeBut net input (du_acts talk.way r input)
   unfolding du_acts pass_up confirm
-  du_made reads net good none r at (control_input from m) put = control_made reads net good r at from m put
-  du_made reads net good none r at (packet_input teid item) put = no_move net r (take talk.way teid item r) at (take_leaves teid item r)
-  du_made reads net good none r at (radio_input ue bearer Ul pdu content) put =
+  but_made reads net good none r at (control_input from m) put = control_made reads net good r at from m put
+  but_made reads net good none r at (packet_input teid item) put = no_move net r (take talk.way teid item r) at (take_leaves teid item r)
+  but_made reads net good none r at (radio_input ue bearer Ul pdu content) put =
       no_move net r _ at (context_leaves r (λ c b. puts (packet b.up b.uplink ue bearer Ul Same (uplink pdu)) r) bearer (context_of r ue) (λ d b. (refl, refl)))
-  du_made reads net good none r at (radio_input ue bearer Dl pdu content) put = drops_made talk n net kept r Unexpected at
-  du_made reads net good none r at (confirm_input ue bearer Dl pdu content) put =
+  but_made reads net good none r at (radio_input ue bearer Dl pdu content) put = drops_made talk n net kept r Unexpected at
+  but_made reads net good none r at (confirm_input ue bearer Dl pdu content) put =
       no_move net r _ at (context_leaves r (λ c b. confirmed talk.way ue bearer r b (talk.way.number c.sn pdu)) bearer (context_of r ue)
       (λ d b. confirmed_leaves ue bearer r b (talk.way.number d.sn pdu)))
-  du_made reads net good none r at (confirm_input ue bearer Ul pdu content) put = drops_made talk n net kept r Unexpected at
-  du_made reads net good none r at (offer_input ue bearer p) put = drops_made talk n net kept r Unexpected at
-  du_made reads net good none r at tick_input put = tick_made net good r at
-  du_made reads net good none r at (order_input orders.Start) put = start_made reads net r at none
-  du_made reads net good none r at (order_input order) put = drops_made talk n net kept r Unexpected at
+  but_made reads net good none r at (confirm_input ue bearer Ul pdu content) put = drops_made talk n net kept r Unexpected at
+  but_made reads net good none r at (offer_input ue bearer p) put = drops_made talk n net kept r Unexpected at
+  but_made reads net good none r at tick_input put = tt
+  but_made reads net good none r at (order_input orders.Start) put = start_made reads net r at none
+  but_made reads net good none r at (order_input order) put = drops_made talk n net kept r Unexpected at
+
+  pub du_made : ReadsWell talk → (net : Net M C) → Good talk net → NoneExpired talk net n → (r : Du M C) → net.nodes n ≡ r.transactions
+      → NoneDue r.transactions → (input : Input C P) → IsPutTo talk net n input → MadeWhole talk net n kept (du_acts talk.way r input)
+  unfolding du_acts
+  du_made reads net good none r at late tick_input put = tick_made net good none r at late
+  du_made reads net good none r at late input put =
+      whole talk n net kept (du_acts talk.way r input) none (but_made reads net good none r at input put)
+
+  -- ---- what it asks has no deadline
+
+  abbrev Undated : Answer M P (Du M C) → Type 0
+  Undated a = After talk.way kept a
+
+  leaves_undated : (t : Transactions M C) (a : Answer M P (Du M C)) → AreUndated t → Leaves talk n kept t a → Undated a
+  leaves_undated t (gives os r) all leaves = subst AreUndated (sym leaves.1) all
+  leaves_undated t (spent k) all leaves = tt
+
+  replies_undated : (t : Transactions M C) (c : Channel) (m : Message C) (i : ℕ) (a : Answer M P (Du M C)) → AreUndated t → Replies talk n kept t c m i a → Undated a
+  unfolding waits_at
+  replies_undated t c m i (gives os r) all (inl none) = subst AreUndated (sym none.1) all
+  replies_undated t c m i (gives os r) all (inr one) = subst AreUndated (sym one.kept) all
+  replies_undated t c m i (spent k) all replies = tt
+
+  transfer_undated : (r : Du M C) (m : Message C) → AreUndated r.transactions → Undated (transferred talk.way m r)
+  unfolding relay_down
+  transfer_undated r (f1 (f1s.DlRrcMessageTransfer ue container)) all = by (context_of r ue)
+    where
+      by : (c : Option DuContext) → Undated (relayed_down talk.way ue container r c)
+      by None = all
+      by (Some c) = all
+  transfer_undated r m all = all
+
+  terminal_undated : (r : Du M C) (ue : ℕ) (m : Message C) → AreUndated r.transactions → Undated (of_terminal talk.way ue m r)
+  unfolding relay_up
+  terminal_undated r ue (rrc token) all = by ((token_ue talk.way token).0 == ue) (context_of r (token_ue talk.way token))
+    where
+      by : (b : Bool) (c : Option DuContext)
+          → Undated (if b then relayed_up talk.way (token_ue talk.way token) token r c else drops Unexpected r)
+      by true None = all
+      by true (Some c) = all
+      by false c = all
+  terminal_undated r ue m all = all
+
+  of_cp_undated : (r : Du M C) (from : NodeId) (m : Message C) → AreUndated r.transactions → (k : Kind) → kind_of m ≡ k → Undated (of_cp talk.way from m r k)
+  unfolding set_up waits_at
+  of_cp_undated r from m all (request ue i) is =
+      let t : Transactions M C = record r.transactions { callee = taken r.transactions.callee (channel ue from) i } in
+      request_undated talk.way kept r r.transactions (channel ue from) i (λ u. asked talk.way (channel ue from) m (with_transactions r u)) all
+      (replies_undated t (channel ue from) m i (asked talk.way (channel ue from) m (with_transactions r t)) all (asked_replies r t from m ue i is))
+  of_cp_undated r from m all (reply ue i) is =
+      reply_undated talk.way kept r r.transactions (channel ue from) i (λ a. record r { is_set_up = true; transactions = a.transactions }) (λ a. refl) all all
+  of_cp_undated r from m all (transfer ue) is = transfer_undated r m all
+
+  control_undated : (r : Du M C) (from : NodeId) (m : Message C) → AreUndated r.transactions → Undated (control_came talk.way from m r)
+  unfolding control_came
+  control_undated r (CuCp gnb) m all = by (is_same_gnb gnb r.gnb)
+    where
+      by : (b : Bool) → Undated (if b then of_cp talk.way (CuCp gnb) m r (kind_of m) else drops Unexpected r)
+      by true = of_cp_undated r (CuCp gnb) m all (kind_of m) refl
+      by false = all
+  control_undated r (Ue ue) m all = terminal_undated r ue m all
+  control_undated r from m all = all
+
+  start_undated : (r : Du M C) → AreUndated r.transactions → Undated (start talk.way r)
+  unfolding start
+  start_undated r all = by r.is_set_up
+    where
+      first : Waiting C
+      first = record { message = f1 (f1s.F1SetupRequest no_instance (node_text (du_node r))); deadline = None; awaited = false }
+
+      by : (b : Bool) → Undated (if b then nothing r else
+          (ask talk.way r.transactions (channel 0 (CuCp r.gnb))
+          (record { message = f1 (f1s.F1SetupRequest no_instance (node_text (du_node r))); deadline = None; awaited = false })
+          then (λ a. nothing (with_transactions r a.transactions))))
+      by true = all
+      by false =
+          asked_then talk.way kept (ask talk.way r.transactions (channel 0 (CuCp r.gnb)) first) (λ a. with_transactions r a.transactions) (λ a. refl)
+          (ask_undated talk.way r.transactions (channel 0 (CuCp r.gnb)) first refl all)
+
+  pub du_undated : (r : Du M C) → IsSorted channel_cmp r.transactions.caller.opened → AreUndated r.transactions → (input : Input C P)
+      → Undated (du_acts talk.way r input)
+  unfolding du_acts pass_up confirm tick
+  du_undated r sorted all (control_input from m) = control_undated r from m all
+  du_undated r sorted all (packet_input teid item) = leaves_undated r.transactions (take talk.way teid item r) all (take_leaves teid item r)
+  du_undated r sorted all (radio_input ue bearer Ul pdu content) =
+      leaves_undated r.transactions _ all
+      (context_leaves r (λ c b. puts (packet b.up b.uplink ue bearer Ul Same (uplink pdu)) r) bearer (context_of r ue) (λ d b. (refl, refl)))
+  du_undated r sorted all (confirm_input ue bearer Dl pdu content) =
+      leaves_undated r.transactions _ all
+      (context_leaves r (λ c b. confirmed talk.way ue bearer r b (talk.way.number c.sn pdu)) bearer (context_of r ue)
+      (λ d b. confirmed_leaves ue bearer r b (talk.way.number d.sn pdu)))
+  du_undated r sorted all tick_input = ticked_undated r.transactions sorted all
+  du_undated r sorted all (order_input orders.Start) = start_undated r all
+  du_undated r sorted all input = all

@@ -5,6 +5,7 @@ pub mod CpAnswers
 pub mod CpMoves
 pub mod CpRequests
 pub mod CpRows
+pub mod CpDues
 pub mod CpTicks
 pub mod CuUps
 pub mod Dus
@@ -12,4 +13,6 @@ pub mod Goes
 pub mod Plays
 pub mod Requests
 pub mod Says
+pub mod Tickless
 pub mod Ticks
+pub mod Undated

@@ -148,6 +148,7 @@ module _ {M C P : Type 0} (talk : Talk M C P) (n : NodeId) where
       take_move ∷ [],
       subst (λ (t : Transactions M C). Plays talk net n t (sent_by n os) (take_move ∷ [])) (sym none.1)
           (subst (λ (out : List (Sent M)). Plays talk net n after_take out (take_move ∷ [])) (sym none.0) (takes_plays is)),
+      (tt, tt),
     )
     row_made kept is (gives os r) (inr one) =
         let p = takes_plays is in (
@@ -160,6 +161,7 @@ module _ {M C P : Type 0} (talk : Talk M C P) (n : NodeId) where
               (plays_one talk taken_net n (replies c one.message) (may_reply is one.message one.is_reply one.fits)
               (control c.peer c.ue (talk.way.spell one.message) ∷ []) (record after_take { callee = keep after_take.callee c (talk.way.spell one.message) })
               (ap (λ (t : Transactions M C). moved talk t (replies c one.message)) p.node)))),
+          (tt, (tt, tt)),
         )
     row_made kept is (spent k) made = tt
 
@@ -168,11 +170,12 @@ module _ {M C P : Type 0} (talk : Talk M C P) (n : NodeId) where
     again_made kept same at = by (kept_reply here.callee c) refl
       where
         by : (k : Option M) → kept_reply here.callee c ≡ k → Made talk net n kept (answered_again talk.way same c k)
-        by None is = ([], subst (λ (t : Transactions M C). Plays talk net n t [] []) at (plays_none talk net n))
+        by None is = ([], subst (λ (t : Transactions M C). Plays talk net n t [] []) at (plays_none talk net n), tt)
         by (Some y) is = (
           replies_again c ∷ [],
           subst (λ (t : Transactions M C). Plays talk net n t (record { from = n; to = c.peer; ue = c.ue; message = y } ∷ []) (replies_again c ∷ [])) at
               (plays_one talk net n (replies_again c) tt (control c.peer c.ue y ∷ []) here (ap (answered_again talk.way here c) is)),
+          (tt, tt),
         )
 
     pub request_made : {R : Type 0} (kept : R → Transactions M C) (same : R) (row : Transactions M C → Answer M P R) → here ≡ kept same
@@ -183,7 +186,7 @@ module _ {M C P : Type 0} (talk : Talk M C P) (n : NodeId) where
         by : (v : Verdict) → verdict here.callee c i ≡ v → Made talk net n kept (request_by talk.way same here c i row v)
         by new is = row_made kept is (row after_take) made
         by again is = again_made kept same at
-        by stale is = ([], subst (λ (t : Transactions M C). Plays talk net n t [] []) at (plays_none talk net n))
+        by stale is = ([], subst (λ (t : Transactions M C). Plays talk net n t [] []) at (plays_none talk net n), tt)
 
     -- the same, where the row's moves may be made after the request was taken
     pub request_taken : {R : Type 0} (kept : R → Transactions M C) (same : R) (row : Transactions M C → Answer M P R) → here ≡ kept same
@@ -194,7 +197,7 @@ module _ {M C P : Type 0} (talk : Talk M C P) (n : NodeId) where
         by : (v : Verdict) → verdict here.callee c i ≡ v → Made talk net n kept (request_by talk.way same here c i row v)
         by new is = made is
         by again is = again_made kept same at
-        by stale is = ([], subst (λ (t : Transactions M C). Plays talk net n t [] []) at (plays_none talk net n))
+        by stale is = ([], subst (λ (t : Transactions M C). Plays talk net n t [] []) at (plays_none talk net n), tt)
 
   -- nothing at all
   pub leaves_made : {R : Type 0} (net : Net M C) (kept : R → Transactions M C) (a : Answer M P R) → Leaves kept (net.nodes n) a → Made talk net n kept a
@@ -202,6 +205,7 @@ module _ {M C P : Type 0} (talk : Talk M C P) (n : NodeId) where
     [],
     subst (λ (t : Transactions M C). Plays talk net n t (sent_by n os) []) (sym none.1)
         (subst (λ (out : List (Sent M)). Plays talk net n (net.nodes n) out []) (sym none.0) (plays_none talk net n)),
+    tt,
   )
   leaves_made net kept (spent k) none = tt
 

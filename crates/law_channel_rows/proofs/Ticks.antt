@@ -1,5 +1,5 @@
 -- A tick: what is open is aged, and each open request that didn't expire is put again.
-use Rattle.std.proofs.Common.{◌≡◌, ℕ, Bool, true, false, cond, List, [], ◌∷◌, ◌++◌, Option, Some, None, refl, sym, ap, ◌∙◌, subst}
+use Rattle.std.proofs.Common.{◌≡◌, ℕ, Bool, true, false, ◌&&◌, ◌||◌, cond, List, [], ◌∷◌, ◌++◌, Option, Some, None, refl, sym, ap, ◌∙◌, subst}
 use Rattle.std.specs.Prelude.{if◌then◌else◌}
 use Rattle.std.specs.List.{flat_map, AllByRecursion}
 use Rattle.std.specs.Map.{lookup, keys_of}
@@ -19,10 +19,12 @@ use Rattle.transaction_defs.specs.Callers.{Opened, opened_at, after_tick, Due, r
 use Rattle.unit_defs.specs.Ways.{Output, control}
 use Rattle.unit_defs.specs.Transactions.{Transactions}
 use Rattle.law_channel.specs.Replies.{Talk}
-use Rattle.law_channel.specs.Ends.{Sent, asked, Put}
-use Rattle.law_channel.specs.Moves.{Move, ages, repeats, Net, asked_by, sent_by, after}
+use Rattle.law_channel.specs.Ends.{Sent, asked, Put, same_node}
+use Rattle.law_channel.specs.Moves.{Move, ages, repeats, Net, asked_by, sent_by, expires_now, after_move, after}
+use Rattle.law_channel.proofs.Keys.{node_same}
 use Rattle.law_channel.proofs.Nets.{Good}
-use Rattle.law_channel_rows.specs.Made.{orders_of, Plays}
+use Rattle.law_channel_rows.specs.Made.{orders_of, Plays, AreTickless, NoneDue, NoneExpired}
+use Rattle.law_channel_rows.proofs.Tickless.{none_then}
 use Rattle.law_channel_rows.proofs.Plays.{plays_none, plays_one, plays_then}
 use Rattle.law_channel_rows.proofs.Requests.{sent_both}
 
@@ -38,6 +40,12 @@ not_before a b less = by (channel_cmp b a) (sym less ∙ channel_total.antisymm 
     by Less e = absurd cc
     by Equal e = absurd cc
     by Greater e = refl
+
+-- what is put again
+abbrev pub moves_due : {M C : Type 0} → List (Due M) → List (Move M C)
+moves_due [] = []
+moves_due (due_again c x ∷ ds) = repeats c x ∷ moves_due ds
+moves_due (expires c ∷ ds) = moves_due ds
 
 module _ {X : Type 0} where
   found_past : (e : Channel × X) (es fs : List (Channel × X)) → AllByRecursion (λ y. channel_cmp e.0 y ≡ Less) (keys_of fs) → AreFound es fs → AreFound (e ∷ es) fs
@@ -56,6 +64,11 @@ module _ {X : Type 0} where
     found_past e es es (sorted_head channel_cmp e.0 (keys_of es) sorted) (all_found es (sorted_tail channel_cmp e.0 (keys_of es) sorted)),
   )
 
+pub due_tickless : {M : Type 0} (C : Type 0) (ds : List (Due M)) → AreTickless {M = M} {C = C} (moves_due ds)
+due_tickless C [] = tt
+due_tickless C (due_again c x ∷ ds) = (tt, due_tickless C ds)
+due_tickless C (expires c ∷ ds) = due_tickless C ds
+
 module _ {M C P : Type 0} (talk : Talk M C P) (n : NodeId) where
   -- what is due was put before
   abbrev pub WasDue : List (Sent M) → Due M → Type 0
@@ -64,11 +77,6 @@ module _ {M C P : Type 0} (talk : Talk M C P) (n : NodeId) where
 
   abbrev pub AllDue : List (Sent M) → List (Due M) → Type 0
   AllDue bag ds = AllByRecursion (WasDue bag) ds
-
-  abbrev pub moves_due : List (Due M) → List (Move M C)
-  moves_due [] = []
-  moves_due (due_again c x ∷ ds) = repeats c x ∷ moves_due ds
-  moves_due (expires c ∷ ds) = moves_due ds
 
   one_due : (net : Net M C) → Good talk net → (c : Channel) (o : Opened M) → opened_at (net.nodes n).caller c ≡ Some o → (last : Bool) (q : Option M)
       → o.request ≡ q → (ds : List (Due M)) → AllDue net.bag ds → AllDue net.bag ((if last then expires c ∷ [] else repeated c q) ++ ds)
@@ -102,6 +110,18 @@ module _ {M C P : Type 0} (talk : Talk M C P) (n : NodeId) where
     still_due bag out now is ds all.1,
   )
   still_due bag out now is (expires c ∷ ds) all = (tt, still_due bag out now is ds all.1)
+
+  -- where nothing expires at this tick, nothing is left expired
+  aged_none : (net : Net M C) → NoneExpired talk net n → NoneDue (net.nodes n) → NoneExpired talk (after_move talk net n ages) n
+  aged_none net none due c = by (opened_at (net.nodes n).caller c) refl
+    where
+      by : (o : Option (Opened M)) → opened_at (net.nodes n).caller c ≡ o → ((same_node n n && expires_now o) || net.expired (asked_by n c)) ≡ false
+      by None is = λ i. (node_same n i && false) || none c i
+      by (Some o) is = λ i. (node_same n i && due c o is i) || none c i
+
+  pub tick_none : (net : Net M C) → NoneExpired talk net n → NoneDue (net.nodes n) → (ds : List (Due M))
+      → NoneExpired talk (after talk net (orders_of talk n (ages ∷ moves_due ds))) n
+  tick_none net none due ds = none_then talk n (after_move talk net n ages) (moves_due ds) (due_tickless C ds) (aged_none net none due)
 
   abbrev pub ticked : Transactions M C → Transactions M C
   ticked t = record t { caller = after_tick t.caller }

@@ -1,14 +1,37 @@
 -- A unit's step as moves on channels: what it puts of control messages, and what it keeps of requests and replies then, are those
 -- of a list of moves, each of which may be made.
-use Rattle.std.specs.Prelude.{◌≡◌, ℕ, false, List, ◌++◌, map}
-use Rattle.std.specs.List.{Contains}
+use Rattle.std.specs.Prelude.{◌≡◌, ℕ, false, List, ◌++◌, map, Some, None}
+use Rattle.std.specs.List.{AllByRecursion, Contains}
 use Rattle.gnb_types.specs.declared.names.NodeId.{NodeId}
 use Rattle.gnb_types.specs.declared.keys.Channel.{Channel}
+use Rattle.transaction_defs.specs.Callers.{Opened, opened_at, is_last}
 use Rattle.unit_defs.specs.Ways.{Message, Input, control_input, Answer, gives, spent}
-use Rattle.unit_defs.specs.Transactions.{transfer, Transactions, kind_of}
+use Rattle.unit_defs.specs.Transactions.{transfer, Waiting, Transactions, kind_of}
 use Rattle.law_channel.specs.Replies.{Talk, answers, overtakes}
-use Rattle.law_channel.specs.Ends.{same_node, Sent}
-use Rattle.law_channel.specs.Moves.{Move, Net, new_net, asked_by, sent_by, Order, after, MayAll}
+use Rattle.law_channel.specs.Ends.{same_node, Asking, asking_at, Sent}
+use Rattle.law_channel.specs.Moves.{Move, ages, Net, new_net, asked_by, sent_by, Order, after, MayAll}
+
+-- a move is no tick; none of these is
+abbrev pub IsTickless : {M C : Type 0} → Move M C → Type 0
+IsTickless ages = ⊥
+IsTickless move = Unit {0}
+
+abbrev pub AreTickless : {M C : Type 0} → List (Move M C) → Type 0
+AreTickless moves = AllByRecursion IsTickless moves
+
+-- a request that is open, and none that waits, has a deadline; so it is of all that is asked
+abbrev pub HasNoDeadline : {C : Type 0} → Waiting C → Type 0
+HasNoDeadline w = w.deadline ≡ None
+
+abbrev pub IsUndated : {M C : Type 0} → Asking M C → Type 0
+IsUndated {M = M} a = ((o : Opened M) → a.opened ≡ Some o → o.deadline ≡ None) × AllByRecursion HasNoDeadline a.waits
+
+abbrev pub AreUndated : {M C : Type 0} → Transactions M C → Type 0
+AreUndated t = (c : Channel) → IsUndated (asking_at t c)
+
+-- at no tick to come next a request expires
+abbrev pub NoneDue : {M C : Type 0} → Transactions M C → Type 0
+NoneDue {M = M} t = (c : Channel) (o : Opened M) → opened_at t.caller c ≡ Some o → is_last o.deadline ≡ false
 
 module _ {M C P : Type 0} (talk : Talk M C P) where
   -- what is read of a message that is written is what it says
@@ -28,9 +51,9 @@ module _ {M C P : Type 0} (talk : Talk M C P) where
     pub others : (m : NodeId) → same_node m n ≡ false → (after talk net (orders_of n moves)).nodes m ≡ net.nodes m
     pub bag : (after talk net (orders_of n moves)).bag ≡ net.bag ++ sent
 
-  -- an answer is that of moves
+  -- an answer is that of moves, none of which is a tick
   abbrev pub Made : {R : Type 0} → Net M C → NodeId → (R → Transactions M C) → Answer M P R → Type 0
-  Made net n kept (gives outputs r) = (moves : List (Move M C)) × Plays net n (kept r) (sent_by n outputs) moves
+  Made net n kept (gives outputs r) = (moves : List (Move M C)) × Plays net n (kept r) (sent_by n outputs) moves × AreTickless moves
   Made net n kept (spent counter) = Unit {0}
 
   -- the message was put, from this node to that one
@@ -46,6 +69,12 @@ module _ {M C P : Type 0} (talk : Talk M C P) where
   abbrev pub NoneExpired : Net M C → NodeId → Type 0
   NoneExpired net n = (c : Channel) → net.expired (asked_by n c) ≡ false
 
+  -- an answer is that of moves, after which no request of the node expired without its cancel
+  abbrev pub MadeWhole : {R : Type 0} → Net M C → NodeId → (R → Transactions M C) → Answer M P R → Type 0
+  MadeWhole net n kept (gives outputs r) =
+      (moves : List (Move M C)) × Plays net n (kept r) (sent_by n outputs) moves × NoneExpired (after talk net (orders_of n moves)) n
+  MadeWhole net n kept (spent counter) = Unit {0}
+
   -- orders go on by more of them, each made when it may be: then the node keeps t, all others what they kept, and these more were put
   pub record GoesOn (orders : List (Order talk)) (n : NodeId) (t : Transactions M C) (sent : List (Sent M)) : Type 0 where
     pub more : List (Order talk)
@@ -53,3 +82,7 @@ module _ {M C P : Type 0} (talk : Talk M C P) where
     pub node : (after talk new_net (orders ++ more)).nodes n ≡ t
     pub others : (m : NodeId) → same_node m n ≡ false → (after talk new_net (orders ++ more)).nodes m ≡ (after talk new_net orders).nodes m
     pub bag : (after talk new_net (orders ++ more)).bag ≡ (after talk new_net orders).bag ++ sent
+    -- no request of the node expired without its cancel; of other nodes those did that did before
+    pub none : NoneExpired (after talk new_net (orders ++ more)) n
+    pub as_before : (m : NodeId) → same_node m n ≡ false → (c : Channel)
+        → (after talk new_net (orders ++ more)).expired (asked_by m c) ≡ (after talk new_net orders).expired (asked_by m c)

@@ -1,0 +1,5 @@
+pub mod Exact
+pub mod Nodes
+pub mod Runs
+pub mod Terminals
+pub mod Ties
