@@ -58,3 +58,8 @@ pub fn goes_on_after_a_cancel()
     ensures guards { AreKept (start 1 10) cancelled }
     ensures delivered { (run (start 1 10) cancelled).delivered ≡ (0, a) ∷ (1, b) ∷ [] }
 {}
+
+/// The run over two hops comes to a state where nothing is under way any more, as the law on all that was offered asks.
+pub fn comes_to_rest()
+    ensures quiet { IsQuiet (run (start 1 10) relay) }
+{}
