@@ -1,0 +1,4 @@
+pub mod Keyed
+pub mod Dus
+pub mod UpBearers
+pub mod CuUps
