@@ -1,13 +1,15 @@
-//! Laws of the tunnels that a CU-UP and a DU name, and put items on. Each function does nothing: its contract is the law.
+//! Laws of the tunnels that a CU-UP, a DU and a terminal name, and put items on. Each function does nothing: its contract is the law.
 #![tactic(auto)]
 
 ghost use Rattle.gnb_types.specs.declared.names.Gnb.{Gnb};
-ghost use Rattle.gnb_types.specs.declared.names.NodeId.TheVariants.{CuUp as up_id, Du as du_id};
-ghost use Rattle.law_tunnel_names.specs.Names.{by_test, InputNames, Test};
+ghost use Rattle.gnb_types.specs.declared.names.NodeId.TheVariants.{CuUp as up_id, Du as du_id, Ue};
+ghost use Rattle.gnb_types.specs.declared.names.UeId.{UeId};
+ghost use Rattle.law_tunnel_names.specs.Names.{AnswerNames, by_test, InputNames, Test};
 ghost use Rattle.law_unit_tunnels.specs.Units.{AnswerIf, DuHolds, DuNames, NoneIsFree, UpHolds, UpNames};
 ghost use Rattle.std.specs.Prelude.{ℕ};
 ghost use Rattle.unit_defs.specs.CuUp.{cu_up_acts};
 ghost use Rattle.unit_defs.specs.Du.{Du, du_acts};
+ghost use Rattle.unit_defs.specs.Ue.{ue_acts, UeNode};
 ghost use Rattle.unit_defs.specs.UpRecords.{CuUp};
 ghost use Rattle.unit_defs.specs.Ways.{Input, Way};
 
@@ -29,4 +31,10 @@ pub fn a_cu_up_puts_on_what_it_was_told<M, C, P>()
         → NoneIsFree (by_test test).owners → UpNames (by_test test) gnb number r → InputNames (by_test test) input
         → AnswerIf (by_test test) (UpHolds (by_test test).owners gnb number) (UpNames (by_test test) gnb number)
         (up_id gnb number) (cu_up_acts way r input) }
+{}
+
+/// A terminal names no tunnel, and puts no item on one.
+pub fn a_terminal_puts_on_no_tunnel<M, C, P>()
+    ensures { (way : Way M C P) (test : Test way) (ue : UeId) (u : UeNode) (input : Input C P)
+        → AnswerNames (by_test test) (λ (x : UeNode). Unit {0}) (Ue ue.0) (ue_acts way u input) }
 {}
