@@ -53,7 +53,7 @@ same_gnb A B h = absurd cc
 same_gnb B A h = absurd cc
 
 -- the TEID of a bearer in a list is named there, or there is none
-named_teid : (Q : BearerId → ℕ → Type 0) (ts : List Tunnel) (bearer : BearerId) → AllByRecursion (λ t. Q t.bearer t.teid) ts → Q bearer 0 → Q bearer (teid_of ts bearer)
+pub named_teid : (Q : BearerId → ℕ → Type 0) (ts : List Tunnel) (bearer : BearerId) → AllByRecursion (λ t. Q t.bearer t.teid) ts → Q bearer 0 → Q bearer (teid_of ts bearer)
 named_teid Q [] bearer all none = none
 named_teid Q (t ∷ ts) bearer all none = by (named_teid Q ts bearer all.1 none) (t.bearer.0 == bearer.0) refl
   where
