@@ -6,3 +6,4 @@ pub mod Plain
 pub mod Alone
 pub mod Fits
 pub mod Tells
+pub mod Later

@@ -30,12 +30,12 @@ use Rattle.law_run_facts.proofs.Within.{HoldsWith, then_holds, keep_checked, wit
 use Rattle.law_run_facts.proofs.Steps.{few_after, found_has, act_keeps}
 use Rattle.std.specs.Ordering.{nat_cmp}
 
-module _ {M C L P : Type 0} (world : World M C L P) (facts : Facts M C L P) (kept : AreKept world facts) where
-  step_holds : (actor : Option NodeId) (w : Within M C L P) → HoldsWith world facts 0 w → HoldsWith world facts 0 (as_step actor w)
+module _ {M C L P : Type 0} (world : World M C L P) (facts : Facts M C L P) where
+  pub step_holds : (actor : Option NodeId) (w : Within M C L P) → HoldsWith world facts 0 w → HoldsWith world facts 0 (as_step actor w)
   step_holds actor (goes lines t) p = p
   step_holds actor (stops lines why) p = tt
 
-  outcome_holds : (e : Outcome M C L P) (more : State M C L P → Outcome M C L P) → HoldsWith world facts 0 e
+  pub outcome_holds : (e : Outcome M C L P) (more : State M C L P → Outcome M C L P) → HoldsWith world facts 0 e
       → ((t : State M C L P) → Hold facts t → HoldsWith world facts 0 (more t)) → HoldsWith world facts 0 (e next more)
   outcome_holds (goes told t) more p h = by (more t) (h t p)
     where
@@ -46,34 +46,26 @@ module _ {M C L P : Type 0} (world : World M C L P) (facts : Facts M C L P) (kep
 
   -- ---- a terminal that is set up without messages: its tunnels are open, and empty where they weren't
 
-  tunnels_open : (node : NodeId) (teid count : ℕ) (s : State M C L P) → Hold facts s
+  pub tunnels_open : (node : NodeId) (teid count : ℕ) (s : State M C L P) → Hold facts s
       → Hold facts (record s { tunnels = tunnels_from node teid count s.tunnels })
   tunnels_open node teid zero s h = h
   tunnels_open node teid (suc count) s h =
       tunnels_open node (teid + 1) count (record s { tunnels = with_tunnel (record { node = node; teid = teid }) s.tunnels })
       (with_open world facts 0 s (record { node = node; teid = teid }) h)
 
-  placed_holds : (plan : Plan) (s : State M C L P) → is_held_by_units plan s.units ≡ false → up_has_room (up_of s.units plan.gnb plan.up) plan ≡ true
-      → up_has_teids (up_of s.units plan.gnb plan.up) plan && du_has_teids (du_of s.units plan.gnb plan.du) plan ≡ true
-      → Hold facts s → Hold facts (statically plan s)
-  placed_holds plan s free room teids h =
+  pub statically_holds : (plan : Plan) (s : State M C L P) → Hold facts s → facts.units (statically plan s).units → facts.core (statically plan s).core
+      → Hold facts (statically plan s)
+  statically_holds plan s h units core =
       let up : ℕ = (up_of s.units plan.gnb plan.up).next_teid in
       let du : ℕ = (du_of s.units plan.gnb plan.du).next_teid in
       let ups = tunnels_open (CuUp plan.gnb plan.up) up (2 * plan.bearers) s h in
       let all = tunnels_open (Du plan.gnb plan.du) du plan.bearers
       (record s { tunnels = tunnels_from (CuUp plan.gnb plan.up) up (2 * plan.bearers) s.tunnels }) ups in
-      record {
-        units = kept.placed s.units plan free room teids h.units;
-        core = kept.core_placed s.core plan (n3_from 1 up plan.bearers) h.core;
-        letters = h.letters;
-        tunnels = all.tunnels;
-        radios = h.radios;
-        few = h.few;
-      }
+      record { units = units; core = core; letters = h.letters; tunnels = all.tunnels; radios = h.radios; few = h.few }
 
   -- ---- the core
 
-  core_holds : (s : State M C L P) (core : CoreRecord M C) (outputs : List (Put M L P)) (e : Within M C L P)
+  pub core_holds : (s : State M C L P) (core : CoreRecord M C) (outputs : List (Put M L P)) (e : Within M C L P)
       → HoldsWith world facts (count_letters world outputs) e → PutsFit facts Core None outputs
       → HoldsWith world facts 0 (as_step (Some Core) (e next put_out_all world Core None outputs next check_spans))
   core_holds s core outputs e h fits =
@@ -82,7 +74,7 @@ module _ {M C L P : Type 0} (world : World M C L P) (facts : Facts M C L P) (kep
       (then_holds world facts (count_letters world outputs) 0 e (put_out_all world Core None outputs) h (λ t k. keep_put_all world facts Core None outputs fits t k))
       (λ t k. keep_checked world facts 0 t k))
 
-  core_ready : (s : State M C L P) (core : CoreRecord M C) (n : ℕ) → Hold facts s → facts.core core → (facts.counted → length s.bag.letters + n ≤ most_letters)
+  pub core_ready : (s : State M C L P) (core : CoreRecord M C) (n : ℕ) → Hold facts s → facts.core core → (facts.counted → length s.bag.letters + n ≤ most_letters)
       → HoldWith facts n (record s { core = core })
   core_ready s core n h is few = record {
     units = h.units;
@@ -93,6 +85,14 @@ module _ {M C L P : Type 0} (world : World M C L P) (facts : Facts M C L P) (kep
     few = few;
   }
 
+module _ {M C L P : Type 0} (world : World M C L P) (facts : Facts M C L P) (kept : AreKept world facts) where
+  placed_holds : (plan : Plan) (s : State M C L P) → is_held_by_units plan s.units ≡ false → up_has_room (up_of s.units plan.gnb plan.up) plan ≡ true
+      → up_has_teids (up_of s.units plan.gnb plan.up) plan && du_has_teids (du_of s.units plan.gnb plan.du) plan ≡ true
+      → Hold facts s → Hold facts (statically plan s)
+  placed_holds plan s free room teids h =
+      statically_holds world facts plan s h (kept.placed s.units plan free room teids h.units)
+      (kept.core_placed s.core plan (n3_from 1 (up_of s.units plan.gnb plan.up).next_teid plan.bearers) h.core)
+
   -- ---- an event
 
   pub made_holds : (event : Event) (s : State M C L P) (e : Outcome M C L P) → Made world event s e → Hold facts s → HoldsWith world facts 0 e
@@ -100,18 +100,18 @@ module _ {M C L P : Type 0} (world : World M C L P) (facts : Facts M C L P) (kep
   made_holds event s e (stays t) h = h
   made_holds event s e (ends t why) h = tt
   made_holds event s e (then_made t d more p q) h =
-      outcome_holds d more (made_holds event t d p h) (λ x k. made_holds event x (more x) (q x) k)
+      outcome_holds world facts d more (made_holds event t d p h) (λ x k. made_holds event x (more x) (q x) k)
   made_holds event s e (sets_up t plan is free room teids) h = placed_holds plan t (or_parts (was_attached t plan.ue) _ free).1 room teids h
   made_holds event s e (starts t d p) h =
       made_holds event (record t { started = true }) d p (same_links world facts 0 t (record t { started = true }) h refl refl refl refl refl)
   made_holds event s e (acts t cause outputs units at is fine few) h =
-      step_holds (Some (node_of cause)) _ (act_keeps world facts kept event cause outputs units t h at is few)
+      step_holds world facts (Some (node_of cause)) _ (act_keeps world facts kept event cause outputs units t h at is few)
   made_holds event s e (holds_item t end reason) h = h
   made_holds event s e (holds_pdu t key home reason) h = h
   made_holds event s e (offers t ue bearer p path is found) h =
       let end : TunnelEnd = record { node = path.up; teid = teid_of path.n3 bearer } in
       let item : Item L = record { key = entity ue bearer Dl; count = None; content = world.lay_n3 (teid_of path.n3 bearer) p } in
-      step_holds (Some Core) (put_on_tunnel world end item (offered world (entity ue bearer Dl) t) next check_spans)
+      step_holds world facts (Some Core) (put_on_tunnel world end item (offered world (entity ue bearer Dl) t) next check_spans)
       (then_holds world facts 0 0 (put_on_tunnel world end item (offered world (entity ue bearer Dl) t)) check_spans
       (keep_put_on_tunnel world facts end item (facts.stands Core end item (kept.lays t.core ue bearer p path h.core found)) 0 (offered world (entity ue bearer Dl) t)
       (same_links world facts 0 t (offered world (entity ue bearer Dl) t) h refl refl refl refl refl))
@@ -123,8 +123,8 @@ module _ {M C L P : Type 0} (world : World M C L P) (facts : Facts M C L P) (kep
             (found_has nat_cmp facts.letter t.bag.letters number l h.letters found),
       ) is in
       let ready : HoldWith facts (count_letters world outputs) (record t { core = core }) =
-      core_ready t core (count_letters world outputs) h answered.0 (λ c. few_after (length t.bag.letters) (count_letters world outputs) few) in
-      core_holds t core outputs (landed_as world number l (record t { core = core })) (record {
+      core_ready world facts t core (count_letters world outputs) h answered.0 (λ c. few_after (length t.bag.letters) (count_letters world outputs) few) in
+      core_holds world facts t core outputs (landed_as world number l (record t { core = core })) (record {
         units = ready.units;
         core = ready.core;
         letters = ready.letters;
@@ -135,10 +135,10 @@ module _ {M C L P : Type 0} (world : World M C L P) (facts : Facts M C L P) (kep
   made_holds event s e (core_reads t from octets outputs core is) h =
       let n : ℕ = count_letters world outputs in
       let answered = kept.core_answers (sn_of t) t.core core (octets_from from octets) outputs h.core tt is in
-      step_holds (Some Core) (put_out_all world Core None outputs (record t { core = core }) next check_spans)
+      step_holds world facts (Some Core) (put_out_all world Core None outputs (record t { core = core }) next check_spans)
       (then_holds world facts 0 0 (put_out_all world Core None outputs (record t { core = core })) check_spans
       (keep_put_all world facts Core None outputs answered.1 (record t { core = core })
-      (core_ready t core n h answered.0
+      (core_ready world facts t core n h answered.0
       (λ c. subst (λ (k : ℕ). length t.bag.letters + k ≤ most_letters) (sym (kept.silent c (sn_of t) t.core core from octets outputs is)) (h.few c))))
       (λ x k. keep_checked world facts 0 x k))
   made_holds event s e (lands t number l to found at) h = record {

@@ -13,12 +13,14 @@ use Rattle.scenario_text.specs.declared.event.Event.{Event}
 use Rattle.unit_defs.specs.Ways.{Put}
 use Rattle.transport_defs.specs.declared.Item.{Item}
 use Rattle.transport_defs.specs.Links.{most_letters, letter, landed, nth}
-use Rattle.run_defs.specs.Units.{Units}
+use Rattle.gnb_types.specs.declared.plans.Plan.{Plan}
+use Rattle.unit_defs.specs.Ue.{new_ue}
+use Rattle.run_defs.specs.Units.{Units, with_ue}
 use Rattle.run_defs.specs.States.{State, World, ◌next◌, goes_on, stepped, radio_of, sn_of}
 use Rattle.run_defs.specs.Steps.{connect_in, lose_radios, check_spans, reconnect_node, put_out_all, count_letters, too_many_letters, carried_out}
 use Rattle.run_defs.specs.Events.{leaves}
 use Rattle.law_steps.specs.Causes.{Cause, by_order, by_tick, by_octets, by_octets_on, by_attach, by_release, by_offer, by_item, by_air, by_ack, by_letter, node_of, given_of, count_of, first_of, Stands}
-use Rattle.law_run_facts.specs.Facts.{Facts, HoldWith, Hold, GivenFits, AreKept}
+use Rattle.law_run_facts.specs.Facts.{Facts, HoldWith, Hold, PutsFit, GivenFits, AreKept}
 use Rattle.law_run_facts.proofs.Within.{HoldsWith, then_holds, keep_checked, with_tunnels, with_radios, keep_lose, same_links, keep_reconnect_node, keep_put_all}
 
 -- so many messages may still be put
@@ -44,7 +46,7 @@ found_has R Q (e ∷ es) k x all is = by (found_has R Q es k x all.1) (is_at (R 
     by later true h = let same : e.1 ≡ x = cc in subst Q same all.0
     by later false h = later h
 
-module _ {M C L P : Type 0} (world : World M C L P) (facts : Facts M C L P) (kept : AreKept world facts) where
+module _ {M C L P : Type 0} (world : World M C L P) (facts : Facts M C L P) where
   with_more : (n m : ℕ) (s : State M C L P) → HoldWith facts n s → (facts.counted → length s.bag.letters + m ≤ most_letters) → HoldWith facts m s
   with_more n m s h few = record {
     units = h.units;
@@ -66,22 +68,22 @@ module _ {M C L P : Type 0} (world : World M C L P) (facts : Facts M C L P) (kep
   }
 
   -- what a step takes has its facts
-  pub taken_fits : (event : Event) (cause : Cause M L P) (s : State M C L P) → Hold facts s → Stands event s cause
+  pub taken_has : (event : Event) (cause : Cause M L P) (s : State M C L P) → Hold facts s → Stands event s cause
       → GivenFits facts (node_of cause) (count_of cause) (given_of cause)
   unfolding letter
-  taken_fits event (by_order node order) s h at = tt
-  taken_fits event (by_tick node) s h at = tt
-  taken_fits event (by_octets from to octets) s h at = tt
-  taken_fits event (by_octets_on end octets) s h at = tt
-  taken_fits event (by_attach plan) s h at = tt
-  taken_fits event (by_release gnb ue) s h at = tt
-  taken_fits event (by_offer ue bearer p) s h at = tt
-  taken_fits event (by_item end item rest) s h at = (refl, (h.tunnels end (item ∷ rest) at).0)
-  taken_fits event (by_air key home item) s h at =
+  taken_has event (by_order node order) s h at = tt
+  taken_has event (by_tick node) s h at = tt
+  taken_has event (by_octets from to octets) s h at = tt
+  taken_has event (by_octets_on end octets) s h at = tt
+  taken_has event (by_attach plan) s h at = tt
+  taken_has event (by_release gnb ue) s h at = tt
+  taken_has event (by_offer ue bearer p) s h at = tt
+  taken_has event (by_item end item rest) s h at = (refl, (h.tunnels end (item ∷ rest) at).0)
+  taken_has event (by_air key home item) s h at =
       (refl, (key, nth_has (facts.on_radio key) (radio_of s key).items (radio_of s key).carried item (h.radios key) at.1))
-  taken_fits event (by_ack key home item rest) s h at =
+  taken_has event (by_ack key home item rest) s h at =
       (refl, (key, (subst (λ (xs : List (Item P)). AllByRecursion (facts.on_radio key) xs) at.1 (h.radios key)).0))
-  taken_fits event (by_letter number l to) s h at = (
+  taken_has event (by_letter number l to) s h at = (
     l.ue,
     subst (λ (n : NodeId). facts.letter (record { from = l.from; to = n; ue = l.ue; message = l.message })) at.1
         (found_has nat_cmp facts.letter s.bag.letters number l h.letters at.0),
@@ -92,23 +94,26 @@ module _ {M C L P : Type 0} (world : World M C L P) (facts : Facts M C L P) (kep
       then_holds world facts n n (lose_radios world ue s) (λ t. goes_on (record (connect_in world ue None t) { gone = t.gone ++ ue ∷ [] }))
       (keep_lose world facts ue n s h) (λ t k. same_links world facts n t (record (connect_in world ue None t) { gone = t.gone ++ ue ∷ [] }) k refl refl refl refl refl)
 
-  first_keeps : (event : Event) (cause : Cause M L P) (s : State M C L P) (u : Units M C) (n : ℕ) → Hold facts s → Stands event s cause
+  abbrev pub Comes : Type 0
+  Comes = (u : Units M C) (plan : Plan) → facts.units u → facts.units (with_ue u plan.ue (new_ue plan))
+
+  first_keeps : Comes → (event : Event) (cause : Cause M L P) (s : State M C L P) (u : Units M C) (n : ℕ) → Hold facts s → Stands event s cause
       → HoldWith facts n (record s { units = u }) → HoldsWith world facts n (first_of world cause (record s { units = u }))
   unfolding landed
-  first_keeps event (by_order node order) s u n h at k = k
-  first_keeps event (by_tick node) s u n h at k = k
-  first_keeps event (by_octets from to octets) s u n h at k = k
-  first_keeps event (by_octets_on end octets) s u n h at k = k
-  first_keeps event (by_attach plan) s u n h at k = record {
-    units = kept.comes u plan k.units;
+  first_keeps comes event (by_order node order) s u n h at k = k
+  first_keeps comes event (by_tick node) s u n h at k = k
+  first_keeps comes event (by_octets from to octets) s u n h at k = k
+  first_keeps comes event (by_octets_on end octets) s u n h at k = k
+  first_keeps comes event (by_attach plan) s u n h at k = record {
+    units = comes u plan k.units;
     core = k.core;
     letters = k.letters;
     tunnels = k.tunnels;
     radios = k.radios;
     few = k.few;
   }
-  first_keeps event (by_release gnb ue) s u n h at k = keep_leaves ue n (record s { units = u }) k
-  first_keeps event (by_offer ue bearer p) s u n h at k = record {
+  first_keeps comes event (by_release gnb ue) s u n h at k = keep_leaves ue n (record s { units = u }) k
+  first_keeps comes event (by_offer ue bearer p) s u n h at k = record {
     units = k.units;
     core = k.core;
     letters = k.letters;
@@ -116,14 +121,14 @@ module _ {M C L P : Type 0} (world : World M C L P) (facts : Facts M C L P) (kep
     radios = k.radios;
     few = k.few;
   }
-  first_keeps event (by_item end item rest) s u n h at k =
+  first_keeps comes event (by_item end item rest) s u n h at k =
       with_tunnels world facts n (record s { units = u }) end rest k (h.tunnels end (item ∷ rest) at).1
-  first_keeps event (by_air key home item) s u n h at k =
+  first_keeps comes event (by_air key home item) s u n h at k =
       with_radios world facts n (record s { units = u }) key (record (radio_of s key) { carried = (radio_of s key).carried + 1 }) k (h.radios key)
-  first_keeps event (by_ack key home item rest) s u n h at k =
+  first_keeps comes event (by_ack key home item rest) s u n h at k =
       with_radios world facts n (record s { units = u }) key (record { items = rest; carried = (radio_of s key).carried - 1 }) k
       (subst (λ (xs : List (Item P)). AllByRecursion (facts.on_radio key) xs) at.1 (h.radios key)).1
-  first_keeps event (by_letter number l to) s u n h at k = record {
+  first_keeps comes event (by_letter number l to) s u n h at k = record {
     units = k.units;
     core = k.core;
     letters = k.letters;
@@ -132,20 +137,32 @@ module _ {M C L P : Type 0} (world : World M C L P) (facts : Facts M C L P) (kep
     few = k.few;
   }
 
+  -- the step of a unit that answered so
+  pub act_holds : Comes → (event : Event) (cause : Cause M L P) (outputs : List (Put M L P)) (u : Units M C) (s : State M C L P) → Hold facts s
+      → Stands event s cause → facts.units u × PutsFit facts (node_of cause) (count_of cause) outputs → too_many_letters world outputs s ≡ false
+      → HoldsWith world facts 0 (carried_out world (node_of cause) (count_of cause) (first_of world cause) outputs u s)
+  act_holds comes event cause outputs u s h at answered few =
+      let n : ℕ = count_letters world outputs in
+      let node : NodeId = node_of cause in
+      let t : State M C L P = record s { units = u } in
+      let room : HoldWith facts n t =
+      with_more n n t (with_units n s u (with_more 0 n s h (λ c. few_after (length s.bag.letters) n few)) answered.0) (λ c. few_after (length s.bag.letters) n few) in
+      then_holds world facts 0 0 (first_of world cause t next reconnect_node world node next put_out_all world node (count_of cause) outputs) check_spans
+      (then_holds world facts n 0 (first_of world cause t next reconnect_node world node) (put_out_all world node (count_of cause) outputs)
+      (then_holds world facts n n (first_of world cause t) (reconnect_node world node) (first_keeps comes event cause s u n h at room)
+      (λ x k. keep_reconnect_node world facts node n x k))
+      (λ x k. keep_put_all world facts node (count_of cause) outputs answered.1 x k))
+      (λ x k. keep_checked world facts 0 x k)
+
+module _ {M C L P : Type 0} (world : World M C L P) (facts : Facts M C L P) (kept : AreKept world facts) where
+  pub taken_fits : (event : Event) (cause : Cause M L P) (s : State M C L P) → Hold facts s → Stands event s cause
+      → GivenFits facts (node_of cause) (count_of cause) (given_of cause)
+  taken_fits event cause s h at = taken_has world facts event cause s h at
+
   pub act_keeps : (event : Event) (cause : Cause M L P) (outputs : List (Put M L P)) (u : Units M C) (s : State M C L P) → Hold facts s
       → Stands event s cause → world.answer (sn_of s) s.units (node_of cause) (given_of cause) ≡ stepped outputs u
       → too_many_letters world outputs s ≡ false
       → HoldsWith world facts 0 (carried_out world (node_of cause) (count_of cause) (first_of world cause) outputs u s)
   act_keeps event cause outputs u s h at is few =
-      let n : ℕ = count_letters world outputs in
-      let node : NodeId = node_of cause in
-      let t : State M C L P = record s { units = u } in
-      let answered = kept.answers (sn_of s) s.units u node (count_of cause) (given_of cause) outputs h.units (taken_fits event cause s h at) is in
-      let room : HoldWith facts n t =
-      with_more n n t (with_units n s u (with_more 0 n s h (λ c. few_after (length s.bag.letters) n few)) answered.0) (λ c. few_after (length s.bag.letters) n few) in
-      then_holds world facts 0 0 (first_of world cause t next reconnect_node world node next put_out_all world node (count_of cause) outputs) check_spans
-      (then_holds world facts n 0 (first_of world cause t next reconnect_node world node) (put_out_all world node (count_of cause) outputs)
-      (then_holds world facts n n (first_of world cause t) (reconnect_node world node) (first_keeps event cause s u n h at room)
-      (λ x k. keep_reconnect_node world facts node n x k))
-      (λ x k. keep_put_all world facts node (count_of cause) outputs answered.1 x k))
-      (λ x k. keep_checked world facts 0 x k)
+      act_holds world facts kept.comes event cause outputs u s h at
+      (kept.answers (sn_of s) s.units u (node_of cause) (count_of cause) (given_of cause) outputs h.units (taken_has world facts event cause s h at) is) few
