@@ -13,6 +13,7 @@ use crate::waiting::Waiting;
 use gnb_types::items::Memory;
 use gnb_types::keys::Channel;
 use gnb_types::outputs::{Output, Outputs};
+use results::beside;
 use std::alloc::Global;
 use transactions::caller::{BeginError, Caller};
 use unit_messages::MessageCodec;
@@ -56,10 +57,10 @@ impl Requests {
         ensures put { OnOk result (outputs.new ≡ outputs.old
             ++ Output.Control channel.peer channel.ue (C.codec.spell (with_instance instance waiting.message)) ∷ []) }
     {
-        let Waiting { message, .. } = waiting;
-        let message = message.with_instance(instance);
-        let kept = put_message(alloc, codec, channel, &message, outputs)?;
-        self.caller.keep_request(&channel, kept);
+        let message = waiting.message.with_instance(instance);
+        let kept = put_message(alloc, codec, channel, &message, outputs);
+        drop(message);
+        self.caller.keep_request(&channel, kept?);
         Ok(())
     }
 
@@ -78,7 +79,10 @@ impl Requests {
             outputs.new self.new result }
     {
         let awaited = waiting.awaited;
-        let Some(instance) = open(&mut self.caller, channel, waiting.deadline)? else {
+        let opened = open(&mut self.caller, channel, waiting.deadline);
+        let (opened, waiting) = beside(opened, waiting)?;
+        let Some(instance) = opened else {
+            drop(waiting);
             return Ok(None);
         };
         self.put_request(alloc, codec, channel, waiting, instance, outputs)?;
