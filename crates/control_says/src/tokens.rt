@@ -13,7 +13,7 @@ use gnb_types::names::{Gnb, NodeId};
 use gnb_types::octets::Octets;
 use message_types::{F1, Token};
 use unit_defs::AttemptKind;
-use unit_messages::{Message, MessageCodec};
+use unit_messages::{Message, MessageCodec, spelled};
 
 /// The other CU-CP.
 pub fn other_cp<C>(at: &At<'_, C>) -> NodeId
@@ -77,7 +77,7 @@ pub fn say_command<C: MessageCodec>(
         gnb: target_gnb(at, attempt.kind),
         du: attempt.du,
     };
-    let container = at.codec.spell(at.alloc, &Message::Rrc(token))?;
+    let container = spelled(at.alloc, at.codec, Message::Rrc(token))?;
     Ok(say_token(at, context, container))
 }
 
@@ -91,6 +91,6 @@ pub fn say_accepted<C: MessageCodec>(
         ≡ say_accepted (octet_way C.codec) at.now context.now epoch) }
 {
     let token = Token::Accepted { ue: at.ue, epoch };
-    let container = at.codec.spell(at.alloc, &Message::Rrc(token))?;
+    let container = spelled(at.alloc, at.codec, Message::Rrc(token))?;
     Ok(say_token(at, context, container))
 }

@@ -63,7 +63,11 @@ impl CoreNode {
             return put(outputs, Output::Drop(DropReason::Unexpected));
         }
         match codec.read(alloc, from, NodeId::Core, octets)? {
-            Ok(message) => self.message_came(alloc, codec, from, &message, outputs),
+            Ok(message) => {
+                let acted = self.message_came(alloc, codec, from, &message, outputs);
+                drop(message);
+                acted
+            }
             Err(reason) => put(outputs, Output::Drop(reason)),
         }
     }
@@ -210,8 +214,11 @@ impl CoreNode {
             ue: switch.ue,
             instance: switch.instance,
         });
-        self.requests
-            .reply(alloc, codec, switch.channel, &acknowledge, outputs)?;
+        let replied = self
+            .requests
+            .reply(alloc, codec, switch.channel, &acknowledge, outputs);
+        drop(acknowledge);
+        replied?;
         self.move_path(alloc, switch.ue, switch.peer, n3, outputs)
     }
 }

@@ -76,7 +76,11 @@ impl DuRecord {
         }
         let own = self.node();
         match codec.read(alloc, from, own, octets)? {
-            Ok(message) => self.message_came(alloc, codec, from, &message, outputs),
+            Ok(message) => {
+                let acted = self.message_came(alloc, codec, from, &message, outputs);
+                drop(message);
+                acted
+            }
             Err(reason) => put(outputs, Output::Drop(reason)),
         }
     }

@@ -10,7 +10,7 @@ use gnb_types::names::UeId;
 use gnb_types::outputs::Outputs;
 use message_types::{F1, Token};
 use std::alloc::Global;
-use unit_messages::{Message, MessageCodec};
+use unit_messages::{Message, MessageCodec, spelled};
 use unit_steps::StepError;
 
 impl DuRecord {
@@ -40,9 +40,9 @@ impl DuRecord {
         ensures { IsStep
             (step_after outputs.old (relay_up (octet_way C.codec) ue token self.now)) outputs.new self.now result }
     {
-        let container = codec.spell(alloc, &Message::Rrc(token))?;
+        let container = spelled(alloc, codec, Message::Rrc(token))?;
         let transfer = Message::F1(F1::UlRrcMessageTransfer { ue, container });
-        let message = codec.spell(alloc, &transfer)?;
+        let message = spelled(alloc, codec, transfer)?;
         self.contexts.relay_up(self.gnb, ue, message, outputs)
     }
 }

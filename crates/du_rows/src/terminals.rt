@@ -60,8 +60,11 @@ impl DuRecord {
         ensures { IsStep (step_after outputs.old (replies (octet_way C.codec) channel message self.old)) outputs.new self.new result }
     {
         let message = Message::F1(message);
-        self.requests
-            .reply(alloc, codec, channel, &message, outputs)
+        let replied = self
+            .requests
+            .reply(alloc, codec, channel, &message, outputs);
+        drop(message);
+        replied
     }
 
     /// UE Context Setup (8.3.1): the terminal gets a context with these uplinks, which replaces the one that it has, if any. It is

@@ -15,7 +15,7 @@ use gnb_types::reasons::{DropReason, RefuseReason};
 use message_types::Token;
 use std::alloc::Global;
 use unit_defs::TokenKind;
-use unit_messages::{Message, MessageCodec};
+use unit_messages::{Message, MessageCodec, spelled};
 use unit_steps::StepError;
 
 /// The input is ignored for this reason.
@@ -63,7 +63,7 @@ impl UeRecord {
             return Ok(());
         };
         let message = Message::Rrc(self.token_of(codec, kind));
-        let bytes = codec.spell(alloc, &message)?;
+        let bytes = spelled(alloc, codec, message)?;
         out.push(Output::Control {
             to: home,
             ue: self.plan.ue.0,

@@ -35,3 +35,16 @@ pub trait MessageCodec {
     fn read_token(&self, alloc: Global, container: &[u8]) -> Result<Option<Token>, Memory>
         ensures { IfOk result (λ token. token ≡ codec.read_token container.now) };
 }
+
+/// The octets of a message, which is let go.
+pub fn spelled<C: MessageCodec>(
+    alloc: Global,
+    codec: &C,
+    message: Message,
+) -> Result<Octets, Memory>
+    ensures { IfOk result (λ octets. octets ≡ C.codec.spell (message_as message)) }
+{
+    let octets = codec.spell(alloc, &message);
+    drop(message);
+    octets
+}

@@ -5,6 +5,6 @@ mod codec;
 mod kind;
 mod message;
 
-pub use codec::MessageCodec;
+pub use codec::{MessageCodec, spelled};
 pub use kind::Kind;
 pub use message::Message;

@@ -21,4 +21,4 @@ returns g c =
     c.move_path.new.outputs c.move_path.new.self c.move_path.result)
     copied
     (switch_step codec c.args.switch.channel c.args.switch.ue c.args.switch.instance c.args.switch.peer c.in_ok-n3.n3 r c.move_path.new.self
-    c.args.outputs.now c.reply.new.outputs c.move_path.new.outputs c.reply.new.self c.move_path.result c.in_ok-reply.ensures (c.move_path.ensures codec)))
+    c.args.outputs.now c.reply-replied.new.outputs c.move_path.new.outputs c.reply-replied.new.self c.move_path.result c.in_ok-replied.ensures (c.move_path.ensures codec)))
