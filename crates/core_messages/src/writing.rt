@@ -15,6 +15,7 @@ use message_types::CoreMessage;
 use message_values::elements::ElementName;
 use message_values::fields::{from_number, from_peer, from_tunnels, from_ue};
 use message_values::places::{INITIATING, Place, SUCCESSFUL, message_of};
+use results::beside;
 use std::alloc::Global;
 
 /// The value of a message: its information elements in the order of the profile's table, each with criticality reject.
@@ -50,11 +51,13 @@ fn path_switch_request(
         code: PATH_SWITCH,
         outcome: INITIATING,
     };
+    let peer = from_peer(alloc, peer)?;
+    let (n3, peer) = beside(from_tunnels(alloc, n3.as_slice()), peer)?;
     let fields = [
         (ElementName::Ue, Some(from_ue(ue))),
         (ElementName::Instance, Some(from_number(instance))),
-        (ElementName::Peer, Some(from_peer(alloc, peer)?)),
-        (ElementName::N3, Some(from_tunnels(alloc, n3.as_slice())?)),
+        (ElementName::Peer, Some(peer)),
+        (ElementName::N3, Some(n3)),
     ];
     Ok(message_of(alloc, place, fields)?)
 }

@@ -21,6 +21,7 @@ use message_values::fields::{
     from_number, from_octets, from_peer, from_sn, from_text, from_tunnels, from_ue,
 };
 use message_values::places::{INITIATING, Place, SUCCESSFUL, message_of};
+use results::beside;
 use std::alloc::Global;
 
 /// The value of a message.
@@ -75,9 +76,10 @@ fn setup_request(alloc: Global, instance: u32, name: &Octets) -> Result<Value, M
         code: F1_SETUP,
         outcome: INITIATING,
     };
+    let name = from_text(alloc, name)?;
     let fields = [
         (ElementName::Instance, Some(from_number(instance))),
-        (ElementName::Name, Some(from_text(alloc, name)?)),
+        (ElementName::Name, Some(name)),
     ];
     Ok(message_of(alloc, place, fields)?)
 }
@@ -108,16 +110,15 @@ fn context_setup_request(
         code: UE_CONTEXT_SETUP,
         outcome: INITIATING,
     };
+    let uplinks = from_tunnels(alloc, uplinks.as_slice())?;
+    let (peer, uplinks) = beside(from_peer(alloc, peer), uplinks)?;
     let fields = [
         (ElementName::Ue, Some(from_ue(ue))),
         (ElementName::Instance, Some(from_number(instance))),
         (ElementName::Epoch, Some(from_number(epoch))),
-        (
-            ElementName::Uplinks,
-            Some(from_tunnels(alloc, uplinks.as_slice())?),
-        ),
+        (ElementName::Uplinks, Some(uplinks)),
         (ElementName::Sn, Some(from_sn(sn))),
-        (ElementName::Peer, Some(from_peer(alloc, peer)?)),
+        (ElementName::Peer, Some(peer)),
     ];
     Ok(message_of(alloc, place, fields)?)
 }
@@ -134,13 +135,11 @@ fn context_setup_response(
         code: UE_CONTEXT_SETUP,
         outcome: SUCCESSFUL,
     };
+    let downlinks = from_tunnels(alloc, downlinks.as_slice())?;
     let fields = [
         (ElementName::Ue, Some(from_ue(ue))),
         (ElementName::Instance, Some(from_number(instance))),
-        (
-            ElementName::Downlinks,
-            Some(from_tunnels(alloc, downlinks.as_slice())?),
-        ),
+        (ElementName::Downlinks, Some(downlinks)),
     ];
     Ok(message_of(alloc, place, fields)?)
 }
@@ -172,13 +171,11 @@ fn modification_response(
         code: UE_CONTEXT_MODIFICATION,
         outcome: SUCCESSFUL,
     };
+    let downlinks = from_tunnels(alloc, downlinks.as_slice())?;
     let fields = [
         (ElementName::Ue, Some(from_ue(ue))),
         (ElementName::Instance, Some(from_number(instance))),
-        (
-            ElementName::Downlinks,
-            Some(from_tunnels(alloc, downlinks.as_slice())?),
-        ),
+        (ElementName::Downlinks, Some(downlinks)),
     ];
     Ok(message_of(alloc, place, fields)?)
 }
@@ -218,9 +215,10 @@ fn downlink_transfer(alloc: Global, ue: UeId, container: &Octets) -> Result<Valu
         code: DL_RRC_MESSAGE_TRANSFER,
         outcome: INITIATING,
     };
+    let container = from_octets(alloc, container)?;
     let fields = [
         (ElementName::Ue, Some(from_ue(ue))),
-        (ElementName::Container, Some(from_octets(alloc, container)?)),
+        (ElementName::Container, Some(container)),
     ];
     Ok(message_of(alloc, place, fields)?)
 }
@@ -232,9 +230,10 @@ fn uplink_transfer(alloc: Global, ue: UeId, container: &Octets) -> Result<Value,
         code: UL_RRC_MESSAGE_TRANSFER,
         outcome: INITIATING,
     };
+    let container = from_octets(alloc, container)?;
     let fields = [
         (ElementName::Ue, Some(from_ue(ue))),
-        (ElementName::Container, Some(from_octets(alloc, container)?)),
+        (ElementName::Container, Some(container)),
     ];
     Ok(message_of(alloc, place, fields)?)
 }

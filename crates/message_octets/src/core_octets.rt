@@ -30,7 +30,9 @@ pub fn to_bytes(alloc: Global, profile: &Profile, msg: &CoreMessage) -> Result<O
     let value = written(alloc, msg)?;
     let id = core_pdu(profile);
     let module = profile.module();
-    Ok(encode(alloc, module, id, &value)?)
+    let octets = encode(alloc, module, id, &value);
+    drop(value);
+    Ok(octets?)
 }
 
 /// The message that octets say. Information elements that the message doesn't have and whose criticality isn't reject, and additions, are
@@ -62,5 +64,7 @@ fn heard_in(
 {
     let module = profile.module();
     let value = decode(alloc, module, id, octets)?;
-    Ok(heard(alloc, &value)?)
+    let message = heard(alloc, &value);
+    drop(value);
+    Ok(message?)
 }

@@ -45,5 +45,7 @@ fn heard_in(
 {
     let module = profile.module();
     let value = decode(alloc, module, id, octets)?;
-    Ok(heard(alloc, &value)?)
+    let message = heard(alloc, &value);
+    drop(value);
+    Ok(message?)
 }

@@ -30,7 +30,9 @@ pub fn to_bytes(alloc: Global, profile: &Profile, token: Token) -> Result<Octets
     let value = written(alloc, token)?;
     let id = rrc_token(profile);
     let module = profile.module();
-    Ok(encode(alloc, module, id, &value)?)
+    let octets = encode(alloc, module, id, &value);
+    drop(value);
+    Ok(octets?)
 }
 
 /// The token that octets say. Additions are passed over.
@@ -56,5 +58,7 @@ fn heard_in(alloc: Global, profile: &Profile, id: TypeId, octets: &[u8]) -> Resu
 {
     let module = profile.module();
     let value = decode(alloc, module, id, octets)?;
-    Ok(heard(&value)?)
+    let token = heard(&value);
+    drop(value);
+    Ok(token?)
 }

@@ -33,7 +33,9 @@ pub fn to_bytes(alloc: Global, profile: &Profile, msg: &XnMessage) -> Result<Oct
     let value = written(alloc, msg)?;
     let id = xn_pdu(profile);
     let module = profile.module();
-    Ok(encode(alloc, module, id, &value)?)
+    let octets = encode(alloc, module, id, &value);
+    drop(value);
+    Ok(octets?)
 }
 
 /// The message that octets say under the profile's version. Information elements that the message doesn't have and whose criticality isn't
@@ -65,5 +67,7 @@ fn heard_in(
 {
     let module = profile.module();
     let value = decode(alloc, module, id, octets)?;
-    Ok(heard(alloc, &value)?)
+    let message = heard(alloc, &value);
+    drop(value);
+    Ok(message?)
 }

@@ -25,6 +25,7 @@ use message_values::fields::{
 use message_values::places::{
     INITIATING, Place, SUCCESSFUL, UNSUCCESSFUL, extended_message, message_of,
 };
+use results::beside;
 use std::alloc::Global;
 
 /// The value of a message: its information elements in the order of the profile's table, each with criticality reject.
@@ -98,6 +99,8 @@ fn handover_request(
         code: HANDOVER_PREPARATION,
         outcome: INITIATING,
     };
+    let peer = from_peer(alloc, peer)?;
+    let (additions, peer) = beside(origin_additions(alloc, origin), peer)?;
     let fields = [
         (ElementName::Ue, Some(from_ue(ue))),
         (ElementName::Instance, Some(from_number(instance))),
@@ -105,10 +108,9 @@ fn handover_request(
         (ElementName::Bearers, Some(from_number(u32::from(bearers)))),
         (ElementName::Sn, Some(from_sn(sn))),
         (ElementName::Quota, Some(from_number(u32::from(quota)))),
-        (ElementName::Peer, Some(from_peer(alloc, peer)?)),
+        (ElementName::Peer, Some(peer)),
         (ElementName::Du, Some(from_number(u32::from(du)))),
     ];
-    let additions = origin_additions(alloc, origin)?;
     Ok(extended_message(alloc, place, fields, additions)?)
 }
 
@@ -126,18 +128,18 @@ fn handover_request_acknowledge(
         code: HANDOVER_PREPARATION,
         outcome: SUCCESSFUL,
     };
+    let peer = from_peer(alloc, peer)?;
+    let (forward_down, peer) = beside(from_tunnels(alloc, forward_down.as_slice()), peer)?;
+    let (forward_up, (peer, forward_down)) = beside(
+        from_tunnels(alloc, forward_up.as_slice()),
+        (peer, forward_down),
+    )?;
     let fields = [
         (ElementName::Ue, Some(from_ue(ue))),
         (ElementName::Instance, Some(from_number(instance))),
-        (ElementName::Peer, Some(from_peer(alloc, peer)?)),
-        (
-            ElementName::ForwardDown,
-            Some(from_tunnels(alloc, forward_down.as_slice())?),
-        ),
-        (
-            ElementName::ForwardUp,
-            Some(from_tunnels(alloc, forward_up.as_slice())?),
-        ),
+        (ElementName::Peer, Some(peer)),
+        (ElementName::ForwardDown, Some(forward_down)),
+        (ElementName::ForwardUp, Some(forward_up)),
     ];
     Ok(message_of(alloc, place, fields)?)
 }
@@ -174,13 +176,11 @@ fn sn_status_transfer(
         code: SN_STATUS_TRANSFER,
         outcome: INITIATING,
     };
+    let statuses = from_statuses(alloc, statuses.as_slice())?;
     let fields = [
         (ElementName::Ue, Some(from_ue(ue))),
         (ElementName::Instance, Some(from_number(instance))),
-        (
-            ElementName::Statuses,
-            Some(from_statuses(alloc, statuses.as_slice())?),
-        ),
+        (ElementName::Statuses, Some(statuses)),
     ];
     Ok(message_of(alloc, place, fields)?)
 }

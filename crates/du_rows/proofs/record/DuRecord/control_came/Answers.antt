@@ -9,6 +9,6 @@ use Rattle.du_rows.proofs.record.DuRecord.control_came.Goals as goal
 pub returns-in-Ok : goal.returns-in-Ok
 returns-in-Ok g c =
     let codec = g.C.MessageCodec.codec in
-    subst (λ (a : OctetAnswer OctetDu). IsStep (step_after c.args.outputs.now a) c.message_came.new.outputs c.message_came.new.self c.message_came.result)
+    subst (λ (a : OctetAnswer OctetDu). IsStep (step_after c.args.outputs.now a) c.message_came-acted.new.outputs c.message_came-acted.new.self c.message_came-acted.result)
     (sym (control_is_read codec c.args.self.now c.args.from c.node-own.result c.args.octets.now (message_as c.in-Ok.message) c.node-own.ensures
-    c.if-not-hears.ensures (ap answer_as (sym c.in-Ok.is) ∙ c.in_ok-message.ensures))) c.message_came.ensures
+    c.if-not-hears.ensures (ap answer_as (sym c.in-Ok.is) ∙ c.in_ok-message.ensures))) c.message_came-acted.ensures
