@@ -24,18 +24,18 @@ pub(crate) fn in_attaching<C: MessageCodec>(
     message: &Message,
     terminal: &Terminal,
     context: &Context,
-    attempt: Attempt,
+    attempt: &Attempt,
 ) -> Result<Option<Row>, StepError>
     ensures { SomeRowGives
         (in_attaching (octet_way C.codec) at.now (message_as message.now) terminal.now context.now
-        attempt) result }
+        attempt.now) result }
 {
     match message {
         Message::F1(message) => in_attaching_on_f1(at, message, terminal, context, attempt),
         Message::E1(message) => in_attaching_on_e1(at, message, terminal, context, attempt),
-        Message::Xn(_) | Message::Core(_) | Message::Rrc(_) => Ok(Some(only_closes(
+        Message::Xn(_) | Message::Core(_) | Message::Rrc(_) => only_closes(
             at, terminal, context, attempt,
-        ))),
+        ),
     }
 }
 
@@ -44,11 +44,11 @@ fn in_attaching_on_e1<C: MessageCodec>(
     message: &E1Message,
     terminal: &Terminal,
     context: &Context,
-    attempt: Attempt,
+    attempt: &Attempt,
 ) -> Result<Option<Row>, StepError>
     ensures { SomeRowGives
         (in_attaching (octet_way C.codec) at.now (message_as (Message.E1 message.now)) terminal.now
-        context.now attempt) result }
+        context.now attempt.now) result }
 {
     match message {
         E1Message::BearerContextSetupResponse { uplinks, n3, .. } => tunnels_came(
@@ -62,9 +62,9 @@ fn in_attaching_on_e1<C: MessageCodec>(
         | E1Message::BearerContextModificationResponse { .. }
         | E1Message::BearerContextModificationFailure { .. }
         | E1Message::BearerContextReleaseCommand { .. }
-        | E1Message::BearerContextReleaseComplete { .. } => Ok(Some(only_closes(
+        | E1Message::BearerContextReleaseComplete { .. } => only_closes(
             at, terminal, context, attempt,
-        ))),
+        ),
     }
 }
 
@@ -74,16 +74,17 @@ fn tunnels_came<C: MessageCodec>(
     n3: &TunnelList,
     terminal: &Terminal,
     context: &Context,
-    attempt: Attempt,
+    attempt: &Attempt,
 ) -> Result<Option<Row>, StepError>
     ensures { SomeRowGives
         (listed (octet_way C.codec) (name_bearers context.now uplinks.now && name_bearers context.now n3.now)
-        (attach_has_tunnels (octet_way C.codec) at.now uplinks.now n3.now terminal.now context.now attempt)) result }
+        (attach_has_tunnels (octet_way C.codec) at.now uplinks.now n3.now terminal.now context.now attempt.now)) result }
 {
     if !both_name_bearers(at.alloc, context, uplinks, n3)? {
         return Ok(None);
     }
     let (uplinks, n3) = copy_both(at.alloc, uplinks, n3)?;
+    let attempt = attempt.copy(at.alloc)?;
     Ok(Some(attach_has_tunnels(at, uplinks, n3, terminal, context, attempt)?))
 }
 
@@ -107,11 +108,11 @@ fn in_attaching_on_f1<C: MessageCodec>(
     message: &F1Message,
     terminal: &Terminal,
     context: &Context,
-    attempt: Attempt,
+    attempt: &Attempt,
 ) -> Result<Option<Row>, StepError>
     ensures { SomeRowGives
         (in_attaching (octet_way C.codec) at.now (message_as (Message.F1 message.now)) terminal.now
-        context.now attempt) result }
+        context.now attempt.now) result }
 {
     match message {
         F1::UeContextSetupResponse { downlinks, .. } => du_came(
@@ -125,7 +126,7 @@ fn in_attaching_on_f1<C: MessageCodec>(
         | F1::UeContextReleaseCommand { .. }
         | F1::UeContextReleaseComplete { .. }
         | F1::DlRrcMessageTransfer { .. }
-        | F1::UlRrcMessageTransfer { .. } => Ok(Some(only_closes(at, terminal, context, attempt))),
+        | F1::UlRrcMessageTransfer { .. } => only_closes(at, terminal, context, attempt),
     }
 }
 
@@ -134,14 +135,15 @@ fn du_came<C: MessageCodec>(
     downlinks: &TunnelList,
     terminal: &Terminal,
     context: &Context,
-    attempt: Attempt,
+    attempt: &Attempt,
 ) -> Result<Option<Row>, StepError>
     ensures { SomeRowGives
         (listed (octet_way C.codec) (name_bearers context.now downlinks.now)
-        (attach_is_placed (octet_way C.codec) at.now downlinks.now terminal.now context.now attempt)) result }
+        (attach_is_placed (octet_way C.codec) at.now downlinks.now terminal.now context.now attempt.now)) result }
 {
     let Some(downlinks) = copy_named(at.alloc, context, downlinks)? else {
         return Ok(None);
     };
+    let attempt = attempt.copy(at.alloc)?;
     Ok(Some(attach_is_placed(at, downlinks, terminal, context, attempt)?))
 }

@@ -1,16 +1,17 @@
 //! An answer that no row names, and the causes of failures.
 
-ghost use Rattle.std.specs.Prelude.{◌≡◌};
+ghost use Rattle.std.specs.Prelude.{◌≡◌, Some};
 ghost use Rattle.unit_defs.specs.Messages.{cause_name};
 ghost use Rattle.unit_defs.specs.CuCp.{only_closes};
 ghost use Rattle.unit_octet_defs.specs.Codec.{octet_way};
-ghost use Rattle.control_says.specs.Rows.{row_as};
+ghost use Rattle.control_says.specs.Rows.{SomeRowGives};
 
 use control_contexts::{Attempt, Context, Terminal};
 use control_says::{At, Row};
 use gnb_types::items::Items;
 use gnb_types::reasons::CauseName;
 use unit_messages::MessageCodec;
+use unit_steps::StepError;
 
 // The causes of the profile's enumeration.
 const QUOTA: u32 = 0;
@@ -24,12 +25,14 @@ pub(crate) fn only_closes<C: MessageCodec>(
     at: &At<'_, C>,
     terminal: &Terminal,
     context: &Context,
-    attempt: Attempt,
-) -> Row
-    ensures { row_as result ≡ only_closes (octet_way C.codec) terminal.now context.now attempt }
+    attempt: &Attempt,
+) -> Result<Option<Row>, StepError>
+    ensures { SomeRowGives
+        (Some (only_closes (octet_way C.codec) terminal.now context.now attempt.now)) result }
 {
+    let attempt = attempt.copy(at.alloc)?;
     let context = context.attempted(context.state, attempt);
-    Row::keeps(terminal, Items::new(at.alloc), context)
+    Ok(Some(Row::keeps(terminal, Items::new(at.alloc), context)))
 }
 
 /// The name of a cause; one past the root has none.

@@ -22,18 +22,18 @@ pub(crate) fn in_moving<C: MessageCodec>(
     message: &Message,
     terminal: &Terminal,
     context: &Context,
-    attempt: Attempt,
+    attempt: &Attempt,
 ) -> Result<Option<Row>, StepError>
     ensures { SomeRowGives
         (in_moving (octet_way C.codec) at.now (message_as message.now) terminal.now context.now
-        attempt) result }
+        attempt.now) result }
 {
     match message {
         Message::F1(message) => in_moving_on_f1(at, message, terminal, context, attempt),
         Message::E1(message) => in_moving_on_e1(at, message, terminal, context, attempt),
-        Message::Xn(_) | Message::Core(_) | Message::Rrc(_) => Ok(Some(only_closes(
+        Message::Xn(_) | Message::Core(_) | Message::Rrc(_) => only_closes(
             at, terminal, context, attempt,
-        ))),
+        ),
     }
 }
 
@@ -42,11 +42,11 @@ fn in_moving_on_e1<C: MessageCodec>(
     message: &E1Message,
     terminal: &Terminal,
     context: &Context,
-    attempt: Attempt,
+    attempt: &Attempt,
 ) -> Result<Option<Row>, StepError>
     ensures { SomeRowGives
         (in_moving (octet_way C.codec) at.now (message_as (Message.E1 message.now)) terminal.now
-        context.now attempt) result }
+        context.now attempt.now) result }
 {
     match message {
         E1Message::BearerContextModificationResponse {
@@ -62,9 +62,9 @@ fn in_moving_on_e1<C: MessageCodec>(
         | E1Message::BearerContextModificationRequest { .. }
         | E1Message::BearerContextModificationFailure { .. }
         | E1Message::BearerContextReleaseCommand { .. }
-        | E1Message::BearerContextReleaseComplete { .. } => Ok(Some(only_closes(
+        | E1Message::BearerContextReleaseComplete { .. } => only_closes(
             at, terminal, context, attempt,
-        ))),
+        ),
     }
 }
 
@@ -73,16 +73,17 @@ fn uplinks_came<C: MessageCodec>(
     uplinks: &TunnelList,
     terminal: &Terminal,
     context: &Context,
-    attempt: Attempt,
+    attempt: &Attempt,
 ) -> Result<Option<Row>, StepError>
     ensures { SomeRowGives
         (listed (octet_way C.codec) (name_bearers context.now uplinks.now)
-        (move_has_uplinks (octet_way C.codec) at.now uplinks.now terminal.now context.now attempt))
+        (move_has_uplinks (octet_way C.codec) at.now uplinks.now terminal.now context.now attempt.now))
         result }
 {
     let Some(uplinks) = copy_named(at.alloc, context, uplinks)? else {
         return Ok(None);
     };
+    let attempt = attempt.copy(at.alloc)?;
     Ok(Some(move_has_uplinks(at, uplinks, terminal, context, attempt)?))
 }
 
@@ -91,11 +92,11 @@ fn in_moving_on_f1<C: MessageCodec>(
     message: &F1Message,
     terminal: &Terminal,
     context: &Context,
-    attempt: Attempt,
+    attempt: &Attempt,
 ) -> Result<Option<Row>, StepError>
     ensures { SomeRowGives
         (in_moving (octet_way C.codec) at.now (message_as (Message.F1 message.now)) terminal.now
-        context.now attempt) result }
+        context.now attempt.now) result }
 {
     match message {
         F1::UeContextSetupResponse { downlinks, .. } => du_came(
@@ -109,7 +110,7 @@ fn in_moving_on_f1<C: MessageCodec>(
         | F1::UeContextReleaseCommand { .. }
         | F1::UeContextReleaseComplete { .. }
         | F1::DlRrcMessageTransfer { .. }
-        | F1::UlRrcMessageTransfer { .. } => Ok(Some(only_closes(at, terminal, context, attempt))),
+        | F1::UlRrcMessageTransfer { .. } => only_closes(at, terminal, context, attempt),
     }
 }
 
@@ -118,14 +119,15 @@ fn du_came<C: MessageCodec>(
     downlinks: &TunnelList,
     terminal: &Terminal,
     context: &Context,
-    attempt: Attempt,
+    attempt: &Attempt,
 ) -> Result<Option<Row>, StepError>
     ensures { SomeRowGives
         (listed (octet_way C.codec) (name_bearers context.now downlinks.now)
-        (move_is_placed (octet_way C.codec) downlinks.now terminal.now context.now attempt)) result }
+        (move_is_placed (octet_way C.codec) downlinks.now terminal.now context.now attempt.now)) result }
 {
     let Some(downlinks) = copy_named(at.alloc, context, downlinks)? else {
         return Ok(None);
     };
+    let attempt = attempt.copy(at.alloc)?;
     Ok(Some(move_is_placed(at, downlinks, terminal, context, attempt)?))
 }

@@ -9,8 +9,8 @@ ghost use Rattle.unit_messages.specs.Messages.{message_as};
 ghost use Rattle.control_says.specs.Rows.{SomeRowGives};
 
 use crate::closing::{cause_name, only_closes};
-use crate::copies::copy_named;
-use control_contexts::{Attempt, Context, Terminal, copy_tunnels};
+use crate::copies::{both_name_bearers, copy_both, copy_named};
+use control_contexts::{Attempt, Context, Terminal};
 use control_says::{At, Row};
 use control_targets::{
     OfferTunnels, name_bearers, offer_has_tunnels, offer_is_declined, offer_is_placed,
@@ -28,18 +28,18 @@ pub(crate) fn in_offered<C: MessageCodec>(
     message: &Message,
     terminal: &Terminal,
     context: &Context,
-    attempt: Attempt,
+    attempt: &Attempt,
 ) -> Result<Option<Row>, StepError>
     ensures { SomeRowGives
         (in_offered (octet_way C.codec) at.now (message_as message.now) terminal.now context.now
-        attempt) result }
+        attempt.now) result }
 {
     match message {
         Message::F1(message) => in_offered_on_f1(at, message, terminal, context, attempt),
         Message::E1(message) => in_offered_on_e1(at, message, terminal, context, attempt),
-        Message::Xn(_) | Message::Core(_) | Message::Rrc(_) => Ok(Some(only_closes(
+        Message::Xn(_) | Message::Core(_) | Message::Rrc(_) => only_closes(
             at, terminal, context, attempt,
-        ))),
+        ),
     }
 }
 
@@ -48,11 +48,11 @@ fn in_offered_on_e1<C: MessageCodec>(
     message: &E1Message,
     terminal: &Terminal,
     context: &Context,
-    attempt: Attempt,
+    attempt: &Attempt,
 ) -> Result<Option<Row>, StepError>
     ensures { SomeRowGives
         (in_offered (octet_way C.codec) at.now (message_as (Message.E1 message.now)) terminal.now
-        context.now attempt) result }
+        context.now attempt.now) result }
 {
     match message {
         E1Message::BearerContextSetupResponse {
@@ -75,7 +75,7 @@ fn in_offered_on_e1<C: MessageCodec>(
             ..
         } => Ok(None),
         E1Message::BearerContextSetupFailure { cause, .. } => failure_came(
-            at, *cause, terminal, &attempt,
+            at, *cause, terminal, attempt,
         ),
         E1Message::E1SetupRequest { .. }
         | E1Message::E1SetupResponse { .. }
@@ -84,9 +84,9 @@ fn in_offered_on_e1<C: MessageCodec>(
         | E1Message::BearerContextModificationResponse { .. }
         | E1Message::BearerContextModificationFailure { .. }
         | E1Message::BearerContextReleaseCommand { .. }
-        | E1Message::BearerContextReleaseComplete { .. } => Ok(Some(only_closes(
+        | E1Message::BearerContextReleaseComplete { .. } => only_closes(
             at, terminal, context, attempt,
-        ))),
+        ),
     }
 }
 
@@ -104,12 +104,27 @@ fn copied(
       forward_up = forward_up.now;
     }) }
 {
+    let (uplinks, n3) = copy_both(alloc, uplinks, n3)?;
+    let (forward_down, forward_up) = copy_both(alloc, forward_down, forward_up)?;
     Ok(OfferTunnels {
-        uplinks: copy_tunnels(alloc, uplinks)?,
-        n3: copy_tunnels(alloc, n3)?,
-        forward_down: copy_tunnels(alloc, forward_down)?,
-        forward_up: copy_tunnels(alloc, forward_up)?,
+        uplinks,
+        n3,
+        forward_down,
+        forward_up,
     })
+}
+
+/// Whether the lists of the core and of forwarding name the bearers of the context.
+fn rest_is_named(alloc: Global, context: &Context, tunnels: &OfferTunnels) -> Result<bool, Memory>
+    ensures { IfOk result (λ named. named
+        ≡ (name_bearers context.now tunnels.now.n3
+        && name_bearers context.now tunnels.now.forward_down
+        && name_bearers context.now tunnels.now.forward_up)) }
+{
+    Ok(
+        name_bearers(alloc, context, &tunnels.n3)?
+            && both_name_bearers(alloc, context, &tunnels.forward_down, &tunnels.forward_up)?,
+    )
 }
 
 /// Whether all four lists name the bearers of the context.
@@ -119,12 +134,7 @@ fn are_named(alloc: Global, context: &Context, tunnels: &OfferTunnels) -> Result
         && name_bearers context.now tunnels.now.forward_down
         && name_bearers context.now tunnels.now.forward_up)) }
 {
-    Ok(
-        name_bearers(alloc, context, &tunnels.uplinks)?
-            && name_bearers(alloc, context, &tunnels.n3)?
-            && name_bearers(alloc, context, &tunnels.forward_down)?
-            && name_bearers(alloc, context, &tunnels.forward_up)?,
-    )
+    Ok(name_bearers(alloc, context, &tunnels.uplinks)? && rest_is_named(alloc, context, tunnels)?)
 }
 
 fn tunnels_came<C: MessageCodec>(
@@ -132,7 +142,7 @@ fn tunnels_came<C: MessageCodec>(
     tunnels: OfferTunnels,
     terminal: &Terminal,
     context: &Context,
-    attempt: Attempt,
+    attempt: &Attempt,
 ) -> Result<Option<Row>, StepError>
     ensures { SomeRowGives
         (listed (octet_way C.codec)
@@ -140,11 +150,12 @@ fn tunnels_came<C: MessageCodec>(
         && name_bearers context.now tunnels.forward_down
         && name_bearers context.now tunnels.forward_up)
         (offer_has_tunnels (octet_way C.codec) at.now tunnels.uplinks tunnels.n3
-        tunnels.forward_down tunnels.forward_up terminal.now context.now attempt)) result }
+        tunnels.forward_down tunnels.forward_up terminal.now context.now attempt.now)) result }
 {
     if !are_named(at.alloc, context, &tunnels)? {
         return Ok(None);
     }
+    let attempt = attempt.copy(at.alloc)?;
     Ok(Some(offer_has_tunnels(at, tunnels, terminal, context, attempt)?))
 }
 
@@ -170,11 +181,11 @@ fn in_offered_on_f1<C: MessageCodec>(
     message: &F1Message,
     terminal: &Terminal,
     context: &Context,
-    attempt: Attempt,
+    attempt: &Attempt,
 ) -> Result<Option<Row>, StepError>
     ensures { SomeRowGives
         (in_offered (octet_way C.codec) at.now (message_as (Message.F1 message.now)) terminal.now
-        context.now attempt) result }
+        context.now attempt.now) result }
 {
     match message {
         F1::UeContextSetupResponse { downlinks, .. } => du_came(
@@ -188,7 +199,7 @@ fn in_offered_on_f1<C: MessageCodec>(
         | F1::UeContextReleaseCommand { .. }
         | F1::UeContextReleaseComplete { .. }
         | F1::DlRrcMessageTransfer { .. }
-        | F1::UlRrcMessageTransfer { .. } => Ok(Some(only_closes(at, terminal, context, attempt))),
+        | F1::UlRrcMessageTransfer { .. } => only_closes(at, terminal, context, attempt),
     }
 }
 
@@ -197,14 +208,15 @@ fn du_came<C: MessageCodec>(
     downlinks: &TunnelList,
     terminal: &Terminal,
     context: &Context,
-    attempt: Attempt,
+    attempt: &Attempt,
 ) -> Result<Option<Row>, StepError>
     ensures { SomeRowGives
         (listed (octet_way C.codec) (name_bearers context.now downlinks.now)
-        (offer_is_placed (octet_way C.codec) at.now downlinks.now terminal.now context.now attempt)) result }
+        (offer_is_placed (octet_way C.codec) at.now downlinks.now terminal.now context.now attempt.now)) result }
 {
     let Some(downlinks) = copy_named(at.alloc, context, downlinks)? else {
         return Ok(None);
     };
+    let attempt = attempt.copy(at.alloc)?;
     Ok(Some(offer_is_placed(at, downlinks, terminal, context, attempt)?))
 }

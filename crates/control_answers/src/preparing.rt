@@ -29,17 +29,17 @@ pub(crate) fn in_preparing<C: MessageCodec>(
     message: &Message,
     terminal: &Terminal,
     context: &Context,
-    attempt: Attempt,
+    attempt: &Attempt,
 ) -> Result<Option<Row>, StepError>
     ensures { SomeRowGives
         (in_preparing (octet_way C.codec) at.now (message_as message.now) terminal.now context.now
-        attempt) result }
+        attempt.now) result }
 {
     match message {
         Message::Xn(message) => in_preparing_on_xn(at, message, terminal, context, attempt),
-        Message::F1(_) | Message::E1(_) | Message::Core(_) | Message::Rrc(_) => Ok(Some(only_closes(
+        Message::F1(_) | Message::E1(_) | Message::Core(_) | Message::Rrc(_) => only_closes(
             at, terminal, context, attempt,
-        ))),
+        ),
     }
 }
 
@@ -48,11 +48,11 @@ fn in_preparing_on_xn<C: MessageCodec>(
     message: &XnMessage,
     terminal: &Terminal,
     context: &Context,
-    attempt: Attempt,
+    attempt: &Attempt,
 ) -> Result<Option<Row>, StepError>
     ensures { SomeRowGives
         (in_preparing (octet_way C.codec) at.now (message_as (Message.Xn message.now)) terminal.now
-        context.now attempt) result }
+        context.now attempt.now) result }
 {
     match message {
         XnMessage::HandoverRequestAcknowledge {
@@ -76,9 +76,7 @@ fn in_preparing_on_xn<C: MessageCodec>(
         | XnMessage::SnStatusTransfer { .. }
         | XnMessage::HandoverCancel { .. }
         | XnMessage::UeContextRelease { .. }
-        | XnMessage::TransportConfirm { .. } => Ok(Some(only_closes(
-            at, terminal, context, attempt,
-        ))),
+        | XnMessage::TransportConfirm { .. } => only_closes(at, terminal, context, attempt),
     }
 }
 
@@ -89,18 +87,19 @@ fn target_came<C: MessageCodec>(
     forward_up: &TunnelList,
     terminal: &Terminal,
     context: &Context,
-    attempt: Attempt,
+    attempt: &Attempt,
 ) -> Result<Option<Row>, StepError>
     ensures { SomeRowGives
         (listed (octet_way C.codec)
         (name_bearers context.now forward_down.now && name_bearers context.now forward_up.now)
         (handover_is_acknowledged (octet_way C.codec) at.now peer forward_down.now forward_up.now terminal.now
-        context.now attempt)) result }
+        context.now attempt.now)) result }
 {
     if !both_name_bearers(at.alloc, context, forward_down, forward_up)? {
         return Ok(None);
     }
     let (forward_down, forward_up) = copy_both(at.alloc, forward_down, forward_up)?;
+    let attempt = attempt.copy(at.alloc)?;
     Ok(Some(handover_is_acknowledged(
         at,
         peer,
@@ -134,17 +133,17 @@ pub(crate) fn in_prepared<C: MessageCodec>(
     message: &Message,
     terminal: &Terminal,
     context: &Context,
-    attempt: Attempt,
+    attempt: &Attempt,
 ) -> Result<Option<Row>, StepError>
     ensures { SomeRowGives
         (in_prepared (octet_way C.codec) at.now (message_as message.now) terminal.now context.now
-        attempt) result }
+        attempt.now) result }
 {
     match message {
         Message::E1(message) => in_prepared_on_e1(at, message, terminal, context, attempt),
-        Message::F1(_) | Message::Xn(_) | Message::Core(_) | Message::Rrc(_) => Ok(Some(only_closes(
+        Message::F1(_) | Message::Xn(_) | Message::Core(_) | Message::Rrc(_) => only_closes(
             at, terminal, context, attempt,
-        ))),
+        ),
     }
 }
 
@@ -153,11 +152,11 @@ fn in_prepared_on_e1<C: MessageCodec>(
     message: &E1Message,
     terminal: &Terminal,
     context: &Context,
-    attempt: Attempt,
+    attempt: &Attempt,
 ) -> Result<Option<Row>, StepError>
     ensures { SomeRowGives
         (in_prepared (octet_way C.codec) at.now (message_as (Message.E1 message.now)) terminal.now
-        context.now attempt) result }
+        context.now attempt.now) result }
 {
     match message {
         E1Message::BearerContextModificationResponse {
@@ -175,9 +174,9 @@ fn in_prepared_on_e1<C: MessageCodec>(
         | E1Message::BearerContextSetupFailure { .. }
         | E1Message::BearerContextModificationRequest { .. }
         | E1Message::BearerContextReleaseCommand { .. }
-        | E1Message::BearerContextReleaseComplete { .. } => Ok(Some(only_closes(
+        | E1Message::BearerContextReleaseComplete { .. } => only_closes(
             at, terminal, context, attempt,
-        ))),
+        ),
     }
 }
 
@@ -186,17 +185,18 @@ fn statuses_came<C: MessageCodec>(
     statuses: &StatusList,
     terminal: &Terminal,
     context: &Context,
-    attempt: Attempt,
+    attempt: &Attempt,
 ) -> Result<Option<Row>, StepError>
     ensures { SomeRowGives
         (listed (octet_way C.codec) (are_bearers (bearers_in context.now) (statuses_of statuses.now))
-        (handover_is_frozen (octet_way C.codec) at.now statuses.now terminal.now context.now attempt))
+        (handover_is_frozen (octet_way C.codec) at.now statuses.now terminal.now context.now attempt.now))
         result }
 {
     if !statuses_name_bearers(at.alloc, context, statuses)? {
         return Ok(None);
     }
     let statuses = copy_statuses(at.alloc, statuses)?;
+    let attempt = attempt.copy(at.alloc)?;
     Ok(Some(handover_is_frozen(at, statuses, terminal, context, attempt)?))
 }
 

@@ -1,10 +1,10 @@
 //! Which rows an answer may name, by the state of the terminal.
 
-ghost use Rattle.std.specs.Prelude.{◌≡◌, [], ◌∷◌};
+ghost use Rattle.std.specs.Prelude.{◌≡◌, [], ◌∷◌, Some};
 ghost use Rattle.unit_defs.specs.CuCp.{in_releasing, in_state, answer_of, answer};
 ghost use Rattle.unit_octet_defs.specs.Codec.{octet_way};
 ghost use Rattle.unit_messages.specs.Messages.{message_as};
-ghost use Rattle.control_says.specs.Rows.{row_as, SomeRowGives};
+ghost use Rattle.control_says.specs.Rows.{SomeRowGives};
 ghost use Rattle.control_answers.specs.Answers.{AnswerGives};
 
 use crate::attaching::in_attaching;
@@ -37,13 +37,13 @@ fn in_releasing<C: MessageCodec>(
     at: &At<'_, C>,
     terminal: &Terminal,
     context: &Context,
-    attempt: Attempt,
-) -> Row
-    ensures { row_as result
-        ≡ in_releasing (octet_way C.codec) terminal.now context.now attempt attempt.awaits }
+    attempt: &Attempt,
+) -> Result<Option<Row>, StepError>
+    ensures { SomeRowGives (Some (in_releasing (octet_way C.codec) terminal.now context.now
+        attempt.now attempt.now.awaits)) result }
 {
     if attempt.awaits.is_empty() {
-        return Row::gives_up(terminal, Items::new(at.alloc));
+        return Ok(Some(Row::gives_up(terminal, Items::new(at.alloc))));
     }
     only_closes(at, terminal, context, attempt)
 }
@@ -53,11 +53,11 @@ fn while_preparing<C: MessageCodec>(
     message: &Message,
     terminal: &Terminal,
     context: &Context,
-    attempt: Attempt,
+    attempt: &Attempt,
 ) -> Result<Option<Row>, StepError>
     ensures { SomeRowGives
         (in_state (octet_way C.codec) at.now (message_as message.now) terminal.now context.now
-        StateName.Preparing attempt) result }
+        StateName.Preparing attempt.now) result }
 {
     if is_between_dus(attempt.kind) {
         return in_moving(at, message, terminal, context, attempt);
@@ -70,14 +70,14 @@ fn while_completing<C: MessageCodec>(
     message: &Message,
     terminal: &Terminal,
     context: &Context,
-    attempt: Attempt,
+    attempt: &Attempt,
 ) -> Result<Option<Row>, StepError>
     ensures { SomeRowGives
         (in_state (octet_way C.codec) at.now (message_as message.now) terminal.now context.now
-        StateName.Completing attempt) result }
+        StateName.Completing attempt.now) result }
 {
     if is_between_gnbs(attempt.kind) {
-        return Ok(Some(in_releasing(at, terminal, context, attempt)));
+        return in_releasing(at, terminal, context, attempt);
     }
     in_switching(at, message, terminal, context, attempt)
 }
@@ -87,11 +87,11 @@ fn in_state<C: MessageCodec>(
     message: &Message,
     terminal: &Terminal,
     context: &Context,
-    attempt: Attempt,
+    attempt: &Attempt,
 ) -> Result<Option<Row>, StepError>
     ensures { SomeRowGives
         (in_state (octet_way C.codec) at.now (message_as message.now) terminal.now context.now
-        context.now.state attempt) result }
+        context.now.state attempt.now) result }
 {
     match context.state {
         StateName::Attaching => in_attaching(at, message, terminal, context, attempt),
@@ -106,7 +106,7 @@ fn in_state<C: MessageCodec>(
         | StateName::Frozen
         | StateName::Commanded
         | StateName::Ready
-        | StateName::Serving => Ok(Some(only_closes(at, terminal, context, attempt))),
+        | StateName::Serving => only_closes(at, terminal, context, attempt),
     }
 }
 
@@ -132,5 +132,5 @@ pub fn answer<C: MessageCodec>(
         return Ok(Answered::NotAwaited);
     }
     let attempt = attempt.copy(at.alloc)?.answered(at.alloc, from)?;
-    Ok(Answered::Awaited(in_state(at, message, terminal, context, attempt)?))
+    Ok(Answered::Awaited(in_state(at, message, terminal, context, &attempt)?))
 }

@@ -1,6 +1,7 @@
 //! After an arrival or a return.
 
-ghost use Rattle.unit_defs.specs.CpRows.{name_bearers, place_is_renewed};
+ghost use Rattle.std.specs.Prelude.{Some};
+ghost use Rattle.unit_defs.specs.CpRows.{name_bearers, place_is_renewed, is_switched, path_is_switched};
 ghost use Rattle.unit_defs.specs.CuCp.{listed, in_switching};
 ghost use Rattle.unit_octet_defs.specs.Codec.{octet_way};
 ghost use Rattle.unit_messages.specs.Messages.{message_as};
@@ -22,17 +23,17 @@ pub(crate) fn in_switching<C: MessageCodec>(
     message: &Message,
     terminal: &Terminal,
     context: &Context,
-    attempt: Attempt,
+    attempt: &Attempt,
 ) -> Result<Option<Row>, StepError>
     ensures { SomeRowGives
         (in_switching (octet_way C.codec) at.now (message_as message.now) terminal.now context.now
-        attempt) result }
+        attempt.now) result }
 {
     match message {
         Message::F1(message) => in_switching_on_f1(at, message, terminal, context, attempt),
         Message::E1(message) => in_switching_on_e1(at, message, terminal, context, attempt),
         Message::Core(message) => in_switching_on_core(at, message, terminal, context, attempt),
-        Message::Xn(_) | Message::Rrc(_) => Ok(Some(only_closes(at, terminal, context, attempt))),
+        Message::Xn(_) | Message::Rrc(_) => only_closes(at, terminal, context, attempt),
     }
 }
 
@@ -41,11 +42,11 @@ fn in_switching_on_f1<C: MessageCodec>(
     message: &F1Message,
     terminal: &Terminal,
     context: &Context,
-    attempt: Attempt,
+    attempt: &Attempt,
 ) -> Result<Option<Row>, StepError>
     ensures { SomeRowGives
         (in_switching (octet_way C.codec) at.now (message_as (Message.F1 message.now)) terminal.now
-        context.now attempt) result }
+        context.now attempt.now) result }
 {
     match message {
         F1::UeContextModificationResponse { downlinks, .. } => du_came(
@@ -59,7 +60,7 @@ fn in_switching_on_f1<C: MessageCodec>(
         | F1::UeContextReleaseCommand { .. }
         | F1::UeContextReleaseComplete { .. }
         | F1::DlRrcMessageTransfer { .. }
-        | F1::UlRrcMessageTransfer { .. } => Ok(Some(only_closes(at, terminal, context, attempt))),
+        | F1::UlRrcMessageTransfer { .. } => only_closes(at, terminal, context, attempt),
     }
 }
 
@@ -68,15 +69,16 @@ fn du_came<C: MessageCodec>(
     downlinks: &TunnelList,
     terminal: &Terminal,
     context: &Context,
-    attempt: Attempt,
+    attempt: &Attempt,
 ) -> Result<Option<Row>, StepError>
     ensures { SomeRowGives
         (listed (octet_way C.codec) (name_bearers context.now downlinks.now)
-        (place_is_renewed (octet_way C.codec) at.now downlinks.now terminal.now context.now attempt)) result }
+        (place_is_renewed (octet_way C.codec) at.now downlinks.now terminal.now context.now attempt.now)) result }
 {
     let Some(downlinks) = copy_named(at.alloc, context, downlinks)? else {
         return Ok(None);
     };
+    let attempt = attempt.copy(at.alloc)?;
     Ok(Some(place_is_renewed(at, downlinks, terminal, context, attempt)?))
 }
 
@@ -85,16 +87,16 @@ fn in_switching_on_e1<C: MessageCodec>(
     message: &E1Message,
     terminal: &Terminal,
     context: &Context,
-    attempt: Attempt,
+    attempt: &Attempt,
 ) -> Result<Option<Row>, StepError>
     ensures { SomeRowGives
         (in_switching (octet_way C.codec) at.now (message_as (Message.E1 message.now)) terminal.now
-        context.now attempt) result }
+        context.now attempt.now) result }
 {
     match message {
-        E1Message::BearerContextModificationResponse { .. } => Ok(Some(is_switched(
+        E1Message::BearerContextModificationResponse { .. } => switch_came(
             at, terminal, context, attempt,
-        )?)),
+        ),
         E1Message::E1SetupRequest { .. }
         | E1Message::E1SetupResponse { .. }
         | E1Message::BearerContextSetupRequest { .. }
@@ -103,10 +105,23 @@ fn in_switching_on_e1<C: MessageCodec>(
         | E1Message::BearerContextModificationRequest { .. }
         | E1Message::BearerContextModificationFailure { .. }
         | E1Message::BearerContextReleaseCommand { .. }
-        | E1Message::BearerContextReleaseComplete { .. } => Ok(Some(only_closes(
+        | E1Message::BearerContextReleaseComplete { .. } => only_closes(
             at, terminal, context, attempt,
-        ))),
+        ),
     }
+}
+
+fn switch_came<C: MessageCodec>(
+    at: &At<'_, C>,
+    terminal: &Terminal,
+    context: &Context,
+    attempt: &Attempt,
+) -> Result<Option<Row>, StepError>
+    ensures { SomeRowGives
+        (Some (is_switched (octet_way C.codec) at.now terminal.now context.now attempt.now)) result }
+{
+    let attempt = attempt.copy(at.alloc)?;
+    Ok(Some(is_switched(at, terminal, context, attempt)?))
 }
 
 fn in_switching_on_core<C: MessageCodec>(
@@ -114,18 +129,27 @@ fn in_switching_on_core<C: MessageCodec>(
     message: &CoreMessage,
     terminal: &Terminal,
     context: &Context,
-    attempt: Attempt,
+    attempt: &Attempt,
 ) -> Result<Option<Row>, StepError>
     ensures { SomeRowGives
         (in_switching (octet_way C.codec) at.now (message_as (Message.Core message.now)) terminal.now
-        context.now attempt) result }
+        context.now attempt.now) result }
 {
     match message {
-        CoreMessage::PathSwitchAcknowledge { .. } => Ok(Some(path_is_switched(
-            at, terminal, context, attempt,
-        )?)),
-        CoreMessage::PathSwitchRequest { .. } => Ok(Some(only_closes(
-            at, terminal, context, attempt,
-        ))),
+        CoreMessage::PathSwitchAcknowledge { .. } => path_came(at, terminal, context, attempt),
+        CoreMessage::PathSwitchRequest { .. } => only_closes(at, terminal, context, attempt),
     }
+}
+
+fn path_came<C: MessageCodec>(
+    at: &At<'_, C>,
+    terminal: &Terminal,
+    context: &Context,
+    attempt: &Attempt,
+) -> Result<Option<Row>, StepError>
+    ensures { SomeRowGives
+        (Some (path_is_switched (octet_way C.codec) at.now terminal.now context.now attempt.now)) result }
+{
+    let attempt = attempt.copy(at.alloc)?;
+    Ok(Some(path_is_switched(at, terminal, context, attempt)?))
 }

@@ -1,15 +1,16 @@
 //! An attach (TS 38.401, 8.1): the bearers get their tunnels, then the DU gets the context.
 
-ghost use Rattle.std.specs.Prelude.{◌≡◌};
-ghost use Rattle.unit_defs.specs.CpRows.{attach_context as attach_context_of, attach, attach_begins, attach_has_tunnels, attach_is_placed, attach_fails};
+ghost use Rattle.std.specs.Prelude.{◌≡◌, [], ◌∷◌, ◌&&◌, map, IfOk};
+ghost use Rattle.unit_defs.specs.CpRecords.{has_unit};
+ghost use Rattle.unit_defs.specs.CpRows.{own_up, own_du, say_command, attach_context as attach_context_of, attach, attach_begins, attach_has_tunnels, attach_is_placed, attach_fails};
 ghost use Rattle.unit_octet_defs.specs.Codec.{octet_way};
-ghost use Rattle.control_says.specs.Rows.{RowGives};
+ghost use Rattle.control_says.specs.Rows.{say_as, RowGives};
 
 use control_contexts::{Attempt, Context, Terminal, has_node};
 use control_requests::{bearer_setup, du_setup};
-use control_says::says::Say;
+use control_says::says::{Say, Says};
 use control_says::{At, Row, say_command};
-use gnb_types::items::Items;
+use gnb_types::items::{Items, Memory};
 use gnb_types::names::NodeId;
 use gnb_types::plans::{Plan, TunnelList};
 use gnb_types::reasons::{CauseName, RefuseReason};
@@ -35,6 +36,14 @@ pub fn attach<C: MessageCodec>(
     }
 }
 
+/// Whether the units of a place are set up.
+fn has_units<C>(at: &At<'_, C>, up: u8, du: u8) -> bool
+    ensures { result
+        ≡ (has_unit at.now.units (own_up at.now up) && has_unit at.now.units (own_du at.now du)) }
+{
+    has_node(at.units, NodeId::CuUp(at.gnb, up)) && has_node(at.units, NodeId::Du(at.gnb, du))
+}
+
 fn attach_begins<C: MessageCodec>(
     at: &At<'_, C>,
     plan: Plan,
@@ -42,10 +51,7 @@ fn attach_begins<C: MessageCodec>(
 ) -> Result<Row, StepError>
     ensures { RowGives (attach_begins (octet_way C.codec) at.now plan terminal.now) result }
 {
-    if !has_node(at.units, NodeId::CuUp(at.gnb, plan.up)) {
-        return Row::refuses(at, terminal, RefuseReason::NotStarted);
-    }
-    if !has_node(at.units, NodeId::Du(at.gnb, plan.du)) {
+    if !has_units(at, plan.up, plan.du) {
         return Row::refuses(at, terminal, RefuseReason::NotStarted);
     }
     let context = attach_context(at, plan);
@@ -98,6 +104,19 @@ pub fn attach_has_tunnels<C: MessageCodec>(
     Ok(Row::keeps(terminal, says, context))
 }
 
+/// The command of an attempt, and nothing else.
+pub(crate) fn only_command<C: MessageCodec>(
+    at: &At<'_, C>,
+    context: &Context,
+    attempt: &Attempt,
+) -> Result<Says, Memory>
+    ensures { IfOk result (λ says. map say_as says
+        ≡ say_command (octet_way C.codec) at.now context.now attempt.now ∷ []) }
+{
+    let command = say_command(at, context, attempt)?;
+    Items::one(at.alloc, command)
+}
+
 /// The DU is ready: the command.
 #[tactic(auto, unfolding(unit_defs::specs::CpRows::attach_is_placed))]
 pub fn attach_is_placed<C: MessageCodec>(
@@ -112,7 +131,7 @@ pub fn attach_is_placed<C: MessageCodec>(
         result }
 {
     attempt.downlinks = downlinks;
-    let says = Items::one(at.alloc, say_command(at, context, &attempt)?)?;
+    let says = only_command(at, context, &attempt)?;
     let context = context.attempted(StateName::Commanded, attempt);
     Ok(Row::keeps(terminal, says, context))
 }

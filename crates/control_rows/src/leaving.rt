@@ -1,17 +1,18 @@
 //! A handover to the other gNB, at its source (TS 38.423, 8.2; TS 38.300, 9.2.3.2), the command, and a cancel by order.
 
 ghost use Rattle.std.specs.Prelude.{◌≡◌, Some, None};
-ghost use Rattle.unit_defs.specs.CpRows.{epoch_of, handover_begins, handover_on, handover, handover_is_acknowledged, handover_is_declined, handover_expires, handover_is_frozen, handover_is_not_frozen, command, cancel_attempt, cancel_of, cancel};
+ghost use Rattle.unit_defs.specs.CpRows.{epoch_of, handover_request, handover_begins, handover_on, handover, handover_is_acknowledged, handover_is_declined, handover_expires, handover_is_frozen, handover_is_not_frozen, command, cancel_attempt, cancel_of, cancel};
 ghost use Rattle.unit_defs.specs.Messages.{is_same_gnb};
 ghost use Rattle.unit_octet_defs.specs.Codec.{octet_way};
-ghost use Rattle.control_says.specs.Rows.{RowGives};
+ghost use Rattle.control_says.specs.Rows.{say_as, RowGives};
 
+use crate::attaching::only_command;
 use crate::moving::move_begins;
 use crate::releasing::is_serving;
 use control_contexts::{Attempt, Context, Terminal};
 use control_requests::{du_release, say_freeze, say_resume, xn_cancel};
 use control_says::says::{EPOCHS, NO_INSTANCE, Say};
-use control_says::{At, Row, other_cp, say_command, two};
+use control_says::{At, Row, other_cp, two};
 use gnb_types::items::Items;
 use gnb_types::names::Gnb;
 use gnb_types::plans::{Peer, Plan, StatusList, TunnelList};
@@ -42,6 +43,37 @@ fn epoch_of<C: MessageCodec>(_at: &At<'_, C>, context: &Context) -> u32
     }
 }
 
+/// The request to the other gNB.
+fn handover_request<C: MessageCodec>(
+    at: &At<'_, C>,
+    goal: Plan,
+    context: &Context,
+    epoch: u32,
+) -> Say
+    ensures { say_as result
+        ≡ handover_request (octet_way C.codec) at.now goal context.now epoch }
+{
+    Say::Ask {
+        to: other_cp(at),
+        message: Message::Xn(XnMessage::HandoverRequest {
+            ue: at.ue,
+            instance: NO_INSTANCE,
+            epoch,
+            bearers: context.bearers,
+            sn: context.sn,
+            quota: context.quota,
+            peer: Peer {
+                gnb: goal.gnb,
+                up: goal.up,
+            },
+            du: goal.du,
+            origin: None,
+        }),
+        deadline: Some(PREPARATION_TICKS),
+        awaited: true,
+    }
+}
+
 /// It begins with a request to the other gNB, with the epoch after the one that was accepted last.
 #[tactic(auto, unfolding(unit_defs::specs::CpRows::handover_begins))]
 fn handover_begins<C: MessageCodec>(
@@ -58,27 +90,7 @@ fn handover_begins<C: MessageCodec>(
         return Err(StepError::Spent { counter: EPOCHS });
     }
     let epoch = epoch + 1;
-    let request = Message::Xn(XnMessage::HandoverRequest {
-        ue: at.ue,
-        instance: NO_INSTANCE,
-        epoch,
-        bearers: context.bearers,
-        sn: context.sn,
-        quota: context.quota,
-        peer: Peer {
-            gnb: goal.gnb,
-            up: goal.up,
-        },
-        du: goal.du,
-        origin: None,
-    });
-    let ask = Say::Ask {
-        to: other_cp(at),
-        message: request,
-        deadline: Some(PREPARATION_TICKS),
-        awaited: true,
-    };
-    let says = Items::one(at.alloc, ask)?;
+    let says = Items::one(at.alloc, handover_request(at, goal, context, epoch))?;
     let attempt = Attempt::new(
         at.alloc,
         AttemptKind::BetweenGnbs,
@@ -238,7 +250,7 @@ pub fn command<C: MessageCodec>(
     ensures { RowGives
         (command (octet_way C.codec) at.now terminal.now context.now attempt) result }
 {
-    let says = Items::one(at.alloc, say_command(at, context, &attempt)?)?;
+    let says = only_command(at, context, &attempt)?;
     let context = context.attempted(StateName::Commanded, attempt);
     Ok(Row::keeps(terminal, says, context))
 }

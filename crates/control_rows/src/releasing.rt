@@ -1,13 +1,18 @@
 //! Releases (TS 38.401, 8.6; TS 38.423, 8.2.7).
 
-ghost use Rattle.std.specs.Prelude.{◌≡◌, Some};
-ghost use Rattle.unit_defs.specs.CpRows.{is_between_gnbs, is_serving, release, release_on, handed_over, xn_released, xn_released_of};
+ghost use Rattle.std.specs.Prelude.{◌≡◌, [], ◌∷◌, map, true, false, Some, IfOk};
+ghost use Rattle.unit_defs.specs.CpRows.{du_release, up_release, is_between_gnbs, is_serving, release, release_on, handed_over, xn_released, xn_released_of};
+ghost use Rattle.message_types.specs.declared.xn.XnMessage.TheVariants as xns;
+ghost use Rattle.unit_defs.specs.CpRecords.{replies};
+ghost use Rattle.unit_defs.specs.Ways.{xn};
 ghost use Rattle.unit_octet_defs.specs.Codec.{octet_way};
-ghost use Rattle.control_says.specs.Rows.{RowGives};
+ghost use Rattle.control_says.specs.Rows.{say_as, RowGives};
 
 use control_contexts::{Attempt, Context, Terminal};
 use control_requests::{du_release, transport_confirm, up_release};
+use control_says::says::Says;
 use control_says::{At, Row, two, with_first};
+use gnb_types::items::Memory;
 use gnb_types::names::NodeId;
 use gnb_types::reasons::{DropReason, RefuseReason};
 use unit_defs::{AttemptKind, StateName};
@@ -42,6 +47,24 @@ fn release_of<C: MessageCodec>(
     Ok(Row::gives_up(terminal, says))
 }
 
+/// The confirmation to the target, and the releases at the DU and the CU-UP.
+fn says_of_release<C: MessageCodec>(
+    at: &At<'_, C>,
+    from: NodeId,
+    instance: u32,
+    context: &Context,
+) -> Result<Says, Memory>
+    ensures { IfOk result (λ says. map say_as says
+        ≡ replies from (xn (xns.TransportConfirm at.now.ue instance))
+        ∷ du_release (octet_way C.codec) at.now context.now.du true
+        ∷ up_release (octet_way C.codec) at.now context.now.up false true ∷ []) }
+{
+    let of_du = du_release(at, context.du, true);
+    let of_up = up_release(at, context.up, false, true);
+    let releases = two(at.alloc, of_du, of_up)?;
+    with_first(at.alloc, transport_confirm(at, from, instance), releases)
+}
+
 /// The target has the terminal: the source lets go.
 #[tactic(auto, unfolding(unit_defs::specs::CpRows::handed_over))]
 fn handed_over<C: MessageCodec>(
@@ -56,10 +79,7 @@ fn handed_over<C: MessageCodec>(
         (handed_over (octet_way C.codec) at.now from instance terminal.now context.now attempt)
         result }
 {
-    let of_du = du_release(at, context.du, true);
-    let of_up = up_release(at, context.up, false, true);
-    let releases = two(at.alloc, of_du, of_up)?;
-    let says = with_first(at.alloc, transport_confirm(at, from, instance), releases)?;
+    let says = says_of_release(at, from, instance, context)?;
     let context = context.attempted(StateName::Completing, attempt);
     Ok(Row::keeps(terminal, says, context))
 }

@@ -1,7 +1,8 @@
 //! Tokens of a terminal (TS 38.331, 5.3.5, 5.3.7) by which it returns, or arrives from the other gNB.
 
-ghost use Rattle.std.specs.Prelude.{◌≡◌, map, IfOk};
-ghost use Rattle.unit_defs.specs.CpRows.{is_between_dus, greatest, took, give_up_attempt, returns, arrives, arrives_again};
+ghost use Rattle.std.specs.Prelude.{◌≡◌, [], ◌∷◌, map, true, IfOk};
+ghost use Rattle.unit_defs.specs.CpRecords.{attempted};
+ghost use Rattle.unit_defs.specs.CpRows.{is_between_dus, greatest, took, du_modify, path_switch, say_switch, give_up_attempt, returns, arrives, arrives_again};
 ghost use Rattle.unit_octet_defs.specs.Codec.{octet_way};
 ghost use Rattle.control_says.specs.Rows.{row_as, say_as, RowGives};
 
@@ -95,6 +96,30 @@ pub fn returns<C: MessageCodec>(
     Ok(took(at, terminal, epoch, says, context))
 }
 
+/// The bearers are switched, and so is the path from the core.
+fn says_of_arrival<C: MessageCodec>(
+    at: &At<'_, C>,
+    context: &Context,
+    attempt: &Attempt,
+) -> Result<Says, Memory>
+    ensures { IfOk result (λ says. map say_as says
+        ≡ say_switch (octet_way C.codec) at.now context.now attempt.now.downlinks
+        ∷ path_switch (octet_way C.codec) at.now context.now attempt.now ∷ []) }
+{
+    let downlinks = copy_tunnels(at.alloc, &attempt.downlinks)?;
+    let path = path_switch(at, context, attempt)?;
+    two(at.alloc, say_switch(at, context, downlinks), path)
+}
+
+/// The context once its terminal arrived: the path switch is open.
+fn arrived(context: &Context, mut attempt: Attempt) -> Context
+    ensures { result
+        ≡ attempted context.now StateName.Arrived (record attempt { path_open = true }) }
+{
+    attempt.path_open = true;
+    context.attempted(StateName::Arrived, attempt)
+}
+
 /// It arrived at a target of the other gNB.
 #[tactic(auto, unfolding(unit_defs::specs::CpRows::arrives))]
 pub fn arrives<C: MessageCodec>(
@@ -102,17 +127,28 @@ pub fn arrives<C: MessageCodec>(
     epoch: u32,
     terminal: &Terminal,
     context: &Context,
-    mut attempt: Attempt,
+    attempt: Attempt,
 ) -> Result<Row, StepError>
     ensures { RowGives
         (arrives (octet_way C.codec) at.now epoch terminal.now context.now attempt) result }
 {
-    let downlinks = copy_tunnels(at.alloc, &attempt.downlinks)?;
-    let path = path_switch(at, context, &attempt)?;
-    let says = two(at.alloc, say_switch(at, context, downlinks), path)?;
-    attempt.path_open = true;
-    let context = context.attempted(StateName::Arrived, attempt);
-    Ok(took(at, terminal, epoch, says, context))
+    let says = says_of_arrival(at, context, &attempt)?;
+    Ok(took(at, terminal, epoch, says, arrived(context, attempt)))
+}
+
+/// The DU is to take a terminal of this epoch, and the path from the core is switched.
+fn says_of_arrival_again<C: MessageCodec>(
+    at: &At<'_, C>,
+    epoch: u32,
+    context: &Context,
+    attempt: &Attempt,
+) -> Result<Says, Memory>
+    ensures { IfOk result (λ says. map say_as says
+        ≡ du_modify (octet_way C.codec) at.now context.now.du epoch
+        ∷ path_switch (octet_way C.codec) at.now context.now attempt.now ∷ []) }
+{
+    let path = path_switch(at, context, attempt)?;
+    two(at.alloc, du_modify(at, context.du, epoch), path)
 }
 
 /// It arrived there, and lost its radio before that was known.
@@ -127,10 +163,7 @@ pub fn arrives_again<C: MessageCodec>(
     ensures { RowGives
         (arrives_again (octet_way C.codec) at.now epoch terminal.now context.now attempt) result }
 {
-    let path = path_switch(at, context, &attempt)?;
-    let says = two(at.alloc, du_modify(at, context.du, epoch), path)?;
+    let says = says_of_arrival_again(at, epoch, context, &attempt)?;
     attempt.epoch = u64::from(epoch);
-    attempt.path_open = true;
-    let context = context.attempted(StateName::Arrived, attempt);
-    Ok(took(at, terminal, epoch, says, context))
+    Ok(took(at, terminal, epoch, says, arrived(context, attempt)))
 }

@@ -1,16 +1,18 @@
 //! Tokens of a terminal by which it arrives at the target of an attach or of a handover between own DUs.
 
-ghost use Rattle.std.specs.Prelude.{◌≡◌, map, Some, false, IfOk};
-ghost use Rattle.unit_defs.specs.CpRows.{leave_old, leave_old_again, opens_path, completes, completes_again};
+ghost use Rattle.std.specs.Prelude.{◌≡◌, ◌∷◌, map, Some, false, IfOk};
+ghost use Rattle.unit_defs.specs.CpRecords.{attempted};
+ghost use Rattle.unit_defs.specs.CpRows.{leave_old, leave_old_again, opens_path, say_switch, completes, completes_again};
 ghost use Rattle.unit_octet_defs.specs.Codec.{octet_way};
 ghost use Rattle.control_says.specs.Rows.{say_as, RowGives};
 
 use crate::arriving::took;
 use control_contexts::{Attempt, Context, Terminal, copy_tunnels};
 use control_requests::{du_modify, du_release, path_switch, say_switch};
-use control_says::says::Says;
+use control_says::says::{Say, Says};
 use control_says::{At, Row, two, with_first};
 use gnb_types::items::{Items, Memory};
+use gnb_types::plans::TunnelList;
 use unit_defs::{AttemptKind, StateName};
 use unit_messages::MessageCodec;
 use unit_steps::StepError;
@@ -52,6 +54,54 @@ fn leave_old<C: MessageCodec>(
     }
 }
 
+/// The switch of the bearers to this DU.
+fn say_switch_to<C: MessageCodec>(
+    at: &At<'_, C>,
+    old: &Context,
+    du: u8,
+    downlinks: TunnelList,
+) -> Say
+    ensures { say_as result
+        ≡ say_switch (octet_way C.codec) at.now (record old.now { du = du }) downlinks }
+{
+    let mut there = old.serving();
+    there.du = du;
+    say_switch(at, &there, downlinks)
+}
+
+/// The bearers are switched to the DU of the attempt, and the old one lets go.
+fn says_of_completion<C: MessageCodec>(
+    at: &At<'_, C>,
+    old: &Context,
+    epoch: u32,
+    attempt: &Attempt,
+) -> Result<Says, Memory>
+    ensures { IfOk result (λ says. map say_as says
+        ≡ say_switch (octet_way C.codec) at.now (record old.now { du = attempt.now.du })
+        attempt.now.downlinks
+        ∷ leave_old (octet_way C.codec) at.now old.now
+        (record old.now { du = attempt.now.du; epoch = Some epoch; finished = false }) attempt.now
+        attempt.now.kind) }
+{
+    let left = leave_old(at, old, epoch, attempt)?;
+    let downlinks = copy_tunnels(at.alloc, &attempt.downlinks)?;
+    with_first(
+        at.alloc,
+        say_switch_to(at, old, attempt.du, downlinks),
+        left,
+    )
+}
+
+/// The context at the DU of the attempt.
+fn moved(old: &Context, state: StateName, attempt: Attempt) -> Context
+    ensures { result ≡ attempted (record old.now { du = attempt.du }) state attempt }
+{
+    let du = attempt.du;
+    let mut there = old.attempted(state, attempt);
+    there.du = du;
+    there
+}
+
 /// It arrived: the bearers are switched, and the old DU lets go.
 #[tactic(auto, unfolding(unit_defs::specs::CpRows::completes))]
 pub fn completes<C: MessageCodec>(
@@ -64,15 +114,11 @@ pub fn completes<C: MessageCodec>(
     ensures { RowGives
         (completes (octet_way C.codec) at.now epoch terminal.now context.now attempt) result }
 {
-    let downlinks = copy_tunnels(at.alloc, &attempt.downlinks)?;
-    let left = leave_old(at, context, epoch, &attempt)?;
-    let du = attempt.du;
+    let says = says_of_completion(at, context, epoch, &attempt)?;
     attempt.path_open = opens_path(at, attempt.kind);
-    let mut there = context.attempted(StateName::Completing, attempt);
-    there.du = du;
+    let mut there = moved(context, StateName::Completing, attempt);
     there.epoch = Some(epoch);
     there.finished = false;
-    let says = with_first(at.alloc, say_switch(at, &there, downlinks), left)?;
     Ok(took(at, terminal, epoch, says, there))
 }
 
@@ -116,10 +162,13 @@ pub fn completes_again<C: MessageCodec>(
         result }
 {
     let says = leave_old_again(at, context, epoch, &attempt)?;
-    let du = attempt.du;
     attempt.epoch = u64::from(epoch);
     attempt.path_open = opens_path(at, attempt.kind);
-    let mut there = context.attempted(StateName::Returning, attempt);
-    there.du = du;
-    Ok(took(at, terminal, epoch, says, there))
+    Ok(took(
+        at,
+        terminal,
+        epoch,
+        says,
+        moved(context, StateName::Returning, attempt),
+    ))
 }

@@ -1,15 +1,18 @@
 //! A handover between gNBs, at its target, before the terminal comes.
 
-ghost use Rattle.std.specs.Prelude.{◌≡◌, None};
-ghost use Rattle.unit_defs.specs.CpRows.{offer_context as offer_context_of, offer, offer_on, offer_has_tunnels, offer_is_declined, offer_is_placed};
+ghost use Rattle.std.specs.Prelude.{◌≡◌, [], ◌∷◌, ◌&&◌, map, true, None, IfOk};
+ghost use Rattle.unit_defs.specs.CpRows.{offer_context as offer_context_of, own_peer, own_up, own_du, du_setup, offer, offer_on, offer_has_tunnels, offer_is_declined, offer_is_placed};
 ghost use Rattle.unit_octet_defs.specs.Codec.{octet_way};
-ghost use Rattle.control_says.specs.Rows.{RowGives};
+ghost use Rattle.unit_defs.specs.CpRecords.{has_unit, replies_late};
+ghost use Rattle.unit_defs.specs.CpRows.{other_cp};
+ghost use Rattle.unit_defs.specs.Ways.{xn};
+ghost use Rattle.control_says.specs.Rows.{say_as, RowGives};
 
 use control_contexts::{Attempt, Context, Terminal, copy_tunnels, has_node};
 use control_requests::{bearer_setup, du_setup};
-use control_says::says::Say;
+use control_says::says::{Say, Says};
 use control_says::{At, Row, other_cp, told_epoch};
-use gnb_types::items::Items;
+use gnb_types::items::{Items, Memory};
 use gnb_types::names::{NodeId, SnBits};
 use gnb_types::plans::{Peer, TunnelList};
 use message_types::XnMessage;
@@ -92,6 +95,14 @@ pub fn offer<C: MessageCodec>(
     }
 }
 
+/// Whether the units of a place are set up.
+fn has_units<C>(at: &At<'_, C>, up: u8, du: u8) -> bool
+    ensures { result
+        ≡ (has_unit at.now.units (own_up at.now up) && has_unit at.now.units (own_du at.now du)) }
+{
+    has_node(at.units, NodeId::CuUp(at.gnb, up)) && has_node(at.units, NodeId::Du(at.gnb, du))
+}
+
 fn offer_begins<C: MessageCodec>(
     at: &At<'_, C>,
     from: NodeId,
@@ -102,10 +113,7 @@ fn offer_begins<C: MessageCodec>(
     ensures { RowGives
         (offer_on (octet_way C.codec) at.now from instance new terminal.now None) result }
 {
-    if !has_node(at.units, NodeId::CuUp(at.gnb, new.up)) {
-        return Row::only_says(at, terminal, refuse_offer(at, from, instance, NO_UNIT));
-    }
-    if !has_node(at.units, NodeId::Du(at.gnb, new.du)) {
+    if !has_units(at, new.up, new.du) {
         return Row::only_says(at, terminal, refuse_offer(at, from, instance, NO_UNIT));
     }
     let says = Items::one(at.alloc, bearer_setup(at, &new, true))?;
@@ -121,6 +129,37 @@ pub struct OfferTunnels {
     pub forward_up: TunnelList,
 }
 
+/// The DU is to set the terminal up.
+fn setup_of_offer<C: MessageCodec>(
+    at: &At<'_, C>,
+    context: &Context,
+    epoch: u64,
+    uplinks: TunnelList,
+) -> Result<Says, Memory>
+    ensures { IfOk result (λ says. map say_as says
+        ≡ du_setup (octet_way C.codec) at.now context.now context.now.du epoch uplinks ∷ []) }
+{
+    let epoch = told_epoch(epoch)?;
+    Items::one(at.alloc, du_setup(at, context, context.du, epoch, uplinks))
+}
+
+/// An attempt whose tunnels at its CU-UP are known, and whose DU was asked.
+fn with_tunnels(
+    mut attempt: Attempt,
+    n3: TunnelList,
+    forward_down: TunnelList,
+    forward_up: TunnelList,
+) -> Attempt
+    ensures { result ≡ record attempt
+        { n3 = n3; forward_down = forward_down; forward_up = forward_up; du_begun = true } }
+{
+    attempt.n3 = n3;
+    attempt.forward_down = forward_down;
+    attempt.forward_up = forward_up;
+    attempt.du_begun = true;
+    attempt
+}
+
 /// Its tunnels are there: the DU gets the context.
 #[tactic(auto, unfolding(unit_defs::specs::CpRows::offer_has_tunnels))]
 pub fn offer_has_tunnels<C: MessageCodec>(
@@ -128,21 +167,20 @@ pub fn offer_has_tunnels<C: MessageCodec>(
     tunnels: OfferTunnels,
     terminal: &Terminal,
     context: &Context,
-    mut attempt: Attempt,
+    attempt: Attempt,
 ) -> Result<Row, StepError>
     ensures { RowGives
         (offer_has_tunnels (octet_way C.codec) at.now tunnels.uplinks tunnels.n3
         tunnels.forward_down tunnels.forward_up terminal.now context.now attempt) result }
 {
-    let epoch = told_epoch(attempt.epoch)?;
-    let says = Items::one(
-        at.alloc,
-        du_setup(at, context, context.du, epoch, tunnels.uplinks),
-    )?;
-    attempt.n3 = tunnels.n3;
-    attempt.forward_down = tunnels.forward_down;
-    attempt.forward_up = tunnels.forward_up;
-    attempt.du_begun = true;
+    let OfferTunnels {
+        uplinks,
+        n3,
+        forward_down,
+        forward_up,
+    } = tunnels;
+    let attempt = with_tunnels(attempt, n3, forward_down, forward_up);
+    let says = setup_of_offer(at, context, attempt.epoch, uplinks)?;
     let context = context.attempted(StateName::Offered, attempt);
     Ok(Row::keeps(terminal, says, context))
 }
@@ -171,18 +209,16 @@ pub fn offer_is_declined<C: MessageCodec>(
     Ok(Row::gives_up(terminal, says))
 }
 
-/// The DU is ready: the source is told.
-#[tactic(auto, unfolding(unit_defs::specs::CpRows::offer_is_placed))]
-pub fn offer_is_placed<C: MessageCodec>(
+/// The source is told of the tunnels of forwarding.
+fn say_ready<C: MessageCodec>(
     at: &At<'_, C>,
-    downlinks: TunnelList,
-    terminal: &Terminal,
     context: &Context,
-    mut attempt: Attempt,
-) -> Result<Row, StepError>
-    ensures { RowGives
-        (offer_is_placed (octet_way C.codec) at.now downlinks terminal.now context.now attempt)
-        result }
+    attempt: &Attempt,
+) -> Result<Says, Memory>
+    ensures { IfOk result (λ says. map say_as says
+        ≡ replies_late (other_cp at.now) attempt.now.instance
+        (xn (XnMessage.HandoverRequestAcknowledge at.now.ue attempt.now.instance
+        (own_peer at.now context.now.up) attempt.now.forward_down attempt.now.forward_up)) ∷ []) }
 {
     let forward_down = copy_tunnels(at.alloc, &attempt.forward_down)?;
     let forward_up = copy_tunnels(at.alloc, &attempt.forward_up)?;
@@ -200,8 +236,24 @@ pub fn offer_is_placed<C: MessageCodec>(
             forward_up,
         }),
     };
-    let says = Items::one(at.alloc, ready)?;
+    Items::one(at.alloc, ready)
+}
+
+/// The DU is ready: the source is told.
+#[tactic(auto, unfolding(unit_defs::specs::CpRows::offer_is_placed))]
+pub fn offer_is_placed<C: MessageCodec>(
+    at: &At<'_, C>,
+    downlinks: TunnelList,
+    terminal: &Terminal,
+    context: &Context,
+    mut attempt: Attempt,
+) -> Result<Row, StepError>
+    ensures { RowGives
+        (offer_is_placed (octet_way C.codec) at.now downlinks terminal.now context.now attempt)
+        result }
+{
     attempt.downlinks = downlinks;
+    let says = say_ready(at, context, &attempt)?;
     let context = context.attempted(StateName::Ready, attempt);
     Ok(Row::keeps(terminal, says, context))
 }

@@ -1,7 +1,9 @@
 //! What the source of a handover says to its target after the offer (TS 38.423, 8.2.2, 8.2.3): the SN status, or that it is cancelled.
 
-ghost use Rattle.std.specs.Prelude.{◌≡◌, ◌++◌, [], ◌∷◌, map, true, false, Some, IfOk};
+ghost use Rattle.std.specs.Prelude.{◌≡◌, ◌&&◌, ◌++◌, [], ◌∷◌, map, true, false, Some, IfOk};
 ghost use Rattle.unit_defs.specs.CpRows.{takes_status, status, status_on, du_release_if, up_release as up_release_of, is_cancellable, offer_cancelled, xn_cancelled, xn_cancelled_of};
+ghost use Rattle.unit_defs.specs.CpRecords.{bearers_in};
+ghost use Rattle.unit_defs.specs.Messages.{are_bearers, statuses_of};
 ghost use Rattle.unit_octet_defs.specs.Codec.{octet_way};
 ghost use Rattle.control_says.specs.Rows.{say_as, RowGives};
 
@@ -61,6 +63,18 @@ pub fn status<C: MessageCodec>(
     }
 }
 
+/// Whether a context takes these statuses: they name its bearers.
+fn takes_these<C: MessageCodec>(
+    at: &At<'_, C>,
+    context: &Context,
+    statuses: &StatusList,
+) -> Result<bool, Memory>
+    ensures { IfOk result (λ takes. takes ≡ (takes_status (octet_way C.codec) context.now
+        && are_bearers (bearers_in context.now) (statuses_of statuses.now))) }
+{
+    Ok(takes_status(at, context) && statuses_name_bearers(at.alloc, context, statuses)?)
+}
+
 fn status_of<C: MessageCodec>(
     at: &At<'_, C>,
     from: NodeId,
@@ -73,10 +87,7 @@ fn status_of<C: MessageCodec>(
         (status_on (octet_way C.codec) at.now from instance statuses terminal.now
         (Some context.now)) result }
 {
-    if !takes_status(at, context) {
-        return Row::ignores(at, terminal, DropReason::Unexpected);
-    }
-    if !statuses_name_bearers(at.alloc, context, &statuses)? {
+    if !takes_these(at, context, &statuses)? {
         return Row::ignores(at, terminal, DropReason::Unexpected);
     }
     let confirm = transport_confirm(at, from, instance);

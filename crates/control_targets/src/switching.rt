@@ -1,8 +1,8 @@
 //! After an arrival or a return: the switch, the acceptance and the path switch.
 
-ghost use Rattle.std.specs.Prelude.{◌≡◌, map, IfOk, if◌then◌else◌};
-ghost use Rattle.unit_defs.specs.CpRecords.{serving};
-ghost use Rattle.unit_defs.specs.CpRows.{place_is_renewed, is_switched, let_source_go, path_is_switched};
+ghost use Rattle.std.specs.Prelude.{◌≡◌, [], ◌∷◌, map, true, Some, IfOk, if◌then◌else◌};
+ghost use Rattle.unit_defs.specs.CpRecords.{attempted, serving};
+ghost use Rattle.unit_defs.specs.CpRows.{say_accepted, place_is_renewed, is_switched, let_source_go, path_is_switched};
 ghost use Rattle.unit_octet_defs.specs.Codec.{octet_way};
 ghost use Rattle.control_says.specs.Rows.{say_as, RowGives};
 
@@ -44,25 +44,48 @@ fn ended_where(is_over: bool, context: Context) -> Context
     context
 }
 
+/// The acceptance of the attempt's epoch, and that epoch.
+fn acceptance<C: MessageCodec>(
+    at: &At<'_, C>,
+    context: &Context,
+    epoch: u64,
+) -> Result<(Says, u32), Memory>
+    ensures says { IfOk result (λ pair. map say_as pair.0
+        ≡ say_accepted (octet_way C.codec) at.now context.now epoch ∷ []) }
+    ensures epoch { IfOk result (λ pair. pair.1 ≡ epoch) }
+{
+    let epoch = told_epoch(epoch)?;
+    let says = Items::one(at.alloc, say_accepted(at, context, epoch)?)?;
+    Ok((says, epoch))
+}
+
+/// A context whose bearers were switched, with its accepted epoch.
+fn accepted(context: &Context, epoch: u32, mut attempt: Attempt) -> Context
+    ensures { result ≡ attempted (record context.now { epoch = Some epoch; finished = true })
+        context.now.state (record attempt { switched = true }) }
+{
+    attempt.switched = true;
+    let mut after = context.attempted(context.state, attempt);
+    after.epoch = Some(epoch);
+    after.finished = true;
+    after
+}
+
 /// The bearers were switched: the epoch is accepted. It is over where no path switch is open.
 #[tactic(auto, unfolding(unit_defs::specs::CpRows::is_switched))]
 pub fn is_switched<C: MessageCodec>(
     at: &At<'_, C>,
     terminal: &Terminal,
     context: &Context,
-    mut attempt: Attempt,
+    attempt: Attempt,
 ) -> Result<Row, StepError>
     ensures { RowGives
         (is_switched (octet_way C.codec) at.now terminal.now context.now attempt) result }
 {
-    let epoch = told_epoch(attempt.epoch)?;
-    let says = Items::one(at.alloc, say_accepted(at, context, epoch)?)?;
-    attempt.switched = true;
+    let (says, epoch) = acceptance(at, context, attempt.epoch)?;
     let is_over = !attempt.path_open;
-    let mut context = context.attempted(context.state, attempt);
-    context.epoch = Some(epoch);
-    context.finished = true;
-    Ok(Row::keeps(terminal, says, ended_where(is_over, context)))
+    let context = ended_where(is_over, accepted(context, epoch, attempt));
+    Ok(Row::keeps(terminal, says, context))
 }
 
 /// The source of a handover is let go, once its terminal has arrived here.
