@@ -26,5 +26,7 @@ pub fn to_bytes(alloc: Global, profile: &Profile, msg: &E1Message) -> Result<Oct
     let value = written(alloc, msg)?;
     let id = e1_pdu(profile);
     let module = profile.module();
-    Ok(encode(alloc, module, id, &value)?)
+    let octets = encode(alloc, module, id, &value);
+    drop(value);
+    Ok(octets?)
 }

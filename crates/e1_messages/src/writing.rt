@@ -22,6 +22,7 @@ use message_values::fields::{
     from_text, from_tunnels, from_ue,
 };
 use message_values::places::{INITIATING, Place, SUCCESSFUL, UNSUCCESSFUL, message_of};
+use results::beside;
 use std::alloc::Global;
 
 /// The value of a message.
@@ -111,9 +112,10 @@ fn setup_request(alloc: Global, instance: u32, name: &Octets) -> Result<Value, M
         code: E1_SETUP,
         outcome: INITIATING,
     };
+    let name = from_text(alloc, name)?;
     let fields = [
         (ElementName::Instance, Some(from_number(instance))),
-        (ElementName::Name, Some(from_text(alloc, name)?)),
+        (ElementName::Name, Some(name)),
     ];
     Ok(message_of(alloc, place, fields)?)
 }
@@ -171,19 +173,23 @@ fn context_setup_response(
         code: BEARER_CONTEXT_SETUP,
         outcome: SUCCESSFUL,
     };
+    let uplinks = from_tunnels(alloc, uplinks.as_slice())?;
+    let (n3, uplinks) = beside(from_tunnels(alloc, n3.as_slice()), uplinks)?;
+    let (forward_down, (uplinks, n3)) = beside(
+        from_any_tunnels(alloc, forward_down),
+        (uplinks, n3),
+    )?;
+    let (forward_up, (uplinks, n3, forward_down)) = beside(
+        from_any_tunnels(alloc, forward_up),
+        (uplinks, n3, forward_down),
+    )?;
     let fields = [
         (ElementName::Ue, Some(from_ue(ue))),
         (ElementName::Instance, Some(from_number(instance))),
-        (
-            ElementName::Uplinks,
-            Some(from_tunnels(alloc, uplinks.as_slice())?),
-        ),
-        (ElementName::N3, Some(from_tunnels(alloc, n3.as_slice())?)),
-        (
-            ElementName::ForwardDown,
-            from_any_tunnels(alloc, forward_down)?,
-        ),
-        (ElementName::ForwardUp, from_any_tunnels(alloc, forward_up)?),
+        (ElementName::Uplinks, Some(uplinks)),
+        (ElementName::N3, Some(n3)),
+        (ElementName::ForwardDown, forward_down),
+        (ElementName::ForwardUp, forward_up),
     ];
     Ok(message_of(alloc, place, fields)?)
 }
@@ -226,18 +232,29 @@ fn modification_request(
         code: BEARER_CONTEXT_MODIFICATION,
         outcome: INITIATING,
     };
+    let downlinks = from_any_tunnels(alloc, downlinks)?;
+    let (peer, downlinks) = beside(from_any_peer(alloc, peer), downlinks)?;
+    let (forward_down, (downlinks, peer)) = beside(
+        from_any_tunnels(alloc, forward_down),
+        (downlinks, peer),
+    )?;
+    let (forward_up, (downlinks, peer, forward_down)) = beside(
+        from_any_tunnels(alloc, forward_up),
+        (downlinks, peer, forward_down),
+    )?;
+    let (statuses, (downlinks, peer, forward_down, forward_up)) = beside(
+        from_any_statuses(alloc, statuses),
+        (downlinks, peer, forward_down, forward_up),
+    )?;
     let fields = [
         (ElementName::Ue, Some(from_ue(ue))),
         (ElementName::Instance, Some(from_number(instance))),
-        (ElementName::Downlinks, from_any_tunnels(alloc, downlinks)?),
+        (ElementName::Downlinks, downlinks),
         (ElementName::Mode, Some(enumeral(mode))),
-        (ElementName::Peer, from_any_peer(alloc, peer)?),
-        (
-            ElementName::ForwardDown,
-            from_any_tunnels(alloc, forward_down)?,
-        ),
-        (ElementName::ForwardUp, from_any_tunnels(alloc, forward_up)?),
-        (ElementName::Statuses, from_any_statuses(alloc, statuses)?),
+        (ElementName::Peer, peer),
+        (ElementName::ForwardDown, forward_down),
+        (ElementName::ForwardUp, forward_up),
+        (ElementName::Statuses, statuses),
         (ElementName::Du, from_any_octet(du)),
     ];
     Ok(message_of(alloc, place, fields)?)
@@ -257,11 +274,13 @@ fn modification_response(
         code: BEARER_CONTEXT_MODIFICATION,
         outcome: SUCCESSFUL,
     };
+    let uplinks = from_any_tunnels(alloc, uplinks)?;
+    let (statuses, uplinks) = beside(from_any_statuses(alloc, statuses), uplinks)?;
     let fields = [
         (ElementName::Ue, Some(from_ue(ue))),
         (ElementName::Instance, Some(from_number(instance))),
-        (ElementName::Uplinks, from_any_tunnels(alloc, uplinks)?),
-        (ElementName::Statuses, from_any_statuses(alloc, statuses)?),
+        (ElementName::Uplinks, uplinks),
+        (ElementName::Statuses, statuses),
     ];
     Ok(message_of(alloc, place, fields)?)
 }
