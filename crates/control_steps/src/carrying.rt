@@ -60,6 +60,9 @@ fn note<C: MessageCodec>(
     Ok(())
 }
 
+/// Lets go of a value. It is of any type, so that its caller has no path on which it lets go of what it has.
+fn let_go<T: Drop>(_value: T) {}
+
 #[tactic(auto, unfolding(unit_defs::specs::CpRecords::say_one))]
 fn say_ask<C: MessageCodec>(
     record: &mut ControlRecord,
@@ -114,17 +117,19 @@ fn say_reply<C: MessageCodec>(
     alloc: Global,
     codec: &C,
     channel: Channel,
-    message: &Message,
+    message: Message,
     outputs: &mut Outputs,
 ) -> Result<(), StepError>
     ensures { IsStep
         (step_after outputs.old (say_one (octet_way C.codec) (record { 0 = channel.ue }) record.old
-        (replies channel.peer (message_as message.now))))
+        (replies channel.peer (message_as message))))
         outputs.new record.new result }
 {
-    record
+    let result = record
         .requests
-        .reply(alloc, codec, channel, message, outputs)?;
+        .reply(alloc, codec, channel, &message, outputs);
+    let_go(message);
+    result?;
     Ok(())
 }
 
@@ -135,17 +140,19 @@ fn say_late_reply<C: MessageCodec>(
     codec: &C,
     channel: Channel,
     instance: u32,
-    message: &Message,
+    message: Message,
     outputs: &mut Outputs,
 ) -> Result<(), StepError>
     ensures { IsStep
         (step_after outputs.old (say_one (octet_way C.codec) (record { 0 = channel.ue }) record.old
-        (replies_late channel.peer instance (message_as message.now))))
+        (replies_late channel.peer instance (message_as message))))
         outputs.new record.new result }
 {
-    record
+    let result = record
         .requests
-        .reply_late(alloc, codec, channel, instance, message, outputs)?;
+        .reply_late(alloc, codec, channel, instance, &message, outputs);
+    let_go(message);
+    result?;
     Ok(())
 }
 
@@ -155,21 +162,22 @@ fn say_message<C: MessageCodec>(
     alloc: Global,
     codec: &C,
     channel: Channel,
-    message: &Message,
+    message: Message,
     outputs: &mut Outputs,
 ) -> Result<(), StepError>
     ensures { IsStep
         (step_after outputs.old (say_one (octet_way C.codec) (record { 0 = channel.ue }) record.now
-        (sends channel.peer (message_as message.now))))
+        (sends channel.peer (message_as message))))
         outputs.new record.now result }
 {
-    let bytes = codec.spell(alloc, message)?;
+    let bytes = codec.spell(alloc, &message);
+    let_go(message);
     put(
         outputs,
         Output::Control {
             to: channel.peer,
             ue: channel.ue,
-            bytes,
+            bytes: bytes?,
         },
     )
 }
@@ -222,23 +230,15 @@ fn say_one<C: MessageCodec>(
             say_cancel(record, alloc, codec, on(ue, to), message, outputs)
         }
         Say::Reply { to, message } => {
-            say_reply(record, alloc, codec, on(ue, to), &message, outputs)
+            say_reply(record, alloc, codec, on(ue, to), message, outputs)
         }
         Say::ReplyLate {
             to,
             instance,
             message,
-        } => say_late_reply(
-            record,
-            alloc,
-            codec,
-            on(ue, to),
-            instance,
-            &message,
-            outputs,
-        ),
+        } => say_late_reply(record, alloc, codec, on(ue, to), instance, message, outputs),
         Say::Send { to, message } => {
-            say_message(record, alloc, codec, on(ue, to), &message, outputs)
+            say_message(record, alloc, codec, on(ue, to), message, outputs)
         }
         Say::Fail(cause) => put(outputs, Output::FailedUe { ue, cause }),
         Say::Ignore(reason) => put(outputs, Output::Drop(reason)),

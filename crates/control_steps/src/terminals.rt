@@ -1,6 +1,6 @@
 //! What the attempt of a terminal awaits.
 
-ghost use Rattle.std.specs.Prelude.{◌≡◌, IfOk, OnOk, if◌then◌else◌};
+ghost use Rattle.std.specs.Prelude.{◌≡◌, OnOk, if◌then◌else◌};
 ghost use Rattle.unit_defs.specs.CpRecords.{awaiting, begun, on_attempt, on_context, with_attempt};
 
 use control_contexts::{Attempt, Context};
@@ -9,55 +9,49 @@ use gnb_types::items::Memory;
 use gnb_types::names::{NodeId, UeId};
 use std::alloc::Global;
 
-fn attempt_awaiting(attempt: Option<Attempt>, node: NodeId) -> Result<Option<Attempt>, Memory>
-    ensures { IfOk result (λ a. a ≡ on_attempt (λ x. awaiting x node) attempt) }
+fn attempt_awaiting(attempt: &mut Option<Attempt>, node: NodeId) -> Result<(), Memory>
+    ensures { OnOk result (attempt.new ≡ on_attempt (λ x. awaiting x node) attempt.old) }
 {
-    match attempt {
-        Some(attempt) => Ok(Some(attempt.awaiting(node)?)),
-        None => Ok(None),
+    if let Some(old) = attempt.take() {
+        *attempt = Some(old.awaiting(node)?);
     }
+    Ok(())
 }
 
 fn attempt_begun(
     alloc: Global,
-    attempt: Option<Attempt>,
+    attempt: &mut Option<Attempt>,
     node: NodeId,
     instance: u32,
-) -> Result<Option<Attempt>, Memory>
-    ensures { IfOk result (λ a. a ≡ on_attempt (λ x. begun x node instance) attempt) }
+) -> Result<(), Memory>
+    ensures { OnOk result (attempt.new ≡ on_attempt (λ x. begun x node instance) attempt.old) }
 {
-    match attempt {
-        Some(attempt) => Ok(Some(attempt.begun(alloc, node, instance)?)),
-        None => Ok(None),
+    if let Some(old) = attempt.take() {
+        *attempt = Some(old.begun(alloc, node, instance)?);
     }
+    Ok(())
 }
 
-fn context_awaiting(context: Option<Context>, node: NodeId) -> Result<Option<Context>, Memory>
-    ensures { IfOk result (λ c. c ≡ on_context (λ x. awaiting x node) context) }
+fn context_awaiting(context: &mut Option<Context>, node: NodeId) -> Result<(), Memory>
+    ensures { OnOk result (context.new ≡ on_context (λ x. awaiting x node) context.old) }
 {
     match context {
-        Some(mut context) => {
-            context.attempt = attempt_awaiting(context.attempt.take(), node)?;
-            Ok(Some(context))
-        }
-        None => Ok(None),
+        Some(context) => attempt_awaiting(&mut context.attempt, node),
+        None => Ok(()),
     }
 }
 
 fn context_begun(
     alloc: Global,
-    context: Option<Context>,
+    context: &mut Option<Context>,
     node: NodeId,
     instance: u32,
-) -> Result<Option<Context>, Memory>
-    ensures { IfOk result (λ c. c ≡ on_context (λ x. begun x node instance) context) }
+) -> Result<(), Memory>
+    ensures { OnOk result (context.new ≡ on_context (λ x. begun x node instance) context.old) }
 {
     match context {
-        Some(mut context) => {
-            context.attempt = attempt_begun(alloc, context.attempt.take(), node, instance)?;
-            Ok(Some(context))
-        }
-        None => Ok(None),
+        Some(context) => attempt_begun(alloc, &mut context.attempt, node, instance),
+        None => Ok(()),
     }
 }
 
@@ -71,7 +65,7 @@ pub(crate) fn note_awaiting(
     ensures { OnOk result (record.new ≡ with_attempt ue (λ a. awaiting a node) record.old) }
 {
     let mut terminal = record.terminal(alloc, ue)?;
-    terminal.context = context_awaiting(terminal.context.take(), node)?;
+    context_awaiting(&mut terminal.context, node)?;
     record.put_terminal(ue, terminal)
 }
 
@@ -86,6 +80,6 @@ pub(crate) fn note_begun(
     ensures { OnOk result (record.new ≡ with_attempt ue (λ a. begun a node instance) record.old) }
 {
     let mut terminal = record.terminal(alloc, ue)?;
-    terminal.context = context_begun(alloc, terminal.context.take(), node, instance)?;
+    context_begun(alloc, &mut terminal.context, node, instance)?;
     record.put_terminal(ue, terminal)
 }
