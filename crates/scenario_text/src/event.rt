@@ -6,7 +6,7 @@ use gnb_types::plans::Plan;
 pub use script_words::reason::TextReason;
 
 /// What a line of a script makes happen.
-#[derive(Clone, Debug, PartialEq, Eq, Drop)]
+#[derive(Drop)]
 pub enum Event {
     /// A terminal is set up without messages: `static uU G P D N C Q`.
     Static {
@@ -113,7 +113,7 @@ pub enum Event {
 }
 
 /// The first word of an event.
-#[derive(Clone, Copy, Debug, PartialEq, Eq)]
+#[derive(Clone, Copy)]
 pub enum Keyword {
     Static,
     Start,

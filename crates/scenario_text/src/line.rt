@@ -6,7 +6,7 @@ use gnb_types::octets::Octets;
 use gnb_types::reasons::{CauseName, DropReason, HeldReason, RefuseReason};
 
 /// A tunnel, named by its end, or the radio of a bearer, a direction and an epoch.
-#[derive(Clone, Copy, Debug, PartialEq, Eq)]
+#[derive(Clone, Copy)]
 pub enum Link {
     Tunnel {
         end: NodeId,
@@ -21,7 +21,7 @@ pub enum Link {
 }
 
 /// What a line shows of an item: its bearer and direction, the COUNT that the runner keeps beside it, and its bytes.
-#[derive(Clone, Debug, PartialEq, Eq, Drop)]
+#[derive(Clone, Debug, Drop)]
 pub struct Item {
     pub ue: UeId,
     pub bearer: BearerId,
@@ -31,7 +31,7 @@ pub struct Item {
 }
 
 /// A control message, by its number.
-#[derive(Clone, Debug, PartialEq, Eq, Drop)]
+#[derive(Drop)]
 pub struct Message {
     pub number: u32,
     pub from: NodeId,
@@ -42,7 +42,7 @@ pub struct Message {
 }
 
 /// A line of a transcript.
-#[derive(Clone, Debug, PartialEq, Eq, Drop)]
+#[derive(Drop)]
 pub enum OutLine {
     /// The event, as it was read, with upper-case hexadecimal digits: `> EVENT`.
     Happens {

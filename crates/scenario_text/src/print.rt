@@ -1,15 +1,18 @@
 //! The text of events and of lines, by `Display`.
 
 ghost use Rattle.std.specs.Prelude.{◌≡◌, Some, IfOk};
+ghost use Rattle.std.specs.List.{join_with_byte};
 ghost use Rattle.gnb_types.specs.Hex.{hex_of};
-ghost use Rattle.script_words.specs.Places.{sn_bits_text};
-ghost use Rattle.scenario_text.specs.Texts.{event_text};
+ghost use Rattle.script_words.specs.Places.{sn_bits_text, value_words};
+ghost use Rattle.scenario_text.specs.Grammar.{plan_places, radio_places, bearer_places};
+ghost use Rattle.scenario_text.specs.Texts.{plan_values, event_text};
 ghost use Rattle.scenario_text.specs.Print.{link_text, count_text, item_text, message_text, line_text};
 
 use crate::event::Event;
 use crate::line::{Item, Link, Message, OutLine};
-use gnb_types::names::SnBits;
+use gnb_types::names::{BearerId, Dir, SnBits, UeId};
 use gnb_types::octets::{Memory, Octets};
+use gnb_types::plans::Plan;
 use std::alloc::Global;
 use std::fmt;
 
@@ -74,23 +77,56 @@ impl fmt::Display for Count {
     }
 }
 
+/// The words of a plan: `uU G P D N C Q`.
+#[derive(Clone, Copy)]
+struct PlanWords(Plan);
+
+impl fmt::Display for PlanWords {
+    ghost output = { λ x. Some (join_with_byte 32 (value_words plan_places (plan_values x.0))) };
+
+    fn fmt<W: fmt::Write>(&self, f: &mut fmt::Formatter<W>) -> fmt::Result {
+        let plan = self.0;
+        let (ue, gnb, up, du, sn) = (plan.ue, plan.gnb, plan.up, plan.du, Bits(plan.sn));
+        let (bearers, quota) = (plan.bearers, plan.quota);
+        write!(f, "{ue} {gnb} {up} {du} {sn} {bearers} {quota}")
+    }
+}
+
+/// The words of a bearer and a direction: `uU bB DIR`.
+#[derive(Clone, Copy)]
+struct RadioWords(UeId, BearerId, Dir);
+
+impl fmt::Display for RadioWords {
+    ghost output = { λ x. Some (join_with_byte 32 (value_words radio_places (x.0, (x.1, (x.2, tt))))) };
+
+    fn fmt<W: fmt::Write>(&self, f: &mut fmt::Formatter<W>) -> fmt::Result {
+        let (ue, bearer, dir) = (self.0, self.1, self.2);
+        write!(f, "{ue} {bearer} {dir}")
+    }
+}
+
+/// The words of a bearer: `uU bB`.
+#[derive(Clone, Copy)]
+struct BearerWords(UeId, BearerId);
+
+impl fmt::Display for BearerWords {
+    ghost output = { λ x. Some (join_with_byte 32 (value_words bearer_places (x.0, (x.1, tt)))) };
+
+    fn fmt<W: fmt::Write>(&self, f: &mut fmt::Formatter<W>) -> fmt::Result {
+        let (ue, bearer) = (self.0, self.1);
+        write!(f, "{ue} {bearer}")
+    }
+}
+
 #[tactic(auto, unfolding(crate::specs::Texts::event_text))]
 impl fmt::Display for Event {
     ghost output = { λ x. Some (event_text x) };
 
     fn fmt<W: fmt::Write>(&self, f: &mut fmt::Formatter<W>) -> fmt::Result {
         match self {
-            Event::Static { plan } => {
-                let (ue, gnb, up, du, sn) = (plan.ue, plan.gnb, plan.up, plan.du, Bits(plan.sn));
-                let (bearers, quota) = (plan.bearers, plan.quota);
-                write!(f, "static {ue} {gnb} {up} {du} {sn} {bearers} {quota}")
-            }
+            Event::Static { plan } => write!(f, "static {}", PlanWords(*plan)),
             Event::Start => write!(f, "start"),
-            Event::Attach { plan } => {
-                let (ue, gnb, up, du, sn) = (plan.ue, plan.gnb, plan.up, plan.du, Bits(plan.sn));
-                let (bearers, quota) = (plan.bearers, plan.quota);
-                write!(f, "attach {ue} {gnb} {up} {du} {sn} {bearers} {quota}")
-            }
+            Event::Attach { plan } => write!(f, "attach {}", PlanWords(*plan)),
             Event::Offer {
                 ue,
                 bearer,
@@ -98,12 +134,12 @@ impl fmt::Display for Event {
                 packet,
             } => write!(f, "offer {ue} {bearer} {dir} {}", Hex(packet)),
             Event::Get { end, teid } => write!(f, "get {end}/{teid}"),
-            Event::Air { ue, bearer, dir } => write!(f, "air {ue} {bearer} {dir}"),
-            Event::Ack { ue, bearer, dir } => write!(f, "ack {ue} {bearer} {dir}"),
+            Event::Air { ue, bearer, dir } => write!(f, "air {}", RadioWords(*ue, *bearer, *dir)),
+            Event::Ack { ue, bearer, dir } => write!(f, "ack {}", RadioWords(*ue, *bearer, *dir)),
             Event::Give { message } => write!(f, "give #{message}"),
             Event::LoseMessage { message } => write!(f, "lose #{message}"),
             Event::LoseItem { end, teid } => write!(f, "lose {end}/{teid}"),
-            Event::Poll { ue, bearer } => write!(f, "poll {ue} {bearer}"),
+            Event::Poll { ue, bearer } => write!(f, "poll {}", BearerWords(*ue, *bearer)),
             Event::Pump => write!(f, "pump"),
             Event::Tick => write!(f, "tick"),
             Event::Fail { ue } => write!(f, "fail {ue}"),
@@ -112,7 +148,7 @@ impl fmt::Display for Event {
             Event::Handover { ue, gnb, up, du } => write!(f, "handover {ue} {gnb} {up} {du}"),
             Event::Cancel { ue } => write!(f, "cancel {ue}"),
             Event::Release { ue } => write!(f, "release {ue}"),
-            Event::Ask { ue, bearer } => write!(f, "ask {ue} {bearer}"),
+            Event::Ask { ue, bearer } => write!(f, "ask {}", BearerWords(*ue, *bearer)),
             Event::Settle => write!(f, "settle"),
             Event::InjectMessage { from, to, bytes } => {
                 write!(f, "inject {from} {to} {}", Hex(bytes))
@@ -173,7 +209,7 @@ impl fmt::Display for OutLine {
                 downlink,
                 uplink,
             } => write!(f, "quiet {ue} {bearer} {downlink} {uplink}"),
-            OutLine::Busy { ue, bearer } => write!(f, "busy {ue} {bearer}"),
+            OutLine::Busy { ue, bearer } => write!(f, "busy {}", BearerWords(*ue, *bearer)),
             OutLine::Settled { rounds } => write!(f, "settled {rounds}"),
             OutLine::Unsettled { rounds } => write!(f, "unsettled {rounds}"),
             OutLine::Refused { reason } => write!(f, "refused {reason}"),

@@ -163,7 +163,10 @@ const OTHERS: [(&str, TextReason); 27] = [
 fn are_refused(rt: &impl Abort, alloc: Global, lines: &[(&str, TextReason)]) {
     for &(line, reason) in lines {
         let read = read_event(alloc, line.as_bytes());
-        assert!(rt; read == Err(TextError::Refused(reason)), "{line}");
+        assert!(rt;
+            read.is_err_and(|error| error == TextError::Refused(reason)),
+            "{line}"
+        );
     }
 }
 
