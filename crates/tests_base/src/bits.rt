@@ -2,41 +2,50 @@
 
 use bits_core::reader::{BitError, BitReader};
 use bits_core::writer::BitWriter;
+use gnb_types::octets::{Memory, Octets};
 use std::alloc::Global;
-use std::process::Abort;
 use std::test::Fail;
 
-/// Puts fields, each a width and a value, with a pad where the width is 0, finds these octets, and takes the fields again.
-fn both_ways(
-    rt: &impl Abort,
-    alloc: Global,
-    fields: &[(u32, u64)],
-    octets: &[u8],
-) -> Result<(), Fail> {
+/// Puts fields, each a width and a value, with a pad where the width is 0.
+fn put_fields(alloc: Global, fields: &[(u32, u64)]) -> Result<Option<Octets>, Memory> {
     let mut writer = BitWriter::new(alloc);
     for &(width, value) in fields {
         if width == 0 {
             writer.align()?;
+        } else if width >= 64 || value >= 1 << width {
+            return Ok(None);
         } else {
-            assert!(rt; width < 64);
-            assert!(rt; value < 1 << width);
             writer.put_bits(value, width)?;
         }
     }
-    assert_eq!(rt; writer.finish().as_slice(), octets);
-    assert!(rt; octets.len() < 100);
+    Ok(Some(writer.finish()))
+}
+
+/// Whether these fields are taken from octets, and no more.
+fn takes_fields(octets: &[u8], fields: &[(u32, u64)]) -> bool {
+    if octets.len() >= 100 {
+        return false;
+    }
     let mut reader = BitReader::new(octets);
     for &(width, value) in fields {
-        if width == 0 {
-            assert!(rt; reader.skip_pad().is_ok());
+        let taken = if width == 0 {
+            reader.skip_pad().is_ok()
         } else {
-            assert!(rt; width < 64);
-            assert!(rt; reader.take_bits(width) == Ok(value));
+            width < 64 && reader.take_bits(width) == Ok(value)
+        };
+        if !taken {
+            return false;
         }
     }
-    assert_eq!(rt; reader.place(), 8 * octets.len() as u64);
-    assert!(rt; reader.take_bits(1) == Err(BitError::Short));
-    Ok(())
+    reader.place() == 8 * octets.len() as u64 && reader.take_bits(1) == Err(BitError::Short)
+}
+
+/// Whether fields are put as these octets, and taken from them again.
+fn both_ways(alloc: Global, fields: &[(u32, u64)], octets: &[u8]) -> Result<bool, Memory> {
+    match put_fields(alloc, fields)? {
+        Some(put) => Ok(put.as_slice() == octets && takes_fields(octets, fields)),
+        None => Ok(false),
+    }
 }
 
 /// The personnel record as far as 'John P Smith': a flag, lengths in 6 bits, and characters of 8 or 6 bits.
@@ -59,7 +68,7 @@ fn personnel_record(rt: HostRuntime) -> Result<(), Fail> {
         (8, 0x74),
         (8, 0x68),
     ];
-    both_ways(&rt, rt.alloc(), &aligned, b"\x86John\x50\x10Smith")?;
+    assert!(rt; both_ways(rt.alloc(), &aligned, b"\x86John\x50\x10Smith")?);
     let unaligned = [
         (1, 1),
         (6, 3),
@@ -76,60 +85,77 @@ fn personnel_record(rt: HostRuntime) -> Result<(), Fail> {
         (6, 35),
         (0, 0),
     ];
-    both_ways(
-        &rt,
-        rt.alloc(),
-        &unaligned,
-        &[0x86, 0x5d, 0x51, 0xd2, 0x88, 0x8a, 0x51, 0x25, 0xf1, 0x80],
-    )
+    let octets = [0x86, 0x5d, 0x51, 0xd2, 0x88, 0x8a, 0x51, 0x25, 0xf1, 0x80];
+    assert!(rt; both_ways(rt.alloc(), &unaligned, &octets)?);
+    Ok(())
 }
 
-#[test]
-fn widest_field_and_refusals(rt: HostRuntime) -> Result<(), Fail> {
-    let mut writer = BitWriter::new(rt.alloc());
+/// Four bits, the widest field, no bits, and one bit.
+fn widest_field(alloc: Global) -> Result<Octets, Memory> {
+    let mut writer = BitWriter::new(alloc);
     writer.put_bits(0xf, 4)?;
     writer.put_bits(0x0123_4567_89ab_cdef, 64)?;
     writer.put_bits(0, 0)?;
     writer.put_bits(1, 1)?;
-    let octets = writer.finish();
+    Ok(writer.finish())
+}
+
+/// Whether these are taken again, and what else is asked for is refused.
+fn takes_widest_field(octets: &[u8; 9]) -> bool {
+    let mut reader = BitReader::new(octets);
+    reader.take_bits(4) == Ok(0xf)
+        && reader.take_bits(64) == Ok(0x0123_4567_89ab_cdef)
+        && reader.skip_pad() == Err(BitError::Padding)
+        && reader.take_bits(5) == Err(BitError::Short)
+        && reader.place() == 68
+        && reader.take_bits(1) == Ok(1)
+        && reader.skip_pad().is_ok()
+        && reader.place() == 72
+}
+
+#[test]
+fn widest_field_and_refusals(rt: HostRuntime) -> Result<(), Fail> {
     let put = [0xf0, 0x12, 0x34, 0x56, 0x78, 0x9a, 0xbc, 0xde, 0xf8];
-    assert_eq!(rt; octets.as_slice(), put.as_slice());
-    let mut reader = BitReader::new(&put);
-    assert!(rt; reader.take_bits(4) == Ok(0xf));
-    assert!(rt; reader.take_bits(64) == Ok(0x0123_4567_89ab_cdef));
-    assert!(rt; reader.skip_pad() == Err(BitError::Padding));
-    assert!(rt; reader.take_bits(5) == Err(BitError::Short));
-    assert_eq!(rt; reader.place(), 68);
-    assert!(rt; reader.take_bits(1) == Ok(1));
-    assert!(rt; reader.skip_pad().is_ok());
-    assert_eq!(rt; reader.place(), 72);
+    assert!(rt; takes_widest_field(&put));
+    let octets = widest_field(rt.alloc())?;
+    assert!(rt; octets.as_slice() == put.as_slice());
     Ok(())
 }
 
-/// Octets put as a slice, then three bits; then octets taken from each of these places: the octet's number, how many, and which.
-#[test]
-fn whole_octets(rt: HostRuntime) -> Result<(), Fail> {
-    let mut writer = BitWriter::new(rt.alloc());
+/// Octets put as a slice, then three bits.
+fn per_and_bits(alloc: Global) -> Result<Octets, Memory> {
+    let mut writer = BitWriter::new(alloc);
     writer.put_octets(b"per")?;
     writer.put_bits(5, 3)?;
-    let octets = writer.finish();
-    assert_eq!(rt; octets.as_slice(), b"per\xa0".as_slice());
-    let cases: [(u64, usize, Option<&[u8]>); 6] = [
-        (0, 3, Some(b"per")),
-        (1, 2, Some(b"er")),
-        (3, 1, Some(b"\xa0")),
-        (3, 2, None),
-        (4, 0, Some(b"")),
-        (4, 1, None),
-    ];
-    for (start, count, found) in cases {
-        assert!(rt; start <= 4);
-        assert!(rt; octets.len() == 4);
-        let mut reader = BitReader::at(octets.as_slice(), 8 * start);
-        assert!(rt; reader.take_octets(count).ok() == found);
-        let taken = if found.is_some() { count } else { 0 };
-        assert!(rt; taken < 5);
-        assert_eq!(rt; reader.place(), 8 * (start + taken as u64));
+    Ok(writer.finish())
+}
+
+/// Octets taken from each of these places: the octet's number, how many, and which.
+const TAKEN: [(u64, usize, Option<&[u8]>); 6] = [
+    (0, 3, Some(b"per")),
+    (1, 2, Some(b"er")),
+    (3, 1, Some(b"\xa0")),
+    (3, 2, None),
+    (4, 0, Some(b"")),
+    (4, 1, None),
+];
+
+/// Whether so many octets are taken from a place, if they are there, and how far the reader is then.
+fn takes_octets(octets: &[u8; 4], start: u64, count: usize, found: Option<&[u8]>) -> bool {
+    if start > 4 || count > 4 {
+        return false;
     }
+    let mut reader = BitReader::at(octets, 8 * start);
+    let taken = if found.is_some() { count } else { 0 };
+    reader.take_octets(count).ok() == found && reader.place() == 8 * (start + taken as u64)
+}
+
+#[test]
+fn whole_octets(rt: HostRuntime) -> Result<(), Fail> {
+    for (start, count, found) in TAKEN {
+        assert!(rt; takes_octets(b"per\xa0", start, count, found));
+    }
+    let octets = per_and_bits(rt.alloc())?;
+    assert!(rt; octets.as_slice() == b"per\xa0".as_slice());
     Ok(())
 }

@@ -12,29 +12,41 @@ use gnb_types::reasons::{CauseName, DropReason, HeldReason, RefuseReason};
 use std::alloc::Global;
 use std::test::Fail;
 
-/// RFC 4648, section 10, and texts that stand for no bytes.
+/// RFC 4648, section 10.
+const VECTORS: [(&[u8], &[u8]); 7] = [
+    (b"", b""),
+    (b"f", b"66"),
+    (b"fo", b"666F"),
+    (b"foo", b"666F6F"),
+    (b"foob", b"666F6F62"),
+    (b"fooba", b"666F6F6261"),
+    (b"foobar", b"666F6F626172"),
+];
+
+/// Texts that stand for no bytes.
+const NO_BYTES: [&[u8]; 6] = [b"6", b"666", b"6G", b"g6", b"/0", b"0x"];
+
+/// Whether bytes have this text.
+fn has_text(alloc: Global, bytes: &[u8], text: &[u8]) -> Result<bool, Memory> {
+    let shown = hex_text(alloc, bytes)?;
+    Ok(shown.as_slice() == text)
+}
+
+/// Whether a text stands for these bytes.
+fn stands_for(alloc: Global, text: &[u8], bytes: &[u8]) -> Result<bool, HexError> {
+    let read = hex_bytes(alloc, text)?;
+    Ok(read.as_slice() == bytes)
+}
+
 #[test]
 fn hexadecimal_text(rt: HostRuntime) -> Result<(), Fail> {
-    let vectors: [(&[u8], &[u8]); 7] = [
-        (b"", b""),
-        (b"f", b"66"),
-        (b"fo", b"666F"),
-        (b"foo", b"666F6F"),
-        (b"foob", b"666F6F62"),
-        (b"fooba", b"666F6F6261"),
-        (b"foobar", b"666F6F626172"),
-    ];
-    for (bytes, text) in vectors {
-        assert_eq!(rt; hex_text(rt.alloc(), bytes)?.as_slice(), text);
-        assert_eq!(rt; hex_bytes(rt.alloc(), text)?.as_slice(), bytes);
+    for (bytes, text) in VECTORS {
+        assert!(rt; has_text(rt.alloc(), bytes, text)?);
+        assert!(rt; stands_for(rt.alloc(), text, bytes)?);
     }
-    assert_eq!(rt;
-        hex_bytes(rt.alloc(), b"fFaA09")?.as_slice(),
-        [0xff, 0xaa, 0x09].as_slice()
-    );
-    let refused: [&[u8]; 6] = [b"6", b"666", b"6G", b"g6", b"/0", b"0x"];
-    for text in refused {
-        assert!(rt; hex_bytes(rt.alloc(), text) == Err(HexError::NotHex));
+    assert!(rt; stands_for(rt.alloc(), b"fFaA09", &[0xff, 0xaa, 0x09])?);
+    for text in NO_BYTES {
+        assert!(rt; stands_for(rt.alloc(), text, b"") == Err(HexError::NotHex));
     }
     Ok(())
 }
@@ -73,20 +85,33 @@ fn lists_are_compared(rt: HostRuntime) -> Result<(), Fail> {
     Ok(())
 }
 
+/// A list's octets one by one.
+fn walked(alloc: Global, octets: &Octets) -> Result<Octets, Memory> {
+    let mut shown = Octets::new(alloc);
+    for octet in octets {
+        shown.push(*octet)?;
+    }
+    Ok(shown)
+}
+
+/// The sum of octets.
+fn sum_of(octets: Octets) -> u32 {
+    let mut sum: u32 = 0;
+    for octet in octets {
+        sum = sum.wrapping_add(u32::from(octet));
+    }
+    sum
+}
+
 /// A list is copied, walked, and taken apart.
 #[test]
 fn a_list_is_walked(rt: HostRuntime) -> Result<(), Fail> {
     let copy = four(rt.alloc())?.clone()?;
-    let mut shown = Octets::new(rt.alloc());
-    for octet in &copy {
-        shown.push(*octet)?;
-    }
-    assert!(rt; shown == copy);
-    let mut sum: u32 = 0;
-    for octet in copy {
-        sum = sum.wrapping_add(u32::from(octet));
-    }
-    assert_eq!(rt; sum, 10);
+    let shown = walked(rt.alloc(), &copy)?;
+    let is_copy = shown == copy;
+    drop(shown);
+    let sum = sum_of(copy);
+    assert!(rt; is_copy && sum == 10);
     Ok(())
 }
 

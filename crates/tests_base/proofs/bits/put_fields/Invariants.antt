@@ -1,5 +1,5 @@
 use Rattle.std.proofs.Common.{◌≡◌, false}
-use Rattle.tests_base.proofs.bits.both_ways.Given as goal
+use Rattle.tests_base.proofs.bits.put_fields.Given as goal
 
 abbrev pub invariant-loop-width : goal.invariant-loop-width
-invariant-loop-width g l = l.writer.failed ≡ false
+invariant-loop-width l = l.writer.failed ≡ false
