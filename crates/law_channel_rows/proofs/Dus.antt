@@ -85,7 +85,7 @@ module _ {M C P : Type 0} (talk : Talk M C P) (n : NodeId) where
   released_leaves ue r None = (refl, refl)
   released_leaves ue r (Some c) = (both_none (end_markers talk.way ue c) (closings talk.way c) (no_ends ue c.bearers) (no_closed (downlinks_of c)), refl)
 
-  asked_replies : (r : Du M C) (t : Transactions M C) (from : NodeId) (m : Message C) (ue i : ℕ) → kind_of m ≡ request ue i
+  pub asked_replies : (r : Du M C) (t : Transactions M C) (from : NodeId) (m : Message C) (ue i : ℕ) → kind_of m ≡ request ue i
       → Replies talk n kept t (channel ue from) m i (asked talk.way (channel ue from) m (with_transactions r t))
   unfolding kind_of setup modify release
   asked_replies r t from (f1 (f1s.UeContextSetupRequest owner instance epoch uplinks sn peer)) ue i is =
@@ -214,7 +214,7 @@ module _ {M C P : Type 0} (talk : Talk M C P) (n : NodeId) where
       (λ s e. carried_leaves r.transactions ue bearer c (gap_after talk.way b number restart pdu) pdu s e)
   frame_leaves ue bearer c b item r = (refl, refl)
 
-  take_leaves : (teid : ℕ) (item : Taken P) (r : Du M C) → Leaves talk n kept r.transactions (take talk.way teid item r)
+  pub take_leaves : (teid : ℕ) (item : Taken P) (r : Du M C) → Leaves talk n kept r.transactions (take talk.way teid item r)
   unfolding take
   take_leaves teid item r = by (find nat_cmp r.tunnels teid)
     where
@@ -230,7 +230,7 @@ module _ {M C P : Type 0} (talk : Talk M C P) (n : NodeId) where
       by None = (refl, refl)
       by (Some t) = in_context t.ue t.bearer (context_of r t.ue)
 
-  context_leaves : (r : Du M C) (row : DuContext → DuBearer → Answer M P (Du M C)) (bearer : BearerId) (c : Option DuContext)
+  pub context_leaves : (r : Du M C) (row : DuContext → DuBearer → Answer M P (Du M C)) (bearer : BearerId) (c : Option DuContext)
       → ((d : DuContext) (b : DuBearer) → Leaves talk n kept r.transactions (row d b)) → Leaves talk n kept r.transactions (of_context talk.way r row bearer c)
   context_leaves r row bearer None each = (refl, refl)
   context_leaves r row bearer (Some c) each = by (find bearer_cmp c.bearers bearer)
@@ -239,7 +239,7 @@ module _ {M C P : Type 0} (talk : Talk M C P) (n : NodeId) where
       by None = (refl, refl)
       by (Some b) = each c b
 
-  confirmed_leaves : (ue : UeId) (bearer : BearerId) (r : Du M C) (b : DuBearer) (number : Option ℕ)
+  pub confirmed_leaves : (ue : UeId) (bearer : BearerId) (r : Du M C) (b : DuBearer) (number : Option ℕ)
       → Leaves talk n kept r.transactions (confirmed talk.way ue bearer r b number)
   confirmed_leaves ue bearer r b None = (refl, refl)
   confirmed_leaves ue bearer r b (Some number) = (refl, refl)

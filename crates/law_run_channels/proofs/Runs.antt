@@ -12,7 +12,7 @@ use Rattle.gnb_types.specs.Orders.{ue_cmp}
 use Rattle.message_types.specs.declared.rrc.Token.{Token}
 use Rattle.tables.specs.Tables.{put}
 use Rattle.scenario_text.specs.declared.event.Event.{Event}
-use Rattle.unit_defs.specs.Ways.{Message, Pdu, Load, Output, Input, gives, spent}
+use Rattle.unit_defs.specs.Ways.{Message, Pdu, Load, Put as UnitPut, Output, Input, gives, spent}
 use Rattle.unit_defs.specs.Transactions.{Transactions, no_transactions}
 use Rattle.unit_defs.specs.UpRecords.{CuUp}
 use Rattle.unit_defs.specs.CuUp.{cu_up_acts}
@@ -24,7 +24,7 @@ use Rattle.run_defs.specs.Units.{cp_of, with_cp, up_of, with_up, du_of, with_du,
 use Rattle.run_defs.specs.Conditions.{units_placed, all_set_up}
 use Rattle.run_defs.specs.Written.{Written, written_put, PlainStepped, WrittenStepped, WrittenCoreStepped, written_step}
 use Rattle.run_defs.specs.States.{State, new_state, Lengths, letter_for, item_for, carried_for, confirmed_for, offer_for, tick_for, order_for, octets_from, octets_on, stepped, step_spent, core_stepped}
-use Rattle.run_defs.specs.Runs.{Reading, PlainGiven, Plain, plain_way, input_of, stepped_with, ue_stepped, acts_on, plain_by, core_done, plain_core, plain_world}
+use Rattle.run_defs.specs.Runs.{Reading, PlainGiven, Plain, plain_way, input_of, stepped_with, ue_stepped, acts_on, plain_answer, plain_by, core_done, plain_core, plain_world}
 use Rattle.law_steps.specs.Reached.{reached}
 use Rattle.law_channel.specs.Ends.{Sent}
 use Rattle.law_channel.specs.Exactly.{IfGives}
@@ -46,7 +46,7 @@ use Rattle.law_run_channels.proofs.Terminals.{Fits, terminal_fits}
 use Rattle.law_run_channels.proofs.Ties.{reads, contains_map, letters_kept, tokens_play, IsTied, tie, made_goes, same_ties, nothing_put, owes_of, first_tied}
 
 module _ (reading : Reading) where
-  abbrev Tied : PlainControl → Type 0
+  abbrev pub Tied : PlainControl → Type 0
   Tied k = IsTied k
 
   module _ (k : PlainControl) (h : Tied k) where
@@ -195,7 +195,7 @@ module _ (reading : Reading) where
 
     -- ---- a terminal that comes, and one that is set up without messages
 
-    came : (plan : Plan) → Tied (record k { units = with_ue k.units plan.ue (new_ue plan) })
+    pub came : (plan : Plan) → Tied (record k { units = with_ue k.units plan.ue (new_ue plan) })
     came plan = same_ties k (record k { units = with_ue k.units plan.ue (new_ue plan) }) (ue_same k plan.ue (new_ue plan)) refl h
 
     paths_same : (l : PlainControl) (paths : List (UeId × CorePath)) (m : NodeId) → kept_by (record l { core = record l.core { paths = paths } }) m ≡ kept_by l m
@@ -205,7 +205,7 @@ module _ (reading : Reading) where
     paths_same l paths Core = refl
     paths_same l paths (Ue u) = refl
 
-    was_placed : (plan : Plan) (n3 : List Tunnel) → Tied (record k {
+    pub was_placed : (plan : Plan) (n3 : List Tunnel) → Tied (record k {
       units = all_set_up (units_placed plan k.units);
       core = record k.core { paths = put ue_cmp k.core.paths plan.ue (record { up = up_id plan.gnb plan.up; n3 = n3 }) };
     })
@@ -217,28 +217,42 @@ module _ (reading : Reading) where
         (λ m. paths_same (record k { units = all_set_up (units_placed plan k.units) }) (put ue_cmp k.core.paths plan.ue (record { up = up_id plan.gnb plan.up; n3 = n3 })) m
         ∙ placed_same k plan m) refl h
 
+    -- ---- a step, where CU-CPs fit
+
+    pub answer_ties : CpsFit k → (sn : Lengths) (v : Records) (n : NodeId) (given : PlainGiven) (outputs : List (UnitPut (Message Token) (Written (Load Pdu)) (Written Pdu)))
+        → WasPut k.letters n given → plain_answer reading sn k.units n given ≡ stepped outputs v → Tied (with_letters (record k { units = v }) (letters_in n outputs))
+    answer_ties fit sn v n given outputs was is =
+        subst (AnsweredWell n) is
+        (written n sn (plain_by reading k.units n given (input_of reading given)) (answered fit n sn given (input_of reading given) (given_put n given was)))
+
+    pub core_ties : (sn : Lengths) (q : CoreRecord (Message Token) Token) (given : PlainGiven) (outputs : List (UnitPut (Message Token) (Written (Load Pdu)) (Written Pdu)))
+        → WasPut k.letters Core given → plain_core reading sn k.core given ≡ core_stepped outputs q → Tied (with_letters (record k { core = q }) (letters_in Core outputs))
+    core_ties sn q given outputs was is = subst CoreAnswered is (core_answered sn given was)
+
   -- ---- from a state that steps lead to, where CU-CPs fit
 
   module _ (fit : (k : PlainControl) → IsPassed reading k → CpsFit k) where
-    abbrev Passes : PlainControl → Type 0
+    abbrev pub Passes : PlainControl → Type 0
     Passes k = Tied k × IsPassed reading k
 
     kept : IsKept (plain_world reading) Passes
     kept = record {
       answers = λ sn k v n given outputs h was is. (
-        subst (AnsweredWell k h.0 n) is
-            (written k h.0 n sn (plain_by reading k.units n given (input_of reading given))
-            (answered k h.0 (fit k h.1) n sn given (input_of reading given) (given_put k h.0 n given was))),
+        answer_ties k h.0 (fit k h.1) sn v n given outputs was is,
         by_answer sn k v n given outputs h.1 was is,
       );
       comes = λ k plan h. (came k h.0 plan, by_coming k plan h.1);
       placed = λ k plan n3 free room teids h. (was_placed k h.0 plan n3, by_placing k plan n3 free h.1);
       core_answers = λ sn k q given outputs h was is. (
-        subst (CoreAnswered k h.0) is (core_answered k h.0 sn given was),
+        core_ties k h.0 sn q given outputs was is,
         by_core_step sn k q given outputs h.1 was is,
       );
     }
 
+    pub run_passes : (events : List Event) (t : State (Message Token) Token (Written (Load Pdu)) (Written Pdu))
+        → reached (plain_world reading) events new_state ≡ Some t → Passes (control_of t)
+    run_passes events t is = kept_holds (plain_world reading) Passes kept events new_state t (first_tied, at_first) is
+
     pub run_tied : (events : List Event) (t : State (Message Token) Token (Written (Load Pdu)) (Written Pdu))
         → reached (plain_world reading) events new_state ≡ Some t → Tied (control_of t)
-    run_tied events t is = (kept_holds (plain_world reading) Passes kept events new_state t (first_tied, at_first) is).0
+    run_tied events t is = (run_passes events t is).0

@@ -1,0 +1,4 @@
+pub mod Carried
+pub mod Rows
+pub mod Answers
+pub mod Acts

@@ -1,0 +1,4 @@
+pub mod Asked
+pub mod Joint
+pub mod Passed
+pub mod Steps

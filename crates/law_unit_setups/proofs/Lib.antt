@@ -1,0 +1,4 @@
+pub mod Cores
+pub mod CuUps
+pub mod Dus
+pub mod Growing
