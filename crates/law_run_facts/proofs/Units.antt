@@ -22,7 +22,7 @@ use Rattle.unit_defs.specs.CpRecords.{CuCpRecord}
 use Rattle.unit_defs.specs.UpRecords.{CuUp}
 use Rattle.unit_defs.specs.CuUp.{new_cu_up}
 use Rattle.unit_defs.specs.Du.{Du, new_du}
-use Rattle.unit_defs.specs.Static.{up_has_room, up_has_teids, du_has_teids, up_placed, du_placed, cp_placed, up_set_up, du_set_up}
+use Rattle.unit_defs.specs.Static.{up_has_room, up_has_teids, du_has_teids, up_placed, du_placed, cp_placed, up_set_up, du_set_up, cp_set_up}
 use Rattle.unit_defs.specs.Ue.{UeNode, new_ue, placed}
 use Rattle.run_defs.specs.Units.{Units, new_units, cp_of, with_cp, up_of, with_up, du_of, with_du, with_ue}
 use Rattle.run_defs.specs.Conditions.{units_placed, all_set_up}
@@ -107,15 +107,18 @@ module _ (facts : UnitFacts) where
           subst (λ (w : UeId). facts.ue w y) (sym same) (subst (facts.ue ue) those h)
       by v y false apart e = p.3 v y e
 
-  module _ (keep : UnitsKeep facts) where
-    set_up_holds : (u : Records) → OfUnits facts u → OfUnits facts (all_set_up u)
+  -- all units count as set up then
+  module _ (sets_up : (gnb : Gnb) (number : ℕ) (r : CuUp (Message Token) Token) → facts.up gnb number r → facts.up gnb number (up_set_up r))
+      (sets_du : (gnb : Gnb) (number : ℕ) (r : Du (Message Token) Token) → facts.du gnb number r → facts.du gnb number (du_set_up r))
+      (sets_cp : (gnb : Gnb) (r : CuCpRecord (Message Token) Token) → facts.cp gnb r → facts.cp gnb (cp_set_up r)) where
+    pub set_up_holds : (u : Records) → OfUnits facts u → OfUnits facts (all_set_up u)
     unfolding at
     set_up_holds u p = (ups, dus, cps, p.3)
       where
         up_by : (g : Gnb) (n : ℕ) (o : Option (CuUp (Message Token) Token)) → facts.up g n (unwrap_or o (new_cu_up g n))
             → facts.up g n (unwrap_or (option_map up_set_up o) (new_cu_up g n))
         up_by g n None h = h
-        up_by g n (Some r) h = keep.sets_up g n r h
+        up_by g n (Some r) h = sets_up g n r h
 
         ups : (g : Gnb) (n : ℕ) → facts.up g n (up_of (all_set_up u) g n)
         ups g n =
@@ -125,7 +128,7 @@ module _ (facts : UnitFacts) where
         du_by : (g : Gnb) (n : ℕ) (o : Option (Du (Message Token) Token)) → facts.du g n (unwrap_or o (new_du g n))
             → facts.du g n (unwrap_or (option_map du_set_up o) (new_du g n))
         du_by g n None h = h
-        du_by g n (Some r) h = keep.sets_du g n r h
+        du_by g n (Some r) h = sets_du g n r h
 
         dus : (g : Gnb) (n : ℕ) → facts.du g n (du_of (all_set_up u) g n)
         dus g n =
@@ -133,9 +136,10 @@ module _ (facts : UnitFacts) where
             (sym (find_mapped node_cmp du_set_up u.dus (du_id g n))) (du_by g n (find node_cmp u.dus (du_id g n)) (p.1 g n))
 
         cps : (g : Gnb) → facts.cp g (cp_of (all_set_up u) g)
-        cps A = keep.sets_cp A u.cp_a (p.2 A)
-        cps B = keep.sets_cp B u.cp_b (p.2 B)
+        cps A = sets_cp A u.cp_a (p.2 A)
+        cps B = sets_cp B u.cp_b (p.2 B)
 
+  module _ (keep : UnitsKeep facts) where
     pub placed_holds : (u : Records) (plan : Plan) → up_has_room (up_of u plan.gnb plan.up) plan ≡ true
         → up_has_teids (up_of u plan.gnb plan.up) plan && du_has_teids (du_of u plan.gnb plan.du) plan ≡ true
         → OfUnits facts u → OfUnits facts (all_set_up (units_placed plan u))
@@ -146,7 +150,7 @@ module _ (facts : UnitFacts) where
         let a : Records = with_ue u plan.ue (placed (new_ue plan)) in
         let b : Records = with_up a plan.gnb plan.up (up_placed up plan du.next_teid) in
         let c : Records = with_du b plan.gnb plan.du (du_placed du plan (up.next_teid + 1)) in
-        set_up_holds (units_placed plan u)
+        set_up_holds keep.sets_up keep.sets_du keep.sets_cp (units_placed plan u)
         (with_cp_holds c plan.gnb (cp_placed (cp_of u plan.gnb) plan)
         (with_du_holds b plan.gnb plan.du (du_placed du plan (up.next_teid + 1))
         (with_up_holds a plan.gnb plan.up (up_placed up plan du.next_teid)

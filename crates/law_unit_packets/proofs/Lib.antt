@@ -1,4 +1,5 @@
 pub mod Answers
+pub mod Keyed
 pub mod UpBearers
 pub mod CuUps
 pub mod Terminals
