@@ -1,12 +1,8 @@
 -- What units know in a run: a property of packets for each node, which all packets have that the node keeps. A unit that is given a packet
 -- with its property puts and delivers, and keeps then, packets with it alone.
-use Rattle.std.proofs.Common.{◌≡◌, ℕ, ◌+◌, Bool, true, false, cond, List, [], ◌∷◌, map, Option, Some, None, refl, sym, subst}
-use Rattle.std.specs.Prelude.{unwrap_or}
-use Rattle.std.specs.Option.{option_map}
-use Rattle.std.specs.BTreeMap.{is_at}
+use Rattle.std.proofs.Common.{◌≡◌, ℕ, List, [], ◌∷◌, map, Option, Some, None, refl, subst}
 use Rattle.std.specs.List.{AllByRecursion}
 use Rattle.gnb_types.specs.declared.names.Gnb.{Gnb}
-use Rattle.gnb_types.specs.declared.names.Gnb.TheVariants.{A, B}
 use Rattle.gnb_types.specs.declared.names.NodeId.{NodeId}
 use Rattle.gnb_types.specs.declared.names.NodeId.TheVariants.{CuCp, CuUp as up_id, Du as du_id, Core, Ue}
 use Rattle.gnb_types.specs.declared.names.UeId.{UeId}
@@ -16,30 +12,26 @@ use Rattle.gnb_types.specs.declared.names.Dir.TheVariants.{Dl, Ul}
 use Rattle.gnb_types.specs.declared.keys.EntityKey.{EntityKey}
 use Rattle.gnb_types.specs.declared.inputs.Order.{Order}
 use Rattle.gnb_types.specs.declared.plans.Plan.{Plan}
-use Rattle.gnb_types.specs.Orders.{node_cmp}
 use Rattle.message_types.specs.declared.rrc.Token.{Token}
-use Rattle.tables.specs.Tables.{find, at}
 use Rattle.pdcp_defs.specs.Senders.{Sender}
 use Rattle.pdcp_defs.specs.Receivers.{Receiver}
 use Rattle.unit_defs.specs.Ways.{Message, Pdu, packet_pdu, report_pdu, Load, fresh, numbered, frame, uplink, status, end_marker, Put, control, packet, radio, deliver, dropped, held, opened, closed, failed, no, Input, control_input, packet_input, radio_input, confirm_input, offer_input, tick_input, order_input, gives, spent}
 use Rattle.unit_defs.specs.UpRecords.{TunnelKind, n3, f1u_uplink, forwarding_down, forwarding_up, UpBearer, UpContext, UpTunnel, CuUp}
-use Rattle.unit_defs.specs.CuUp.{new_cu_up, cu_up_acts}
+use Rattle.unit_defs.specs.CuUp.{cu_up_acts}
 use Rattle.unit_defs.specs.Du.{Du, du_acts}
 use Rattle.unit_defs.specs.Ue.{UeBearer, UeNode, new_ue, placed, ue_acts}
 use Rattle.unit_defs.specs.CpRecords.{CuCpRecord}
 use Rattle.unit_defs.specs.CuCp.{cu_cp_acts}
 use Rattle.unit_defs.specs.Core.{CoreRecord, core_acts}
-use Rattle.unit_defs.specs.Static.{up_placed, du_placed, cp_placed, up_set_up}
 use Rattle.transport_defs.specs.declared.Item.{Item}
 use Rattle.run_defs.specs.Units.{Units, new_units, cp_of, with_cp, up_of, with_up, du_of, with_du, ue_of, with_ue}
 use Rattle.run_defs.specs.Written.{Written, written_put, PlainStepped, WrittenStepped, WrittenCoreStepped, written_step}
 use Rattle.run_defs.specs.States.{Lengths, letter_for, item_for, carried_for, confirmed_for, offer_for, tick_for, order_for, octets_from, octets_on, stepped, step_spent, core_stepped, entity}
 use Rattle.run_defs.specs.Conditions.{units_placed, all_set_up}
 use Rattle.run_defs.specs.Runs.{Reading, PlainGiven, Plain, plain_way, content_of, taken_of, input_of, stepped_with, ue_stepped, acts_on, plain_by, plain_answer, core_done, plain_core}
-use Rattle.law_teids.proofs.Placed.{find_mapped}
 use Rattle.law_run_facts.specs.UnitFacts.{UnitFacts, OfUnits}
 use Rattle.law_run_facts.proofs.Alone.{alone}
-use Rattle.law_run_facts.proofs.Units.{with_up_holds, with_du_holds, with_cp_holds, with_ue_holds}
+use Rattle.law_run_facts.proofs.Units.{with_up_holds, with_du_holds, with_cp_holds, with_ue_holds, units_set_up, first_hold}
 use Rattle.law_link_items.proofs.Octets.{map_all}
 use Rattle.law_unit_packets.specs.Packets.{of, dir_of, Property, ContentHas, TakenHas, UpInputHas, DuInputHas, UeInputHas, LoadHas, OutputHas, CountedHave, BearerHas, BearersHave, UpHas, UeHas, AnswerHas}
 use Rattle.law_unit_packets.proofs.CuUps.{cu_up_has, placed_has}
@@ -361,51 +353,15 @@ module _ (K : Knowledge) (reading : Reading) where
   unfolding new_ue
   comes_known u plan p = with_ue_holds (known K) u plan.ue (new_ue plan) p (new_has (of_packets (K (Ue plan.ue.0))) plan.ue (new_ue plan) 1 plan.bearers refl refl)
 
-  set_up_known : (u : Records) → Known K u → Known K (all_set_up u)
-  unfolding at
-  set_up_known u p = (ups, λ gnb number. tt, λ gnb. tt, p.3)
-    where
-      up_by : (g : Gnb) (n : ℕ) (o : Option (CuUp (Message Token) Token)) → up_knows K g n (unwrap_or o (new_cu_up g n))
-          → up_knows K g n (unwrap_or (option_map up_set_up o) (new_cu_up g n))
-      up_by g n None h = h
-      up_by g n (Some r) h = h
-
-      ups : (g : Gnb) (n : ℕ) → up_knows K g n (up_of (all_set_up u) g n)
-      ups g n =
-          subst (λ (o : Option (CuUp (Message Token) Token)). up_knows K g n (unwrap_or o (new_cu_up g n))) (sym (find_mapped node_cmp up_set_up u.ups (up_id g n)))
-          (up_by g n (find node_cmp u.ups (up_id g n)) (p.0 g n))
-
   pub placed_known : (u : Records) (plan : Plan) → Known K u → Known K (all_set_up (units_placed plan u))
   unfolding new_ue placed
   placed_known u plan p =
-      let up : CuUp (Message Token) Token = up_of u plan.gnb plan.up in
-      let du : Du (Message Token) Token = du_of u plan.gnb plan.du in
-      let a : Records = with_ue u plan.ue (placed (new_ue plan)) in
-      let b : Records = with_up a plan.gnb plan.up (up_placed up plan du.next_teid) in
-      let c : Records = with_du b plan.gnb plan.du (du_placed du plan (up.next_teid + 1)) in
-      set_up_known (units_placed plan u)
-      (with_cp_holds (known K) c plan.gnb (cp_placed (cp_of u plan.gnb) plan)
-      (with_du_holds (known K) b plan.gnb plan.du (du_placed du plan (up.next_teid + 1))
-      (with_up_holds (known K) a plan.gnb plan.up (up_placed up plan du.next_teid)
-      (with_ue_holds (known K) u plan.ue (placed (new_ue plan)) p (new_has (of_packets (K (Ue plan.ue.0))) plan.ue (placed (new_ue plan)) 1 plan.bearers refl refl))
-      (placed_has (of_packets (K (up_id plan.gnb plan.up))) up plan du.next_teid (p.0 plan.gnb plan.up))) tt) tt)
+      units_set_up (known K) (λ gnb number r h. h) (λ gnb number r h. tt) (λ gnb r h. tt) u plan p
+      (new_has (of_packets (K (Ue plan.ue.0))) plan.ue (placed (new_ue plan)) 1 plan.bearers refl refl)
+      (placed_has (of_packets (K (up_id plan.gnb plan.up))) (up_of u plan.gnb plan.up) plan (du_of u plan.gnb plan.du).next_teid (p.0 plan.gnb plan.up)) tt tt
 
   pub first_known : Known K new_units
-  unfolding at find
-  first_known = (ups, λ gnb number. tt, λ gnb. tt, λ ue x e. absurd cc)
-    where
-      up_by : (g : Gnb) (k : ℕ) (a b c d : Bool) → up_knows K g k (unwrap_or (cond a (Some (new_cu_up A 1)) (cond b (Some (new_cu_up A 2)) (cond c (Some (new_cu_up B 1))
-          (cond d (Some (new_cu_up B 2)) None)))) (new_cu_up g k))
-      up_by g k true b c d = tt
-      up_by g k false true c d = tt
-      up_by g k false false true d = tt
-      up_by g k false false false true = tt
-      up_by g k false false false false = tt
-
-      ups : (g : Gnb) (k : ℕ) → up_knows K g k (up_of new_units g k)
-      ups g k =
-          up_by g k (is_at (node_cmp (up_id g k)) (up_id A 1)) (is_at (node_cmp (up_id g k)) (up_id A 2)) (is_at (node_cmp (up_id g k)) (up_id B 1))
-          (is_at (node_cmp (up_id g k)) (up_id B 2))
+  first_known = first_hold (known K) (λ gnb number. tt) (λ gnb number. tt) (λ gnb. tt)
 
 -- ---- the core puts no packets but those that are offered
 

@@ -18,7 +18,7 @@ use Rattle.message_types.specs.declared.rrc.Token.{Token}
 use Rattle.tables.specs.Tables.{find, at}
 use Rattle.tables.proofs.TableLaws.{at-put, find-put}
 use Rattle.unit_defs.specs.Ways.{Message}
-use Rattle.unit_defs.specs.CpRecords.{CuCpRecord}
+use Rattle.unit_defs.specs.CpRecords.{CuCpRecord, new_cu_cp}
 use Rattle.unit_defs.specs.UpRecords.{CuUp}
 use Rattle.unit_defs.specs.CuUp.{new_cu_up}
 use Rattle.unit_defs.specs.Du.{Du, new_du}
@@ -139,6 +139,62 @@ module _ (facts : UnitFacts) where
         cps A = sets_cp A u.cp_a (p.2 A)
         cps B = sets_cp B u.cp_b (p.2 B)
 
+    -- a terminal is set up without messages, with these records of its units
+    pub units_set_up : (u : Records) (plan : Plan) → OfUnits facts u → facts.ue plan.ue (placed (new_ue plan))
+        → facts.up plan.gnb plan.up (up_placed (up_of u plan.gnb plan.up) plan (du_of u plan.gnb plan.du).next_teid)
+        → facts.du plan.gnb plan.du (du_placed (du_of u plan.gnb plan.du) plan ((up_of u plan.gnb plan.up).next_teid + 1))
+        → facts.cp plan.gnb (cp_placed (cp_of u plan.gnb) plan) → OfUnits facts (all_set_up (units_placed plan u))
+    units_set_up u plan p the_ue the_up the_du the_cp =
+        let up : CuUp (Message Token) Token = up_of u plan.gnb plan.up in
+        let du : Du (Message Token) Token = du_of u plan.gnb plan.du in
+        let a : Records = with_ue u plan.ue (placed (new_ue plan)) in
+        let b : Records = with_up a plan.gnb plan.up (up_placed up plan du.next_teid) in
+        let c : Records = with_du b plan.gnb plan.du (du_placed du plan (up.next_teid + 1)) in
+        set_up_holds (units_placed plan u)
+        (with_cp_holds c plan.gnb (cp_placed (cp_of u plan.gnb) plan)
+        (with_du_holds b plan.gnb plan.du (du_placed du plan (up.next_teid + 1))
+        (with_up_holds a plan.gnb plan.up (up_placed up plan du.next_teid)
+        (with_ue_holds u plan.ue (placed (new_ue plan)) p the_ue) the_up) the_du) the_cp)
+
+  -- the first units
+  module _ (first_up : (gnb : Gnb) (number : ℕ) → facts.up gnb number (new_cu_up gnb number))
+      (first_du : (gnb : Gnb) (number : ℕ) → facts.du gnb number (new_du gnb number)) (first_cp : (gnb : Gnb) → facts.cp gnb (new_cu_cp gnb)) where
+    pub first_hold : OfUnits facts new_units
+    unfolding at find
+    first_hold = (ups, dus, cps, λ ue x e. absurd cc)
+      where
+        up_pick : (g : Gnb) (k : ℕ) (h : Gnb) (j : ℕ) (t : Bool) → is_at (node_cmp (up_id g k)) (up_id h j) ≡ t → (o : Option (CuUp (Message Token) Token))
+            → facts.up g k (unwrap_or o (new_cu_up g k)) → facts.up g k (unwrap_or (cond t (Some (new_cu_up h j)) o) (new_cu_up g k))
+        up_pick g k h j true tie o is =
+            let same : up_id g k ≡ up_id h j = node_exact (up_id g k) (up_id h j) ((Equal-is (node_cmp (up_id g k) (up_id h j))).0 tie) in
+            subst (λ (x : NodeId). facts.up (gnb_in x) (number_in x) (new_cu_up h j)) (sym same) (first_up h j)
+        up_pick g k h j false apart o is = is
+
+        ups : (g : Gnb) (k : ℕ) → facts.up g k (up_of new_units g k)
+        ups g k =
+            up_pick g k A 1 (is_at (node_cmp (up_id g k)) (up_id A 1)) refl _
+            (up_pick g k A 2 (is_at (node_cmp (up_id g k)) (up_id A 2)) refl _
+            (up_pick g k B 1 (is_at (node_cmp (up_id g k)) (up_id B 1)) refl _
+            (up_pick g k B 2 (is_at (node_cmp (up_id g k)) (up_id B 2)) refl None (first_up g k))))
+
+        du_pick : (g : Gnb) (k : ℕ) (h : Gnb) (j : ℕ) (t : Bool) → is_at (node_cmp (du_id g k)) (du_id h j) ≡ t → (o : Option (Du (Message Token) Token))
+            → facts.du g k (unwrap_or o (new_du g k)) → facts.du g k (unwrap_or (cond t (Some (new_du h j)) o) (new_du g k))
+        du_pick g k h j true tie o is =
+            let same : du_id g k ≡ du_id h j = node_exact (du_id g k) (du_id h j) ((Equal-is (node_cmp (du_id g k) (du_id h j))).0 tie) in
+            subst (λ (x : NodeId). facts.du (gnb_in x) (number_in x) (new_du h j)) (sym same) (first_du h j)
+        du_pick g k h j false apart o is = is
+
+        dus : (g : Gnb) (k : ℕ) → facts.du g k (du_of new_units g k)
+        dus g k =
+            du_pick g k A 1 (is_at (node_cmp (du_id g k)) (du_id A 1)) refl _
+            (du_pick g k A 2 (is_at (node_cmp (du_id g k)) (du_id A 2)) refl _
+            (du_pick g k B 1 (is_at (node_cmp (du_id g k)) (du_id B 1)) refl _
+            (du_pick g k B 2 (is_at (node_cmp (du_id g k)) (du_id B 2)) refl None (first_du g k))))
+
+        cps : (g : Gnb) → facts.cp g (cp_of new_units g)
+        cps A = first_cp A
+        cps B = first_cp B
+
   module _ (keep : UnitsKeep facts) where
     pub placed_holds : (u : Records) (plan : Plan) → up_has_room (up_of u plan.gnb plan.up) plan ≡ true
         → up_has_teids (up_of u plan.gnb plan.up) plan && du_has_teids (du_of u plan.gnb plan.du) plan ≡ true
@@ -147,50 +203,8 @@ module _ (facts : UnitFacts) where
         let up : CuUp (Message Token) Token = up_of u plan.gnb plan.up in
         let du : Du (Message Token) Token = du_of u plan.gnb plan.du in
         let both = and_parts (up_has_teids up plan) (du_has_teids du plan) teids in
-        let a : Records = with_ue u plan.ue (placed (new_ue plan)) in
-        let b : Records = with_up a plan.gnb plan.up (up_placed up plan du.next_teid) in
-        let c : Records = with_du b plan.gnb plan.du (du_placed du plan (up.next_teid + 1)) in
-        set_up_holds keep.sets_up keep.sets_du keep.sets_cp (units_placed plan u)
-        (with_cp_holds c plan.gnb (cp_placed (cp_of u plan.gnb) plan)
-        (with_du_holds b plan.gnb plan.du (du_placed du plan (up.next_teid + 1))
-        (with_up_holds a plan.gnb plan.up (up_placed up plan du.next_teid)
-        (with_ue_holds u plan.ue (placed (new_ue plan)) p (keep.places_ue plan))
-        (keep.places_up up plan du.next_teid room both.0 (p.0 plan.gnb plan.up)))
-        (keep.places_du du plan (up.next_teid + 1) both.1 (p.1 plan.gnb plan.du)))
-        (keep.places_cp (cp_of u plan.gnb) plan (p.2 plan.gnb)))
+        units_set_up keep.sets_up keep.sets_du keep.sets_cp u plan p (keep.places_ue plan) (keep.places_up up plan du.next_teid room both.0 (p.0 plan.gnb plan.up))
+        (keep.places_du du plan (up.next_teid + 1) both.1 (p.1 plan.gnb plan.du)) (keep.places_cp (cp_of u plan.gnb) plan (p.2 plan.gnb))
 
     pub first_units : OfUnits facts new_units
-    unfolding at find
-    first_units = (ups, dus, cps, λ ue x e. absurd cc)
-      where
-        up_pick : (g : Gnb) (k : ℕ) (h : Gnb) (j : ℕ) (t : Bool) → is_at (node_cmp (up_id g k)) (up_id h j) ≡ t → (o : Option (CuUp (Message Token) Token))
-            → facts.up g k (unwrap_or o (new_cu_up g k)) → facts.up g k (unwrap_or (cond t (Some (new_cu_up h j)) o) (new_cu_up g k))
-        up_pick g k h j true tie o is =
-            let same : up_id g k ≡ up_id h j = node_exact (up_id g k) (up_id h j) ((Equal-is (node_cmp (up_id g k) (up_id h j))).0 tie) in
-            subst (λ (x : NodeId). facts.up (gnb_in x) (number_in x) (new_cu_up h j)) (sym same) (keep.first_up h j)
-        up_pick g k h j false apart o is = is
-
-        ups : (g : Gnb) (k : ℕ) → facts.up g k (up_of new_units g k)
-        ups g k =
-            up_pick g k A 1 (is_at (node_cmp (up_id g k)) (up_id A 1)) refl _
-            (up_pick g k A 2 (is_at (node_cmp (up_id g k)) (up_id A 2)) refl _
-            (up_pick g k B 1 (is_at (node_cmp (up_id g k)) (up_id B 1)) refl _
-            (up_pick g k B 2 (is_at (node_cmp (up_id g k)) (up_id B 2)) refl None (keep.first_up g k))))
-
-        du_pick : (g : Gnb) (k : ℕ) (h : Gnb) (j : ℕ) (t : Bool) → is_at (node_cmp (du_id g k)) (du_id h j) ≡ t → (o : Option (Du (Message Token) Token))
-            → facts.du g k (unwrap_or o (new_du g k)) → facts.du g k (unwrap_or (cond t (Some (new_du h j)) o) (new_du g k))
-        du_pick g k h j true tie o is =
-            let same : du_id g k ≡ du_id h j = node_exact (du_id g k) (du_id h j) ((Equal-is (node_cmp (du_id g k) (du_id h j))).0 tie) in
-            subst (λ (x : NodeId). facts.du (gnb_in x) (number_in x) (new_du h j)) (sym same) (keep.first_du h j)
-        du_pick g k h j false apart o is = is
-
-        dus : (g : Gnb) (k : ℕ) → facts.du g k (du_of new_units g k)
-        dus g k =
-            du_pick g k A 1 (is_at (node_cmp (du_id g k)) (du_id A 1)) refl _
-            (du_pick g k A 2 (is_at (node_cmp (du_id g k)) (du_id A 2)) refl _
-            (du_pick g k B 1 (is_at (node_cmp (du_id g k)) (du_id B 1)) refl _
-            (du_pick g k B 2 (is_at (node_cmp (du_id g k)) (du_id B 2)) refl None (keep.first_du g k))))
-
-        cps : (g : Gnb) → facts.cp g (cp_of new_units g)
-        cps A = keep.first_cp A
-        cps B = keep.first_cp B
+    first_units = first_hold keep.first_up keep.first_du keep.first_cp

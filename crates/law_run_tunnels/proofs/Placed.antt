@@ -31,7 +31,7 @@ use Rattle.law_teids.proofs.Placed.{find_mapped}
 use Rattle.law_owner_facts.specs.Owned.{UpOwns, DuOwns, AreOwned}
 use Rattle.law_tunnel_owners.proofs.Placed.{placed_owned}
 use Rattle.law_run_facts.specs.UnitFacts.{OfUnits}
-use Rattle.law_run_facts.proofs.Units.{with_up_holds, with_du_holds, with_cp_holds, with_ue_holds, set_up_holds}
+use Rattle.law_run_facts.proofs.Units.{units_set_up}
 use Rattle.law_tunnel_names.specs.Names.{Owners, UpList}
 use Rattle.law_tunnel_names.specs.CuCps.{TerminalNames, CpNames, PathNames, CoreNames}
 use Rattle.law_unit_tunnels.specs.Units.{Each, UplinkNames, DownlinkHolds, DuHolds, BearerNames, BearerHolds, UpHolds, UpNames, DuNames}
@@ -193,14 +193,10 @@ module _ (u : Records) (plan : Plan) where
 
     pub placed_named : OfUnits (Parts w) units_then
     placed_named =
-        set_up_holds (Parts w) (λ g n r h. (record { own = h.0.own; contexts = h.0.contexts; kept = h.0.kept }, h.1))
+        units_set_up (Parts w) (λ g n r h. (record { own = h.0.own; contexts = h.0.contexts; kept = h.0.kept }, h.1))
         (λ g n r h. (record { own = h.0.own; uplinks = h.0.uplinks; kept = h.0.kept }, h.1)) (λ g r h. record { own = h.own; terminals = h.terminals; kept = h.kept })
-        (units_placed plan u)
-        (with_cp_holds (Parts w) with_units plan.gnb (cp_placed (cp_of u plan.gnb) plan)
-        (with_du_holds (Parts w) (with_up (with_ue u plan.ue (placed (new_ue plan))) plan.gnb plan.up new_up) plan.gnb plan.du new_node
-        (with_up_holds (Parts w) (with_ue u plan.ue (placed (new_ue plan))) plan.gnb plan.up new_up (with_ue_holds (Parts w) u plan.ue (placed (new_ue plan)) p tt)
-        (up_named, subst (λ (r : CuUp (Message Token) Token). UpOwns r) up_then (owned.0 plan.gnb plan.up)))
-        (du_named, subst (λ (r : Du (Message Token) Token). DuOwns r) du_then (owned.1 plan.gnb plan.du))) cp_named)
+        u plan p tt (up_named, subst (λ (r : CuUp (Message Token) Token). UpOwns r) up_then (owned.0 plan.gnb plan.up))
+        (du_named, subst (λ (r : Du (Message Token) Token). DuOwns r) du_then (owned.1 plan.gnb plan.du)) cp_named
 
     abbrev its_path : CorePath
     its_path = record { up = up_id plan.gnb plan.up; n3 = n3_from 1 its_up.next_teid plan.bearers }

@@ -1,11 +1,7 @@
 -- In every run what stands on a tunnel is of its owner, and of the tunnel's kind.
-use Rattle.std.proofs.Common.{◌≡◌, ℕ, Bool, true, false, cond, List, [], ◌∷◌, map, Option, Some, None, refl, subst}
-use Rattle.std.specs.Prelude.{unwrap_or}
+use Rattle.std.proofs.Common.{◌≡◌, ℕ, List, [], ◌∷◌, map, Option, Some, None, refl, subst}
 use Rattle.std.specs.List.{AllByRecursion}
-use Rattle.std.specs.BTreeMap.{is_at}
-use Rattle.std.specs.Cmp.{Equal-is}
 use Rattle.gnb_types.specs.declared.names.Gnb.{Gnb}
-use Rattle.gnb_types.specs.declared.names.Gnb.TheVariants.{A, B}
 use Rattle.gnb_types.specs.declared.names.NodeId.{NodeId}
 use Rattle.gnb_types.specs.declared.names.NodeId.TheVariants.{CuCp, CuUp as up_id, Du as du_id, Core, Ue}
 use Rattle.gnb_types.specs.declared.names.UeId.{UeId}
@@ -13,8 +9,7 @@ use Rattle.gnb_types.specs.declared.names.BearerId.{BearerId}
 use Rattle.gnb_types.specs.declared.names.Dir.TheVariants.{Dl}
 use Rattle.gnb_types.specs.declared.plans.Tunnel.{Tunnel}
 use Rattle.gnb_types.specs.declared.keys.TunnelEnd.{TunnelEnd}
-use Rattle.gnb_types.specs.Orders.{node_cmp, tunnel_cmp}
-use Rattle.gnb_types.proofs.OrderLemmas.{node_exact}
+use Rattle.gnb_types.specs.Orders.{tunnel_cmp}
 use Rattle.message_types.specs.declared.rrc.Token.{Token}
 use Rattle.scenario_text.specs.declared.event.Event.{Event}
 use Rattle.tables.specs.Tables.{find, at}
@@ -24,11 +19,11 @@ use Rattle.unit_defs.specs.UpRecords.{CuUp, n3}
 use Rattle.unit_defs.specs.CuUp.{new_cu_up, cu_up_acts}
 use Rattle.unit_defs.specs.Du.{Du, new_du, du_acts}
 use Rattle.unit_defs.specs.Ue.{UeNode, new_ue, ue_acts}
-use Rattle.unit_defs.specs.CpRecords.{CuCpRecord}
+use Rattle.unit_defs.specs.CpRecords.{CuCpRecord, new_cu_cp}
 use Rattle.unit_defs.specs.CuCp.{cu_cp_acts}
 use Rattle.unit_defs.specs.Core.{CoreRecord, core_acts}
 use Rattle.transport_defs.specs.declared.Item.{Item}
-use Rattle.run_defs.specs.Units.{new_units, cp_of, with_cp, up_of, with_up, du_of, with_du, ue_of, with_ue}
+use Rattle.run_defs.specs.Units.{cp_of, with_cp, up_of, with_up, du_of, with_du, ue_of, with_ue}
 use Rattle.run_defs.specs.Written.{Written, written_put, PlainStepped, WrittenStepped, WrittenCoreStepped, written_step}
 use Rattle.run_defs.specs.States.{State, new_state, Lengths, letter_for, item_for, carried_for, confirmed_for, offer_for, tick_for, order_for, octets_from, octets_on, stepped, step_spent, core_stepped}
 use Rattle.run_defs.specs.Conditions.{units_placed, all_set_up}
@@ -39,11 +34,11 @@ use Rattle.law_owner_facts.specs.Owned.{UpOwns, DuOwns}
 use Rattle.law_answers.specs.After.{HoldsAfter}
 use Rattle.law_tunnel_owners.proofs.CuUps.{cu_up_owns}
 use Rattle.law_tunnel_owners.proofs.Dus.{du_owns}
-use Rattle.law_tunnel_owners.proofs.Placed.{first_owned}
+use Rattle.law_tunnel_owners.proofs.Placed.{nothing_up, nothing_du}
 use Rattle.law_run_facts.specs.Facts.{Facts, Hold, PutFits, PutsFit, GivenFits}
 use Rattle.law_run_facts.specs.UnitFacts.{OfUnits, written_facts}
 use Rattle.law_run_facts.specs.Later.{AreKeptTo}
-use Rattle.law_run_facts.proofs.Units.{with_up_holds, with_du_holds, with_cp_holds, with_ue_holds}
+use Rattle.law_run_facts.proofs.Units.{with_up_holds, with_du_holds, with_cp_holds, with_ue_holds, first_hold}
 use Rattle.law_run_facts.proofs.Plain.{plain_kept, first_holds}
 use Rattle.law_run_facts.proofs.Later.{facts_hold_to}
 use Rattle.law_run_facts.proofs.Both.{both, both_kept}
@@ -254,40 +249,9 @@ module _ (w : Records) (none : NoneIsFree (by_book (book_of w))) where
   new_node : (g : Gnb) (k : ℕ) → DuNames Its g k (new_du g k)
   new_node g k = record { own = refl; uplinks = tt; kept = record { opened = tt; waiting = tt; replies = tt } }
 
-  first_ups : (g : Gnb) (k : ℕ) → UpNames Its g k (up_of new_units g k)
-  unfolding at find
-  first_ups g k =
-      pick A 1 (is_at (node_cmp (up_id g k)) (up_id A 1)) refl _ (pick A 2 (is_at (node_cmp (up_id g k)) (up_id A 2)) refl _
-      (pick B 1 (is_at (node_cmp (up_id g k)) (up_id B 1)) refl _ (pick B 2 (is_at (node_cmp (up_id g k)) (up_id B 2)) refl None (new_up g k))))
-    where
-      pick : (h : Gnb) (j : ℕ) (t : Bool) → is_at (node_cmp (up_id g k)) (up_id h j) ≡ t → (o : Option (CuUp (Message Token) Token))
-          → UpNames Its g k (unwrap_or o (new_cu_up g k)) → UpNames Its g k (unwrap_or (cond t (Some (new_cu_up h j)) o) (new_cu_up g k))
-      pick h j true tie o so =
-          let same : up_id g k ≡ up_id h j = node_exact (up_id g k) (up_id h j) ((Equal-is (node_cmp (up_id g k) (up_id h j))).0 tie) in
-          let gnbs : h ≡ g = cc in
-          let numbers : j ≡ k = cc in
-          subst (λ (p : Gnb × ℕ). UpNames Its p.0 p.1 (new_cu_up h j)) (λ i. (gnbs i, numbers i)) (new_up h j)
-      pick h j false apart o so = so
-
-  first_dus : (g : Gnb) (k : ℕ) → DuNames Its g k (du_of new_units g k)
-  unfolding at find
-  first_dus g k =
-      pick A 1 (is_at (node_cmp (du_id g k)) (du_id A 1)) refl _ (pick A 2 (is_at (node_cmp (du_id g k)) (du_id A 2)) refl _
-      (pick B 1 (is_at (node_cmp (du_id g k)) (du_id B 1)) refl _ (pick B 2 (is_at (node_cmp (du_id g k)) (du_id B 2)) refl None (new_node g k))))
-    where
-      pick : (h : Gnb) (j : ℕ) (t : Bool) → is_at (node_cmp (du_id g k)) (du_id h j) ≡ t → (o : Option (Du (Message Token) Token))
-          → DuNames Its g k (unwrap_or o (new_du g k)) → DuNames Its g k (unwrap_or (cond t (Some (new_du h j)) o) (new_du g k))
-      pick h j true tie o so =
-          let same : du_id g k ≡ du_id h j = node_exact (du_id g k) (du_id h j) ((Equal-is (node_cmp (du_id g k) (du_id h j))).0 tie) in
-          let gnbs : h ≡ g = cc in
-          let numbers : j ≡ k = cc in
-          subst (λ (p : Gnb × ℕ). DuNames Its p.0 p.1 (new_du h j)) (λ i. (gnbs i, numbers i)) (new_node h j)
-      pick h j false apart o so = so
-
-  first_cps : (g : Gnb) → CpNames Its g (cp_of new_units g)
+  new_cp : (g : Gnb) → CpNames Its g (new_cu_cp g)
   unfolding find
-  first_cps A = record { own = refl; terminals = λ ue t e. absurd cc; kept = record { opened = tt; waiting = tt; replies = tt } }
-  first_cps B = record { own = refl; terminals = λ ue t e. absurd cc; kept = record { opened = tt; waiting = tt; replies = tt } }
+  new_cp g = record { own = refl; terminals = λ ue t e. absurd cc; kept = record { opened = tt; waiting = tt; replies = tt } }
 
   pub first : Hold Named new_state
   unfolding at find
@@ -295,7 +259,8 @@ module _ (w : Records) (none : NoneIsFree (by_book (book_of w))) where
       let laid = first_holds link_items items_keep in record {
         units = (
           laid.units,
-          (λ g n. (first_ups g n, (first_owned (Message Token) Token).0 g n), λ g n. (first_dus g n, (first_owned (Message Token) Token).1 g n), first_cps, λ ue x e. absurd cc),
+          first_hold (Parts w) (λ g n. (new_up g n, nothing_up (new_cu_up {M = Message Token} {C = Token} g n) refl refl))
+              (λ g n. (new_node g n, nothing_du (new_du {M = Message Token} {C = Token} g n) refl refl)) new_cp,
         );
         core = (laid.core, record { paths = λ ue path e. absurd cc; kept = record { opened = tt; waiting = tt; replies = tt } });
         letters = tt;
