@@ -32,7 +32,7 @@ use Rattle.law_laid_out.specs.Laid.{IsLaidLine, AreLaidBy, IsLaidStep, IsLaidEve
 
 -- ---- between two nodes
 
-laid_between : (teid : ℕ) (sn : SnBits) (from node : NodeId) (dir : Dir) (load : Load Pdu) → MayPut from node dir load
+pub laid_between : (teid : ℕ) (sn : SnBits) (from node : NodeId) (dir : Dir) (load : Load Pdu) → MayPut from node dir load
     → (bits : SnBits) × layout_between from node dir bits teid (count_of_load load) (load_octets teid (written_load sn load))
 laid_between teid sn Core (CuUp gnb number) Dl (fresh x) p = (sn, inl (x, refl))
 laid_between teid sn Core (CuUp gnb number) Dl end_marker p = (sn, inr refl)

@@ -1,88 +1,89 @@
 -- What units know in a run: a property of packets for each node, which all packets have that the node keeps. A unit that is given a packet
 -- with its property puts and delivers, and keeps then, packets with it alone.
-use Rattle.std.proofs.Common.{◌≡◌, ℕ, ◌+◌, Bool, true, false, cond, List, [], ◌∷◌, map, Option, Some, None, refl, sym, subst}
-use Rattle.std.specs.Prelude.{unwrap_or}
-use Rattle.std.specs.Option.{option_map}
-use Rattle.std.specs.BTreeMap.{is_at}
+use Rattle.std.proofs.Common.{◌≡◌, ℕ, List, [], ◌∷◌, map, Option, Some, None, refl, subst}
 use Rattle.std.specs.List.{AllByRecursion}
 use Rattle.gnb_types.specs.declared.names.Gnb.{Gnb}
-use Rattle.gnb_types.specs.declared.names.Gnb.TheVariants.{A, B}
 use Rattle.gnb_types.specs.declared.names.NodeId.{NodeId}
 use Rattle.gnb_types.specs.declared.names.NodeId.TheVariants.{CuCp, CuUp as up_id, Du as du_id, Core, Ue}
 use Rattle.gnb_types.specs.declared.names.UeId.{UeId}
 use Rattle.gnb_types.specs.declared.names.BearerId.{BearerId}
+use Rattle.gnb_types.specs.declared.names.Dir.{Dir}
+use Rattle.gnb_types.specs.declared.names.Dir.TheVariants.{Dl, Ul}
+use Rattle.gnb_types.specs.declared.keys.EntityKey.{EntityKey}
+use Rattle.gnb_types.specs.declared.inputs.Order.{Order}
 use Rattle.gnb_types.specs.declared.plans.Plan.{Plan}
-use Rattle.gnb_types.specs.Orders.{node_cmp}
 use Rattle.message_types.specs.declared.rrc.Token.{Token}
-use Rattle.tables.specs.Tables.{find, at}
 use Rattle.pdcp_defs.specs.Senders.{Sender}
 use Rattle.pdcp_defs.specs.Receivers.{Receiver}
-use Rattle.unit_defs.specs.Ways.{Message, Pdu, packet_pdu, report_pdu, Load, fresh, numbered, frame, uplink, status, end_marker, Put, control, packet, radio, deliver, dropped, held, opened, closed, failed, no, Input, gives, spent}
-use Rattle.unit_defs.specs.UpRecords.{UpBearer, UpContext, CuUp}
-use Rattle.unit_defs.specs.CuUp.{new_cu_up, cu_up_acts}
+use Rattle.unit_defs.specs.Ways.{Message, Pdu, packet_pdu, report_pdu, Load, fresh, numbered, frame, uplink, status, end_marker, Put, control, packet, radio, deliver, dropped, held, opened, closed, failed, no, Input, control_input, packet_input, radio_input, confirm_input, offer_input, tick_input, order_input, gives, spent}
+use Rattle.unit_defs.specs.UpRecords.{TunnelKind, n3, f1u_uplink, forwarding_down, forwarding_up, UpBearer, UpContext, UpTunnel, CuUp}
+use Rattle.unit_defs.specs.CuUp.{cu_up_acts}
 use Rattle.unit_defs.specs.Du.{Du, du_acts}
 use Rattle.unit_defs.specs.Ue.{UeBearer, UeNode, new_ue, placed, ue_acts}
 use Rattle.unit_defs.specs.CpRecords.{CuCpRecord}
 use Rattle.unit_defs.specs.CuCp.{cu_cp_acts}
 use Rattle.unit_defs.specs.Core.{CoreRecord, core_acts}
-use Rattle.unit_defs.specs.Static.{up_placed, du_placed, cp_placed, up_set_up}
+use Rattle.transport_defs.specs.declared.Item.{Item}
 use Rattle.run_defs.specs.Units.{Units, new_units, cp_of, with_cp, up_of, with_up, du_of, with_du, ue_of, with_ue}
 use Rattle.run_defs.specs.Written.{Written, written_put, PlainStepped, WrittenStepped, WrittenCoreStepped, written_step}
-use Rattle.run_defs.specs.States.{Lengths, letter_for, item_for, carried_for, confirmed_for, offer_for, tick_for, order_for, octets_from, octets_on, stepped, step_spent, core_stepped}
+use Rattle.run_defs.specs.States.{Lengths, letter_for, item_for, carried_for, confirmed_for, offer_for, tick_for, order_for, octets_from, octets_on, stepped, step_spent, core_stepped, entity}
 use Rattle.run_defs.specs.Conditions.{units_placed, all_set_up}
 use Rattle.run_defs.specs.Runs.{Reading, PlainGiven, Plain, plain_way, content_of, taken_of, input_of, stepped_with, ue_stepped, acts_on, plain_by, plain_answer, core_done, plain_core}
-use Rattle.law_teids.proofs.Placed.{find_mapped}
 use Rattle.law_run_facts.specs.UnitFacts.{UnitFacts, OfUnits}
 use Rattle.law_run_facts.proofs.Alone.{alone}
-use Rattle.law_run_facts.proofs.Units.{with_up_holds, with_du_holds, with_cp_holds, with_ue_holds}
+use Rattle.law_run_facts.proofs.Units.{with_up_holds, with_du_holds, with_cp_holds, with_ue_holds, units_set_up, first_hold}
 use Rattle.law_link_items.proofs.Octets.{map_all}
-use Rattle.law_unit_packets.specs.Packets.{Property, ContentHas, TakenHas, InputHas, LoadHas, OutputHas, CountedHave, BearerHas, BearersHave, UpHas, UeHas, AnswerHas}
+use Rattle.law_unit_packets.specs.Packets.{of, dir_of, Property, ContentHas, TakenHas, UpInputHas, DuInputHas, UeInputHas, LoadHas, OutputHas, CountedHave, BearerHas, BearersHave, UpHas, UeHas, AnswerHas}
 use Rattle.law_unit_packets.proofs.CuUps.{cu_up_has, placed_has}
-use Rattle.law_unit_packets.proofs.Terminals.{terminal_has, new_has}
-use Rattle.law_unit_packets.proofs.Dus.{du_has}
-use Rattle.law_unit_packets.proofs.Controls.{cu_cp_has, core_has}
+use Rattle.law_node_packets.proofs.Terminals.{terminal_has, new_has}
+use Rattle.law_node_packets.proofs.Dus.{du_has}
+use Rattle.law_node_packets.proofs.Controls.{cu_cp_has, core_has}
+use Rattle.law_run_tunnels.specs.Own.{IsOfKind, IsOwnAt}
 use Rattle.law_local_packets.specs.Says.{packet_of_pdu, packet_of_load}
 use Rattle.law_local_packets.specs.Local.{IfAny}
 
 -- where PDUs are what they say
-abbrev pub of_packets : (List ℕ → Type 0) → Property plain_way
+abbrev pub of_packets : (EntityKey → List ℕ → Type 0) → Property plain_way
 of_packets G = record {
   packet = G;
-  pdu = λ pdu. IfAny G (packet_of_pdu pdu);
-  writes = λ sn count p h. h;
-  reports = λ sn fmc bits. tt;
+  pdu = λ key pdu. IfAny (G key) (packet_of_pdu pdu);
+  writes = λ key sn count p h. h;
+  reports = λ key sn fmc bits. tt;
 }
 
 -- ---- more is known
 
-module _ (G H : List ℕ → Type 0) (more : (p : List ℕ) → G p → H p) where
-  counted_later : (es : List (ℕ × List ℕ)) → CountedHave (of_packets G) es → CountedHave (of_packets H) es
-  counted_later es all = map_all (λ (e : ℕ × List ℕ). G e.1) (λ (e : ℕ × List ℕ). H e.1) es (λ e h. more e.1 h) all
+module _ (G H : EntityKey → List ℕ → Type 0) (more : (key : EntityKey) (p : List ℕ) → G key p → H key p) where
+  counted_later : (key : EntityKey) (es : List (ℕ × List ℕ)) → CountedHave (of_packets G) key es → CountedHave (of_packets H) key es
+  counted_later key es all = map_all (λ (e : ℕ × List ℕ). G key e.1) (λ (e : ℕ × List ℕ). H key e.1) es (λ e h. more key e.1 h) all
 
-  bearer_later : (s : Sender (List ℕ)) (ps : List (List ℕ)) (r : Receiver (List ℕ)) → BearerHas (of_packets G) s ps r → BearerHas (of_packets H) s ps r
-  bearer_later s ps r p = record {
-    unconfirmed = counted_later s.unconfirmed p.unconfirmed;
-    waiting = map_all G H ps more p.waiting;
-    stored = counted_later r.stored p.stored;
+  bearer_later : (out back : EntityKey) (s : Sender (List ℕ)) (ps : List (List ℕ)) (r : Receiver (List ℕ)) → BearerHas (of_packets G) out back s ps r
+      → BearerHas (of_packets H) out back s ps r
+  bearer_later out back s ps r p = record {
+    unconfirmed = counted_later out s.unconfirmed p.unconfirmed;
+    waiting = map_all (G out) (H out) ps (more out) p.waiting;
+    stored = counted_later back r.stored p.stored;
   }
 
   up_later : (r : CuUp (Message Token) Token) → UpHas (of_packets G) r → UpHas (of_packets H) r
   up_later r p =
-      map_all (λ (e : UeId × UpContext). BearersHave (of_packets G) e.1.bearers) (λ (e : UeId × UpContext). BearersHave (of_packets H) e.1.bearers) r.contexts
-      (λ e all. map_all (λ (x : BearerId × UpBearer). BearerHas (of_packets G) x.1.sender x.1.waiting x.1.receiver)
-      (λ (x : BearerId × UpBearer). BearerHas (of_packets H) x.1.sender x.1.waiting x.1.receiver) e.1.bearers
-      (λ x h. bearer_later x.1.sender x.1.waiting x.1.receiver h) all) p
+      map_all (λ (e : UeId × UpContext). BearersHave (of_packets G) e.0 e.1.bearers) (λ (e : UeId × UpContext). BearersHave (of_packets H) e.0 e.1.bearers) r.contexts
+      (λ e all. map_all (λ (x : BearerId × UpBearer). BearerHas (of_packets G) (of e.0 x.0 Dl) (of e.0 x.0 Ul) x.1.sender x.1.waiting x.1.receiver)
+      (λ (x : BearerId × UpBearer). BearerHas (of_packets H) (of e.0 x.0 Dl) (of e.0 x.0 Ul) x.1.sender x.1.waiting x.1.receiver) e.1.bearers
+      (λ x h. bearer_later (of e.0 x.0 Dl) (of e.0 x.0 Ul) x.1.sender x.1.waiting x.1.receiver h) all) p
 
-  ue_later : (u : UeNode) → UeHas (of_packets G) u → UeHas (of_packets H) u
-  ue_later u p =
-      map_all (λ (x : BearerId × UeBearer). BearerHas (of_packets G) x.1.sender x.1.waiting x.1.receiver)
-      (λ (x : BearerId × UeBearer). BearerHas (of_packets H) x.1.sender x.1.waiting x.1.receiver) u.bearers
-      (λ x h. bearer_later x.1.sender x.1.waiting x.1.receiver h) p
+  ue_later : (ue : UeId) (u : UeNode) → UeHas (of_packets G) ue u → UeHas (of_packets H) ue u
+  ue_later ue u p = (
+    p.0,
+    map_all (λ (x : BearerId × UeBearer). BearerHas (of_packets G) (of u.plan.ue x.0 Ul) (of u.plan.ue x.0 Dl) x.1.sender x.1.waiting x.1.receiver)
+        (λ (x : BearerId × UeBearer). BearerHas (of_packets H) (of u.plan.ue x.0 Ul) (of u.plan.ue x.0 Dl) x.1.sender x.1.waiting x.1.receiver) u.bearers
+        (λ x h. bearer_later (of u.plan.ue x.0 Ul) (of u.plan.ue x.0 Dl) x.1.sender x.1.waiting x.1.receiver h) p.1,
+  )
 
 -- ---- all units
 
 abbrev pub Knowledge : Type 1
-Knowledge = NodeId → List ℕ → Type 0
+Knowledge = NodeId → EntityKey → List ℕ → Type 0
 
 abbrev Records : Type 0
 Records = Units (Message Token) Token
@@ -91,7 +92,7 @@ abbrev up_knows : Knowledge → Gnb → ℕ → CuUp (Message Token) Token → T
 up_knows K gnb number r = UpHas (of_packets (K (up_id gnb number))) r
 
 abbrev ue_knows : Knowledge → UeId → UeNode → Type 0
-ue_knows K ue u = UeHas (of_packets (K (Ue ue.0))) u
+ue_knows K ue u = UeHas (of_packets (K (Ue ue.0))) ue u
 
 abbrev known : Knowledge → UnitFacts
 known K = alone (up_knows K) (λ gnb number r. Unit {0}) (λ gnb r. Unit {0}) (ue_knows K) (λ r. Unit {0})
@@ -99,55 +100,92 @@ known K = alone (up_knows K) (λ gnb number r. Unit {0}) (λ gnb r. Unit {0}) (u
 abbrev pub Known : Knowledge → Records → Type 0
 Known K u = OfUnits (known K) u
 
-pub known_later : (K L : Knowledge) → ((node : NodeId) (p : List ℕ) → K node p → L node p) → (u : Records) → Known K u → Known L u
+pub known_later : (K L : Knowledge) → ((node : NodeId) (key : EntityKey) (p : List ℕ) → K node key p → L node key p) → (u : Records) → Known K u → Known L u
 known_later K L more u p = (
   λ gnb number. up_later (K (up_id gnb number)) (L (up_id gnb number)) (more (up_id gnb number)) (up_of u gnb number) (p.0 gnb number),
   p.1,
   p.2,
-  λ ue x is. ue_later (K (Ue ue.0)) (L (Ue ue.0)) (more (Ue ue.0)) x (p.3 ue x is),
+  λ ue x is. ue_later (K (Ue ue.0)) (L (Ue ue.0)) (more (Ue ue.0)) ue x (p.3 ue x is),
 )
 
 -- ---- what is given, and what is put and delivered
 
-abbrev pub GivenHas : (List ℕ → Type 0) → PlainGiven → Type 0
-GivenHas G (item_for teid item) = IfAny G (packet_of_load item.content.says)
-GivenHas G (carried_for item) = IfAny G (packet_of_pdu item.content.says)
-GivenHas G (offer_for ue bearer p) = G p
+abbrev pub GivenHas : (EntityKey → List ℕ → Type 0) → PlainGiven → Type 0
+GivenHas G (item_for teid item) = IfAny (G item.key) (packet_of_load item.content.says)
+GivenHas G (carried_for item) = IfAny (G item.key) (packet_of_pdu item.content.says)
+GivenHas G (offer_for ue bearer p) = G (entity ue bearer Ul) p
 GivenHas G given = Unit {0}
 
-abbrev pub PutHas : (List ℕ → Type 0) → Put (Message Token) (Written (Load Pdu)) (Written Pdu) → Type 0
-PutHas G (packet to teid ue bearer dir tag item) = IfAny G (packet_of_load item.says)
-PutHas G (radio ue bearer dir epoch tag pdu) = IfAny G (packet_of_pdu pdu.says)
-PutHas G (deliver ue bearer dir count p) = G p
+-- what a unit is given is its own: an item is the tunnel's owner's, and a terminal is given what is for it
+abbrev pub IsFor : NodeId → UeId → Type 0
+IsFor (Ue ue) who = who ≡ record { 0 = ue }
+IsFor node who = Unit {0}
+
+abbrev pub GivenOwn : Records → NodeId → PlainGiven → Type 0
+GivenOwn u node (item_for teid item) = IsOwnAt u node teid item.key item.content.says
+GivenOwn u node (carried_for item) = item.key.dir ≡ Dl → IsFor node item.key.ue
+GivenOwn u node (offer_for ue bearer p) = IsFor node ue
+GivenOwn u node given = Unit {0}
+
+abbrev pub PutHas : (EntityKey → List ℕ → Type 0) → Put (Message Token) (Written (Load Pdu)) (Written Pdu) → Type 0
+PutHas G (packet to teid ue bearer dir tag item) = IfAny (G (entity ue bearer dir)) (packet_of_load item.says)
+PutHas G (radio ue bearer dir epoch tag pdu) = IfAny (G (entity ue bearer dir)) (packet_of_pdu pdu.says)
+PutHas G (deliver ue bearer dir count p) = G (entity ue bearer dir) p
 PutHas G output = Unit {0}
 
-module _ (G : List ℕ → Type 0) where
-  load_taken : (load : Load Pdu) → IfAny G (packet_of_load load) → TakenHas (of_packets G) (taken_of load)
-  load_taken (fresh p) h = h
-  load_taken (numbered sn count p) h = h
-  load_taken (frame poll restart number None) h = tt
-  load_taken (frame poll restart number (Some pdu)) h = h
-  load_taken (uplink (packet_pdu count p)) h = h
-  load_taken (uplink (report_pdu fmc bits)) h = tt
-  load_taken (status lost delivered) h = tt
-  load_taken end_marker h = tt
+module _ (G : EntityKey → List ℕ → Type 0) where
+  load_taken : (key : EntityKey) (load : Load Pdu) → IfAny (G key) (packet_of_load load) → TakenHas (of_packets G) key (taken_of load)
+  load_taken key (fresh p) h = h
+  load_taken key (numbered sn count p) h = h
+  load_taken key (frame poll restart number None) h = tt
+  load_taken key (frame poll restart number (Some pdu)) h = h
+  load_taken key (uplink (packet_pdu count p)) h = h
+  load_taken key (uplink (report_pdu fmc bits)) h = tt
+  load_taken key (status lost delivered) h = tt
+  load_taken key end_marker h = tt
 
-  pdu_content : (pdu : Pdu) → IfAny G (packet_of_pdu pdu) → ContentHas (of_packets G) (content_of pdu)
-  pdu_content (packet_pdu count p) h = h
-  pdu_content (report_pdu fmc bits) h = tt
+  pdu_content : (key : EntityKey) (pdu : Pdu) → IfAny (G key) (packet_of_pdu pdu) → ContentHas (of_packets G) key (content_of pdu)
+  pdu_content key (packet_pdu count p) h = h
+  pdu_content key (report_pdu fmc bits) h = tt
 
-  load_said : (load : Load Pdu) → LoadHas (of_packets G) load → IfAny G (packet_of_load load)
-  load_said (fresh p) h = h
-  load_said (numbered sn count p) h = h
-  load_said (frame poll restart number None) h = tt
-  load_said (frame poll restart number (Some pdu)) h = h
-  load_said (uplink pdu) h = h
-  load_said (status lost delivered) h = tt
-  load_said end_marker h = tt
+  -- on a tunnel of this kind the packets go in its direction: a delivery status, which goes in the other one, has none
+  kind_goes : (kind : TunnelKind) (ue : UeId) (bearer : BearerId) (dir : Dir) (load : Load Pdu) → IsOfKind kind dir load
+      → IfAny (G (of ue bearer dir)) (packet_of_load load) → IfAny (G (of ue bearer (dir_of kind))) (packet_of_load load)
+  kind_goes n3 ue bearer Dl load is h = h
+  kind_goes forwarding_down ue bearer Dl load is h = h
+  kind_goes forwarding_up ue bearer Ul load is h = h
+  kind_goes f1u_uplink ue bearer Ul load is h = h
+  kind_goes f1u_uplink ue bearer Dl (status lost delivered) is h = tt
+  kind_goes kind ue bearer dir load is h = absurd is
+
+  up_taken : (key : EntityKey) (load : Load Pdu) (owner : UpTunnel) → (key.ue ≡ owner.ue) × (key.bearer ≡ owner.bearer) × IsOfKind owner.kind key.dir load
+      → IfAny (G key) (packet_of_load load) → TakenHas (of_packets G) (of owner.ue owner.bearer (dir_of owner.kind)) (taken_of load)
+  up_taken key load owner own h =
+      load_taken (of owner.ue owner.bearer (dir_of owner.kind)) load
+      (kind_goes owner.kind owner.ue owner.bearer key.dir load own.2
+      (subst (λ (b : BearerId). IfAny (G (of owner.ue b key.dir)) (packet_of_load load)) own.1
+      (subst (λ (u : UeId). IfAny (G (of u key.bearer key.dir)) (packet_of_load load)) own.0 h)))
+
+  du_taken : (key : EntityKey) (load : Load Pdu) (ue : UeId) (bearer : BearerId) → key.ue ≡ ue → key.bearer ≡ bearer → key.dir ≡ Dl
+      → IfAny (G key) (packet_of_load load) → TakenHas (of_packets G) (of ue bearer Dl) (taken_of load)
+  du_taken key load ue bearer whose which goes h =
+      load_taken (of ue bearer Dl) load
+      (subst (λ (d : Dir). IfAny (G (of ue bearer d)) (packet_of_load load)) goes
+      (subst (λ (b : BearerId). IfAny (G (of ue b key.dir)) (packet_of_load load)) which
+      (subst (λ (u : UeId). IfAny (G (of u key.bearer key.dir)) (packet_of_load load)) whose h)))
+
+  load_said : (key : EntityKey) (load : Load Pdu) → LoadHas (of_packets G) key load → IfAny (G key) (packet_of_load load)
+  load_said key (fresh p) h = h
+  load_said key (numbered sn count p) h = h
+  load_said key (frame poll restart number None) h = tt
+  load_said key (frame poll restart number (Some pdu)) h = h
+  load_said key (uplink pdu) h = h
+  load_said key (status lost delivered) h = tt
+  load_said key end_marker h = tt
 
   written_has : (lengths : Lengths) (output : Put (Message Token) (Load Pdu) Pdu) → OutputHas (of_packets G) output → PutHas G (written_put lengths output)
   written_has lengths (control to ue message) h = tt
-  written_has lengths (packet to teid ue bearer dir tag load) h = load_said load h
+  written_has lengths (packet to teid ue bearer dir tag load) h = load_said (entity ue bearer dir) load h
   written_has lengths (radio ue bearer dir epoch tag pdu) h = h
   written_has lengths (deliver ue bearer dir count p) h = h
   written_has lengths (dropped reason) h = tt
@@ -196,7 +234,14 @@ module _ (K : Knowledge) (reading : Reading) where
   by_ue u ue (gives outputs x) p h = (with_ue_holds (known K) u (record { 0 = ue }) x p h.0, h.1)
   by_ue u ue (spent counter) p h = tt
 
-  acted : (u : Records) (node : NodeId) (input : Input Token Pdu) → Known K u → InputHas (of_packets (K node)) input → Answered node (acts_on reading u node input)
+  abbrev InputHas : Records → NodeId → Input Token Pdu → Type 0
+  InputHas u (CuCp gnb) input = Unit {0}
+  InputHas u (up_id gnb number) input = UpInputHas (of_packets (K (up_id gnb number))) (up_of u gnb number) input
+  InputHas u (du_id gnb number) input = DuInputHas (of_packets (K (du_id gnb number))) (du_of u gnb number) input
+  InputHas u (Ue ue) input = UeInputHas (of_packets (K (Ue ue))) (record { 0 = ue }) input
+  InputHas u Core input = Unit {0}
+
+  acted : (u : Records) (node : NodeId) (input : Input Token Pdu) → Known K u → InputHas u node input → Answered node (acts_on reading u node input)
   acted u (CuCp gnb) input p brings = by_cp u gnb (cu_cp_acts plain_way (cp_of u gnb) input) p (cu_cp_has (of_packets (K (CuCp gnb))) (cp_of u gnb) input)
   acted u (up_id gnb number) input p brings =
       by_up u gnb number (cu_up_acts plain_way (up_of u gnb number) input) p
@@ -208,25 +253,86 @@ module _ (K : Knowledge) (reading : Reading) where
       there : (o : Option UeNode) → ue_of u (record { 0 = ue }) ≡ o → Answered (Ue ue) (ue_stepped reading u ue input o)
       there None is = (p, tt)
       there (Some x) is =
-          by_ue u ue (ue_acts plain_way x input) p (terminal_has (of_packets (K (Ue ue))) x input (p.3 (record { 0 = ue }) x is) brings)
+          by_ue u ue (ue_acts plain_way x input) p
+          (terminal_has (of_packets (K (Ue ue))) (record { 0 = ue }) x input (p.3 (record { 0 = ue }) x is) brings)
   acted u Core input p brings = (p, tt)
 
-  abbrev Brings : NodeId → Option (Input Token Pdu) → Type 0
-  Brings node None = Unit {0}
-  Brings node (Some input) = InputHas (of_packets (K node)) input
+  abbrev Brings : Records → NodeId → Option (Input Token Pdu) → Type 0
+  Brings u node None = Unit {0}
+  Brings u node (Some input) = InputHas u node input
 
-  given_brings : (node : NodeId) (given : PlainGiven) → GivenHas (K node) given → Brings node (input_of reading given)
-  given_brings node (letter_for from message) h = tt
-  given_brings node (item_for teid item) h = load_taken (K node) item.content.says h
-  given_brings node (carried_for item) h = (h, pdu_content (K node) item.content.says h)
-  given_brings node (confirmed_for item) h = tt
-  given_brings node (offer_for ue bearer p) h = h
-  given_brings node tick_for h = tt
-  given_brings node (order_for order) h = tt
-  given_brings node (octets_from from octets) h = tt
-  given_brings node (octets_on teid octets) h = tt
+  -- by each node: a tunnel's item is its owner's, and a radio's is the terminal's
+  item_brings : (u : Records) (node : NodeId) (teid : ℕ) (item : Item (Written (Load Pdu))) → IfAny (K node item.key) (packet_of_load item.content.says)
+      → IsOwnAt u node teid item.key item.content.says → InputHas u node (packet_input teid (taken_of item.content.says))
+  item_brings u (up_id gnb number) teid item h own = λ owner there. up_taken (K (up_id gnb number)) item.key item.content.says owner (own owner there) h
+  item_brings u (du_id gnb number) teid item h own =
+      λ owner there.
+      let is = own owner there in
+      du_taken (K (du_id gnb number)) item.key item.content.says owner.ue owner.bearer is.0 is.1 is.2.0 h
+  item_brings u (CuCp gnb) teid item h own = tt
+  item_brings u (Ue ue) teid item h own = tt
+  item_brings u Core teid item h own = tt
 
-  answered : (u : Records) (node : NodeId) (given : PlainGiven) (o : Option (Input Token Pdu)) → Known K u → Brings node o → Answered node (plain_by reading u node given o)
+  radio_brings : (u : Records) (node : NodeId) (ue : UeId) (bearer : BearerId) (dir : Dir) (pdu : Pdu) → IfAny (K node (of ue bearer dir)) (packet_of_pdu pdu)
+      → (dir ≡ Dl → IsFor node ue) → InputHas u node (radio_input ue bearer dir pdu (content_of pdu))
+  radio_brings u (du_id gnb number) ue bearer dir pdu h own = h
+  radio_brings u (Ue who) ue bearer Dl pdu h own =
+      pdu_content (K (Ue who)) (of (record { 0 = who }) bearer Dl) pdu (subst (λ (x : UeId). IfAny (K (Ue who) (of x bearer Dl)) (packet_of_pdu pdu)) (own refl) h)
+  radio_brings u (Ue who) ue bearer Ul pdu h own = tt
+  radio_brings u (CuCp gnb) ue bearer dir pdu h own = tt
+  radio_brings u (up_id gnb number) ue bearer dir pdu h own = tt
+  radio_brings u Core ue bearer dir pdu h own = tt
+
+  offer_brings : (u : Records) (node : NodeId) (ue : UeId) (bearer : BearerId) (p : List ℕ) → K node (entity ue bearer Ul) p → IsFor node ue
+      → InputHas u node (offer_input ue bearer p)
+  offer_brings u (Ue who) ue bearer p h own = subst (λ (x : UeId). K (Ue who) (of x bearer Ul) p) own h
+  offer_brings u (CuCp gnb) ue bearer p h own = tt
+  offer_brings u (up_id gnb number) ue bearer p h own = tt
+  offer_brings u (du_id gnb number) ue bearer p h own = tt
+  offer_brings u Core ue bearer p h own = tt
+
+  -- other inputs bring nothing
+  control_brings : (u : Records) (node from : NodeId) (message : Message Token) → InputHas u node (control_input from message)
+  control_brings u (CuCp gnb) from message = tt
+  control_brings u (up_id gnb number) from message = tt
+  control_brings u (du_id gnb number) from message = tt
+  control_brings u (Ue ue) from message = tt
+  control_brings u Core from message = tt
+
+  confirm_brings : (u : Records) (node : NodeId) (item : Item (Written Pdu))
+      → InputHas u node (confirm_input item.key.ue item.key.bearer item.key.dir item.content.says (content_of item.content.says))
+  confirm_brings u (CuCp gnb) item = tt
+  confirm_brings u (up_id gnb number) item = tt
+  confirm_brings u (du_id gnb number) item = tt
+  confirm_brings u (Ue ue) item = tt
+  confirm_brings u Core item = tt
+
+  tick_brings : (u : Records) (node : NodeId) → InputHas u node tick_input
+  tick_brings u (CuCp gnb) = tt
+  tick_brings u (up_id gnb number) = tt
+  tick_brings u (du_id gnb number) = tt
+  tick_brings u (Ue ue) = tt
+  tick_brings u Core = tt
+
+  order_brings : (u : Records) (node : NodeId) (order : Order) → InputHas u node (order_input order)
+  order_brings u (CuCp gnb) order = tt
+  order_brings u (up_id gnb number) order = tt
+  order_brings u (du_id gnb number) order = tt
+  order_brings u (Ue ue) order = tt
+  order_brings u Core order = tt
+
+  given_brings : (u : Records) (node : NodeId) (given : PlainGiven) → GivenHas (K node) given → GivenOwn u node given → Brings u node (input_of reading given)
+  given_brings u node (letter_for from message) h own = control_brings u node from message
+  given_brings u node (item_for teid item) h own = item_brings u node teid item h own
+  given_brings u node (carried_for item) h own = radio_brings u node item.key.ue item.key.bearer item.key.dir item.content.says h own
+  given_brings u node (confirmed_for item) h own = confirm_brings u node item
+  given_brings u node (offer_for ue bearer p) h own = offer_brings u node ue bearer p h own
+  given_brings u node tick_for h own = tick_brings u node
+  given_brings u node (order_for order) h own = order_brings u node order
+  given_brings u node (octets_from from octets) h own = tt
+  given_brings u node (octets_on teid octets) h own = tt
+
+  answered : (u : Records) (node : NodeId) (given : PlainGiven) (o : Option (Input Token Pdu)) → Known K u → Brings u node o → Answered node (plain_by reading u node given o)
   answered u node given None p brings = (p, (tt, tt))
   answered u node given (Some input) p brings = acted u node input p brings
 
@@ -235,67 +341,31 @@ module _ (K : Knowledge) (reading : Reading) where
   written lengths node (step_spent counter) p = tt
 
   pub units_answer : (lengths : Lengths) (u v : Records) (node : NodeId) (given : PlainGiven) (outputs : List (Put (Message Token) (Written (Load Pdu)) (Written Pdu)))
-      → Known K u → GivenHas (K node) given → plain_answer reading lengths u node given ≡ stepped outputs v
+      → Known K u → GivenHas (K node) given → GivenOwn u node given → plain_answer reading lengths u node given ≡ stepped outputs v
       → Known K v × AllByRecursion (PutHas (K node)) outputs
-  units_answer lengths u v node given outputs p h is =
+  units_answer lengths u v node given outputs p h own is =
       subst (AnsweredWell node) is
-      (written lengths node (plain_by reading u node given (input_of reading given)) (answered u node given (input_of reading given) p (given_brings node given h)))
+      (written lengths node (plain_by reading u node given (input_of reading given)) (answered u node given (input_of reading given) p (given_brings u node given h own)))
 
   -- ---- a terminal comes, and one is set up without messages
 
   pub comes_known : (u : Records) (plan : Plan) → Known K u → Known K (with_ue u plan.ue (new_ue plan))
   unfolding new_ue
-  comes_known u plan p = with_ue_holds (known K) u plan.ue (new_ue plan) p (new_has (of_packets (K (Ue plan.ue.0))) (new_ue plan) 1 plan.bearers refl)
-
-  set_up_known : (u : Records) → Known K u → Known K (all_set_up u)
-  unfolding at
-  set_up_known u p = (ups, λ gnb number. tt, λ gnb. tt, p.3)
-    where
-      up_by : (g : Gnb) (n : ℕ) (o : Option (CuUp (Message Token) Token)) → up_knows K g n (unwrap_or o (new_cu_up g n))
-          → up_knows K g n (unwrap_or (option_map up_set_up o) (new_cu_up g n))
-      up_by g n None h = h
-      up_by g n (Some r) h = h
-
-      ups : (g : Gnb) (n : ℕ) → up_knows K g n (up_of (all_set_up u) g n)
-      ups g n =
-          subst (λ (o : Option (CuUp (Message Token) Token)). up_knows K g n (unwrap_or o (new_cu_up g n))) (sym (find_mapped node_cmp up_set_up u.ups (up_id g n)))
-          (up_by g n (find node_cmp u.ups (up_id g n)) (p.0 g n))
+  comes_known u plan p = with_ue_holds (known K) u plan.ue (new_ue plan) p (new_has (of_packets (K (Ue plan.ue.0))) plan.ue (new_ue plan) 1 plan.bearers refl refl)
 
   pub placed_known : (u : Records) (plan : Plan) → Known K u → Known K (all_set_up (units_placed plan u))
   unfolding new_ue placed
   placed_known u plan p =
-      let up : CuUp (Message Token) Token = up_of u plan.gnb plan.up in
-      let du : Du (Message Token) Token = du_of u plan.gnb plan.du in
-      let a : Records = with_ue u plan.ue (placed (new_ue plan)) in
-      let b : Records = with_up a plan.gnb plan.up (up_placed up plan du.next_teid) in
-      let c : Records = with_du b plan.gnb plan.du (du_placed du plan (up.next_teid + 1)) in
-      set_up_known (units_placed plan u)
-      (with_cp_holds (known K) c plan.gnb (cp_placed (cp_of u plan.gnb) plan)
-      (with_du_holds (known K) b plan.gnb plan.du (du_placed du plan (up.next_teid + 1))
-      (with_up_holds (known K) a plan.gnb plan.up (up_placed up plan du.next_teid)
-      (with_ue_holds (known K) u plan.ue (placed (new_ue plan)) p (new_has (of_packets (K (Ue plan.ue.0))) (placed (new_ue plan)) 1 plan.bearers refl))
-      (placed_has (of_packets (K (up_id plan.gnb plan.up))) up plan du.next_teid (p.0 plan.gnb plan.up))) tt) tt)
+      units_set_up (known K) (λ gnb number r h. h) (λ gnb number r h. tt) (λ gnb r h. tt) u plan p
+      (new_has (of_packets (K (Ue plan.ue.0))) plan.ue (placed (new_ue plan)) 1 plan.bearers refl refl)
+      (placed_has (of_packets (K (up_id plan.gnb plan.up))) (up_of u plan.gnb plan.up) plan (du_of u plan.gnb plan.du).next_teid (p.0 plan.gnb plan.up)) tt tt
 
   pub first_known : Known K new_units
-  unfolding at find
-  first_known = (ups, λ gnb number. tt, λ gnb. tt, λ ue x e. absurd cc)
-    where
-      up_by : (g : Gnb) (k : ℕ) (a b c d : Bool) → up_knows K g k (unwrap_or (cond a (Some (new_cu_up A 1)) (cond b (Some (new_cu_up A 2)) (cond c (Some (new_cu_up B 1))
-          (cond d (Some (new_cu_up B 2)) None)))) (new_cu_up g k))
-      up_by g k true b c d = tt
-      up_by g k false true c d = tt
-      up_by g k false false true d = tt
-      up_by g k false false false true = tt
-      up_by g k false false false false = tt
-
-      ups : (g : Gnb) (k : ℕ) → up_knows K g k (up_of new_units g k)
-      ups g k =
-          up_by g k (is_at (node_cmp (up_id g k)) (up_id A 1)) (is_at (node_cmp (up_id g k)) (up_id A 2)) (is_at (node_cmp (up_id g k)) (up_id B 1))
-          (is_at (node_cmp (up_id g k)) (up_id B 2))
+  first_known = first_hold (known K) (λ gnb number. tt) (λ gnb number. tt) (λ gnb. tt)
 
 -- ---- the core puts no packets but those that are offered
 
-module _ (G : List ℕ → Type 0) (reading : Reading) where
+module _ (G : EntityKey → List ℕ → Type 0) (reading : Reading) where
   abbrev CoreAnswered : WrittenCoreStepped → Type 0
   CoreAnswered (core_stepped outputs r) = AllByRecursion (PutHas G) outputs
 

@@ -22,32 +22,34 @@ use Rattle.law_link_items.proofs.Names.{link_items}
 use Rattle.law_link_items.proofs.Links.{items_keep}
 use Rattle.law_local_packets.specs.Says.{packet_of_pdu, packet_of_load, Saying, SaysInOctets, shown_alone, SaysAlone, showing_packets}
 use Rattle.law_local_packets.specs.Local.{WasAt, LocalFrom}
+use Rattle.law_local_packets.proofs.Settled.{Settled, first_settled, OutcomeSettled, made_settled}
 use Rattle.law_local_packets.proofs.Known.{Known, first_known}
 use Rattle.law_local_packets.proofs.Steps.{Told, after, TheWorld, TheFacts, Tells, local_both, OutcomeLocal, made_local}
 
 module _ (reading : Reading) (show_item : Written (Load Pdu) → List ℕ) (show_pdu : Written Pdu → List ℕ) (Says : Saying)
     (facts : TheFacts reading show_item show_pdu Says) (kept : AreKept (TheWorld reading show_item show_pdu Says) facts)
     (tells : Tells reading show_item show_pdu Says facts) where
-  pub run_local : (events : List Event) (past : List Told) (s : State (Message Token) Token (Written (Load Pdu)) (Written Pdu)) → Hold facts s
+  pub run_local : (events : List Event) (past : List Told) (s : State (Message Token) Token (Written (Load Pdu)) (Written Pdu)) → Hold facts s → Settled s
       → Known (WasAt Says past) s.units → LocalFrom Says past (acts_of (run_from (TheWorld reading show_item show_pdu Says) events s).events)
   unfolding run_from
-  run_local [] past s h p = tt
-  run_local (event ∷ events) past s h p =
+  run_local [] past s h o p = tt
+  run_local (event ∷ events) past s h o p =
       let world = TheWorld reading show_item show_pdu Says in
       let e = happens world event s in
-      by e (λ refused. made_local reading show_item show_pdu Says event refused facts kept tells past s e (made_of_steps world event s) h p)
-      (made_holds world facts kept event s e (made_of_steps world event s) h) (run_local events)
+      by e (λ refused. made_local reading show_item show_pdu Says event refused facts kept tells past s e (made_of_steps world event s) h o p)
+      (made_holds world facts kept event s e (made_of_steps world event s) h)
+      (made_settled reading show_item show_pdu event s e (made_of_steps world event s) o) (run_local events)
     where
       by : (e : Outcome (Message Token) Token (Written (Load Pdu)) (Written Pdu))
           → ((refused : _) → OutcomeLocal reading show_item show_pdu Says event refused past e)
-          → HoldsWith (TheWorld reading show_item show_pdu Says) facts 0 e
-          → ((acts : List Told) (t : State (Message Token) Token (Written (Load Pdu)) (Written Pdu)) → Hold facts t → Known (WasAt Says acts) t.units
+          → HoldsWith (TheWorld reading show_item show_pdu Says) facts 0 e → OutcomeSettled reading show_item show_pdu e
+          → ((acts : List Told) (t : State (Message Token) Token (Written (Load Pdu)) (Written Pdu)) → Hold facts t → Settled t → Known (WasAt Says acts) t.units
           → LocalFrom Says acts (acts_of (run_from (TheWorld reading show_item show_pdu Says) events t).events))
           → LocalFrom Says past (acts_of (run_on (TheWorld reading show_item show_pdu Says) event (run_from (TheWorld reading show_item show_pdu Says) events) e).events)
-      by (goes steps t) q k more =
+      by (goes steps t) q k o more =
           let refused = list_any is_refusal (lines_in steps) in
-          local_both reading show_item show_pdu Says event refused past steps _ (q refused).0 (more (after event refused past steps) t k (q refused).1)
-      by (stops steps why) q k more =
+          local_both reading show_item show_pdu Says event refused past steps _ (q refused).0 (more (after event refused past steps) t k o (q refused).1)
+      by (stops steps why) q k o more =
           let refused = list_any is_refusal (lines_in steps) in
           local_both reading show_item show_pdu Says event refused past steps [] (q refused) tt
 
@@ -109,7 +111,7 @@ pub packets_local : (reading : Reading) (events : List Event) → LocalFrom Says
 unfolding run
 packets_local reading events =
     run_local reading (λ item. shown_alone (packet_of_load item.says)) (λ pdu. shown_alone (packet_of_pdu pdu.says)) SaysAlone Nothing (nothing_kept reading)
-    (λ end item h. refl, λ key on epoch item h. refl) events [] new_state nothing_first (first_known (WasAt SaysAlone {M = Message Token} []) reading)
+    (λ end item h. refl, λ key on epoch item h. refl) events [] new_state nothing_first first_settled (first_known (WasAt SaysAlone {M = Message Token} []) reading)
 
 -- ---- by octets
 
@@ -118,4 +120,4 @@ unfolding Run run
 octets_local reading events =
     run_local reading (λ item. item.octets) (λ pdu. pdu.octets) SaysInOctets (written_facts link_items) (plain_kept link_items items_keep reading)
     (λ end item h. (item.content.says, refl, h.0.1, h.0.0, h.1), λ key on epoch item h. (item.content.says, refl, h.0, h.1)) events [] new_state
-    (first_holds link_items items_keep) (first_known (WasAt SaysInOctets {M = Message Token} []) reading)
+    (first_holds link_items items_keep) first_settled (first_known (WasAt SaysInOctets {M = Message Token} []) reading)

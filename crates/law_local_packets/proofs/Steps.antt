@@ -1,10 +1,11 @@
 -- Each step of an event puts and delivers what was offered or got in it or before, and so units go on to know where their packets are from.
-use Rattle.std.proofs.Common.{◌≡◌, ℕ, Bool, true, List, [], ◌∷◌, ◌++◌, map, Option, Some, None, inl, inr, refl, sym, subst}
+use Rattle.std.proofs.Common.{◌≡◌, ℕ, Bool, true, List, [], ◌∷◌, ◌++◌, map, Option, Some, None, inl, inr, refl, sym, ap, ◌∙◌, subst}
 use Rattle.std.specs.List.{AllByRecursion}
 use Rattle.std.specs.Ordering.{nat_cmp}
 use Rattle.gnb_types.specs.declared.names.NodeId.{NodeId}
 use Rattle.gnb_types.specs.declared.names.NodeId.TheVariants.{Core}
-use Rattle.gnb_types.specs.declared.names.Dir.TheVariants.{Dl}
+use Rattle.gnb_types.specs.declared.names.Dir.{Dir}
+use Rattle.gnb_types.specs.declared.names.Dir.TheVariants.{Dl, Ul}
 use Rattle.gnb_types.specs.declared.keys.EntityKey.{EntityKey}
 use Rattle.gnb_types.specs.declared.keys.TunnelEnd.{TunnelEnd}
 use Rattle.gnb_types.specs.Orders.{tunnel_cmp}
@@ -21,7 +22,7 @@ use Rattle.run_defs.specs.Units.{Units}
 use Rattle.run_defs.specs.Written.{Written}
 use Rattle.run_defs.specs.States.{State, radio_of, World, RunStep, step_of, goes, stops, told_before, ◌next◌, Within, Outcome, as_step, entity, sn_of, stepped, letter_for, octets_from}
 use Rattle.run_defs.specs.Steps.{check_spans, count_beside, put_on_tunnel, put_out_all, carried_out}
-use Rattle.run_defs.specs.Conditions.{receiver_of, epoch_of}
+use Rattle.run_defs.specs.Conditions.{receiver_by, receiver_of, epoch_of}
 use Rattle.run_defs.specs.Events.{landed_as, offered}
 use Rattle.run_defs.specs.Runs.{Reading}
 use Rattle.law_steps.specs.Causes.{Cause, by_order, by_tick, by_octets, by_octets_on, by_attach, by_release, by_offer, by_item, by_air, by_ack, by_letter, node_of, given_of, count_of, first_of, Stands}
@@ -34,7 +35,8 @@ use Rattle.law_run_facts.proofs.Runs.{made_holds}
 use Rattle.law_local_packets.specs.Says.{packet_of_pdu, packet_of_load, Saying, showing}
 use Rattle.law_local_packets.specs.Local.{OneOf, IfAny, IsOffered, IsGotWith, WasAt, IsLocalLine, IsLocalBy, LocalFrom}
 use Rattle.law_local_packets.proofs.Lines.{IsOther, lines_of, then_lines, checked_lines, tunnel_lines, PutShows, puts_lines, step_lines, first_has}
-use Rattle.law_local_packets.proofs.Known.{Known, known_later, GivenHas, PutHas, units_answer, comes_known, placed_known, the_core_answers}
+use Rattle.law_local_packets.proofs.Settled.{Settled, settled_own, settled_radios, settled_started, OutcomeSettled, made_settled}
+use Rattle.law_local_packets.proofs.Known.{Known, known_later, GivenHas, IsFor, GivenOwn, PutHas, units_answer, comes_known, placed_known, the_core_answers}
 
 abbrev Line : Type 0
 Line = RunLine (Message Token)
@@ -113,7 +115,7 @@ module _ (reading : Reading) (show_item : Written (Load Pdu) → List ℕ) (show
     as_local past node (stops lines why) u all has p = (all, tt)
 
     more_known : (past : List Told) (act : Told) (u : Units (Message Token) Token) → Known (WasAt Says past) u → Known (WasAt Says (act ∷ past)) u
-    more_known past act u p = known_later (WasAt Says past) (WasAt Says (act ∷ past)) (λ node x h. inr h) u p
+    more_known past act u p = known_later (WasAt Says past) (WasAt Says (act ∷ past)) (λ node key x h. inr h) u p
 
     -- a step whose lines say nothing of packets
     quiet : (past : List Told) (actor : Option NodeId) (lines : List Line) (t : Here) → IsLocalBy Says (act_of event refused (step_of actor lines) ∷ past) actor lines
@@ -163,11 +165,11 @@ module _ (reading : Reading) (show_item : Written (Load Pdu) → List ℕ) (show
         abbrev Step : Inside
         Step = carried_out TheWorld (node_of cause) (count_of cause) (first_of TheWorld cause) outputs u s
 
-      got : (past : List Told) (cause : Cause (Message Token) (Written (Load Pdu)) (Written Pdu)) (outputs : Puts) (u : Units (Message Token) Token) (s : Here) (p : List ℕ)
-          → OneOf (IsGotWith Says p) (lines_of (first_of TheWorld cause (record s { units = u })))
-          → WasAt Says (With (node_of cause) (Step past cause outputs u s) past) (node_of cause) p
-      got past cause outputs u s p is =
-          inl (inr (refl, first_has TheWorld (IsLocalLine Says [] Core) (other_local [] Core) (IsGotWith Says p) cause outputs (record s { units = u }) is))
+      got : (past : List Told) (cause : Cause (Message Token) (Written (Load Pdu)) (Written Pdu)) (outputs : Puts) (u : Units (Message Token) Token) (s : Here)
+          (key : EntityKey) (p : List ℕ) → OneOf (IsGotWith Says key p) (lines_of (first_of TheWorld cause (record s { units = u })))
+          → WasAt Says (With (node_of cause) (Step past cause outputs u s) past) (node_of cause) key p
+      got past cause outputs u s key p is =
+          inl (inr (refl, first_has TheWorld (IsLocalLine Says [] Core) (other_local [] Core) (IsGotWith Says key p) cause outputs (record s { units = u }) is))
 
       given_there : (past : List Told) (cause : Cause (Message Token) (Written (Load Pdu)) (Written Pdu)) (outputs : Puts) (u : Units (Message Token) Token) (s : Here)
           → Hold facts s → Stands event s cause → GivenHas (WasAt Says (With (node_of cause) (Step past cause outputs u s) past) (node_of cause)) (given_of cause)
@@ -177,20 +179,46 @@ module _ (reading : Reading) (show_item : Written (Load Pdu) → List ℕ) (show
       given_there past (by_octets_on end octets) outputs u s h at = tt
       given_there past (by_attach plan) outputs u s h at = tt
       given_there past (by_release gnb ue) outputs u s h at = tt
-      given_there past (by_offer ue bearer p) outputs u s h at = inl (inl (refl, subst (IsOffered p) (sym at.0) refl))
+      given_there past (by_offer ue bearer p) outputs u s h at = inl (inl (refl, subst (IsOffered (entity ue bearer Ul) p) (sym at.0) (refl, refl)))
       given_there past (by_item end item rest) outputs u s h at =
           if_any _ (packet_of_load item.content.says)
-          (λ p is. got past (by_item end item rest) outputs u s p
-          (inl (subst (Says (tunnel_link end) (shown item.key item.count (show_item item.content))) is (tells.0 end item (h.tunnels end (item ∷ rest) at).0))))
+          (λ p is. got past (by_item end item rest) outputs u s item.key p
+          (inl (refl, subst (Says (tunnel_link end) (shown item.key item.count (show_item item.content))) is (tells.0 end item (h.tunnels end (item ∷ rest) at).0))))
       given_there past (by_air key home item) outputs u s h at =
           if_any _ (packet_of_pdu item.content.says)
-          (λ p is. got past (by_air key home item) outputs u s p
-          (inl (subst (Says _ (shown item.key item.count (show_pdu item.content))) is
-          (tells.1 key key _ item (nth_has (facts.on_radio key) (radio_of s key).items (radio_of s key).carried item (h.radios key) at.1)))))
+          (λ p is. got past (by_air key home item) outputs u s item.key p
+          (inl (
+            refl,
+            subst (Says _ (shown item.key item.count (show_pdu item.content))) is
+                (tells.1 key key _ item (nth_has (facts.on_radio key) (radio_of s key).items (radio_of s key).carried item (h.radios key) at.1)),
+          )))
       given_there past (by_ack key home item rest) outputs u s h at = tt
       given_there past (by_letter number l to) outputs u s h at = tt
 
-      units_known : (K : NodeId → List ℕ → Type 0) (cause : Cause (Message Token) (Written (Load Pdu)) (Written Pdu)) (u : Units (Message Token) Token) → Known K u
+      -- and it is the unit's own
+      air_own : (key : EntityKey) (home : NodeId) (item : Item (Written Pdu)) → item.key ≡ key → item.key.dir ≡ Dl → IsFor (receiver_of key home) item.key.ue
+      air_own key home item same down = by key.dir (sym (ap (λ (k : EntityKey). k.dir) same) ∙ down)
+        where
+          by : (dir : Dir) → dir ≡ Dl → IsFor (receiver_by dir key.ue home) item.key.ue
+          by Dl is = ap (λ (k : EntityKey). k.ue) same
+          by Ul is = absurd cc
+
+      given_own : (cause : Cause (Message Token) (Written (Load Pdu)) (Written Pdu)) (s : Here) → Settled s → Stands event s cause
+          → GivenOwn s.units (node_of cause) (given_of cause)
+      given_own (by_order node order) s o at = tt
+      given_own (by_tick node) s o at = tt
+      given_own (by_octets from to octets) s o at = tt
+      given_own (by_octets_on end octets) s o at = tt
+      given_own (by_attach plan) s o at = tt
+      given_own (by_release gnb ue) s o at = tt
+      given_own (by_offer ue bearer p) s o at = refl
+      given_own (by_item end item rest) s o at = (settled_own s o end (item ∷ rest) at).0
+      given_own (by_air key home item) s o at =
+          air_own key home item (nth_has (λ (x : Item (Written Pdu)). x.key ≡ key) (radio_of s key).items (radio_of s key).carried item (settled_radios s o key) at.1)
+      given_own (by_ack key home item rest) s o at = tt
+      given_own (by_letter number l to) s o at = tt
+
+      units_known : (K : NodeId → EntityKey → List ℕ → Type 0) (cause : Cause (Message Token) (Written (Load Pdu)) (Written Pdu)) (u : Units (Message Token) Token) → Known K u
           → Known K (units_by TheWorld cause u)
       units_known K (by_attach plan) u p = comes_known K reading u plan p
       units_known K (by_order node order) u p = p
@@ -205,15 +233,15 @@ module _ (reading : Reading) (show_item : Written (Load Pdu) → List ℕ) (show
       units_known K (by_letter number l to) u p = p
 
       act_local : (past : List Told) (cause : Cause (Message Token) (Written (Load Pdu)) (Written Pdu)) (outputs : Puts) (u : Units (Message Token) Token) (s : Here)
-          → Hold facts s → Stands event s cause → TheWorld.answer (sn_of s) s.units (node_of cause) (given_of cause) ≡ stepped outputs u
+          → Hold facts s → Settled s → Stands event s cause → TheWorld.answer (sn_of s) s.units (node_of cause) (given_of cause) ≡ stepped outputs u
           → Known (WasAt Says past) s.units → OutcomeLocal past (as_step (Some (node_of cause)) (Step past cause outputs u s))
-      act_local past cause outputs u s h at is p =
+      act_local past cause outputs u s h o at is p =
           let node : NodeId = node_of cause in
           let w : Inside = Step past cause outputs u s in
           let now : List Told = With node w past in
           let fit = kept.answers (sn_of s) s.units u node (count_of cause) (given_of cause) outputs h.units (taken_fits TheWorld facts kept event cause s h at) is in
           let answer = units_answer (WasAt Says now) reading (sn_of s) s.units u node (given_of cause) outputs
-          (more_known past (act_of event refused (step_of (Some node) (lines_of w))) s.units p) (given_there past cause outputs u s h at) is in
+          (more_known past (act_of event refused (step_of (Some node) (lines_of w))) s.units p) (given_there past cause outputs u s h at) (given_own cause s o at) is in
           as_local past node w (units_by TheWorld cause u)
           (step_lines TheWorld (IsLocalLine Says now node) (other_local now node) cause outputs (record s { units = u })
           (all_local now node (count_of cause) outputs fit.1 answer.1))
@@ -223,7 +251,7 @@ module _ (reading : Reading) (show_item : Written (Load Pdu) → List ℕ) (show
 
       core_local : (past : List Told) (e : Inside) (outputs : Puts) (t : Here) → HasUnits TheWorld t.units e → PutsFit facts Core None outputs
           → ((seen : List Told) → AllByRecursion (IsLocalLine Says seen Core) (lines_of e))
-          → ((G : List ℕ → Type 0) → AllByRecursion (PutHas G) outputs) → Known (WasAt Says past) t.units
+          → ((G : EntityKey → List ℕ → Type 0) → AllByRecursion (PutHas G) outputs) → Known (WasAt Says past) t.units
           → OutcomeLocal past (as_step (Some Core) (e next put_out_all TheWorld Core None outputs next check_spans))
       core_local past e outputs t has fits first all p =
           let w : Inside = e next put_out_all TheWorld Core None outputs next check_spans in
@@ -241,8 +269,9 @@ module _ (reading : Reading) (show_item : Written (Load Pdu) → List ℕ) (show
       -- ---- an event
 
       then_local : (past : List Told) (e : Happens) (more : Here → Happens) → OutcomeLocal past e → HoldsWith TheWorld facts 0 e
-          → ((seen : List Told) (t : Here) → Hold facts t → Known (WasAt Says seen) t.units → OutcomeLocal seen (more t)) → OutcomeLocal past (e next more)
-      then_local past (goes steps t) more p h q = by (more t) (q (after event refused past steps) t h p.1)
+          → OutcomeSettled reading show_item show_pdu e
+          → ((seen : List Told) (t : Here) → Hold facts t → Settled t → Known (WasAt Says seen) t.units → OutcomeLocal seen (more t)) → OutcomeLocal past (e next more)
+      then_local past (goes steps t) more p h o q = by (more t) (q (after event refused past steps) t h o p.1)
         where
           by : (e : Happens) → OutcomeLocal (after event refused past steps) e → OutcomeLocal past (told_before steps e)
           by (goes further s) r = (
@@ -250,21 +279,23 @@ module _ (reading : Reading) (show_item : Written (Load Pdu) → List ℕ) (show
             subst (λ (seen : List Told). Known (WasAt Says seen) s.units) (sym (after_both event refused past steps further)) r.1,
           )
           by (stops further why) r = steps_both event refused past steps further p.0 r
-      then_local past (stops steps why) more p h q = p
+      then_local past (stops steps why) more p h o q = p
 
-      pub made_local : (past : List Told) (s : Here) (e : Happens) → Made TheWorld event s e → Hold facts s → Known (WasAt Says past) s.units → OutcomeLocal past e
+      pub made_local : (past : List Told) (s : Here) (e : Happens) → Made TheWorld event s e → Hold facts s → Settled s → Known (WasAt Says past) s.units → OutcomeLocal past e
       unfolding letter
-      made_local past s e (stays t) h p = (tt, p)
-      made_local past s e (ends t why) h p = tt
-      made_local past s e (then_made t d more a b) h p =
-          then_local past d more (made_local past t d a h p) (made_holds TheWorld facts kept event t d a h) (λ seen x k q. made_local seen x (more x) (b x) k q)
-      made_local past s e (sets_up t plan is free room teids) h p = (tt, placed_known (WasAt Says past) reading t.units plan p)
-      made_local past s e (starts t d a) h p =
-          made_local past (record t { started = true }) d a (same_links TheWorld facts 0 t (record t { started = true }) h refl refl refl refl refl) p
-      made_local past s e (acts t cause outputs units at is fine few) h p = act_local past cause outputs units t h at is p
-      made_local past s e (holds_item t end reason) h p = quiet past (Some end.node) (held_at (tunnel_link end) reason ∷ []) t (tt, tt) p
-      made_local past s e (holds_pdu t key home reason) h p = quiet past (Some (receiver_of key home)) (held_at (radio_link key (epoch_of t key.ue)) reason ∷ []) t (tt, tt) p
-      made_local past s e (offers t ue bearer x path is found) h p =
+      made_local past s e (stays t) h o p = (tt, p)
+      made_local past s e (ends t why) h o p = tt
+      made_local past s e (then_made t d more a b) h o p =
+          then_local past d more (made_local past t d a h o p) (made_holds TheWorld facts kept event t d a h) (made_settled reading show_item show_pdu event t d a o)
+          (λ seen x k l q. made_local seen x (more x) (b x) k l q)
+      made_local past s e (sets_up t plan is free room teids) h o p = (tt, placed_known (WasAt Says past) reading t.units plan p)
+      made_local past s e (starts t d a) h o p =
+          made_local past (record t { started = true }) d a (same_links TheWorld facts 0 t (record t { started = true }) h refl refl refl refl refl)
+          (settled_started reading show_item show_pdu t o) p
+      made_local past s e (acts t cause outputs units at is fine few) h o p = act_local past cause outputs units t h o at is p
+      made_local past s e (holds_item t end reason) h o p = quiet past (Some end.node) (held_at (tunnel_link end) reason ∷ []) t (tt, tt) p
+      made_local past s e (holds_pdu t key home reason) h o p = quiet past (Some (receiver_of key home)) (held_at (radio_link key (epoch_of t key.ue)) reason ∷ []) t (tt, tt) p
+      made_local past s e (offers t ue bearer x path is found) h o p =
           let end : TunnelEnd = record { node = path.up; teid = teid_of path.n3 bearer } in
           let item : Item (Written (Load Pdu)) = record { key = entity ue bearer Dl; count = None; content = TheWorld.lay_n3 (teid_of path.n3 bearer) x } in
           let w : Inside = put_on_tunnel TheWorld end item (offered TheWorld (entity ue bearer Dl) t) next check_spans in
@@ -273,12 +304,12 @@ module _ (reading : Reading) (show_item : Written (Load Pdu) → List ℕ) (show
           as_local past Core w t.units
           (then_lines TheWorld Q (other_local now Core) (put_on_tunnel TheWorld end item (offered TheWorld (entity ue bearer Dl) t)) check_spans
           (tunnel_lines TheWorld Q (other_local now Core) end item
-          (Some x, tells.0 end item (facts.stands Core end item (kept.lays t.core ue bearer x path h.core found)), inl (inl (refl, subst (IsOffered x) (sym is) refl)))
+          (Some x, tells.0 end item (facts.stands Core end item (kept.lays t.core ue bearer x path h.core found)), inl (inl (refl, subst (IsOffered (entity ue bearer Dl) x) (sym is) (refl, refl))))
           (offered TheWorld (entity ue bearer Dl) t)) (checked_lines TheWorld Q (other_local now Core)))
           (then_units TheWorld t.units (put_on_tunnel TheWorld end item (offered TheWorld (entity ue bearer Dl) t)) check_spans
           (keep_put_on_tunnel TheWorld end item (offered TheWorld (entity ue bearer Dl) t)) (keep_checked TheWorld))
           (more_known past (act_of event refused (step_of (Some Core) (lines_of w))) t.units p)
-      made_local past s e (core_takes t number l outputs core found at is few) h p =
+      made_local past s e (core_takes t number l outputs core found at is few) h o p =
           let answered = kept.core_answers (sn_of t) t.core core (letter_for l.from l.message) outputs h.core (
             l.ue,
             subst (λ (n : NodeId). facts.letter (record { from = l.from; to = n; ue = l.ue; message = l.message })) at
@@ -286,7 +317,7 @@ module _ (reading : Reading) (show_item : Written (Load Pdu) → List ℕ) (show
           ) is in
           core_local past (landed_as TheWorld number l (record t { core = core })) outputs t refl answered.1 (λ seen. (tt, tt))
           (λ G. the_core_answers G reading (sn_of t) t.core core (letter_for l.from l.message) outputs is) p
-      made_local past s e (core_reads t from octets outputs core is) h p =
+      made_local past s e (core_reads t from octets outputs core is) h o p =
           let answered = kept.core_answers (sn_of t) t.core core (octets_from from octets) outputs h.core tt is in
           let w : Inside = put_out_all TheWorld Core None outputs (record t { core = core }) next check_spans in
           let now : List Told = With Core w past in
@@ -299,8 +330,8 @@ module _ (reading : Reading) (show_item : Written (Load Pdu) → List ℕ) (show
           (then_units TheWorld t.units (put_out_all TheWorld Core None outputs (record t { core = core })) check_spans
           (keep_put_all TheWorld Core None outputs (record t { core = core })) (keep_checked TheWorld))
           (more_known past (act_of event refused (step_of (Some Core) (lines_of w))) t.units p)
-      made_local past s e (lands t number l to found at) h p = quiet past (Some to) (got_message number l ∷ []) (record t { bag = landed t.bag number }) (tt, tt) p
-      made_local past s e (loses_letter t number) h p = quiet past None (lost_message number ∷ []) (record t { bag = landed t.bag number }) tt p
-      made_local past s e (loses_item t end item rest found) h p =
+      made_local past s e (lands t number l to found at) h o p = quiet past (Some to) (got_message number l ∷ []) (record t { bag = landed t.bag number }) (tt, tt) p
+      made_local past s e (loses_letter t number) h o p = quiet past None (lost_message number ∷ []) (record t { bag = landed t.bag number }) tt p
+      made_local past s e (loses_item t end item rest found) h o p =
           quiet past None (lost_items (tunnel_link end) 1 ∷ []) (record t { tunnels = put tunnel_cmp t.tunnels end rest }) tt p
-      made_local past s e (remarks t lines plain) h p = quiet past None lines t tt p
+      made_local past s e (remarks t lines plain) h o p = quiet past None lines t tt p

@@ -1,7 +1,6 @@
 -- In every run that ends where it may, the facts go on to hold up to its end.
 use Rattle.std.proofs.Common.{◌≡◌, ◌≤◌, ℕ, ◌+◌, true, false, ◌&&◌, List, [], ◌∷◌, length, Option, Some, None, refl, sym, subst}
 use Rattle.std.proofs.lemmas.Bool.{or_parts}
-use Rattle.std.specs.List.{AllByRecursion}
 use Rattle.std.specs.Ordering.{nat_cmp}
 use Rattle.gnb_types.specs.declared.names.NodeId.{NodeId}
 use Rattle.gnb_types.specs.declared.names.NodeId.TheVariants.{Core}
@@ -25,15 +24,15 @@ use Rattle.law_steps.specs.Reached.{reached_by, reached}
 use Rattle.law_steps.proofs.Frames.{HasUnits, units_by, act_units, Relates, made_relates, reached_relates}
 use Rattle.law_steps.proofs.Runs.{made_of_steps}
 use Rattle.law_run_facts.specs.Facts.{Facts, HoldWith, Hold}
-use Rattle.law_run_facts.specs.Later.{IsStatic, MayPlace, AreKeptTo}
+use Rattle.law_run_facts.specs.Later.{MayPlace, AreKeptTo}
 use Rattle.law_run_facts.proofs.Within.{HoldsWith, then_holds, keep_checked, with_tunnels, keep_put_on_tunnel, keep_put_all, same_links}
 use Rattle.law_run_facts.proofs.Steps.{few_after, found_has, taken_has, act_holds}
 use Rattle.law_run_facts.proofs.Runs.{step_holds, statically_holds, core_holds, core_ready}
 
-module _ {M C L P : Type 0} (world : World M C L P) (facts : Facts M C L P) (later : Units M C → Type 0) (statics : Type 0)
-    (kept : AreKeptTo world facts later statics) where
+module _ {M C L P : Type 0} (world : World M C L P) (facts : Facts M C L P) (later : Units M C → Type 0)
+    (kept : AreKeptTo world facts later) where
   -- where it goes on, it ends where it may
-  abbrev LaterAt : {X : Type 0} → Ending X (State M C L P) → Type 0
+  abbrev pub LaterAt : {X : Type 0} → Ending X (State M C L P) → Type 0
   LaterAt (goes told t) = later t.units
   LaterAt (stops told why) = Unit {0}
 
@@ -85,30 +84,26 @@ module _ {M C L P : Type 0} (world : World M C L P) (facts : Facts M C L P) (lat
       by (stops further why) b r l = tt
   then_later (stops told why) more p back q l = tt
 
-  abbrev MayBe : Event → Type 0
-  MayBe event = IsStatic event → statics
-
-  made_later : (event : Event) (s : State M C L P) (e : Outcome M C L P) → MayBe event → Made world event s e → Hold facts s → LaterAt e → HoldsWith world facts 0 e
+  pub made_later : (event : Event) (s : State M C L P) (e : Outcome M C L P) → Made world event s e → Hold facts s → LaterAt e → HoldsWith world facts 0 e
   unfolding landed letter
-  made_later event s e st (stays t) h l = h
-  made_later event s e st (ends t why) h l = tt
-  made_later event s e st (then_made t d more p q) h l =
-      then_later d more (made_later event t d st p h) (λ x. made_back event x (more x) (q x)) (λ x k. made_later event x (more x) st (q x) k) l
-  made_later event s e st (sets_up t plan is free room teids) h l =
-      let may : MayPlace world facts later statics t.units plan = ((or_parts (was_attached t plan.ue) _ free).1, room, teids) in
-      let so : statics = st (subst IsStatic (sym is) tt) in
-      statically_holds world facts plan t h (kept.placed t.units plan so may l h.units) (kept.core_placed t.units t.core plan so may l h.core)
-  made_later event s e st (starts t d p) h l =
-      made_later event (record t { started = true }) d st p (same_links world facts 0 t (record t { started = true }) h refl refl refl refl refl) l
-  made_later event s e st (acts t cause outputs units at is fine few) h l =
+  made_later event s e (stays t) h l = h
+  made_later event s e (ends t why) h l = tt
+  made_later event s e (then_made t d more p q) h l =
+      then_later d more (made_later event t d p h) (λ x. made_back event x (more x) (q x)) (λ x k. made_later event x (more x) (q x) k) l
+  made_later event s e (sets_up t plan is free room teids) h l =
+      let may : MayPlace world facts later t.units plan = ((or_parts (was_attached t plan.ue) _ free).1, room, teids) in
+      statically_holds world facts plan t h (kept.placed t.units plan may l h.units) (kept.core_placed t.units t.core plan may l h.units h.core)
+  made_later event s e (starts t d p) h l =
+      made_later event (record t { started = true }) d p (same_links world facts 0 t (record t { started = true }) h refl refl refl refl refl) l
+  made_later event s e (acts t cause outputs units at is fine few) h l =
       step_later (Some (node_of cause)) (units_by world cause units)
       (carried_out world (node_of cause) (count_of cause) (first_of world cause) outputs units t) (act_units world cause outputs units t)
       (λ k. act_holds world facts kept.comes event cause outputs units t h at
       (kept.answers (sn_of t) t.units units (node_of cause) (count_of cause) (given_of cause) outputs h.units (taken_has world facts event cause t h at) is
       (before_terminal cause units k)) few) l
-  made_later event s e st (holds_item t end reason) h l = h
-  made_later event s e st (holds_pdu t key home reason) h l = h
-  made_later event s e st (offers t ue bearer p path is found) h l =
+  made_later event s e (holds_item t end reason) h l = h
+  made_later event s e (holds_pdu t key home reason) h l = h
+  made_later event s e (offers t ue bearer p path is found) h l =
       let end : TunnelEnd = record { node = path.up; teid = teid_of path.n3 bearer } in
       let item : Item L = record { key = entity ue bearer Dl; count = None; content = world.lay_n3 (teid_of path.n3 bearer) p } in
       step_holds world facts (Some Core) (put_on_tunnel world end item (offered world (entity ue bearer Dl) t) next check_spans)
@@ -116,7 +111,7 @@ module _ {M C L P : Type 0} (world : World M C L P) (facts : Facts M C L P) (lat
       (keep_put_on_tunnel world facts end item (facts.stands Core end item (kept.lays t.core ue bearer p path h.core found)) 0 (offered world (entity ue bearer Dl) t)
       (same_links world facts 0 t (offered world (entity ue bearer Dl) t) h refl refl refl refl refl))
       (λ x k. keep_checked world facts 0 x k))
-  made_later event s e st (core_takes t number m outputs core found at is few) h l =
+  made_later event s e (core_takes t number m outputs core found at is few) h l =
       let answered = kept.core_answers (sn_of t) t.core core (letter_for m.from m.message) outputs h.core (
         m.ue,
         subst (λ (n : NodeId). facts.letter (record { from = m.from; to = n; ue = m.ue; message = m.message })) at
@@ -132,7 +127,7 @@ module _ {M C L P : Type 0} (world : World M C L P) (facts : Facts M C L P) (lat
         radios = ready.radios;
         few = ready.few;
       }) answered.1
-  made_later event s e st (core_reads t from octets outputs core is) h l =
+  made_later event s e (core_reads t from octets outputs core is) h l =
       let n : ℕ = count_letters world outputs in
       let answered = kept.core_answers (sn_of t) t.core core (octets_from from octets) outputs h.core tt is in
       step_holds world facts (Some Core) (put_out_all world Core None outputs (record t { core = core }) next check_spans)
@@ -141,7 +136,7 @@ module _ {M C L P : Type 0} (world : World M C L P) (facts : Facts M C L P) (lat
       (core_ready world facts t core n h answered.0
       (λ c. subst (λ (k : ℕ). length t.bag.letters + k ≤ most_letters) (sym (kept.silent c (sn_of t) t.core core from octets outputs is)) (h.few c))))
       (λ x k. keep_checked world facts 0 x k))
-  made_later event s e st (lands t number m to found at) h l = record {
+  made_later event s e (lands t number m to found at) h l = record {
     units = h.units;
     core = h.core;
     letters = h.letters;
@@ -149,7 +144,7 @@ module _ {M C L P : Type 0} (world : World M C L P) (facts : Facts M C L P) (lat
     radios = h.radios;
     few = h.few;
   }
-  made_later event s e st (loses_letter t number) h l = record {
+  made_later event s e (loses_letter t number) h l = record {
     units = h.units;
     core = h.core;
     letters = h.letters;
@@ -157,8 +152,8 @@ module _ {M C L P : Type 0} (world : World M C L P) (facts : Facts M C L P) (lat
     radios = h.radios;
     few = h.few;
   }
-  made_later event s e st (loses_item t end item rest found) h l = with_tunnels world facts 0 t end rest h (h.tunnels end (item ∷ rest) found).1
-  made_later event s e st (remarks t lines plain) h l = h
+  made_later event s e (loses_item t end item rest found) h l = with_tunnels world facts 0 t end rest h (h.tunnels end (item ∷ rest) found).1
+  made_later event s e (remarks t lines plain) h l = h
 
   further_later : (t : State M C L P) (events : List Event) (e : Outcome M C L P) → (LaterAt e → HoldsWith world facts 0 e) → later t.units
       → ((after : State M C L P) → Hold facts after → reached world events after ≡ Some t → Hold facts t)
@@ -167,8 +162,8 @@ module _ {M C L P : Type 0} (world : World M C L P) (facts : Facts M C L P) (lat
       more after (p (reached_relates world Back same joined kept.before_answer kept.before_coming placing events after t at l)) at
   further_later t events (stops steps why) p l more at = absurd cc
 
-  pub facts_hold_to : (events : List Event) (s t : State M C L P) → AllByRecursion MayBe events → Hold facts s → reached world events s ≡ Some t → later t.units → Hold facts t
-  facts_hold_to [] s t all h is l = let at : s ≡ t = cc in subst (λ (x : State M C L P). Hold facts x) at h
-  facts_hold_to (event ∷ events) s t all h is l =
-      further_later t events (happens world event s) (made_later event s (happens world event s) all.0 (made_of_steps world event s) h) l
-      (λ after p at. facts_hold_to events after t all.1 p at l) is
+  pub facts_hold_to : (events : List Event) (s t : State M C L P) → Hold facts s → reached world events s ≡ Some t → later t.units → Hold facts t
+  facts_hold_to [] s t h is l = let at : s ≡ t = cc in subst (λ (x : State M C L P). Hold facts x) at h
+  facts_hold_to (event ∷ events) s t h is l =
+      further_later t events (happens world event s) (made_later event s (happens world event s) (made_of_steps world event s) h) l
+      (λ after p at. facts_hold_to events after t p at l) is

@@ -7,3 +7,4 @@ pub mod Alone
 pub mod Fits
 pub mod Tells
 pub mod Later
+pub mod Both

@@ -14,20 +14,13 @@ use Rattle.unit_defs.specs.Messages.{teid_of}
 use Rattle.unit_defs.specs.Core.{CorePath, CoreRecord}
 use Rattle.unit_defs.specs.Static.{up_has_room, up_has_teids, du_has_teids}
 use Rattle.unit_defs.specs.Ue.{new_ue}
-use Rattle.scenario_text.specs.declared.event.Event.{Event}
-use Rattle.scenario_text.specs.declared.event.Event.TheVariants as events
 use Rattle.run_defs.specs.Units.{Units, up_of, du_of, with_ue}
 use Rattle.run_defs.specs.States.{Given, octets_from, Lengths, stepped, core_stepped, World, entity}
 use Rattle.run_defs.specs.Steps.{count_letters}
 use Rattle.run_defs.specs.Conditions.{is_held_by_units, units_placed, all_set_up, n3_from}
 use Rattle.law_run_facts.specs.Facts.{Facts, PutsFit, GivenFits}
 
--- terminals that are set up without messages are another matter: what is asked of them is asked where there may be some
-abbrev pub IsStatic : Event → Type 0
-IsStatic (events.Static plan) = Unit {0}
-IsStatic event = ⊥
-
-module _ {M C L P : Type 0} (world : World M C L P) (facts : Facts M C L P) (later : Units M C → Type 0) (statics : Type 0) where
+module _ {M C L P : Type 0} (world : World M C L P) (facts : Facts M C L P) (later : Units M C → Type 0) where
   -- a terminal may be set up without messages
   abbrev pub MayPlace : Units M C → Plan → Type 0
   MayPlace u plan =
@@ -45,9 +38,9 @@ module _ {M C L P : Type 0} (world : World M C L P) (facts : Facts M C L P) (lat
         → facts.units u → GivenFits facts node taken given → world.answer lengths u node given ≡ stepped outputs v → later v
         → facts.units v × PutsFit facts node taken outputs
     pub comes : (u : Units M C) (plan : Plan) → facts.units u → facts.units (with_ue u plan.ue (new_ue plan))
-    pub placed : (u : Units M C) (plan : Plan) → statics → MayPlace u plan → later (all_set_up (units_placed plan u)) → facts.units u
+    pub placed : (u : Units M C) (plan : Plan) → MayPlace u plan → later (all_set_up (units_placed plan u)) → facts.units u
         → facts.units (all_set_up (units_placed plan u))
-    pub core_placed : (u : Units M C) (r : CoreRecord M C) (plan : Plan) → statics → MayPlace u plan → later (all_set_up (units_placed plan u)) → facts.core r
+    pub core_placed : (u : Units M C) (r : CoreRecord M C) (plan : Plan) → MayPlace u plan → later (all_set_up (units_placed plan u)) → facts.units u → facts.core r
         → facts.core (record r { paths = put ue_cmp r.paths plan.ue (record { up = CuUp plan.gnb plan.up; n3 = n3_from 1 (up_of u plan.gnb plan.up).next_teid plan.bearers }) })
     pub core_answers : (lengths : Lengths) (r q : CoreRecord M C) (given : Given M L P) (outputs : List (Put M L P)) → facts.core r
         → GivenFits facts Core None given → world.core_answer lengths r given ≡ core_stepped outputs q → facts.core q × PutsFit facts Core None outputs

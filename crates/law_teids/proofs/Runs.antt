@@ -15,7 +15,7 @@ use Rattle.tables.specs.Tables.{find, at}
 use Rattle.tables.proofs.TableLaws.{at-put}
 use Rattle.message_types.specs.declared.rrc.Token.{Token}
 use Rattle.scenario_text.specs.declared.event.Event.{Event}
-use Rattle.unit_defs.specs.Ways.{Message, Pdu, Load, Input, gives, spent}
+use Rattle.unit_defs.specs.Ways.{Message, Pdu, Load, Put, Input, gives, spent}
 use Rattle.unit_defs.specs.Static.{up_placed, du_placed, cp_placed, up_set_up, du_set_up, up_has_teids, du_has_teids}
 use Rattle.unit_defs.specs.Ue.{UeNode, ue_acts}
 use Rattle.unit_defs.specs.UpRecords.{CuUp}
@@ -27,7 +27,7 @@ use Rattle.run_defs.specs.Units.{Units, cp_of, with_cp, up_of, with_up, du_of, w
 use Rattle.run_defs.specs.Written.{Written, PlainStepped, WrittenStepped, written_step}
 use Rattle.run_defs.specs.States.{State, Lengths, stepped, step_spent}
 use Rattle.run_defs.specs.Conditions.{units_placed, all_set_up}
-use Rattle.run_defs.specs.Runs.{Reading, PlainGiven, Plain, plain_way, input_of, stepped_with, ue_stepped, acts_on, plain_by, plain_world}
+use Rattle.run_defs.specs.Runs.{Reading, PlainGiven, Plain, plain_way, input_of, stepped_with, ue_stepped, acts_on, plain_by, plain_answer, plain_world}
 use Rattle.law_steps.specs.Reached.{reached}
 use Rattle.law_steps.proofs.Frames.{reached_relates}
 use Rattle.law_teids.specs.Given.{GrowsTo, GiveOnce}
@@ -221,10 +221,13 @@ module _ (reading : Reading) where
   written lengths u (stepped outputs v) p = p
   written lengths u (step_spent counter) p = tt
 
+  pub answer_gives : (lengths : Lengths) (u v : PlainUnits) (node : NodeId) (given : PlainGiven)
+      (outputs : List (Put (Message Token) (Written (Load Pdu)) (Written Pdu))) → plain_answer reading lengths u node given ≡ stepped outputs v → GiveOnce u v
+  answer_gives lengths u v node given outputs e =
+      subst (AnsweredWell u) e (written lengths u (plain_by reading u node given (input_of reading given)) (answered u node given (input_of reading given)))
+
   pub given_once : (events : List Event) (s t : State (Message Token) Token (Written (Load Pdu)) (Written Pdu))
       → reached (plain_world reading) events s ≡ Some t → GiveOnce s.units t.units
   given_once events s t is =
       reached_relates (plain_world reading) GiveOnce give_same give_then
-      (λ lengths u v node given outputs e. subst (AnsweredWell u) e
-      (written lengths u (plain_by reading u node given (input_of reading given)) (answered u node given (input_of reading given))))
-      (λ u plan. give_same u) (λ u plan free room teids. placed_gives u plan teids) events s t is
+      answer_gives (λ u plan. give_same u) (λ u plan free room teids. placed_gives u plan teids) events s t is

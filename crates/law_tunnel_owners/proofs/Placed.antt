@@ -162,13 +162,13 @@ module _ {M C : Type 0} where
 
   -- ---- the first state
 
-  nothing_up : (r : CuUp M C) → r.tunnels ≡ [] → r.contexts ≡ [] → UpOwns r
+  pub nothing_up : (r : CuUp M C) → r.tunnels ≡ [] → r.contexts ≡ [] → UpOwns r
   unfolding find
   nothing_up r t c =
       subst (λ (x : List (ℕ × UpTunnel) × List (UeId × UpContext)). AreNamed x.0 (up_names x.1) × UpInOrder x.1 × WereGiven r.next_teid x.0) (λ i. (sym t i, sym c i))
       (record { named = λ q o e. absurd cc; stands = λ q o e. absurd cc }, λ ue d e. absurd cc, λ q o e. absurd cc)
 
-  nothing_du : (r : Du M C) → r.tunnels ≡ [] → r.contexts ≡ [] → DuOwns r
+  pub nothing_du : (r : Du M C) → r.tunnels ≡ [] → r.contexts ≡ [] → DuOwns r
   unfolding find
   nothing_du r t c =
       subst (λ (x : List (ℕ × DuTunnel) × List (UeId × DuContext)). AreNamed x.0 (du_names x.1) × DuInOrder x.1 × WereGiven r.next_teid x.0) (λ i. (sym t i, sym c i))

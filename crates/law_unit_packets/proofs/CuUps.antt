@@ -10,6 +10,7 @@ use Rattle.gnb_types.specs.declared.names.NodeId.TheVariants.{CuCp, Du as du_id}
 use Rattle.gnb_types.specs.declared.names.UeId.{UeId}
 use Rattle.gnb_types.specs.declared.names.BearerId.{BearerId}
 use Rattle.gnb_types.specs.declared.names.SnBits.{SnBits}
+use Rattle.gnb_types.specs.declared.names.Dir.TheVariants.{Dl, Ul}
 use Rattle.gnb_types.specs.declared.keys.Channel.{Channel}
 use Rattle.gnb_types.specs.declared.plans.Peer.{Peer}
 use Rattle.gnb_types.specs.declared.plans.Plan.{Plan}
@@ -22,6 +23,7 @@ use Rattle.gnb_types.specs.declared.reasons.DropReason.TheVariants.{Unexpected}
 use Rattle.gnb_types.specs.declared.reasons.RefuseReason.TheVariants.{Empty, NoRadio}
 use Rattle.gnb_types.specs.Names.{node_text}
 use Rattle.gnb_types.specs.Orders.{ue_cmp, bearer_cmp}
+use Rattle.gnb_types.proofs.OrderLemmas.{ue_exact, bearer_exact}
 use Rattle.tables.specs.Tables.{find, put, without}
 use Rattle.transaction_defs.specs.Callers.{close, due, Due, repeats, expires}
 use Rattle.message_types.specs.declared.e1.E1Message.{E1Message}
@@ -36,19 +38,23 @@ use Rattle.unit_defs.specs.UpItems.{held_reason, took}
 use Rattle.unit_defs.specs.Static.{with_downlinks, up_context, up_placed}
 use Rattle.unit_defs.specs.CuUp.{bearers_from, bearers_made, entries_of, with_context, context_of, with_transactions, up_node, UpStep, steps, stops, step_with, each_bearer, answer_with, ended, ended_if_over, end_where_over, replies, new_context, opened_of, with_new, makes, fits, set_up_for, setup_response, setup_on, setup, modified, uplinks_from, teids_from, uplinks_given, add_uplinks, as_switched, switch, as_frozen, peer_node, statuses, freeze, as_known, status_each, take_status, as_resumed, resume, names, switch_if, freeze_if, status_if, resume_if, modify_on, as_released, released_on, release, asked, start, set_up, control_by, ue_in, is_own_cp, control_came, with_bearer, taken_by, taken_in, taken_of, taken_on, take, poll_bearer, poll_on, poll, due_output, tick, cu_up_acts}
 use Rattle.law_intervals.proofs.Intervals.{all_append, all_filter}
-use Rattle.law_unit_packets.specs.Packets.{Property, TakenHas, InputHas, OutputHas, BearerHas, BearersHave, UpHas, AnswerHas}
-use Rattle.law_unit_packets.proofs.Answers.{all_map, all_flat, found, each_put, either as either_way, after as after_one, after_any, ask_has, advance_has, replied_has, on_request_has, on_reply_has}
-use Rattle.law_unit_packets.proofs.UpBearers.{BearerAnswerHas, framed_has, switched_has, frozen_has, status_has, resumed_has, item_has}
+use Rattle.law_unit_packets.specs.Packets.{of, dir_of, Property, TakenHas, UpInputHas, OutputHas, BearerHas, BearersHave, UpHas, AnswerHas}
+use Rattle.law_unit_packets.proofs.Answers.{all_map, all_flat, either as either_way, after as after_one, after_any, ask_has, advance_has, replied_has, on_request_has, on_reply_has}
+use Rattle.law_unit_packets.proofs.Keyed.{keyed_found, keyed_put}
+use Rattle.law_unit_packets.proofs.UpBearers.{framed_has, switched_has, frozen_has, status_has, resumed_has, item_has}
 
 abbrev Bearers : Type 0
 Bearers = List (BearerId × UpBearer)
 
 module _ {M C P : Type 0} {way : Way M C P} (has : Property way) where
-  abbrev HasBearer : UpBearer → Type 0
-  HasBearer b = BearerHas has b.sender b.waiting b.receiver
+  abbrev HasBearer : UeId → BearerId → UpBearer → Type 0
+  HasBearer ue bearer b = BearerHas has (of ue bearer Dl) (of ue bearer Ul) b.sender b.waiting b.receiver
 
-  abbrev HasContext : UpContext → Type 0
-  HasContext c = BearersHave has c.bearers
+  abbrev HasContext : UeId → UpContext → Type 0
+  HasContext ue c = BearersHave has ue c.bearers
+
+  abbrev FitsBearer : UeId → BearerId → Answer M P UpBearer → Type 0
+  FitsBearer ue bearer a = AnswerHas has (HasBearer ue bearer) a
 
   abbrev Fits : Answer M P (CuUp M C) → Type 0
   Fits a = AnswerHas has (UpHas has) a
@@ -59,17 +65,17 @@ module _ {M C P : Type 0} {way : Way M C P} (has : Property way) where
   after : (a : Answer M P (CuUp M C)) (f : CuUp M C → Answer M P (CuUp M C)) → Fits a → ((r : CuUp M C) → UpHas has r → Fits (f r)) → Fits (a then f)
   after a f p q = after_one has (UpHas has) (UpHas has) a f p q
 
-  contexts_put : (r : CuUp M C) (ue : UeId) (c : UpContext) → UpHas has r → HasContext c → UpHas has (with_context ue r c)
-  contexts_put r ue c p all = each_put ue_cmp HasContext r.contexts ue c p all
+  contexts_put : (r : CuUp M C) (ue : UeId) (c : UpContext) → UpHas has r → HasContext ue c → UpHas has (with_context ue r c)
+  contexts_put r ue c p all = keyed_put ue_cmp ue_exact HasContext r.contexts ue c p all
 
-  context_has : (r : CuUp M C) (ue : UeId) (c : UpContext) → UpHas has r → find ue_cmp r.contexts ue ≡ Some c → HasContext c
-  context_has r ue c p is = found ue_cmp HasContext r.contexts ue c p is
+  context_has : (r : CuUp M C) (ue : UeId) (c : UpContext) → UpHas has r → find ue_cmp r.contexts ue ≡ Some c → HasContext ue c
+  context_has r ue c p is = keyed_found ue_cmp ue_exact HasContext r.contexts ue c p is
 
   -- a new bearer keeps no packet
-  made_have : (target : Bool) (next : ℕ) (bs : List BearerId) → BearersHave has (bearers_made target next bs)
+  made_have : (ue : UeId) (target : Bool) (next : ℕ) (bs : List BearerId) → BearersHave has ue (bearers_made target next bs)
   unfolding made
-  made_have target next [] = tt
-  made_have target next (b ∷ bs) = (record { unconfirmed = tt; waiting = tt; stored = tt }, made_have target (next + teids_of_bearer target) bs)
+  made_have ue target next [] = tt
+  made_have ue target next (b ∷ bs) = (record { unconfirmed = tt; waiting = tt; stored = tt }, made_have ue target (next + teids_of_bearer target) bs)
 
   replies_have : (ch : Channel) (m : E1Message) (r : CuUp M C) → UpHas has r → Fits (replies way ch m r)
   replies_have ch m r p =
@@ -77,31 +83,33 @@ module _ {M C P : Type 0} {way : Way M C P} (has : Property way) where
 
   -- ---- the bearers of a context, one after another
 
-  abbrev StepHas : UpStep way → Type 0
-  StepHas (steps os bearers) = BearersHave has bearers × AllByRecursion (OutputHas has) os
-  StepHas (stops k) = Unit {0}
+  abbrev StepHas : UeId → UpStep way → Type 0
+  StepHas ue (steps os bearers) = BearersHave has ue bearers × AllByRecursion (OutputHas has) os
+  StepHas ue (stops k) = Unit {0}
 
-  step_has : (bearer : BearerId) (a : Answer M P UpBearer) (s : UpStep way) → BearerAnswerHas has a → StepHas s → StepHas (step_with way bearer a s)
-  step_has bearer (gives os c) (steps more bs) p q = ((p.0, q.0), all_append (OutputHas has) os more p.1 q.1)
-  step_has bearer (gives os c) (stops k) p q = tt
-  step_has bearer (spent k) s p q = tt
+  step_has : (ue : UeId) (bearer : BearerId) (a : Answer M P UpBearer) (s : UpStep way) → FitsBearer ue bearer a → StepHas ue s
+      → StepHas ue (step_with way bearer a s)
+  step_has ue bearer (gives os c) (steps more bs) p q = ((p.0, q.0), all_append (OutputHas has) os more p.1 q.1)
+  step_has ue bearer (gives os c) (stops k) p q = tt
+  step_has ue bearer (spent k) s p q = tt
 
-  each_has : (order : BearerId → UpBearer → Answer M P UpBearer) → ((bearer : BearerId) (b : UpBearer) → HasBearer b → BearerAnswerHas has (order bearer b))
-      → (es : Bearers) → BearersHave has es → StepHas (each_bearer way order es)
-  each_has order each [] all = (tt, tt)
-  each_has order each (e ∷ es) all = step_has e.0 (order e.0 e.1) (each_bearer way order es) (each e.0 e.1 all.0) (each_has order each es all.1)
+  each_has : (ue : UeId) (order : BearerId → UpBearer → Answer M P UpBearer)
+      → ((bearer : BearerId) (b : UpBearer) → HasBearer ue bearer b → FitsBearer ue bearer (order bearer b))
+      → (es : Bearers) → BearersHave has ue es → StepHas ue (each_bearer way order es)
+  each_has ue order each [] all = (tt, tt)
+  each_has ue order each (e ∷ es) all = step_has ue e.0 (order e.0 e.1) (each_bearer way order es) (each e.0 e.1 all.0) (each_has ue order each es all.1)
 
-  statuses_have : (ue : UeId) (c : UpContext) (ss : List SnStatus) (es : Bearers) → BearersHave has es → StepHas (status_each way ue c ss es)
+  statuses_have : (ue : UeId) (c : UpContext) (ss : List SnStatus) (es : Bearers) → BearersHave has ue es → StepHas ue (status_each way ue c ss es)
   statuses_have ue c [] es all = (all, tt)
   statuses_have ue c (s ∷ ss) [] all = (tt, tt)
   statuses_have ue c (s ∷ ss) (e ∷ es) all =
-      step_has e.0 (with_status way (up_at ue c e.0) s e.1) (status_each way ue c ss es) (status_has has (up_at ue c e.0) s e.1 all.0) (statuses_have ue c ss es all.1)
+      step_has ue e.0 (with_status way (up_at ue c e.0) s e.1) (status_each way ue c ss es) (status_has has (up_at ue c e.0) s e.1 all.0) (statuses_have ue c ss es all.1)
 
-  steps_have : (r : CuUp M C) (ch : Channel) (ue : UeId) (d : UpContext) (s : UpStep way) (m : E1Message) → UpHas has r → StepHas s
+  steps_have : (r : CuUp M C) (ch : Channel) (ue : UeId) (d : UpContext) (s : UpStep way) (m : E1Message) → UpHas has r → StepHas ue s
       → Fits (answer_with way r ue d s then replies way ch m)
   steps_have r ch ue d s m p h = after (answer_with way r ue d s) (replies way ch m) (by s h) (replies_have ch m)
     where
-      by : (s : UpStep way) → StepHas s → Fits (answer_with way r ue d s)
+      by : (s : UpStep way) → StepHas ue s → Fits (answer_with way r ue d s)
       by (steps os bearers) q = (contexts_put r ue (record d { bearers = bearers }) p q.0, q.1)
       by (stops k) q = tt
 
@@ -110,7 +118,7 @@ module _ {M C P : Type 0} {way : Way M C P} (has : Property way) where
   ended_has : (r : CuUp M C) (ue : UeId) (c : UpContext) → UpHas has r → Fits (ended way r ue c)
   unfolding ended without
   ended_has r ue c p = (
-    all_filter (λ (e : UeId × UpContext). HasContext e.1) (λ e. not (is_at (ue_cmp ue) e.0)) r.contexts p,
+    all_filter (λ (e : UeId × UpContext). HasContext e.0 e.1) (λ e. not (is_at (ue_cmp ue) e.0)) r.contexts p,
     all_flat (OutputHas has) (λ e. map (λ teid. closed teid) (open_teids e.1)) (λ e. all_map (OutputHas has) (λ teid. closed teid) (λ teid. tt) (open_teids e.1)) c.bearers,
   )
 
@@ -122,15 +130,15 @@ module _ {M C P : Type 0} {way : Way M C P} (has : Property way) where
       by None = (p, tt)
       by (Some c) = either (c.flags.released && list_all (λ e. is_over c.flags e.1) c.bearers) (ended way r ue c) (nothing r) (ended_has r ue c p) (p, tt)
 
-  released_have : (es : Bearers) → BearersHave has (map (λ e. (e.0, released e.1)) es)
-  released_have [] = tt
-  released_have (e ∷ es) = (record { unconfirmed = tt; waiting = tt; stored = tt }, released_have es)
+  released_have : (ue : UeId) (es : Bearers) → BearersHave has ue (map (λ e. (e.0, released e.1)) es)
+  released_have ue [] = tt
+  released_have ue (e ∷ es) = (record { unconfirmed = tt; waiting = tt; stored = tt }, released_have ue es)
 
   released_fits : (ue : UeId) (is_final : Bool) (r : CuUp M C) (c : Option UpContext) → UpHas has r → Fits (released_on way ue is_final r c)
   released_fits ue is_final r None p = (p, tt)
   released_fits ue true r (Some c) p = ended_has r ue c p
   released_fits ue false r (Some c) p =
-      over_has ue (with_context ue r (as_released way c)) (contexts_put r ue (as_released way c) p (released_have c.bearers))
+      over_has ue (with_context ue r (as_released way c)) (contexts_put r ue (as_released way c) p (released_have ue c.bearers))
 
   release_has : (ch : Channel) (ue : UeId) (instance : ℕ) (is_final : Bool) (r : CuUp M C) → UpHas has r → Fits (release way ch ue instance is_final r)
   unfolding release
@@ -149,7 +157,7 @@ module _ {M C P : Type 0} {way : Way M C P} (has : Property way) where
   makes_has ue sn quota target count r p =
       either (teids_are_left r.next_teid (count * teids_of_bearer target))
       (with_new way ue r (count * teids_of_bearer target) (new_context way r sn quota target count)) (spent teids_spent) (
-        contexts_put r ue (new_context way r sn quota target count) p (made_have target r.next_teid (bearers_from 1 count)),
+        contexts_put r ue (new_context way r sn quota target count) p (made_have ue target r.next_teid (bearers_from 1 count)),
         opened_have (new_context way r sn quota target count).bearers,
       ) tt
 
@@ -169,33 +177,33 @@ module _ {M C P : Type 0} {way : Way M C P} (has : Property way) where
 
   -- ---- Bearer Context Modification
 
-  uplinks_have : (next : ℕ) (es : Bearers) → BearersHave has es → StepHas (uplinks_from way next es)
+  uplinks_have : (ue : UeId) (next : ℕ) (es : Bearers) → BearersHave has ue es → StepHas ue (uplinks_from way next es)
   unfolding with_uplink
-  uplinks_have next [] all = (tt, tt)
-  uplinks_have next (e ∷ es) all =
-      step_has e.0 (with_uplink way next e.1) (uplinks_from way (next + 1) es) (all.0, (tt, tt)) (uplinks_have (next + 1) es all.1)
+  uplinks_have ue next [] all = (tt, tt)
+  uplinks_have ue next (e ∷ es) all =
+      step_has ue e.0 (with_uplink way next e.1) (uplinks_from way (next + 1) es) (all.0, (tt, tt)) (uplinks_have ue (next + 1) es all.1)
 
   module _ (ch : Channel) (ue : UeId) (instance : ℕ) (r : CuUp M C) (p : UpHas has r) where
-    add_has : (c : UpContext) → HasContext c → Fits (add_uplinks way ch ue instance c r)
+    add_has : (c : UpContext) → HasContext ue c → Fits (add_uplinks way ch ue instance c r)
     unfolding add_uplinks
     add_has c all =
         let tunnels : List Tunnel = teids_from way r.next_teid c.bearers in
         either (not (teids_are_left r.next_teid (length c.bearers))) (spent teids_spent) _ tt
         (steps_have (uplinks_given way ue r c tunnels) ch ue c (uplinks_from way r.next_teid c.bearers) (modified way ue instance (Some tunnels) None) p
-        (uplinks_have r.next_teid c.bearers all))
+        (uplinks_have ue r.next_teid c.bearers all))
 
-    switch_has : (du : Option ℕ) (list : Option (List Tunnel)) (c : UpContext) → HasContext c → Fits (switch_if way ch ue instance du list c r)
+    switch_has : (du : Option ℕ) (list : Option (List Tunnel)) (c : UpContext) → HasContext ue c → Fits (switch_if way ch ue instance du list c r)
     unfolding switch
     switch_has (Some d) (Some list) c all =
         either (c.flags.released || not (are_bearers (names way c) (bearers_of list))) (drops Unexpected r) _ (p, (tt, tt))
         (steps_have r ch ue (as_switched way c) (each_bearer way (λ b. switched way (up_at ue (as_switched way c) b) (du_id r.gnb d) (teid_of list b)) c.bearers)
         (modified way ue instance None None) p
-        (each_has (λ b. switched way (up_at ue (as_switched way c) b) (du_id r.gnb d) (teid_of list b))
+        (each_has ue (λ b. switched way (up_at ue (as_switched way c) b) (du_id r.gnb d) (teid_of list b))
         (λ b x h. switched_has has (up_at ue (as_switched way c) b) (du_id r.gnb d) (teid_of list b) x h) c.bearers all))
     switch_has (Some d) None c all = (p, (tt, tt))
     switch_has None list c all = (p, (tt, tt))
 
-    freeze_has : (peer : Option Peer) (a b : Option (List Tunnel)) (c : UpContext) → HasContext c → Fits (freeze_if way ch ue instance peer a b c r)
+    freeze_has : (peer : Option Peer) (a b : Option (List Tunnel)) (c : UpContext) → HasContext ue c → Fits (freeze_if way ch ue instance peer a b c r)
     unfolding freeze
     freeze_has (Some peer) (Some a) (Some b) c all =
         either (c.flags.frozen || c.flags.released || not c.flags.arrived || not (are_bearers (names way c) (bearers_of a)) || not (are_bearers (names way c) (bearers_of b)))
@@ -205,13 +213,13 @@ module _ {M C P : Type 0} {way : Way M C P} (has : Property way) where
         (steps_have r ch ue (as_frozen way c)
         (each_bearer way (λ x. frozen_to way (up_at ue (as_frozen way c) x) (peer_node way peer) (teid_of a x) (teid_of b x)) c.bearers)
         (modified way ue instance None (Some (statuses way c))) p
-        (each_has (λ x. frozen_to way (up_at ue (as_frozen way c) x) (peer_node way peer) (teid_of a x) (teid_of b x))
+        (each_has ue (λ x. frozen_to way (up_at ue (as_frozen way c) x) (peer_node way peer) (teid_of a x) (teid_of b x))
         (λ x y h. frozen_has has (up_at ue (as_frozen way c) x) (peer_node way peer) (teid_of a x) (teid_of b x) y h) c.bearers all)))
     freeze_has (Some peer) (Some a) None c all = (p, (tt, tt))
     freeze_has (Some peer) None b c all = (p, (tt, tt))
     freeze_has None a b c all = (p, (tt, tt))
 
-    known_has : (list : Option (List SnStatus)) (c : UpContext) → HasContext c → Fits (status_if way ch ue instance list c r)
+    known_has : (list : Option (List SnStatus)) (c : UpContext) → HasContext ue c → Fits (status_if way ch ue instance list c r)
     unfolding take_status
     known_has (Some list) c all =
         either (c.flags.has_status || not (are_bearers (names way c) (statuses_of list))) (drops Unexpected r) _ (p, (tt, tt))
@@ -219,19 +227,19 @@ module _ {M C P : Type 0} {way : Way M C P} (has : Property way) where
         (statuses_have ue (as_known way c) list c.bearers all))
     known_has None c all = (p, (tt, tt))
 
-    resume_has : (c : UpContext) → HasContext c → Fits (resume_if way ch ue instance c r)
+    resume_has : (c : UpContext) → HasContext ue c → Fits (resume_if way ch ue instance c r)
     unfolding resume
     resume_has c all =
         either (c.flags.frozen && not c.flags.released) _ (drops Unexpected r)
         (steps_have r ch ue (as_resumed way c) (each_bearer way (λ b. resumed way (up_at ue (as_resumed way c) b)) c.bearers) (modified way ue instance None None) p
-        (each_has (λ b. resumed way (up_at ue (as_resumed way c) b)) (λ b x h. resumed_has has (up_at ue (as_resumed way c) b) x h) c.bearers all)) (p, (tt, tt))
+        (each_has ue (λ b. resumed way (up_at ue (as_resumed way c) b)) (λ b x h. resumed_has has (up_at ue (as_resumed way c) b) x h) c.bearers all)) (p, (tt, tt))
 
     modify_has : (downlinks : Option (List Tunnel)) (mode : ℕ) (peer : Option Peer) (down up : Option (List Tunnel)) (ss : Option (List SnStatus)) (du : Option ℕ)
         (c : Option UpContext) → find ue_cmp r.contexts ue ≡ c
         → Fits (modify_on way ch (e1s.BearerContextModificationRequest ue instance downlinks mode peer down up ss du) r c)
     modify_has downlinks mode peer down up ss du None is = (p, (tt, tt))
     modify_has downlinks mode peer down up ss du (Some c) is =
-        let all : HasContext c = context_has r ue c p is in
+        let all : HasContext ue c = context_has r ue c p is in
         either (mode == mode_uplinks) _ _ (either c.flags.released (drops Unexpected r) (add_uplinks way ch ue instance c r) (p, (tt, tt)) (add_has c all))
         (either (mode == mode_switch) _ _ (switch_has du downlinks c all)
         (either (mode == mode_freeze) _ _ (freeze_has peer down up c all)
@@ -269,14 +277,14 @@ module _ {M C P : Type 0} {way : Way M C P} (has : Property way) where
 
   -- ---- items, polls, ticks
 
-  bearer_has : (r : CuUp M C) (ue : UeId) (c : UpContext) (bearer : BearerId) (a : Answer M P UpBearer) → UpHas has r → HasContext c → BearerAnswerHas has a
+  bearer_has : (r : CuUp M C) (ue : UeId) (c : UpContext) (bearer : BearerId) (a : Answer M P UpBearer) → UpHas has r → HasContext ue c → FitsBearer ue bearer a
       → Fits (with_bearer way r ue c bearer a)
   bearer_has r ue c bearer (gives os b) p all h =
-      (contexts_put r ue (record c { bearers = put bearer_cmp c.bearers bearer b }) p (each_put bearer_cmp HasBearer c.bearers bearer b all h.0), h.1)
+      (contexts_put r ue (record c { bearers = put bearer_cmp c.bearers bearer b }) p (keyed_put bearer_cmp bearer_exact (HasBearer ue) c.bearers bearer b all h.0), h.1)
   bearer_has r ue c bearer (spent k) p all h = tt
 
   module _ (r : CuUp M C) (p : UpHas has r) where
-    taken_has : (t : UpTunnel) (teid : ℕ) (item : Taken P) (c : UpContext) (b : UpBearer) → TakenHas has item → HasContext c → HasBearer b
+    taken_has : (t : UpTunnel) (teid : ℕ) (item : Taken P) (c : UpContext) (b : UpBearer) → TakenHas has (of t.ue t.bearer (dir_of t.kind)) item → HasContext t.ue c → HasBearer t.ue t.bearer b
         → (reason : Option HeldReason) → Fits (taken_by way r t teid item c b reason)
     taken_has t teid item c b brings all h (Some reason) = (p, (tt, tt))
     taken_has t teid item c b brings all h None =
@@ -284,34 +292,41 @@ module _ {M C P : Type 0} {way : Way M C P} (has : Property way) where
         (bearer_has r t.ue c t.bearer (took way (up_at t.ue c t.bearer) t.kind teid item b) p all (item_has has (up_at t.ue c t.bearer) t.kind teid item b brings h))
         (over_has t.ue)
 
-    take_has : (teid : ℕ) (item : Taken P) → TakenHas has item → Fits (take way teid item r)
+    take_has : (teid : ℕ) (item : Taken P)
+        → ((owner : UpTunnel) → find nat_cmp r.tunnels teid ≡ Some owner → TakenHas has (of owner.ue owner.bearer (dir_of owner.kind)) item)
+        → Fits (take way teid item r)
     unfolding take
-    take_has teid item brings = by (find nat_cmp r.tunnels teid)
+    take_has teid item brings = by (find nat_cmp r.tunnels teid) refl
       where
-        in_bearer : (t : UpTunnel) (c : UpContext) → HasContext c → (b : Option UpBearer) → find bearer_cmp c.bearers t.bearer ≡ b → Fits (taken_in way r t teid item c b)
-        in_bearer t c all None is = (p, (tt, tt))
-        in_bearer t c all (Some b) is =
-            taken_has t teid item c b brings all (found bearer_cmp HasBearer c.bearers t.bearer b all is) (held_reason (up_at t.ue c t.bearer) b t.kind item)
+        Brings : UpTunnel → Type 0
+        Brings t = TakenHas has (of t.ue t.bearer (dir_of t.kind)) item
 
-        in_context : (t : UpTunnel) (c : Option UpContext) → find ue_cmp r.contexts t.ue ≡ c → Fits (taken_of way r t teid item c)
-        in_context t None is = (p, (tt, tt))
-        in_context t (Some c) is = in_bearer t c (context_has r t.ue c p is) (find bearer_cmp c.bearers t.bearer) refl
+        in_bearer : (t : UpTunnel) (c : UpContext) → Brings t → HasContext t.ue c → (b : Option UpBearer) → find bearer_cmp c.bearers t.bearer ≡ b
+            → Fits (taken_in way r t teid item c b)
+        in_bearer t c is all None there = (p, (tt, tt))
+        in_bearer t c is all (Some b) there =
+            taken_has t teid item c b is all (keyed_found bearer_cmp bearer_exact (HasBearer t.ue) c.bearers t.bearer b all there)
+            (held_reason (up_at t.ue c t.bearer) b t.kind item)
 
-        by : (t : Option UpTunnel) → Fits (taken_on way r teid item t)
-        by None = (p, (tt, tt))
-        by (Some t) = in_context t (context_of r t.ue) refl
+        in_context : (t : UpTunnel) → Brings t → (c : Option UpContext) → find ue_cmp r.contexts t.ue ≡ c → Fits (taken_of way r t teid item c)
+        in_context t is None there = (p, (tt, tt))
+        in_context t is (Some c) there = in_bearer t c is (context_has r t.ue c p there) (find bearer_cmp c.bearers t.bearer) refl
+
+        by : (t : Option UpTunnel) → find nat_cmp r.tunnels teid ≡ t → Fits (taken_on way r teid item t)
+        by None there = (p, (tt, tt))
+        by (Some t) there = in_context t (brings t there) (context_of r t.ue) refl
 
     poll_has : (ue : UeId) (bearer : BearerId) → Fits (poll way ue bearer r)
     unfolding poll
     poll_has ue bearer = by (context_of r ue) refl
       where
-        in_bearer : (c : UpContext) → HasContext c → (b : Option UpBearer) → find bearer_cmp c.bearers bearer ≡ b → Fits (poll_bearer way r ue c bearer b)
+        in_bearer : (c : UpContext) → HasContext ue c → (b : Option UpBearer) → find bearer_cmp c.bearers bearer ≡ b → Fits (poll_bearer way r ue c bearer b)
         in_bearer c all None is = (p, (tt, tt))
         in_bearer c all (Some b) is =
             either (length b.sender.unconfirmed == 0) (puts (no Empty) r) _ (p, (tt, tt))
             (either (c.flags.frozen || not (has_downlink b.downlink)) (puts (no NoRadio) r) _ (p, (tt, tt))
             (bearer_has r ue c bearer (framed way (up_at ue c bearer) true false None Absent b) p all
-            (framed_has has (up_at ue c bearer) true false None Absent b tt (found bearer_cmp HasBearer c.bearers bearer b all is))))
+            (framed_has has (up_at ue c bearer) true false None Absent b tt (keyed_found bearer_cmp bearer_exact (HasBearer ue) c.bearers bearer b all is))))
 
         by : (c : Option UpContext) → find ue_cmp r.contexts ue ≡ c → Fits (poll_on way r ue bearer c)
         by None is = (p, (tt, tt))
@@ -333,7 +348,7 @@ module _ {M C P : Type 0} {way : Way M C P} (has : Property way) where
   unfolding tick
   tick_has r p = (p, all_flat (OutputHas has) (due_output way) due_has (due r.transactions.caller))
 
-  pub cu_up_has : (r : CuUp M C) (input : Input C P) → UpHas has r → InputHas has input → Fits (cu_up_acts way r input)
+  pub cu_up_has : (r : CuUp M C) (input : Input C P) → UpHas has r → UpInputHas has r input → Fits (cu_up_acts way r input)
   unfolding cu_up_acts
   cu_up_has r (control_input from m) p brings = control_has from m r p
   cu_up_has r (packet_input teid item) p brings = take_has r p teid item brings
@@ -344,12 +359,13 @@ module _ {M C P : Type 0} {way : Way M C P} (has : Property way) where
 
   -- ---- a terminal that is set up without messages: no packet is kept yet
 
-  downlinks_have : (gnb : Gnb) (du next : ℕ) (es : Bearers) → BearersHave has es → BearersHave has (with_downlinks gnb du next es)
-  downlinks_have gnb du next [] all = tt
-  downlinks_have gnb du next (e ∷ es) all = (all.0, downlinks_have gnb du (next + 1) es all.1)
+  downlinks_have : (ue : UeId) (gnb : Gnb) (du next : ℕ) (es : Bearers) → BearersHave has ue es → BearersHave has ue (with_downlinks gnb du next es)
+  downlinks_have ue gnb du next [] all = tt
+  downlinks_have ue gnb du next (e ∷ es) all = (all.0, downlinks_have ue gnb du (next + 1) es all.1)
 
   pub placed_has : (r : CuUp M C) (plan : Plan) (downlink : ℕ) → UpHas has r → UpHas has (up_placed r plan downlink)
   unfolding up_placed
   placed_has r plan downlink p =
-      each_put ue_cmp HasContext r.contexts plan.ue (up_context r plan downlink) p
-      (downlinks_have r.gnb plan.du downlink (bearers_made false r.next_teid (bearers_from 1 plan.bearers)) (made_have false r.next_teid (bearers_from 1 plan.bearers)))
+      keyed_put ue_cmp ue_exact HasContext r.contexts plan.ue (up_context r plan downlink) p
+      (downlinks_have plan.ue r.gnb plan.du downlink (bearers_made false r.next_teid (bearers_from 1 plan.bearers))
+      (made_have plan.ue false r.next_teid (bearers_from 1 plan.bearers)))

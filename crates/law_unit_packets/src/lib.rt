@@ -1,42 +1,16 @@
-//! Laws of the packets of a unit. Each function does nothing: its contract is the law.
+//! Laws of the packets of a CU-UP. Each function does nothing: its contract is the law.
 #![tactic(auto)]
 
-ghost use Rattle.gnb_types.specs.declared.names.NodeId.{NodeId};
-ghost use Rattle.law_unit_packets.specs.Packets.{AnswerHas, InputHas, OutputsHave, passes, Test, UeHas, UpHas};
-ghost use Rattle.unit_defs.specs.Core.{core_acts, CoreRecord};
-ghost use Rattle.unit_defs.specs.CpRecords.{CuCpRecord};
-ghost use Rattle.unit_defs.specs.CuCp.{cu_cp_acts};
+ghost use Rattle.law_unit_packets.specs.Packets.{AnswerHas, passes, Test, UpHas, UpInputHas};
 ghost use Rattle.unit_defs.specs.CuUp.{cu_up_acts};
-ghost use Rattle.unit_defs.specs.Du.{du_acts, Du};
-ghost use Rattle.unit_defs.specs.Ue.{ue_acts, UeNode};
 ghost use Rattle.unit_defs.specs.UpRecords.{CuUp};
-ghost use Rattle.unit_defs.specs.Ways.{Input, Message, Way};
+ghost use Rattle.unit_defs.specs.Ways.{Input, Way};
 
-/// Whatever test all packets pass that a CU-UP keeps, and the one that an input brings, all pass that it puts and delivers then,
-/// and all that it keeps.
+/// Whatever test all packets pass that a CU-UP keeps, each as one of its terminal, bearer and direction, and the one that an
+/// item of a tunnel brings, as one of the tunnel's owner: all pass that it puts and delivers then, each as one of the terminal,
+/// bearer and direction that it is put and delivered for, and all that it keeps.
 pub fn a_cu_up_puts_what_it_got<M, C, P>()
     ensures { (way : Way M C P) (test : Test way) (r : CuUp M C) (input : Input C P)
-        → UpHas (passes test) r → InputHas (passes test) input
+        → UpHas (passes test) r → UpInputHas (passes test) r input
         → AnswerHas (passes test) (UpHas (passes test)) (cu_up_acts way r input) }
-{}
-
-/// The same of a terminal.
-pub fn a_terminal_puts_what_it_got<M, C, P>()
-    ensures { (way : Way M C P) (test : Test way) (u : UeNode) (input : Input C P)
-        → UeHas (passes test) u → InputHas (passes test) input
-        → AnswerHas (passes test) (UeHas (passes test)) (ue_acts way u input) }
-{}
-
-/// A DU keeps no packets: what test the one passes that an input brings, all pass that it puts then.
-pub fn a_du_puts_what_it_got<M, C, P>()
-    ensures { (way : Way M C P) (test : Test way) (r : Du M C) (input : Input C P)
-        → InputHas (passes test) input → OutputsHave (passes test) (du_acts way r input) }
-{}
-
-/// A CU-CP, and the core on control messages, put and deliver no packets: all that they put pass any test.
-pub fn control_puts_no_packets<M, C, P>()
-    ensures cu_cp { (way : Way M C P) (test : Test way) (r : CuCpRecord M C) (input : Input C P)
-        → OutputsHave (passes test) (cu_cp_acts way r input) }
-    ensures core { (way : Way M C P) (test : Test way) (r : CoreRecord M C) (from : NodeId)
-        (message : Message C) → OutputsHave (passes test) (core_acts way r from message) }
 {}

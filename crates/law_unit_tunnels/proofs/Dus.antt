@@ -34,10 +34,11 @@ use Rattle.unit_defs.specs.UpRecords.{f1u_uplink}
 use Rattle.unit_defs.specs.Du.{DuBearer, DuContext, DuTunnel, Du, du_node, context_of, with_transactions, downlinks_of, downlink_list, bearers_made, bearers_anew, replies, closings, openings, old_downlinks, replaced, replaces, context_with, setup, context_anew, modify_on, modify, end_markers, released_on, release, relayed_down, relay_down, relayed_up, relay_up, token_ue, start, set_up, asked, transferred, of_cp, of_terminal, control_came, missing, is_missing, told, gap_after, carried, with_bearer, frame_came, taken_in, taken_of, taken_on, take, of_bearer, of_context, pass_up, confirmed, confirm, due_output, tick, du_acts}
 use Rattle.law_intervals.proofs.Intervals.{all_append, all_filter}
 use Rattle.law_unit_packets.proofs.Answers.{all_map}
+use Rattle.law_unit_packets.proofs.Keyed.{keyed_found, keyed_put}
 use Rattle.law_tunnel_names.specs.Names.{Property, Names, PeerList, DuList, InputNames, PutOn, OutputNames, OutputsName, AnswerNames, KeptNames}
 use Rattle.law_tunnel_names.proofs.Kept.{either as either_way, after as after_one, closed_names, ask_names, advance_names, replied_names, on_request_with, on_reply_names, DueNames, due_names, ticked_names}
 use Rattle.law_unit_tunnels.specs.Units.{Each, UpTeid, UplinkNames, DownlinkHolds, DuHolds, DuNames, AnswerIf}
-use Rattle.law_unit_tunnels.proofs.Keyed.{keyed_found, keyed_put, put_found, always, if_then, either_if}
+use Rattle.law_unit_tunnels.proofs.Keyed.{put_found, always, if_then, either_if}
 
 module _ {M C P : Type 0} {way : Way M C P} (is : Property way) (gnb : Gnb) (number : ℕ) where
   abbrev Record : Type 0

@@ -1,12 +1,8 @@
--- Tables of which each value has a property of its key; and answers of which something is asked where what is there afterwards holds.
-use Rattle.std.proofs.Common.{◌≡◌, Bool, true, false, cond, List, [], ◌∷◌, Some, refl, sym, ◌∙◌, subst}
+-- Answers of which something is asked where what is there afterwards holds; and what was put is found.
+use Rattle.std.proofs.Common.{◌≡◌, Bool, true, false, cond, List, Some, refl, sym, ◌∙◌, subst}
 use Rattle.std.specs.Prelude.{if◌then◌else◌}
-use Rattle.std.specs.declared.cmp.Ordering.{Ordering}
-use Rattle.std.specs.declared.cmp.Ordering.TheVariants.{Less, Equal, Greater}
-use Rattle.std.specs.Ordering.{match_ordering, eq_by_cmp}
+use Rattle.std.specs.Ordering.{eq_by_cmp}
 use Rattle.std.specs.Cmp.{Equal-is, tied_itself}
-use Rattle.std.specs.Map.{lookup}
-use Rattle.std.specs.BTreeMap.{is_at, insert_entry}
 use Rattle.gnb_types.specs.declared.names.NodeId.{NodeId}
 use Rattle.gnb_types.specs.declared.names.UeId.{UeId}
 use Rattle.gnb_types.specs.Orders.{ue_cmp}
@@ -16,31 +12,7 @@ use Rattle.tables.proofs.TableLaws.{find-put}
 use Rattle.unit_defs.specs.Ways.{Way, Answer, gives, spent, with_outputs, ◌then◌}
 use Rattle.law_intervals.proofs.Intervals.{all_append}
 use Rattle.law_tunnel_names.specs.Names.{Property, OutputNames, AnswerNames}
-use Rattle.law_unit_tunnels.specs.Units.{Each, AnswerIf}
-
-module _ {K X : Type 0} (R : K → K → Ordering) (exact : (a b : K) → R a b ≡ Equal → a ≡ b) (Q : K → X → Type 0) where
-  pub keyed_found : (es : List (K × X)) (k : K) (x : X) → Each Q es → find R es k ≡ Some x → Q k x
-  unfolding find
-  keyed_found [] k x all there = absurd cc
-  keyed_found (e ∷ es) k x all there = by (keyed_found es k x all.1) (is_at (R k) e.0) refl there
-    where
-      by : (find R es k ≡ Some x → Q k x) → (t : Bool) → is_at (R k) e.0 ≡ t → cond t (Some e.1) (lookup (is_at (R k)) es) ≡ Some x → Q k x
-      by later true tie h =
-          let same : k ≡ e.0 = exact k e.0 ((Equal-is (R k e.0)).0 tie) in
-          let those : e.1 ≡ x = cc in
-          subst (λ (j : K). Q j x) (sym same) (subst (λ (y : X). Q e.0 y) those all.0)
-      by later false apart h = later h
-
-  pub keyed_put : (es : List (K × X)) (k : K) (x : X) → Each Q es → Q k x → Each Q (put R es k x)
-  unfolding put
-  keyed_put [] k x all p = (p, tt)
-  keyed_put (e ∷ es) k x all p = by (R k e.0) refl (keyed_put es k x all.1 p)
-    where
-      by : (r : Ordering) → R k e.0 ≡ r → Each Q (insert_entry R es k x)
-          → Each Q (match_ordering r ((k, x) ∷ e ∷ es) ((e.0, x) ∷ es) (e ∷ insert_entry R es k x))
-      by Less at rest = (p, all)
-      by Equal at rest = (subst (λ (j : K). Q j x) (exact k e.0 at) p, all.1)
-      by Greater at rest = (all.0, rest)
+use Rattle.law_unit_tunnels.specs.Units.{AnswerIf}
 
 -- what was put is found
 pub put_found : {X : Type 0} (es : List (UeId × X)) (ue : UeId) (x : X) → find ue_cmp (put ue_cmp es ue x) ue ≡ Some x

@@ -1,5 +1,5 @@
 -- A DU: what it puts has the property where what the input brings has it.
-use Rattle.std.proofs.Common.{◌==◌, ℕ, ◌+◌, Bool, true, false, not, ◌||◌, List, [], ◌∷◌, ◌++◌, length, map, Option, Some, None}
+use Rattle.std.proofs.Common.{◌≡◌, ◌==◌, ℕ, ◌+◌, Bool, true, false, not, ◌||◌, List, [], ◌∷◌, ◌++◌, length, map, Option, Some, None, refl}
 use Rattle.std.specs.Prelude.{if◌then◌else◌}
 use Rattle.std.specs.Ordering.{nat_cmp}
 use Rattle.std.specs.List.{AllByRecursion}
@@ -28,7 +28,7 @@ use Rattle.unit_defs.specs.Teids.{teids_are_left}
 use Rattle.unit_defs.specs.Transactions.{Kind, request, reply, transfer, kind_of, no_instance, ask, advance, replied}
 use Rattle.unit_defs.specs.Du.{DuBearer, DuContext, DuTunnel, Du, du_node, context_of, with_transactions, downlinks_of, downlink_list, replies, closings, openings, old_downlinks, replaced, replaces, context_with, setup, context_anew, modify_on, modify, end_markers, released_on, release, relayed_down, relay_down, relayed_up, relay_up, token_ue, start, set_up, asked, transferred, of_cp, of_terminal, control_came, missing, is_missing, told, gap_after, carried, with_bearer, frame_came, taken_in, taken_of, taken_on, take, of_bearer, of_context, pass_up, confirmed, confirm, due_output, tick, du_acts}
 use Rattle.law_intervals.proofs.Intervals.{all_append}
-use Rattle.law_unit_packets.specs.Packets.{Property, PayloadHas, TakenHas, InputHas, OutputHas, OutputsHave}
+use Rattle.law_unit_packets.specs.Packets.{of, Property, PayloadHas, TakenHas, DuInputHas, OutputHas, OutputsHave}
 use Rattle.law_unit_packets.proofs.Answers.{all_map, all_flat, either as either_way, after_any, ask_has, advance_has, replied_has, on_request_has, on_reply_has}
 
 module _ {M C P : Type 0} {way : Way M C P} (has : Property way) where
@@ -150,13 +150,13 @@ module _ {M C P : Type 0} {way : Way M C P} (has : Property way) where
       by true = (tt, tt)
       by false = tt
 
-  carried_has : (ue : UeId) (bearer : BearerId) (c : DuContext) (gap : Bool) (pdu : Option P) (r : Du M C) → PayloadHas has pdu
+  carried_has : (ue : UeId) (bearer : BearerId) (c : DuContext) (gap : Bool) (pdu : Option P) (r : Du M C) → PayloadHas has (of ue bearer Dl) pdu
       → Fits (carried way ue bearer c gap pdu r)
   carried_has ue bearer c gap None r is = (tt, tt)
   carried_has ue bearer c true (Some pdu) r is = (tt, (tt, tt))
   carried_has ue bearer c false (Some pdu) r is = (tt, (is, tt))
 
-  frame_has : (ue : UeId) (bearer : BearerId) (c : DuContext) (b : DuBearer) (item : Taken P) (r : Du M C) → TakenHas has item
+  frame_has : (ue : UeId) (bearer : BearerId) (c : DuContext) (b : DuBearer) (item : Taken P) (r : Du M C) → TakenHas has (of ue bearer Dl) item
       → Fits (frame_came way ue bearer c b item r)
   frame_has ue bearer c b (frame_item poll restart number pdu) r is =
       let on : DuBearer = record b { awaited = number + 1; gap = gap_after way b number restart pdu } in
@@ -164,21 +164,25 @@ module _ {M C P : Type 0} {way : Way M C P} (has : Property way) where
       (tt, told_have ue bearer b poll number) (λ s. carried_has ue bearer c (gap_after way b number restart pdu) pdu s is)
   frame_has ue bearer c b item r is = (tt, (tt, tt))
 
-  take_has : (teid : ℕ) (item : Taken P) (r : Du M C) → TakenHas has item → Fits (take way teid item r)
+  take_has : (teid : ℕ) (item : Taken P) (r : Du M C)
+      → ((owner : DuTunnel) → find nat_cmp r.tunnels teid ≡ Some owner → TakenHas has (of owner.ue owner.bearer Dl) item) → Fits (take way teid item r)
   unfolding take
-  take_has teid item r is = by (find nat_cmp r.tunnels teid)
+  take_has teid item r brings = by (find nat_cmp r.tunnels teid) refl
     where
-      in_bearer : (ue : UeId) (bearer : BearerId) (c : DuContext) (b : Option DuBearer) → Fits (taken_in way ue bearer c item r b)
-      in_bearer ue bearer c None = (tt, (tt, tt))
-      in_bearer ue bearer c (Some b) = frame_has ue bearer c b item r is
+      Brings : UeId → BearerId → Type 0
+      Brings ue bearer = TakenHas has (of ue bearer Dl) item
 
-      in_context : (ue : UeId) (bearer : BearerId) (c : Option DuContext) → Fits (taken_of way ue bearer item r c)
-      in_context ue bearer None = (tt, (tt, tt))
-      in_context ue bearer (Some c) = in_bearer ue bearer c (find bearer_cmp c.bearers bearer)
+      in_bearer : (ue : UeId) (bearer : BearerId) → Brings ue bearer → (c : DuContext) (b : Option DuBearer) → Fits (taken_in way ue bearer c item r b)
+      in_bearer ue bearer is c None = (tt, (tt, tt))
+      in_bearer ue bearer is c (Some b) = frame_has ue bearer c b item r is
 
-      by : (t : Option DuTunnel) → Fits (taken_on way item r t)
-      by None = (tt, (tt, tt))
-      by (Some t) = in_context t.ue t.bearer (context_of r t.ue)
+      in_context : (ue : UeId) (bearer : BearerId) → Brings ue bearer → (c : Option DuContext) → Fits (taken_of way ue bearer item r c)
+      in_context ue bearer is None = (tt, (tt, tt))
+      in_context ue bearer is (Some c) = in_bearer ue bearer is c (find bearer_cmp c.bearers bearer)
+
+      by : (t : Option DuTunnel) → find nat_cmp r.tunnels teid ≡ t → Fits (taken_on way item r t)
+      by None there = (tt, (tt, tt))
+      by (Some t) there = in_context t.ue t.bearer (brings t there) (context_of r t.ue)
 
   of_context_has : (r : Du M C) (row : DuContext → DuBearer → Answer M P (Du M C)) (bearer : BearerId) (c : Option DuContext)
       → ((d : DuContext) (b : DuBearer) → Fits (row d b)) → Fits (of_context way r row bearer c)
@@ -211,12 +215,12 @@ module _ {M C P : Type 0} {way : Way M C P} (has : Property way) where
   unfolding tick
   tick_has r = (tt, all_flat (OutputHas has) (due_output way) due_has (due r.transactions.caller))
 
-  pub du_has : (r : Du M C) (input : Input C P) → InputHas has input → Fits (du_acts way r input)
+  pub du_has : (r : Du M C) (input : Input C P) → DuInputHas has r input → Fits (du_acts way r input)
   unfolding du_acts pass_up confirm
   du_has r (control_input from m) brings = control_has from m r
   du_has r (packet_input teid item) brings = take_has teid item r brings
   du_has r (radio_input ue bearer Ul pdu content) brings =
-      of_context_has r (λ c b. puts (packet b.up b.uplink ue bearer Ul Same (uplink pdu)) r) bearer (context_of r ue) (λ d b. (tt, (brings.0, tt)))
+      of_context_has r (λ c b. puts (packet b.up b.uplink ue bearer Ul Same (uplink pdu)) r) bearer (context_of r ue) (λ d b. (tt, (brings, tt)))
   du_has r (confirm_input ue bearer Dl pdu content) brings =
       of_context_has r (λ c b. confirmed way ue bearer r b (way.number c.sn pdu)) bearer (context_of r ue) (λ d b. confirmed_has ue bearer r b (way.number d.sn pdu))
   du_has r tick_input brings = tick_has r

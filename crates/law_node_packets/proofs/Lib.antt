@@ -1,0 +1,3 @@
+pub mod Terminals
+pub mod Dus
+pub mod Controls
