@@ -34,7 +34,7 @@ use Rattle.law_tunnel_names.specs.CuCps.{asked_du, AwaitedOf, is_at_goal, Attemp
 use Rattle.law_tunnel_names.proofs.Rows.{dus_not_gnbs, asked_there, RowNames, row_if, attach_has_names, attach_placed_names, attach_fails_names, move_has_names, move_placed_names, acknowledged_names, declined_names, frozen_names, not_frozen_names, offer_has_names, offer_declined_names, offer_placed_names, renewed_names, switched_names, path_names, completes_names, completes_again_names, returns_names, arrives_names, arrives_again_names}
 
 -- who is awaited is this node
-awaited_from : (gnb : Gnb) (up du : ℕ) (node : NodeId) (instance : ℕ) (ws : List Awaited) → AllByRecursion (λ (w : Awaited). AwaitedOf gnb up du w.from) ws
+pub awaited_from : (gnb : Gnb) (up du : ℕ) (node : NodeId) (instance : ℕ) (ws : List Awaited) → AllByRecursion (λ (w : Awaited). AwaitedOf gnb up du w.from) ws
     → list_any (λ w. is_from node w && is_instance w.instance instance) ws ≡ true → AwaitedOf gnb up du node
 awaited_from gnb up du node instance [] all h = absurd cc
 awaited_from gnb up du node instance (w ∷ ws) all h =
@@ -49,16 +49,16 @@ awaited_from gnb up du node instance (w ∷ ws) all h =
         subst (AwaitedOf gnb up du) same all.0
     by later false e k = later k
 
-in_ready : {M C P : Type 0} (way : Way M C P) (state : StateName) (kind : AttemptKind) → is_ready way state ≡ true → is_at_goal state kind ≡ true
+pub in_ready : {M C P : Type 0} (way : Way M C P) (state : StateName) (kind : AttemptKind) → is_ready way state ≡ true → is_at_goal state kind ≡ true
 in_ready way states.Ready kind h = refl
 in_ready way state kind h = absurd cc
 
-own_command : {M C P : Type 0} (way : Way M C P) (state : StateName) (kind : AttemptKind) → is_own_command way state kind ≡ true → is_between_gnbs kind ≡ false
+pub own_command : {M C P : Type 0} (way : Way M C P) (state : StateName) (kind : AttemptKind) → is_own_command way state kind ≡ true → is_between_gnbs kind ≡ false
 own_command way states.Commanded kinds.Attach h = refl
 own_command way states.Commanded kinds.BetweenDus h = refl
 own_command way state kind h = absurd cc
 
-both : (a b : Bool) → not (a && b) ≡ false → (a ≡ true) × (b ≡ true)
+pub both : (a b : Bool) → not (a && b) ≡ false → (a ≡ true) × (b ≡ true)
 both true true h = (refl, refl)
 both true false h = absurd cc
 both false b h = absurd cc

@@ -40,7 +40,7 @@ module _ {M C P : Type 0} {way : Way M C P} (is : Property way) where
 
   -- ---- terminals
 
-  terminal_names : (gnb : Gnb) (r : Record) (ue : UeId) → CpNames is gnb r → TerminalNames is gnb ue (terminal_of r ue).context
+  pub terminal_names : (gnb : Gnb) (r : Record) (ue : UeId) → CpNames is gnb r → TerminalNames is gnb ue (terminal_of r ue).context
   terminal_names gnb r ue p = by (find ue_cmp r.terminals ue) refl
     where
       by : (o : Option CpTerminal) → find ue_cmp r.terminals ue ≡ o → TerminalNames is gnb ue (terminal_in o).context
