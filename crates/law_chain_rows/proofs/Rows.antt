@@ -179,7 +179,7 @@ module _ {M C P : Type 0} (way : Way M C P) (at : UpAt) where
   unfolding took_fresh
   keeps_a_fresh_one p b f r = rw (r, f) refl
 
-  then_gives : (i j : List Item) (ps qs : List Pdu) (b c : UpBearer) (a : Answer M P UpBearer) (more : UpBearer → Answer M P UpBearer)
+  pub then_gives : (i j : List Item) (ps qs : List Pdu) (b c : UpBearer) (a : Answer M P UpBearer) (more : UpBearer → Answer M P UpBearer)
       → Gives way at.sn i ps b a
       → ((d : UpBearer) → plain d ≡ plain b → Gives way at.sn j qs c (more d)) → Gives way at.sn (i ++ j) (ps ++ qs) c (a then more)
   unfolding Gives
@@ -213,7 +213,7 @@ module _ {M C P : Type 0} (way : Way M C P) (at : UpAt) where
           which true = tt
           which false = (refl, refl, rw e refl)
 
-  gives_as : (i : List Item) (ps : List Pdu) (b c : UpBearer) (a : Answer M P UpBearer) → plain b ≡ plain c → Gives way at.sn i ps b a
+  pub gives_as : (i : List Item) (ps : List Pdu) (b c : UpBearer) (a : Answer M P UpBearer) → plain b ≡ plain c → Gives way at.sn i ps b a
       → Gives way at.sn i ps c a
   unfolding Gives
   gives_as i ps b c (spent counter) e g = tt
