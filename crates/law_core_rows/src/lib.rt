@@ -1,0 +1,30 @@
+//! Laws of the core: what a message does to the downlink path of one bearer is an order of the bearer's part.
+//! Each function does nothing: its contract is the law.
+#![tactic(auto)]
+
+ghost use Rattle.std.specs.Prelude.{ℕ, List, [], ◌∷◌};
+ghost use Rattle.gnb_types.specs.declared.names.NodeId.{NodeId};
+ghost use Rattle.gnb_types.specs.declared.names.UeId.{UeId};
+ghost use Rattle.gnb_types.specs.declared.names.BearerId.{BearerId};
+ghost use Rattle.gnb_types.specs.declared.names.SnBits.{SnBits};
+ghost use Rattle.message_types.specs.declared.rrc.Token.{Token};
+ghost use Rattle.unit_defs.specs.Ways.{Message, Pdu, Way};
+ghost use Rattle.unit_defs.specs.Core.{CoreRecord, core_acts};
+ghost use Rattle.chain_defs.specs.Parts.{Part};
+ghost use Rattle.chain_defs.specs.Orders.{switches_path, run};
+ghost use Rattle.chain_defs.specs.Guards.{IsOwed, AreKept};
+ghost use Rattle.law_core_rows.specs.Shown.{Places, IsPath, goal_by, orders_to, IsOne, Follows};
+
+/// Whatever message the core is given, its path of a bearer is afterwards that of the part after the orders that `orders_to`
+/// computes: a new request of this terminal's path is one order, all else none. An End Marker, and nothing else, is put on the
+/// tunnel of the path before. Owed is that a request names one tunnel of the bearer.
+pub fn messages_are_orders()
+    ensures follows { (way : Way (Message Token) Token Pdu) (places : Places) (ue : UeId)
+        (bearer : BearerId) (r : CoreRecord (Message Token) Token) (s : Part)
+        → IsPath places r ue bearer s → (from : NodeId) (message : Message Token)
+        → IsOne (goal_by ue bearer r from message)
+        → Follows places ue bearer s (run s (orders_to places (goal_by ue bearer r from message)))
+        (core_acts way r from message) }
+    ensures kept { (sn : SnBits) (quota : ℕ) (s : Part) (to : ℕ) → IsOwed s (switches_path to)
+        → AreKept sn quota s (switches_path to ∷ []) }
+{}

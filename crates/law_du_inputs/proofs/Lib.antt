@@ -1,0 +1,5 @@
+pub mod Contexts
+pub mod Frames
+pub mod Control
+pub mod Ups
+pub mod Ways

@@ -1,0 +1,11 @@
+use Rattle.law_du_inputs.proofs.Ways.{takes_kept, takes_on, takes_heard, loses_kept, loses_run}
+use Rattle.law_du_inputs.proofs.changes_are_steps.Goals as goal
+
+pub returns : goal.returns
+returns c = record {
+  taken_asked = takes_kept;
+  taken = takes_on;
+  heard = takes_heard;
+  closed_asked = loses_kept;
+  closed = loses_run;
+}

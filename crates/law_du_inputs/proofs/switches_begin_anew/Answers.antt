@@ -1,0 +1,10 @@
+use Rattle.law_du_inputs.proofs.Ways.{begins_kept, begins_on, begins_listen, set_up_fresh}
+use Rattle.law_du_inputs.proofs.switches_begin_anew.Goals as goal
+
+pub returns : goal.returns
+returns c = record {
+  asked = begins_kept;
+  begins = begins_on;
+  listens = begins_listen;
+  set_up = λ way. set_up_fresh way;
+}

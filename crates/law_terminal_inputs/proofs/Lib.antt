@@ -1,0 +1,6 @@
+pub mod Puts
+pub mod Others
+pub mod Radio
+pub mod Control
+pub mod Kept
+pub mod Refusals
