@@ -11,8 +11,8 @@ use Rattle.profile_defs.specs.Profile.{f1_type}
 use Rattle.message_defs.specs.F1.{written_f1}
 use Rattle.f1_messages.proofs.octets.to_bytes.Goals as goal
 
-pub encode-requires : goal.encode-requires
-encode-requires c =
+pub encode-octets-requires : goal.encode-octets-requires
+encode-octets-requires c =
     let same : f1_type ≡ tree c.module-module.result.now c.f1_pdu-id.result.number =
     sym (ap (λ (m : Syntax). tree m c.f1_pdu-id.result.number) c.module-module.ensures.syntax ∙ c.f1_pdu-id.ensures.is) in
     let seen : written_f1 c.args.msg.now ≡ view c.in_ok-value.value = sym c.in_ok-value.ensures in
@@ -27,5 +27,5 @@ pub returns : goal.returns
 returns c =
     let same : tree c.module-module.result.now c.f1_pdu-id.result.number ≡ f1_type =
     ap (λ (m : Syntax). tree m c.f1_pdu-id.result.number) c.module-module.ensures.syntax ∙ c.f1_pdu-id.ensures.is in
-    subst (λ (v : Value). Spells f1_type v c.in_ok-encode.field-0) c.in_ok-value.ensures
-    (subst (λ (t : Tree). Spells t (view c.in_ok-value.value) c.in_ok-encode.field-0) same c.in_ok-encode.ensures)
+    subst (λ (v : Value). Spells f1_type v c.in_ok-octets.field-0) c.in_ok-value.ensures
+    (subst (λ (t : Tree). Spells t (view c.in_ok-value.value) c.in_ok-octets.field-0) same c.in_ok-octets.ensures)

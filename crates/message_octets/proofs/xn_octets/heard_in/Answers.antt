@@ -6,8 +6,8 @@ use Rattle.aper_values.specs.Views.{view}
 use Rattle.profile.specs.Versions.{number_of}
 use Rattle.message_octets.proofs.xn_octets.heard_in.Goals as goal
 
-pub heard-requires : goal.heard-requires
-heard-requires c = (
+pub heard-message-requires : goal.heard-message-requires
+heard-message-requires c = (
   number_of c.args.profile.now.version,
   c.requires.alike.has (view c.in_ok-value.value)
       (subst (λ (m : Syntax). Has [] (tree m c.args.id.number) (view c.in_ok-value.value)) c.module-module.ensures.syntax

@@ -13,8 +13,8 @@ use Rattle.profile_xn.proofs.Spellings.{spells, is_short}
 use Rattle.message_defs.specs.Xn.{written_xn}
 use Rattle.message_octets.proofs.xn_octets.to_bytes.Goals as goal
 
-pub encode-requires : goal.encode-requires
-encode-requires c =
+pub encode-octets-requires : goal.encode-octets-requires
+encode-octets-requires c =
     let own : Tree = tree c.args.profile.now.syntax c.xn_pdu-id.result.number in
     let type : Tree = xn_type (number_of c.args.profile.now.version) in
     let same : own ≡ tree c.module-module.result.now c.xn_pdu-id.result.number =
@@ -35,6 +35,6 @@ returns c =
     let type : Tree = xn_type (number_of c.args.profile.now.version) in
     let same : tree c.module-module.result.now c.xn_pdu-id.result.number ≡ own =
     ap (λ (m : Syntax). tree m c.xn_pdu-id.result.number) c.module-module.ensures.syntax in
-    spells own type c.xn_pdu-id.ensures.alike (written_xn c.args.msg.now) c.in_ok-encode.field-0
-    (subst (λ (v : Value). Spells own v c.in_ok-encode.field-0) c.in_ok-value.ensures
-    (subst (λ (t : Tree). Spells t (view c.in_ok-value.value) c.in_ok-encode.field-0) same c.in_ok-encode.ensures))
+    spells own type c.xn_pdu-id.ensures.alike (written_xn c.args.msg.now) c.in_ok-octets.field-0
+    (subst (λ (v : Value). Spells own v c.in_ok-octets.field-0) c.in_ok-value.ensures
+    (subst (λ (t : Tree). Spells t (view c.in_ok-value.value) c.in_ok-octets.field-0) same c.in_ok-octets.ensures))
