@@ -16,7 +16,7 @@ use control_says::At;
 use control_steps::carry_out;
 use control_targets::{Offered, offer, offer_context, status, xn_cancelled};
 use gnb_types::keys::Channel;
-use gnb_types::names::{NodeId, UeId};
+use gnb_types::names::{NodeId, SnBits, UeId};
 use gnb_types::outputs::{Output, Outputs};
 use gnb_types::plans::StatusList;
 use gnb_types::reasons::DropReason;
@@ -59,7 +59,9 @@ fn put_reply<C: MessageCodec>(
         (replied (octet_way C.codec) requests.old channel (message_as reply)))
         outputs.new requests.new result }
 {
-    requests.reply(alloc, codec, channel, &reply, outputs)
+    let replied = requests.reply(alloc, codec, channel, &reply, outputs);
+    drop(reply);
+    replied
 }
 
 /// A unit is set up.
@@ -112,15 +114,9 @@ fn offered<C: MessageCodec>(
     let terminal = record.terminal(alloc, ue)?;
     let at = at_of(record, alloc, codec, ue);
     let context = offer_context(&at, offered);
-    let row = offer(&at, channel.peer, offered.instance, context, &terminal)?;
-    carry_out(record, alloc, codec, ue, row, outputs)
-}
-
-/// What an SN Status Transfer says.
-#[derive(Drop)]
-struct Transfer {
-    instance: u32,
-    statuses: StatusList,
+    let row = offer(&at, channel.peer, offered.instance, context, &terminal);
+    drop(terminal);
+    carry_out(record, alloc, codec, ue, row?, outputs)
 }
 
 /// The source of a handover says the SN status.
@@ -129,27 +125,24 @@ fn status_came<C: MessageCodec>(
     alloc: Global,
     codec: &C,
     channel: Channel,
-    transfer: Transfer,
+    instance: u32,
+    statuses: &StatusList,
     outputs: &mut Outputs,
 ) -> Result<(), StepError>
     ensures { IsStep
         (step_after outputs.old
         (by_row (octet_way C.codec) (record { 0 = channel.ue })
         (status (octet_way C.codec) (at_of record.old (record { 0 = channel.ue })) channel.peer
-        transfer.instance transfer.statuses (terminal_of record.old (record { 0 = channel.ue }))) record.old))
+        instance statuses.now (terminal_of record.old (record { 0 = channel.ue }))) record.old))
         outputs.new record.new result }
 {
     let ue = UeId(channel.ue);
+    let copied = copy_statuses(alloc, statuses)?;
     let terminal = record.terminal(alloc, ue)?;
     let at = at_of(record, alloc, codec, ue);
-    let row = status(
-        &at,
-        channel.peer,
-        transfer.instance,
-        transfer.statuses,
-        &terminal,
-    )?;
-    carry_out(record, alloc, codec, ue, row, outputs)
+    let row = status(&at, channel.peer, instance, copied, &terminal);
+    drop(terminal);
+    carry_out(record, alloc, codec, ue, row?, outputs)
 }
 
 /// The source of a handover cancels it.
@@ -171,8 +164,9 @@ fn cancelled<C: MessageCodec>(
     let ue = UeId(channel.ue);
     let terminal = record.terminal(alloc, ue)?;
     let at = at_of(record, alloc, codec, ue);
-    let row = xn_cancelled(&at, channel.peer, instance, &terminal)?;
-    carry_out(record, alloc, codec, ue, row, outputs)
+    let row = xn_cancelled(&at, channel.peer, instance, &terminal);
+    drop(terminal);
+    carry_out(record, alloc, codec, ue, row?, outputs)
 }
 
 /// The target of a handover has the terminal.
@@ -194,8 +188,9 @@ fn released<C: MessageCodec>(
     let ue = UeId(channel.ue);
     let terminal = record.terminal(alloc, ue)?;
     let at = at_of(record, alloc, codec, ue);
-    let row = xn_released(&at, channel.peer, instance, &terminal)?;
-    carry_out(record, alloc, codec, ue, row, outputs)
+    let row = xn_released(&at, channel.peer, instance, &terminal);
+    drop(terminal);
+    carry_out(record, alloc, codec, ue, row?, outputs)
 }
 
 /// A new request of another node.
@@ -310,15 +305,7 @@ fn asked_on_xn<C: MessageCodec>(
             du,
             ..
         } => {
-            let place = Offered {
-                instance: *instance,
-                epoch: *epoch,
-                up: peer.up,
-                du: *du,
-                bearers: *bearers,
-                sn: *sn,
-                quota: *quota,
-            };
+            let place = place_at(peer.up, *du, *instance, *epoch, *bearers, *sn, *quota);
             offered(record, alloc, codec, on(*ue, from), place, outputs)
         }
         XnMessage::SnStatusTransfer {
@@ -326,11 +313,8 @@ fn asked_on_xn<C: MessageCodec>(
             instance,
             statuses,
         } => {
-            let transfer = Transfer {
-                instance: *instance,
-                statuses: copy_statuses(alloc, statuses)?,
-            };
-            status_came(record, alloc, codec, on(*ue, from), transfer, outputs)
+            let channel = on(*ue, from);
+            status_came(record, alloc, codec, channel, *instance, statuses, outputs)
         }
         XnMessage::HandoverCancel { ue, instance } => {
             cancelled(record, alloc, codec, on(*ue, from), *instance, outputs)
@@ -343,6 +327,37 @@ fn asked_on_xn<C: MessageCodec>(
         | XnMessage::TransportConfirm { .. } => {
             put(outputs, Output::Drop(DropReason::Unexpected))
         }
+    }
+}
+
+/// The place that a Handover Request names, and what it says of the terminal.
+fn place_at(
+    up: u8,
+    du: u8,
+    instance: u32,
+    epoch: u32,
+    bearers: u8,
+    sn: SnBits,
+    quota: u16,
+) -> Offered
+    ensures { result ≡ record {
+      instance = instance;
+      epoch = epoch;
+      up = up;
+      du = du;
+      bearers = bearers;
+      sn = sn;
+      quota = quota;
+    } }
+{
+    Offered {
+        instance,
+        epoch,
+        up,
+        du,
+        bearers,
+        sn,
+        quota,
     }
 }
 

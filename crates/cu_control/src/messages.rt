@@ -59,7 +59,11 @@ pub(crate) fn octets_came<C: MessageCodec>(
         return put(outputs, Output::Drop(DropReason::Unexpected));
     }
     match codec.read(alloc, from, NodeId::CuCp(gnb), bytes.as_slice())? {
-        Ok(message) => control_by(record, alloc, codec, from, &message, outputs),
+        Ok(message) => {
+            let acted = control_by(record, alloc, codec, from, &message, outputs);
+            drop(message);
+            acted
+        }
         Err(reason) => put(outputs, Output::Drop(reason)),
     }
 }

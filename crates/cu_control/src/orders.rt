@@ -37,8 +37,9 @@ fn attach<C: MessageCodec>(
 {
     let terminal = record.terminal(alloc, plan.ue)?;
     let at = at_of(record, alloc, codec, plan.ue);
-    let row = rows::attach(&at, plan, &terminal)?;
-    carry_out(record, alloc, codec, plan.ue, row, outputs)
+    let row = rows::attach(&at, plan, &terminal);
+    drop(terminal);
+    carry_out(record, alloc, codec, plan.ue, row?, outputs)
 }
 
 fn handover<C: MessageCodec>(
@@ -57,8 +58,9 @@ fn handover<C: MessageCodec>(
 {
     let terminal = record.terminal(alloc, goal.ue)?;
     let at = at_of(record, alloc, codec, goal.ue);
-    let row = rows::handover(&at, goal, &terminal)?;
-    carry_out(record, alloc, codec, goal.ue, row, outputs)
+    let row = rows::handover(&at, goal, &terminal);
+    drop(terminal);
+    carry_out(record, alloc, codec, goal.ue, row?, outputs)
 }
 
 fn cancel<C: MessageCodec>(
@@ -76,8 +78,9 @@ fn cancel<C: MessageCodec>(
 {
     let terminal = record.terminal(alloc, ue)?;
     let at = at_of(record, alloc, codec, ue);
-    let row = rows::cancel(&at, &terminal)?;
-    carry_out(record, alloc, codec, ue, row, outputs)
+    let row = rows::cancel(&at, &terminal);
+    drop(terminal);
+    carry_out(record, alloc, codec, ue, row?, outputs)
 }
 
 fn release<C: MessageCodec>(
@@ -95,8 +98,9 @@ fn release<C: MessageCodec>(
 {
     let terminal = record.terminal(alloc, ue)?;
     let at = at_of(record, alloc, codec, ue);
-    let row = rows::release(&at, &terminal)?;
-    carry_out(record, alloc, codec, ue, row, outputs)
+    let row = rows::release(&at, &terminal);
+    drop(terminal);
+    carry_out(record, alloc, codec, ue, row?, outputs)
 }
 
 /// An order: one that isn't for a CU-CP is unexpected.

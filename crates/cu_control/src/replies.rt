@@ -129,7 +129,9 @@ pub(crate) fn reply_came<C: MessageCodec>(
     let ue = UeId(channel.ue);
     let terminal = record.terminal(alloc, ue)?;
     let at = at_of(record, alloc, codec, ue);
-    match answer(&at, channel.peer, instance, message, &terminal)? {
+    let answered = answer(&at, channel.peer, instance, message, &terminal);
+    drop(terminal);
+    match answered? {
         Answered::NotAwaited => { not_awaited(record, alloc, codec, channel, message, outputs) }
         Answered::Awaited(None) => put(outputs, Output::Drop(DropReason::Unexpected)),
         Answered::Awaited(Some(row)) => { awaited(record, alloc, codec, channel, row, outputs) }

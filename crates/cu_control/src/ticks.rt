@@ -61,8 +61,9 @@ fn expired<C: MessageCodec>(
 {
     let terminal = record.terminal(alloc, ue)?;
     let at = at_of(record, alloc, codec, ue);
-    let row = expired_on(&at, &terminal)?;
-    carry_out(record, alloc, codec, ue, row, outputs)
+    let row = expired_on(&at, &terminal);
+    drop(terminal);
+    carry_out(record, alloc, codec, ue, row?, outputs)
 }
 
 /// What is due of one request: it is put again, or it expires.
@@ -192,8 +193,9 @@ fn commanded<C: MessageCodec>(
 {
     let terminal = record.terminal(alloc, ue)?;
     let at = at_of(record, alloc, codec, ue);
-    let row = command_on(&at, &terminal)?;
-    carry_out(record, alloc, codec, ue, row, outputs)
+    let row = command_on(&at, &terminal);
+    drop(terminal);
+    carry_out(record, alloc, codec, ue, row?, outputs)
 }
 
 /// A tick.

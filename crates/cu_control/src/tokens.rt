@@ -35,6 +35,7 @@ pub(crate) fn token_came<C: MessageCodec>(
     let token = codec.read_token(alloc, container.as_slice())?;
     let terminal = record.terminal(alloc, ue)?;
     let at = at_of(record, alloc, codec, ue);
-    let row = rows::token_came(&at, from, &terminal, token)?;
-    carry_out(record, alloc, codec, ue, row, outputs)
+    let row = rows::token_came(&at, from, &terminal, token);
+    drop(terminal);
+    carry_out(record, alloc, codec, ue, row?, outputs)
 }
