@@ -1,6 +1,7 @@
 //! Laws of what stands on tunnels. Each function does nothing: its contract is the law.
 #![tactic(auto)]
 
+ghost use Rattle.law_run_tunnels.specs.Example.{of_another};
 ghost use Rattle.law_run_tunnels.specs.Own.{OctetsAreOfTheirKind, TunnelsHoldTheirOwn};
 ghost use Rattle.law_steps.specs.Reached.{reached};
 ghost use Rattle.message_types.specs.declared.rrc.Token.{Token};
@@ -26,4 +27,9 @@ pub fn octets_are_of_their_kind()
     ensures { (reading : Reading) (events : List Event)
         (t : State (Message Token) Token (Written (Load Pdu)) (Written Pdu))
         → reached (plain_world reading) events new_state ≡ Some t → OctetsAreOfTheirKind t }
+{}
+
+/// A packet of one terminal on a tunnel of another one is against the law.
+pub fn the_law_says_something()
+    ensures { TunnelsHoldTheirOwn of_another → ⊥ }
 {}
