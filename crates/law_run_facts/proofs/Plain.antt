@@ -54,7 +54,7 @@ module _ (facts : UnitFacts) (keep : UnitsKeep facts) (reading : Reading) where
 
   -- ---- what units answer
 
-  abbrev Answered : NodeId → Option ℕ → PlainStepped → Type 0
+  abbrev pub Answered : NodeId → Option ℕ → PlainStepped → Type 0
   Answered node taken (stepped outputs v) = OfUnits facts v × PutsFit (as_facts facts) node taken outputs
   Answered node taken (step_spent counter) = Unit {0}
 
@@ -97,7 +97,7 @@ module _ (facts : UnitFacts) (keep : UnitsKeep facts) (reading : Reading) where
       there (Some x) is = by_ue u ue taken (ue_acts plain_way x input) p (keep.ues_act (record { 0 = ue }) x taken input (p.3 (record { 0 = ue }) x is) fits)
   acted u Core taken input p fits = (p, tt)
 
-  abbrev Fits : NodeId → Option ℕ → Option (Input Token Pdu) → Type 0
+  abbrev pub Fits : NodeId → Option ℕ → Option (Input Token Pdu) → Type 0
   Fits node taken None = Unit {0}
   Fits node taken (Some input) = InputFits facts node taken input
 
@@ -121,7 +121,7 @@ module _ (facts : UnitFacts) (keep : UnitsKeep facts) (reading : Reading) where
   given_fits node taken (octets_from from octets) p = tt
   given_fits node taken (octets_on teid octets) p = tt
 
-  answered : (u : PlainUnits) (node : NodeId) (taken : Option ℕ) (given : PlainGiven) (o : Option (Input Token Pdu)) → OfUnits facts u → Fits node taken o
+  pub answered : (u : PlainUnits) (node : NodeId) (taken : Option ℕ) (given : PlainGiven) (o : Option (Input Token Pdu)) → OfUnits facts u → Fits node taken o
       → Answered node taken (plain_by reading u node given o)
   answered u node taken given None p fits = (p, (tt, tt))
   answered u node taken given (Some input) p fits = acted u node taken input p fits
