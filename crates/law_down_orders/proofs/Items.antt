@@ -45,13 +45,7 @@ none_of_three false true h e = absurd (true≢false e)
 none_of_three false false true e = refl
 none_of_three false false false e = absurd (true≢false e)
 
-module _ {M C P : Type 0} (way : Way M C P) (s : Part) (x : ℕ) (p : UpPart) (is : IsDown (s.members x) p) where
-  abbrev m : Member
-  m = s.members x
-
-  abbrev b : UpBearer
-  b = p.bearer
-
+module _ {M C P : Type 0} (way : Way M C P) (s : Part) (x : ℕ) (p : UpPart) where
   -- ---- a member that is the bearer then
 
   pub shown : (t : Part) (n : Member) (items : List Item) (pdus : List Pdu) (c : UpBearer) (a : Answer M P UpBearer) → n.is_there ≡ true
@@ -69,7 +63,7 @@ module _ {M C P : Type 0} (way : Way M C P) (s : Part) (x : ℕ) (p : UpPart) (i
 
   -- ---- what waits is numbered
 
-  abbrev numbered_as : Bool → UpBearer → UpBearer
+  abbrev pub numbered_as : Bool → UpBearer → UpBearer
   numbered_as none c = if none then c else numbered_by p.at.sn p.at.quota c
 
   pub numbers_gives : (c : UpBearer) → Gives way p.at.sn [] (again (packets_if p.at c)) (numbered_as (serves_none p.at c) c) (number_waiting way p.at c)
@@ -85,7 +79,7 @@ module _ {M C P : Type 0} (way : Way M C P) (s : Part) (x : ℕ) (p : UpPart) (i
           (pdus_are p.at.sn p.at.quota c.waiting c.sender)
           (each_gives way p.at c.waiting c (none_of_three p.at.flags.frozen p.at.flags.released (has_downlink c.downlink) e))
 
-  numbers_shown : (t : Part) (n : Member) (first : List Pdu) (c : UpBearer) (a : Answer M P UpBearer) → Went s t x n [] (packets_of first)
+  pub numbers_shown : (t : Part) (n : Member) (first : List Pdu) (c : UpBearer) (a : Answer M P UpBearer) → Went s t x n [] (packets_of first)
       → t.members x ≡ n → n.is_there ≡ true → n.flags ≡ p.at.flags → down_of n.bearer ≡ down_of c
       → Gives way p.at.sn [] (first ++ again (packets_if p.at c)) (numbered_as (serves_none p.at c) c) a
       → Shows way s (run t (numbers_if x p.at c)) x (kept_in p a)
@@ -115,6 +109,13 @@ module _ {M C P : Type 0} (way : Way M C P) (s : Part) (x : ℕ) (p : UpPart) (i
           (subst (λ (zs : List (ℕ × List ℕ)). Went s (run t (number_orders p.at.sn p.at.quota x c.waiting c.sender)) x
           (record n { bearer = numbered_by p.at.sn p.at.quota n.bearer }) [] zs) all went_all) h
 
+module _ {M C P : Type 0} (way : Way M C P) (s : Part) (x : ℕ) (p : UpPart) (is : IsDown (s.members x) p) where
+  abbrev m : Member
+  m = s.members x
+
+  abbrev b : UpBearer
+  b = p.bearer
+
   -- ---- packets without a COUNT
 
   module _ (stands : Stands p) (packet : List ℕ) where
@@ -129,8 +130,8 @@ module _ {M C P : Type 0} (way : Way M C P) (s : Part) (x : ℕ) (p : UpPart) (i
         subst (λ (a : Answer M P UpBearer). Shows way s (run t (numbers_if x p.at waiting)) x (kept_in p a))
         (sym (keeps_a_fresh_one way p.at packet b unfrozen (stands.passes unfrozen)))
         (subst (λ (u : Part). Shows way s (run u (numbers_if x p.at waiting)) x (kept_in p (number_waiting way p.at waiting))) (sym same)
-        (numbers_shown (changed s x k) k [] waiting (number_waiting way p.at waiting) (went_kept s x k) (set_here s.members x k) there flags
-        (ap (λ (u : UpBearer). waits u packet) is.bearer) (numbers_gives waiting)))
+        (numbers_shown way s x p (changed s x k) k [] waiting (number_waiting way p.at waiting) (went_kept s x k) (set_here s.members x k) there flags
+        (ap (λ (u : UpBearer). waits u packet) is.bearer) (numbers_gives way s x p waiting)))
 
     passed_fresh : (n : Member) → n.is_there ≡ true → n.flags ≡ p.at.flags → p.at.flags.frozen ≡ true
         → Shows way s (chain.passed s x (record n { bearer = waits_unless m.flags.released m.bearer packet }) (fresh packet ∷ [])) x
@@ -139,7 +140,7 @@ module _ {M C P : Type 0} (way : Way M C P) (s : Part) (x : ℕ) (p : UpPart) (i
     passed_fresh n there flags frozen =
         let hop = stands.hop frozen in
         let k : Member = record n { bearer = waits_unless m.flags.released m.bearer packet } in
-        shown (chain.passed s x k (fresh packet ∷ [])) k (fresh packet ∷ []) [] (waits_unless p.at.flags.released b packet)
+        shown way s x p (chain.passed s x k (fresh packet ∷ [])) k (fresh packet ∷ []) [] (waits_unless p.at.flags.released b packet)
         (took_fresh way p.at packet b) there flags (λ i. waits_unless (is.flags i).released (is.bearer i) packet)
         (went_passed s x k (fresh packet ∷ [])) (passes_a_fresh_one way p.at packet b hop.0 hop.1 frozen)
 
@@ -182,7 +183,7 @@ module _ {M C P : Type 0} (way : Way M C P) (s : Part) (x : ℕ) (p : UpPart) (i
       passes f room =
           let hop = stands.hop f in
           let k : Member = record m { forwarded = rest; bearer = takes_unless m.flags.released m.bearer count packet } in
-          shown (chain.passed s x k (numbered count packet ∷ [])) k (numbered count packet ∷ []) [] (takes_unless p.at.flags.released b count packet) row
+          shown way s x p (chain.passed s x k (numbered count packet ∷ [])) k (numbered count packet ∷ []) [] (takes_unless p.at.flags.released b count packet) row
           is.there is.flags (λ i. takes_unless (is.flags i).released (is.bearer i) count packet) (went_passed s x k (numbered count packet ∷ []))
           (passes_a_numbered_one way p.at count packet b hop.0 hop.1 f room)
 
@@ -190,7 +191,7 @@ module _ {M C P : Type 0} (way : Way M C P) (s : Part) (x : ℕ) (p : UpPart) (i
           → Shows way s (after s (sends x count packet rest)) x (kept_in p row)
       sends_it f room =
           let k : Member = record m { forwarded = rest; bearer = holds m.bearer count packet } in
-          shown (sent (changed s x k) m ((count, packet) ∷ [])) k [] (packet_pdu count packet ∷ []) (holds b count packet) row is.there is.flags
+          shown way s x p (sent (changed s x k) m ((count, packet) ∷ [])) k [] (packet_pdu count packet ∷ []) (holds b count packet) row is.there is.flags
           (ap (λ (u : UpBearer). holds u count packet) is.bearer) (went_sent s x k m ((count, packet) ∷ []) refl)
           (sends_a_numbered_one way p.at count packet b (down f) f (stands.passes f) room)
 
@@ -198,7 +199,7 @@ module _ {M C P : Type 0} (way : Way M C P) (s : Part) (x : ℕ) (p : UpPart) (i
           → Shows way s (after s (chain.drops x count packet rest)) x (kept_in p row)
       drops_it r none =
           let k : Member = record m { forwarded = rest } in
-          shown (changed s x k) k [] [] b row is.there is.flags is.bearer (went_kept s x k)
+          shown way s x p (changed s x k) k [] [] b row is.there is.flags is.bearer (went_kept s x k)
           (subst (λ (a : Answer M P UpBearer). Gives way p.at.sn [] [] b a) (sym dropped_is) (refl, refl, refl))
         where
           dropped_is : row ≡ drops Duplicate b
@@ -222,7 +223,7 @@ module _ {M C P : Type 0} (way : Way M C P) (s : Part) (x : ℕ) (p : UpPart) (i
   n3_end stands rest f teid open_ =
       let hop = stands.hop f in
       let k : Member = record m { n3 = rest; bearer = record m.bearer { n3 = None } } in
-      shown (chain.passed s x k (end_marker ∷ [])) k (end_marker ∷ []) [] (record b { n3 = None }) (n3_ended way p.at b b.hop) is.there is.flags
+      shown way s x p (chain.passed s x k (end_marker ∷ [])) k (end_marker ∷ []) [] (record b { n3 = None }) (n3_ended way p.at b b.hop) is.there is.flags
       (ap (λ (u : UpBearer). record u { n3 = None }) is.bearer) (went_passed s x k (end_marker ∷ []))
       (passes_the_end way p.at b hop.0 teid hop.1 open_)
 
@@ -230,7 +231,7 @@ module _ {M C P : Type 0} (way : Way M C P) (s : Part) (x : ℕ) (p : UpPart) (i
   unfolding run after packets_of Gives items_of pdus_of
   hop_end rest open_ =
       let k : Member = record m { forwarded = rest; bearer = record m.bearer { down_ended = true } } in
-      shown (changed s x k) k [] [] (record b { down_ended = true }) (rows.down_ended way b) is.there is.flags
+      shown way s x p (changed s x k) k [] [] (record b { down_ended = true }) (rows.down_ended way b) is.there is.flags
       (ap (λ (u : UpBearer). record u { down_ended = true }) is.bearer) (went_kept s x k)
       (subst (λ (a : Answer M P UpBearer). Gives way p.at.sn [] [] (record b { down_ended = true }) a)
       (sym (λ i. if open_ i then drops Unexpected b else nothing (record b { down_ended = true }))) (refl, refl, refl))
@@ -245,8 +246,8 @@ module _ {M C P : Type 0} (way : Way M C P) (s : Part) (x : ℕ) (p : UpPart) (i
       let k : Member = record m { bearer = record m.bearer { sender = confirmed_by m.bearer.sender fmc bits } } in
       let c : UpBearer = record b { sender = confirmed_by b.sender fmc bits } in
       subst (λ (a : Answer M P UpBearer). Shows way s (run (changed s x k) (numbers_if x p.at c)) x (kept_in p a)) (sym (reports_make_room way p.at fmc bits b))
-      (numbers_shown (changed s x k) k [] c (number_waiting way p.at c) (went_kept s x k) (set_here s.members x k) is.there is.flags
-      (ap (λ (u : UpBearer). record u { sender = confirmed_by u.sender fmc bits }) is.bearer) (numbers_gives c))
+      (numbers_shown way s x p (changed s x k) k [] c (number_waiting way p.at c) (went_kept s x k) (set_here s.members x k) is.there is.flags
+      (ap (λ (u : UpBearer). record u { sender = confirmed_by u.sender fmc bits }) is.bearer) (numbers_gives way s x p c))
 
   -- after a row that left the bearer so, but for the number of its next frame
 
@@ -258,17 +259,17 @@ module _ {M C P : Type 0} (way : Way M C P) (s : Part) (x : ℕ) (p : UpPart) (i
   downlinks_alike d c e = sym (has_plain d.downlink) ∙ ap (λ (u : UpBearer). has_downlink u.downlink) e ∙ has_plain c.downlink
 
   numbers_after : (d c : UpBearer) → plain d ≡ plain c
-      → Gives way p.at.sn [] (again (packets_if p.at c)) (numbered_as (serves_none p.at c) c) (number_waiting way p.at d)
+      → Gives way p.at.sn [] (again (packets_if p.at c)) (numbered_as way s x p (serves_none p.at c) c) (number_waiting way p.at d)
   numbers_after d c e =
-      gives_as way p.at [] (again (packets_if p.at c)) (numbered_as (serves_none p.at c) d) (numbered_as (serves_none p.at c) c) (number_waiting way p.at d)
+      gives_as way p.at [] (again (packets_if p.at c)) (numbered_as way s x p (serves_none p.at c) d) (numbered_as way s x p (serves_none p.at c) c) (number_waiting way p.at d)
       (by (serves_none p.at c))
       (subst (λ (h : Bool). Gives way p.at.sn [] (again (if p.at.flags.frozen || p.at.flags.released || not h then []
-      else numbered_packets p.at.sn p.at.quota c.waiting c.sender)) (numbered_as (p.at.flags.frozen || p.at.flags.released || not h) d)
+      else numbered_packets p.at.sn p.at.quota c.waiting c.sender)) (numbered_as way s x p (p.at.flags.frozen || p.at.flags.released || not h) d)
       (number_waiting way p.at d)) (downlinks_alike d c e)
       (subst (λ (u : UpBearer). Gives way p.at.sn [] (again (if serves_none p.at d then [] else numbered_packets p.at.sn p.at.quota u.waiting u.sender))
-      (numbered_as (serves_none p.at d) d) (number_waiting way p.at d)) e (numbers_gives d)))
+      (numbered_as way s x p (serves_none p.at d) d) (number_waiting way p.at d)) e (numbers_gives way s x p d)))
     where
-      by : (t : Bool) → plain (numbered_as t d) ≡ plain (numbered_as t c)
+      by : (t : Bool) → plain (numbered_as way s x p t d) ≡ plain (numbered_as way s x p t c)
       by true = e
       by false = ap (λ (u : UpBearer). numbered_by p.at.sn p.at.quota u) e
 
@@ -296,8 +297,8 @@ module _ {M C P : Type 0} (way : Way M C P) (s : Part) (x : ℕ) (p : UpPart) (i
         → Shows way s (run t (losses x p.at.flags.frozen lost ++ numbers_if x p.at c)) x (kept_in p (lost_frames way p.at lost c then number_waiting way p.at))
     unfolding run after Gives items_of pdus_of packets_of
     lost_ones [] =
-        numbers_shown t n [] c (lost_frames way p.at [] c then number_waiting way p.at) went exact there flags bearer
-        (then_gives way p.at [] [] [] (again (packets_if p.at c)) c (numbered_as (serves_none p.at c) c) (nothing c) (number_waiting way p.at)
+        numbers_shown way s x p t n [] c (lost_frames way p.at [] c then number_waiting way p.at) went exact there flags bearer
+        (then_gives way p.at [] [] [] (again (packets_if p.at c)) c (numbered_as way s x p (serves_none p.at c) c) (nothing c) (number_waiting way p.at)
         (refl, refl, refl) (λ d e. numbers_after d c e))
     lost_ones (range ∷ ranges) = by p.at.flags.frozen refl
       where
@@ -323,18 +324,18 @@ module _ {M C P : Type 0} (way : Way M C P) (s : Part) (x : ℕ) (p : UpPart) (i
             → Shows way s (run t ((tells_loss x ∷ (if f then [] else sends_again x ∷ [])) ++ numbers_if x p.at c)) x
             (kept_in p ((if f then nothing held else sent_again way p.at c.sender.unconfirmed resent) then number_waiting way p.at))
         by true f =
-            numbers_shown (changed t x n2) n2 [] c2 (nothing held then number_waiting way p.at) told (set_here t.members x n2) there2 flags2 same_bearer
-            (then_gives way p.at [] [] [] (again (packets_if p.at c2)) c2 (numbered_as (serves_none p.at c2) c2) (nothing held) (number_waiting way p.at)
+            numbers_shown way s x p (changed t x n2) n2 [] c2 (nothing held then number_waiting way p.at) told (set_here t.members x n2) there2 flags2 same_bearer
+            (then_gives way p.at [] [] [] (again (packets_if p.at c2)) c2 (numbered_as way s x p (serves_none p.at c2) c2) (nothing held) (number_waiting way p.at)
             (refl, refl, ap (λ (k : Bool). plain (loss k)) (sym f)) (λ d e. numbers_after d c2 e))
         by false f =
             let es : List (ℕ × List ℕ) = c.sender.unconfirmed in
             let here : (changed t x n2).members x ≡ n2 = set_here t.members x n2 in
             let more : List (ℕ × List ℕ) = ((changed t x n2).members x).bearer.sender.unconfirmed in
-            numbers_shown (sent (changed t x n2) ((changed t x n2).members x) more) n2 (again es) c2
+            numbers_shown way s x p (sent (changed t x n2) ((changed t x n2).members x) more) n2 (again es) c2
             (sent_again way p.at es resent then number_waiting way p.at)
             (subst (λ (zs : List (ℕ × List ℕ)). Went s (sent (changed t x n2) ((changed t x n2).members x) more) x n2 [] zs) (again_there here)
             (went_more s x (changed t x n2) n2 [] told here more)) here there2 flags2 same_bearer
-            (then_gives way p.at [] [] (again es) (again (packets_if p.at c2)) c2 (numbered_as (serves_none p.at c2) c2)
+            (then_gives way p.at [] [] (again es) (again (packets_if p.at c2)) c2 (numbered_as way s x p (serves_none p.at c2) c2)
             (sent_again way p.at es resent) (number_waiting way p.at)
             (gives_as way p.at [] (again es) resent c2 (sent_again way p.at es resent) (ap (λ (k : Bool). plain (loss k)) (sym f))
             (sends_all_again way p.at es resent (down f))) (λ d e. numbers_after d c2 e))

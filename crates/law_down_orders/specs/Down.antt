@@ -3,12 +3,15 @@ use Rattle.std.specs.Prelude.{◌≡◌, ◌≢◌, ◌==◌, ℕ, Bool, true, f
 use Rattle.pdcp_defs.specs.Senders.{may_restore, confirmed_to, confirmed_by}
 use Rattle.pdcp_defs.specs.Receivers.{new_receiver}
 use Rattle.unit_defs.specs.Ways.{Pdu, packet_pdu, report_pdu, report_content, Taken, fresh_item, numbered_item, uplink_item, status_item, end_item, Output, Way, Answer, gives, spent}
-use Rattle.unit_defs.specs.UpRecords.{UpBearer, SourceHop, UpAt, TunnelKind, n3, f1u_uplink, forwarding_down}
-use Rattle.unit_defs.specs.UpBearers.{has_downlink}
+use Rattle.unit_defs.specs.UpRecords.{UpBearer, Downlink, SourceHop, UpAt, TunnelKind, n3, f1u_uplink, forwarding_down}
+use Rattle.unit_defs.specs.UpBearers.{has_downlink, thawed}
 use Rattle.chain_defs.specs.Parts.{Item, Member, Part}
-use Rattle.chain_defs.specs.Orders.{Order, keeps_n3, keeps_fresh, passes_n3, passes_fresh, sends, passes_numbered, drops, ends_n3, ends_hop, confirms, reports, tells_loss, sends_again, waits}
+use Rattle.chain_defs.specs.Orders.{Order, keeps_n3, keeps_fresh, passes_n3, passes_fresh, sends, passes_numbered, drops, ends_n3, ends_hop, confirms, reports, tells_loss, sends_again, switches, knows, resumes, releases, on_downlink, known, waits}
 use Rattle.law_chain_rows.specs.Shown.{plain, items_of, pdus_of, number_orders, numbered_packets}
-use Rattle.law_context_orders.specs.Orders.{UpPart}
+use Rattle.law_context_orders.specs.Orders.{UpPart, UpOrder, on_switch, on_status, on_resume}
+use Rattle.law_context_orders.specs.Orders as ups
+use Rattle.gnb_types.specs.declared.names.NodeId.{NodeId}
+use Rattle.gnb_types.specs.declared.plans.SnStatus.{SnStatus}
 
 -- ---- what the downlink says of a bearer: all but its uplink, the number of its next frame and its restart mark
 
@@ -74,6 +77,25 @@ item_orders x p rest f1u_uplink (status_item lost delivered) =
     confirms_if x delivered ++ losses x p.at.flags.frozen lost ++ numbers_if x p.at (confirmed_if delivered p.bearer)
 item_orders x p rest kind item = []
 
+-- ---- control
+
+abbrev pub switch_orders : ℕ → ℕ → NodeId → ℕ → UpPart → List Order
+switch_orders x epoch du teid p =
+    let downlink : Downlink = record { du = du; teid = teid; next = 0 } in
+    switches x downlink epoch ∷ (if p.at.flags.has_status then numbers_if x (on_switch p).at (on_downlink p.bearer downlink) else [])
+
+abbrev pub status_orders : ℕ → SnStatus → UpPart → List Order
+status_orders x status p =
+    knows x status ∷ (if p.at.flags.arrived then sends_again x ∷ numbers_if x (on_status p).at (known p.bearer status) else [])
+
+-- the radio that a switch is for is named; what a bearer takes, and the freeze, have theirs elsewhere
+abbrev pub control_orders : {P : Type 0} → ℕ → ℕ → UpPart → UpOrder P → List Order
+control_orders x epoch p (ups.switches du teid) = switch_orders x epoch du teid p
+control_orders x epoch p (ups.knows status) = status_orders x status p
+control_orders x epoch p ups.resumes = resumes x ∷ numbers_if x (on_resume p).at (thawed p.bearer)
+control_orders x epoch p ups.releases = releases x ∷ []
+control_orders x epoch p order = []
+
 -- ---- what orders come to
 
 -- the packets among PDUs
@@ -118,6 +140,18 @@ pub record Stands (p : UpPart) : Type 0 where
   pub passes : p.at.flags.frozen ≡ false → p.at.flags.released ≡ false
 
 -- the item is one that the run puts there: its COUNT is found, and a tunnel ends once
+-- A switch and a resume are of a context that wasn't released; and where the terminal is at the one that gets its SN status, this
+-- serves, and has its downlink.
+abbrev pub IsAsked : {P : Type 0} → UpPart → UpOrder P → Type 0
+IsAsked p (ups.adds teid) = Unit {0}
+IsAsked p (ups.switches du teid) = p.at.flags.released ≡ false
+IsAsked p (ups.knows status) = p.at.flags.arrived ≡ true
+    → (p.at.flags.frozen ≡ false) × (p.at.flags.released ≡ false) × (has_downlink p.bearer.downlink ≡ true)
+IsAsked p ups.resumes = (p.at.flags.released ≡ false) × (has_downlink p.bearer.downlink ≡ true)
+IsAsked p ups.releases = Unit {0}
+IsAsked p ups.polls = Unit {0}
+IsAsked p order = ⊥
+
 abbrev pub IsFit : {P : Type 0} → UpPart → TunnelKind → Taken P → Type 0
 IsFit p n3 (fresh_item packet) = Unit {0}
 IsFit p n3 end_item = (p.at.flags.frozen ≡ true) × ((teid : ℕ) × (p.bearer.n3 ≡ Some teid))
@@ -127,3 +161,23 @@ IsFit p forwarding_down end_item = p.bearer.down_ended ≡ false
 IsFit p f1u_uplink (uplink_item (report_content fmc bits)) = Unit {0}
 IsFit p f1u_uplink (status_item lost delivered) = p.at.flags.frozen ≡ false → has_downlink p.bearer.downlink ≡ true
 IsFit p kind item = ⊥
+
+-- ---- a freeze: to this other context go these items, and it is promised this COUNT
+
+pub record Froze (s t : Part) (x to : ℕ) (m : Member) (items : List Item) (promised : ℕ) : Type 0 where
+  pub here : t.members x ≡ m
+  pub target : t.members to ≡ record (s.members to) { forwarded = (s.members to).forwarded ++ items; promised = promised }
+  pub others : (y : ℕ) → y ≢ x → y ≢ to → t.members y ≡ s.members y
+  pub rest : (t.air ≡ s.air) × (t.epoch ≡ s.epoch) × (t.path ≡ s.path) × (t.station ≡ s.station) × (t.offered ≡ s.offered)
+      × (t.terminal ≡ s.terminal) × (t.delivered ≡ s.delivered)
+
+pub record ShownFrozen {M P : Type 0} (s t : Part) (x to : ℕ) (promised : ℕ) (q : UpPart) (outputs : List (Output M P)) : Type 0 where
+  pub member : Member
+  pub is : IsDown member q
+  pub puts : pdus_of outputs ≡ []
+  pub froze : Froze s t x to member (items_of outputs) promised
+
+abbrev pub ShowsFrozen : {M P : Type 0} → Part → Part → (x to promised : ℕ) → Answer M P (Option UpPart) → Type 0
+ShowsFrozen s t x to promised (gives outputs None) = ⊥
+ShowsFrozen s t x to promised (gives outputs (Some q)) = ShownFrozen s t x to promised q outputs
+ShowsFrozen s t x to promised (spent counter) = Unit {0}

@@ -1,0 +1,41 @@
+//! Laws of the orders to a bearer of a CU-UP: each is orders to the uplink of the bearer in the run. Each function does nothing:
+//! its contract is the law.
+#![tactic(auto)]
+
+ghost use Rattle.std.specs.Prelude.{◌≢◌, ℕ, false, List, [], ◌∷◌};
+ghost use Rattle.law_context_orders.specs.Orders.{UpPart, UpOrder, done, freezes, takes};
+ghost use Rattle.law_up_orders.specs.Up.{IsUp, item_orders, IsFit, Shows, Stands};
+ghost use Rattle.law_up_orders.specs.Up.{control_orders, IsAsked, ShowsFrozen};
+ghost use Rattle.gnb_types.specs.declared.names.NodeId.{NodeId};
+ghost use Rattle.unit_defs.specs.UpRecords.{TunnelKind};
+ghost use Rattle.unit_defs.specs.Ways.{Taken, Way};
+ghost use Rattle.uplink_defs.specs.Orders.{run};
+ghost use Rattle.uplink_defs.specs.Orders as orders;
+ghost use Rattle.uplink_defs.specs.Parts.{Item, Part};
+
+/// An item that a bearer takes from an uplink tunnel, or from the source's, is an order to its uplink: where the run's part has
+/// the bearer, it has it after this as the row leaves it; what the row puts on the target's tunnel up is what the order passes
+/// on, an End Marker among it, and what it hands up is what the order delivers.
+pub fn items_are_orders<M, C, P>()
+    ensures { (way : Way M C P) (s : Part) (x : ℕ) (p : UpPart) → IsUp (s.members x) p → Stands p
+        → (kind : TunnelKind) (teid : ℕ) (item : Taken P) (rest : List Item) → IsFit p kind item
+        → Shows s (run s (item_orders x rest kind teid item)) x (done way (takes kind teid item) p) }
+{}
+
+/// So are a switch, a resume and an SN status, which hand up what the receiver has where the terminal is there; a release, and
+/// further uplinks.
+pub fn control_is_orders<M, C, P>()
+    ensures { (way : Way M C P) (s : Part) (x : ℕ) (p : UpPart) → IsUp (s.members x) p
+        → (order : UpOrder P) → IsAsked p order
+        → Shows s (run s (control_orders x p order)) x (done way order p) }
+{}
+
+/// A freeze is an order: all that is stored goes to the context that the hop leads to, another one than this, and where this
+/// one's receiver stands is what it is promised.
+pub fn a_freeze_is_an_order<M, C, P>()
+    ensures { (way : Way M C P) (s : Part) (x : ℕ) (p : UpPart) → IsUp (s.members x) p
+        → (to : ℕ) (peer : NodeId) (down up : ℕ) → to ≢ x
+        → ShowsFrozen s
+        (run s (orders.freezes x to (record { peer = peer; down = down; up = up; up_ended = false }) ∷ []))
+        x to p.bearer.receiver.deliv (done way (freezes peer down up) p) }
+{}
