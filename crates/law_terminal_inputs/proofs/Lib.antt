@@ -3,4 +3,3 @@ pub mod Others
 pub mod Radio
 pub mod Control
 pub mod Kept
-pub mod Refusals

@@ -19,7 +19,7 @@ use Rattle.chain_defs.specs.Orders as down
 use Rattle.law_downlink_path.specs.Paths.{Path}
 use Rattle.law_downlink_path.specs.Steps as path
 use Rattle.law_terminal_inputs.specs.Inputs.{Parts, Orders, none, rest_of, if_here, of_pdu, of_confirmed, of_offer, orders_by}
-use Rattle.law_terminal_inputs.specs.Ways.{IsAlike, steps_for}
+use Rattle.law_terminal_refusals.specs.Ways.{IsAlike, steps_for}
 
 module _ {M C P : Type 0} (way : Way M C P) (u : UeNode) where
   pub no_command : (epoch : ℕ) (goal : NodeId) → (may_obey way u.state && epoch == u.epoch + 1) ≡ false

@@ -1,5 +1,5 @@
-use Rattle.law_terminal_inputs.proofs.Refusals.{radio_none, confirmed_none, offered_none}
-use Rattle.law_terminal_inputs.proofs.other_bearers_stay.Goals as goal
+use Rattle.law_terminal_refusals.proofs.Refusals.{radio_none, confirmed_none, offered_none}
+use Rattle.law_terminal_refusals.proofs.other_bearers_stay.Goals as goal
 
 pub returns : goal.returns
 returns c = record {

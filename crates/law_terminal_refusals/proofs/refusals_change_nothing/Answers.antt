@@ -1,5 +1,5 @@
-use Rattle.law_terminal_inputs.proofs.Refusals.{no_command, no_arrival, no_home, no_return, not_accepted, no_failure, too_large, too_many, unknown_taken, unknown_confirmed, unknown_offered, tunnels_unexpected, own_unexpected, its_own_unexpected}
-use Rattle.law_terminal_inputs.proofs.refusals_change_nothing.Goals as goal
+use Rattle.law_terminal_refusals.proofs.Refusals.{no_command, no_arrival, no_home, no_return, not_accepted, no_failure, too_large, too_many, unknown_taken, unknown_confirmed, unknown_offered, tunnels_unexpected, own_unexpected, its_own_unexpected}
+use Rattle.law_terminal_refusals.proofs.refusals_change_nothing.Goals as goal
 
 pub returns : goal.returns
 returns c = record {
