@@ -1,10 +1,10 @@
 -- Whatever a DU is given, its answers name a TEID as it was given.
-use Rattle.std.proofs.Common.{◌≡◌, ◌≤◌, ◌==◌, ℕ, ◌+◌, Bool, true, false, not, ◌||◌, List, [], ◌∷◌, ◌++◌, length, map, Option, Some, None, refl, sym, ap, ◌∙◌, subst, arith}
+use Rattle.std.proofs.Common.{◌≡◌, ◌≤◌, ◌==◌, ℕ, ◌+◌, Bool, true, false, not, ◌||◌, List, [], ◌∷◌, ◌++◌, length, map, Option, Some, None, refl, sym, ◌∙◌, subst, arith}
 use Rattle.std.specs.Prelude.{if◌then◌else◌}
 use Rattle.std.specs.List.{AllByRecursion, flat_map}
 use Rattle.std.specs.Ordering.{nat_cmp}
 use Rattle.gnb_types.specs.declared.names.NodeId.{NodeId}
-use Rattle.gnb_types.specs.declared.names.NodeId.TheVariants.{CuCp, CuUp, Du as du_id, Core, Ue}
+use Rattle.gnb_types.specs.declared.names.NodeId.TheVariants.{CuCp, CuUp, Du as du_id, Ue}
 use Rattle.gnb_types.specs.declared.names.UeId.{UeId}
 use Rattle.gnb_types.specs.declared.names.BearerId.{BearerId}
 use Rattle.gnb_types.specs.declared.names.SnBits.{SnBits}
@@ -17,22 +17,22 @@ use Rattle.gnb_types.specs.declared.outputs.Tag.TheVariants.{Absent, Same}
 use Rattle.gnb_types.specs.declared.reasons.DropReason.TheVariants.{Unexpected, NoContext, Stale}
 use Rattle.gnb_types.specs.Names.{node_text}
 use Rattle.gnb_types.specs.Orders.{channel_cmp, bearer_cmp}
-use Rattle.tables.specs.Tables.{find, put}
+use Rattle.tables.specs.Tables.{find}
 use Rattle.transaction_defs.specs.Callers.{Opened, is_awaited, close, due, Due, repeats, expires, after_tick}
-use Rattle.transaction_defs.specs.Callees.{Kept, kept_at, Verdict, with_reply, keep}
+use Rattle.transaction_defs.specs.Callees.{Kept, kept_at, with_reply, keep}
 use Rattle.message_types.specs.declared.f1.F1.{F1}
 use Rattle.message_types.specs.declared.f1.F1.TheVariants as f1s
 use Rattle.message_types.specs.declared.rrc.Token.{Token}
 use Rattle.unit_defs.specs.Ways.{Message, f1, rrc, uplink, status, end_marker, Taken, frame_item, Output, control, packet, radio, deliver, dropped, held, opened, closed, failed, no, Input, control_input, packet_input, radio_input, confirm_input, tick_input, order_input, Way, Answer, gives, spent, with_outputs, ◌then◌, nothing, puts, drops, teids_spent}
 use Rattle.unit_defs.specs.Messages.{channel, is_same_gnb, bearers_of, are_first_bearers}
-use Rattle.unit_defs.specs.Teids.{teids_are_left, teid_after}
+use Rattle.unit_defs.specs.Teids.{teids_are_left}
 use Rattle.unit_defs.specs.Transactions.{Kind, request, reply, transfer, kind_of, no_instance, Transactions, Asked, ask, advance, replied, on_reply}
-use Rattle.unit_defs.specs.Du.{DuBearer, DuContext, DuTunnel, Du, du_node, context_of, with_transactions, downlinks_of, downlink_list, bearers_made, bearers_anew, replies, closings, openings, old_downlinks, replaced, replaces, context_with, setup, context_anew, modify_on, modify, end_markers, released_on, release, relayed_down, relay_down, relayed_up, relay_up, token_ue, start, set_up, asked, transferred, of_cp, of_terminal, control_came, missing, is_missing, told, gap_after, carried, with_bearer, frame_came, taken_in, taken_of, taken_on, take, of_bearer, of_context, pass_up, confirmed, confirm, due_output, tick, du_acts}
+use Rattle.unit_defs.specs.Du.{DuBearer, DuContext, DuTunnel, Du, du_node, context_of, with_transactions, downlinks_of, downlink_list, replies, closings, openings, old_downlinks, replaced, replaces, context_with, setup, context_anew, modify_on, modify, end_markers, released_on, release, relayed_down, relay_down, relayed_up, relay_up, token_ue, start, set_up, asked, transferred, of_cp, of_terminal, control_came, missing, is_missing, told, gap_after, carried, with_bearer, frame_came, taken_in, taken_of, taken_on, take, of_bearer, of_context, pass_up, confirmed, confirm, due_output, tick, du_acts}
 use Rattle.law_intervals.proofs.Intervals.{all_append}
 use Rattle.law_unit_packets.proofs.Answers.{each_put, all_map}
-use Rattle.law_tunnel_names.specs.Names.{Property, IfAny, Names, OwnDuList, OutputNames, OutputsName, AnswerNames, KeptNames}
+use Rattle.law_tunnel_names.specs.Names.{Property, IfAny, Names, OwnDuList, OutputsName, AnswerNames, KeptNames}
 use Rattle.law_tunnel_names.proofs.Kept.{closed_names, ask_names, advance_names, on_request_with, DueNames, due_names, ticked_names}
-use Rattle.law_downlink_names.specs.Places.{DownlinkTeid, du_of_teid, Grant, Place, away, Story, Granted, OnAnswer, AnswerIs, GoesTo}
+use Rattle.law_downlink_names.specs.Places.{DownlinkTeid, du_of_teid, Grant, away, Story, Granted, AnswerIs}
 use Rattle.law_downlink_names.proofs.Moves.{on_answer}
 use Rattle.law_downlink_names.proofs.Begins.{all_as}
 use Rattle.law_downlink_grants.specs.Grants.{IsLeft, NoAnswer, Tells, others, DuKeeps, TellIs, DuGoes}

@@ -1,5 +1,5 @@
 -- In every run messages name tunnels of their sender's kind, whichever these are.
-use Rattle.std.proofs.Common.{◌≡◌, ℕ, zero, suc, ◌+◌, Bool, true, false, cond, List, [], ◌∷◌, Option, Some, None, refl, sym, ◌∙◌, subst}
+use Rattle.std.proofs.Common.{◌≡◌, ℕ, ◌+◌, Bool, true, false, cond, List, [], ◌∷◌, Option, Some, None, refl, sym, ◌∙◌, subst}
 use Rattle.std.specs.List.{AllByRecursion}
 use Rattle.std.specs.Ordering.{eq_by_cmp}
 use Rattle.gnb_types.specs.declared.names.Gnb.{Gnb}
@@ -20,15 +20,15 @@ use Rattle.scenario_text.specs.declared.event.Event.{Event}
 use Rattle.transport_defs.specs.declared.Letter.{Letter}
 use Rattle.unit_defs.specs.Ways.{Message, f1, e1, Pdu, Load, Put, control, packet, radio, deliver, dropped, held, opened, closed, failed, no, Input, control_input, packet_input, radio_input, confirm_input, offer_input, tick_input, order_input, Answer, gives, spent}
 use Rattle.unit_defs.specs.Transactions.{kind_of}
-use Rattle.unit_defs.specs.UpRecords.{UpBearer, UpContext, CuUp, n3}
+use Rattle.unit_defs.specs.UpRecords.{UpBearer, UpContext, CuUp}
 use Rattle.unit_defs.specs.UpBearers.{made}
-use Rattle.unit_defs.specs.CuUp.{new_cu_up, bearers_from, bearers_made, cu_up_acts}
-use Rattle.unit_defs.specs.Du.{DuBearer, DuContext, Du, new_du, bearers_made as du_bearers, du_acts}
+use Rattle.unit_defs.specs.CuUp.{bearers_from, bearers_made, cu_up_acts}
+use Rattle.unit_defs.specs.Du.{DuContext, Du, bearers_made as du_bearers, du_acts}
 use Rattle.unit_defs.specs.Ue.{UeNode, ue_acts}
-use Rattle.unit_defs.specs.CpRecords.{CpTerminal, CuCpRecord, new_cu_cp}
+use Rattle.unit_defs.specs.CpRecords.{CpTerminal, CuCpRecord}
 use Rattle.unit_defs.specs.CuCp.{cu_cp_acts}
-use Rattle.unit_defs.specs.Core.{CorePath, CoreRecord, new_core}
-use Rattle.unit_defs.specs.Static.{with_downlinks, up_context, up_placed, uplinks_from, du_context, du_placed, cp_context, cp_placed, up_set_up, du_set_up, cp_set_up}
+use Rattle.unit_defs.specs.Core.{CorePath, CoreRecord}
+use Rattle.unit_defs.specs.Static.{with_downlinks, up_context, up_placed, uplinks_from, du_context, du_placed, cp_context, cp_placed}
 use Rattle.run_defs.specs.Written.{Written}
 use Rattle.run_defs.specs.States.{State, new_state}
 use Rattle.run_defs.specs.Runs.{Reading, plain_way, plain_world}
@@ -45,7 +45,7 @@ use Rattle.law_unit_tunnels.proofs.Keyed.{keyed_put}
 use Rattle.law_unit_tunnels.proofs.CuUps.{cu_up_names}
 use Rattle.law_unit_tunnels.proofs.Dus.{du_names}
 use Rattle.law_unit_tunnels.proofs.Terminals.{terminal_fits}
-use Rattle.law_run_answerers.specs.Answerers.{IsDu, IsCuUp, AnswersOwn, AllAnswerOwn}
+use Rattle.law_run_answerers.specs.Answerers.{AnswersOwn, AllAnswerOwn}
 
 -- any TEID may be named for any
 abbrev pub any : Owners
