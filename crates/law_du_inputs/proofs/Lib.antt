@@ -2,4 +2,3 @@ pub mod Contexts
 pub mod Frames
 pub mod Control
 pub mod Ups
-pub mod Ways

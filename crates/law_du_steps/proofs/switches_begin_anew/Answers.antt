@@ -1,5 +1,5 @@
-use Rattle.law_du_inputs.proofs.Ways.{begins_kept, begins_on, begins_listen, set_up_fresh}
-use Rattle.law_du_inputs.proofs.switches_begin_anew.Goals as goal
+use Rattle.law_du_steps.proofs.Ways.{begins_kept, begins_on, begins_listen, set_up_fresh}
+use Rattle.law_du_steps.proofs.switches_begin_anew.Goals as goal
 
 pub returns : goal.returns
 returns c = record {

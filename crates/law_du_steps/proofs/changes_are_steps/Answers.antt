@@ -1,5 +1,5 @@
-use Rattle.law_du_inputs.proofs.Ways.{takes_kept, takes_on, takes_heard, loses_kept, loses_run}
-use Rattle.law_du_inputs.proofs.changes_are_steps.Goals as goal
+use Rattle.law_du_steps.proofs.Ways.{takes_kept, takes_on, takes_heard, loses_kept, loses_run}
+use Rattle.law_du_steps.proofs.changes_are_steps.Goals as goal
 
 pub returns : goal.returns
 returns c = record {

@@ -20,7 +20,7 @@ use Rattle.law_du_rows.proofs.Contexts.{made_there, marks_asked, marks_run}
 use Rattle.law_du_rows.proofs.Frames.{carries_asked, carries_run}
 use Rattle.law_du_inputs.specs.Changes.{DuPart, part_with, part_in, changed_in, takes as takes_frame}
 use Rattle.law_du_inputs.specs.Puts.{carried_if, carried_of}
-use Rattle.law_du_inputs.specs.Steps.{IsOn, IsFresh, Hears, rest_of, loses_all, begins_in, heard, order_of, item_of, place_of}
+use Rattle.law_du_steps.specs.Steps.{IsOn, IsFresh, Hears, rest_of, loses_all, begins_in, heard, order_of, item_of, place_of}
 
 -- ---- a tunnel is closed
 
