@@ -2,9 +2,9 @@
 use Rattle.std.specs.Prelude.{◌≡◌, ◌≢◌, ◌==◌, ℕ, Bool, true, false, not, ◌||◌, if◌then◌else◌, List, [], ◌∷◌, ◌++◌, map, Option, Some, None}
 use Rattle.pdcp_defs.specs.Senders.{may_restore, confirmed_to, confirmed_by}
 use Rattle.pdcp_defs.specs.Receivers.{new_receiver}
-use Rattle.unit_defs.specs.Ways.{Pdu, packet_pdu, report_pdu, report_content, Taken, fresh_item, numbered_item, uplink_item, status_item, end_item, Output, Way, Answer, gives, spent}
-use Rattle.unit_defs.specs.UpRecords.{UpBearer, Downlink, SourceHop, UpAt, TunnelKind, n3, f1u_uplink, forwarding_down}
-use Rattle.unit_defs.specs.UpBearers.{has_downlink, thawed}
+use Rattle.unit_defs.specs.Ways.{Pdu, packet_pdu, report_pdu, packet_content, report_content, Taken, fresh_item, numbered_item, uplink_item, status_item, end_item, Output, Way, Answer, gives, spent}
+use Rattle.unit_defs.specs.UpRecords.{UpBearer, Downlink, SourceHop, UpAt, TunnelKind, n3, f1u_uplink, forwarding_down, forwarding_up}
+use Rattle.unit_defs.specs.UpBearers.{made, has_downlink, thawed}
 use Rattle.chain_defs.specs.Parts.{Item, Member, Part}
 use Rattle.chain_defs.specs.Orders.{Order, keeps_n3, keeps_fresh, passes_n3, passes_fresh, sends, passes_numbered, drops, ends_n3, ends_hop, confirms, reports, tells_loss, sends_again, switches, knows, resumes, releases, on_downlink, known, waits}
 use Rattle.law_chain_rows.specs.Shown.{plain, items_of, pdus_of, number_orders, numbered_packets}
@@ -12,6 +12,10 @@ use Rattle.law_context_orders.specs.Orders.{UpPart, UpOrder, on_switch, on_statu
 use Rattle.law_context_orders.specs.Orders as ups
 use Rattle.gnb_types.specs.declared.names.NodeId.{NodeId}
 use Rattle.gnb_types.specs.declared.plans.SnStatus.{SnStatus}
+use Rattle.gnb_types.specs.declared.names.UeId.{UeId}
+use Rattle.gnb_types.specs.declared.names.BearerId.{BearerId}
+use Rattle.gnb_types.specs.declared.names.SnBits.{SnBits}
+use Rattle.unit_defs.specs.CuUp.{new_flags_of}
 
 -- ---- what the downlink says of a bearer: all but its uplink, the number of its next frame and its restart mark
 
@@ -161,6 +165,22 @@ IsFit p forwarding_down end_item = p.bearer.down_ended ≡ false
 IsFit p f1u_uplink (uplink_item (report_content fmc bits)) = Unit {0}
 IsFit p f1u_uplink (status_item lost delivered) = p.at.flags.frozen ≡ false → has_downlink p.bearer.downlink ≡ true
 IsFit p kind item = ⊥
+
+-- an item that the uplink alone says something of
+abbrev pub IsOfUplink : {P : Type 0} → TunnelKind → Taken P → Type 0
+IsOfUplink f1u_uplink (uplink_item (packet_content count packet)) = Unit {0}
+IsOfUplink f1u_uplink end_item = Unit {0}
+IsOfUplink forwarding_up (numbered_item count packet) = Unit {0}
+IsOfUplink forwarding_up end_item = Unit {0}
+IsOfUplink kind item = ⊥
+
+-- the bearer that a new context has
+abbrev pub new_part : UeId → BearerId → ℕ → SnBits → ℕ → Bool → ℕ → UpPart
+new_part ue bearer instance sn quota target teid = record {
+  instance = instance;
+  at = record { ue = ue; bearer = bearer; sn = sn; quota = quota; flags = new_flags_of target };
+  bearer = made target teid;
+}
 
 -- ---- a freeze: to this other context go these items, and it is promised this COUNT
 

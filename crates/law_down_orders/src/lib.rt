@@ -2,14 +2,17 @@
 //! its contract is the law.
 #![tactic(auto)]
 
-ghost use Rattle.std.specs.Prelude.{◌≢◌, ℕ, false, List, [], ◌∷◌};
+ghost use Rattle.std.specs.Prelude.{◌≡◌, ◌≢◌, ℕ, Bool, false, List, [], ◌∷◌, Some};
 ghost use Rattle.chain_defs.specs.Orders.{run};
 ghost use Rattle.chain_defs.specs.Orders as chain;
 ghost use Rattle.chain_defs.specs.Parts.{Item, Part};
-ghost use Rattle.law_context_orders.specs.Orders.{UpPart, UpOrder, done, freezes, takes};
+ghost use Rattle.law_context_orders.specs.Orders.{UpPart, UpOrder, begun, done, freezes, makes, takes};
 ghost use Rattle.law_down_orders.specs.Down.{IsDown, item_orders, IsFit, Shows, Stands};
-ghost use Rattle.law_down_orders.specs.Down.{control_orders, IsAsked, ShowsFrozen};
+ghost use Rattle.law_down_orders.specs.Down.{control_orders, IsAsked, IsOfUplink, new_part, ShowsFrozen};
 ghost use Rattle.gnb_types.specs.declared.names.NodeId.{NodeId};
+ghost use Rattle.gnb_types.specs.declared.names.BearerId.{BearerId};
+ghost use Rattle.gnb_types.specs.declared.names.SnBits.{SnBits};
+ghost use Rattle.gnb_types.specs.declared.names.UeId.{UeId};
 ghost use Rattle.unit_defs.specs.UpRecords.{TunnelKind};
 ghost use Rattle.unit_defs.specs.Ways.{Taken, Way};
 
@@ -38,4 +41,18 @@ pub fn a_freeze_is_an_order<M, C, P>()
         → ShowsFrozen s
         (run s (chain.freezes x to (record { peer = peer; down = down; up = up; up_ended = false }) ∷ []))
         x to p.bearer.sender.next (done way (freezes peer down up) p) }
+{}
+
+/// An item that the uplink alone says something of leaves the downlink as it was: nothing goes to the target's tunnel down, nor to
+/// the radio. A context that is made is the member that its order makes.
+pub fn other_items_leave_it<M, C, P>()
+    ensures items { (way : Way M C P) (s : Part) (x : ℕ) (p : UpPart) → IsDown (s.members x) p
+        → (kind : TunnelKind) (teid : ℕ) (item : Taken P) → IsOfUplink kind item
+        → Shows way s s x (done way (takes kind teid item) p) }
+    ensures made { (s : Part) (x : ℕ) (ue : UeId) (bearer : BearerId) (instance : ℕ) (sn : SnBits)
+        (quota : ℕ) (target : Bool) (teid : ℕ)
+        → (begun {P = P} ue bearer (makes instance sn quota target teid)
+        ≡ Some (new_part ue bearer instance sn quota target teid))
+        × IsDown ((run s (chain.makes x target teid ∷ [])).members x)
+        (new_part ue bearer instance sn quota target teid) }
 {}

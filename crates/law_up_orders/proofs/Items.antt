@@ -21,6 +21,15 @@ nothing_more true xs = sym (append-nil xs)
 nothing_more false xs = refl
 
 module _ (s : Part) (x : ℕ) where
+  pub went_same : Went s s x (s.members x) [] []
+  went_same = record {
+    here = refl;
+    others = λ y far. refl;
+    forwarded = λ y far. nothing_more (y == (s.members x).next_hop) (s.members y).forwarded;
+    delivered = sym (append-nil s.delivered);
+    rest = (refl, refl, refl, refl, refl, refl, refl);
+  }
+
   pub went_kept : (m : Member) → Went s (changed s x m) x m [] []
   went_kept m = record {
     here = ap (λ (c : Member). record c { forwarded = m.forwarded }) (set_here s.members x m);

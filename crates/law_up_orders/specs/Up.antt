@@ -1,10 +1,14 @@
 -- An order to a bearer of a CU-UP, as a list of orders to the uplink of this bearer in the run.
-use Rattle.std.specs.Prelude.{◌≡◌, ◌≢◌, ◌==◌, ℕ, true, false, if◌then◌else◌, List, [], ◌∷◌, ◌++◌, Option, Some, None}
+use Rattle.std.specs.Prelude.{◌≡◌, ◌≢◌, ◌==◌, ℕ, Bool, true, false, if◌then◌else◌, List, [], ◌∷◌, ◌++◌, Option, Some, None}
 use Rattle.gnb_types.specs.declared.plans.SnStatus.{SnStatus}
+use Rattle.gnb_types.specs.declared.names.UeId.{UeId}
+use Rattle.gnb_types.specs.declared.names.BearerId.{BearerId}
+use Rattle.gnb_types.specs.declared.names.SnBits.{SnBits}
+use Rattle.unit_defs.specs.CuUp.{new_flags_of}
 use Rattle.pdcp_defs.specs.Senders.{new_sender}
-use Rattle.unit_defs.specs.Ways.{packet_content, Taken, numbered_item, uplink_item, end_item, Output, Answer, gives, spent}
-use Rattle.unit_defs.specs.UpRecords.{UpBearer, SourceHop, TunnelKind, f1u_uplink, forwarding_up}
-use Rattle.unit_defs.specs.UpBearers.{has_downlink}
+use Rattle.unit_defs.specs.Ways.{packet_content, report_content, Taken, fresh_item, numbered_item, uplink_item, status_item, end_item, Output, Answer, gives, spent}
+use Rattle.unit_defs.specs.UpRecords.{UpBearer, SourceHop, TunnelKind, n3, f1u_uplink, forwarding_down, forwarding_up}
+use Rattle.unit_defs.specs.UpBearers.{made, has_downlink}
 use Rattle.uplink_defs.specs.Parts.{Item, uplink_tunnel, forwarding, Member, Part}
 use Rattle.uplink_defs.specs.Orders.{Order, adds, knows, switches, resumes, releases, takes, ends_uplink, ends_hop}
 use Rattle.law_uplink_rows.specs.Shown.{items_of, delivered_in}
@@ -101,6 +105,25 @@ IsFit p f1u_uplink end_item = Unit {0}
 IsFit p forwarding_up (numbered_item (Some count) packet) = Unit {0}
 IsFit p forwarding_up end_item = p.bearer.up_ended ≡ false
 IsFit p kind item = ⊥
+
+-- an item that the downlink alone says something of
+abbrev pub IsOfDownlink : {P : Type 0} → TunnelKind → Taken P → Type 0
+IsOfDownlink n3 (fresh_item packet) = Unit {0}
+IsOfDownlink n3 end_item = Unit {0}
+IsOfDownlink forwarding_down (fresh_item packet) = Unit {0}
+IsOfDownlink forwarding_down (numbered_item count packet) = Unit {0}
+IsOfDownlink forwarding_down end_item = Unit {0}
+IsOfDownlink f1u_uplink (uplink_item (report_content fmc bits)) = Unit {0}
+IsOfDownlink f1u_uplink (status_item lost delivered) = Unit {0}
+IsOfDownlink kind item = ⊥
+
+-- the bearer that a new context has
+abbrev pub new_part : UeId → BearerId → ℕ → SnBits → ℕ → Bool → ℕ → UpPart
+new_part ue bearer instance sn quota target teid = record {
+  instance = instance;
+  at = record { ue = ue; bearer = bearer; sn = sn; quota = quota; flags = new_flags_of target };
+  bearer = made target teid;
+}
 
 -- ---- a freeze: to this other context go these items, and it is promised what this one delivered
 

@@ -2,11 +2,14 @@
 //! its contract is the law.
 #![tactic(auto)]
 
-ghost use Rattle.std.specs.Prelude.{◌≢◌, ℕ, false, List, [], ◌∷◌};
-ghost use Rattle.law_context_orders.specs.Orders.{UpPart, UpOrder, done, freezes, takes};
+ghost use Rattle.std.specs.Prelude.{◌≡◌, ◌≢◌, ℕ, true, false, List, [], ◌∷◌, Some};
+ghost use Rattle.law_context_orders.specs.Orders.{UpPart, UpOrder, begun, done, freezes, makes, polls, takes};
 ghost use Rattle.law_up_orders.specs.Up.{IsUp, item_orders, IsFit, Shows, Stands};
-ghost use Rattle.law_up_orders.specs.Up.{control_orders, IsAsked, ShowsFrozen};
+ghost use Rattle.law_up_orders.specs.Up.{control_orders, IsAsked, IsOfDownlink, new_part, ShowsFrozen};
 ghost use Rattle.gnb_types.specs.declared.names.NodeId.{NodeId};
+ghost use Rattle.gnb_types.specs.declared.names.BearerId.{BearerId};
+ghost use Rattle.gnb_types.specs.declared.names.SnBits.{SnBits};
+ghost use Rattle.gnb_types.specs.declared.names.UeId.{UeId};
 ghost use Rattle.unit_defs.specs.UpRecords.{TunnelKind};
 ghost use Rattle.unit_defs.specs.Ways.{Taken, Way};
 ghost use Rattle.uplink_defs.specs.Orders.{run};
@@ -38,4 +41,20 @@ pub fn a_freeze_is_an_order<M, C, P>()
         → ShowsFrozen s
         (run s (orders.freezes x to (record { peer = peer; down = down; up = up; up_ended = false }) ∷ []))
         x to p.bearer.receiver.deliv (done way (freezes peer down up) p) }
+{}
+
+/// An item that the downlink alone says something of leaves the uplink as it was, and so does a poll: nothing goes to the target's
+/// tunnel up, and nothing is handed up. A target that is made is the member that its order makes.
+pub fn other_items_leave_it<M, C, P>()
+    ensures items { (way : Way M C P) (s : Part) (x : ℕ) (p : UpPart) → IsUp (s.members x) p
+        → (kind : TunnelKind) (teid : ℕ) (item : Taken P) → IsOfDownlink kind item
+        → Shows s s x (done way (takes kind teid item) p) }
+    ensures asked_frames { (way : Way M C P) (s : Part) (x : ℕ) (p : UpPart) → IsUp (s.members x) p
+        → Shows s s x (done way polls p) }
+    ensures made { (s : Part) (x : ℕ) (ue : UeId) (bearer : BearerId) (instance : ℕ) (sn : SnBits)
+        (quota teid : ℕ)
+        → (begun {P = P} ue bearer (makes instance sn quota true teid)
+        ≡ Some (new_part ue bearer instance sn quota true teid))
+        × IsUp ((run s (orders.makes x teid ∷ [])).members x)
+        (new_part ue bearer instance sn quota true teid) }
 {}
