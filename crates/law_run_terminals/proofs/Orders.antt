@@ -1,15 +1,15 @@
 -- A list of inputs is a list of orders.
-use Rattle.std.proofs.Common.{◌≡◌, ℕ, List, [], ◌∷◌, ◌++◌, Option, refl, sym, ap, subst, ◌∙◌}
+use Rattle.std.proofs.Common.{◌≡◌, List, [], ◌∷◌, ◌++◌, refl, sym, subst}
 use Rattle.gnb_types.specs.declared.names.BearerId.{BearerId}
 use Rattle.message_types.specs.declared.rrc.Token.{Token}
-use Rattle.unit_defs.specs.Ways.{Message, Pdu, Input, Answer, gives, spent}
+use Rattle.unit_defs.specs.Ways.{Message, Pdu, Answer, gives, spent}
 use Rattle.unit_defs.specs.Ue.{UeNode, ue_acts}
 use Rattle.run_defs.specs.Runs.{plain_way}
 use Rattle.chain_defs.specs.Parts.{Part as DownPart}
 use Rattle.chain_defs.specs.Orders as down
 use Rattle.uplink_defs.specs.Parts.{Part}
 use Rattle.uplink_defs.specs.Orders.{Order, after, run}
-use Rattle.law_terminal_inputs.specs.Inputs.{Parts, Orders, none, carried_out, IsShown, orders_by, Follows}
+use Rattle.law_terminal_inputs.specs.Inputs.{Parts, Orders, carried_out, IsShown, orders_by, Follows}
 use Rattle.law_terminal_inputs.proofs.Kept.{input_follows}
 use Rattle.law_run_terminals.specs.Over.{kept_of, after_input, Led, after_inputs, orders_if, orders_of, joined, orders_over}
 

@@ -1,5 +1,5 @@
 -- In every run a terminal's record is what its table makes of what happens to it.
-use Rattle.std.proofs.Common.{◌≡◌, ℕ, ◌+◌, Bool, true, false, cond, List, [], ◌∷◌, ◌++◌, Option, Some, None, refl, sym, ap, subst, ◌∙◌}
+use Rattle.std.proofs.Common.{◌≡◌, ℕ, ◌+◌, Bool, true, false, List, [], ◌∷◌, ◌++◌, Option, Some, None, refl, sym, ap, subst, ◌∙◌}
 use Rattle.std.specs.Ordering.{eq_by_cmp}
 use Rattle.std.specs.Cmp.{Equal-is}
 use Rattle.gnb_types.specs.declared.names.Gnb.{Gnb}
@@ -14,7 +14,7 @@ use Rattle.tables.specs.Tables.{find, put}
 use Rattle.tables.proofs.TableLaws.{find-put-same, find-put-other}
 use Rattle.message_types.specs.declared.rrc.Token.{Token}
 use Rattle.scenario_text.specs.declared.event.Event.{Event}
-use Rattle.unit_defs.specs.Ways.{Message, Pdu, Load, Input, Answer, gives, spent}
+use Rattle.unit_defs.specs.Ways.{Message, Pdu, Load, Input, gives, spent}
 use Rattle.unit_defs.specs.Ue.{UeNode, new_ue, placed, ue_acts}
 use Rattle.unit_defs.specs.UpRecords.{CuUp}
 use Rattle.unit_defs.specs.CuUp.{cu_up_acts}
