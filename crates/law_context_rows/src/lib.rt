@@ -1,7 +1,7 @@
 //! Laws of the rows round one bearer of a CU-UP. Each function does nothing: its contract is the law.
 #![tactic(auto)]
 
-ghost use Rattle.std.specs.Prelude.{◌≡◌, []};
+ghost use Rattle.std.specs.Prelude.{◌≡◌, true, [], Some};
 ghost use Rattle.gnb_types.specs.declared.names.BearerId.{BearerId};
 ghost use Rattle.gnb_types.specs.declared.names.UeId.{UeId};
 ghost use Rattle.law_answers.specs.After.{HoldsAfter};
@@ -9,8 +9,9 @@ ghost use Rattle.law_context_orders.specs.Inputs.{orders_of};
 ghost use Rattle.law_context_orders.specs.Orders.{carried, part_of};
 ghost use Rattle.law_context_orders.specs.Shown.{Follows, Untouched};
 ghost use Rattle.law_tunnel_frames.specs.OneTunnel.{BearersInOrder};
-ghost use Rattle.unit_defs.specs.CuUp.{cu_up_acts};
-ghost use Rattle.unit_defs.specs.UpRecords.{CuUp};
+ghost use Rattle.law_context_rows.specs.Released.{AllPass};
+ghost use Rattle.unit_defs.specs.CuUp.{context_of, cu_up_acts};
+ghost use Rattle.unit_defs.specs.UpRecords.{CuUp, UpContext};
 ghost use Rattle.unit_defs.specs.Ways.{Input, Way};
 
 /// Whatever a CU-UP is given, each bearer of it is then what its orders make of it, and what is put on the bearer's tunnels and
@@ -29,4 +30,12 @@ pub fn what_asks_nothing_changes_nothing<M, C, P>()
     ensures { (way : Way M C P) (r : CuUp M C) (input : Input C P) (ue : UeId) (bearer : BearerId)
         → BearersInOrder r → orders_of way r ue bearer input ≡ []
         → Untouched ue bearer (part_of r ue bearer) (cu_up_acts way r input) }
+{}
+
+/// A released context is not switched, resumed, frozen, nor made again, and gets no further uplinks: whatever the CU-UP is
+/// given, its bearers only take what comes, until they end.
+pub fn released_contexts_only_pass_on<M, C, P>()
+    ensures { (way : Way M C P) (r : CuUp M C) (ue : UeId) (bearer : BearerId) (c : UpContext)
+        → context_of r ue ≡ Some c → c.flags.released ≡ true → (input : Input C P)
+        → AllPass (orders_of way r ue bearer input) }
 {}
