@@ -1,9 +1,10 @@
 -- What is stored is delivered, one packet after another.
-use Rattle.std.proofs.Common.{◌≡◌, ℕ, ◌<◌, List, [], ◌∷◌, ◌++◌, length, Option, Some, None, refl, sym, ap, ◌∙◌, subst, append-nil, append_assoc, Ok}
+use Rattle.std.proofs.Common.{◌≡◌, ◌==◌, ℕ, ◌+◌, ◌<◌, Bool, true, false, cond, List, [], ◌∷◌, ◌++◌, length, Option, Some, None, refl, sym, ap, ◌∙◌, subst, append-nil, append_assoc, Ok}
+use Rattle.std.specs.List.{AllByRecursion}
 use Rattle.gnb_types.specs.declared.names.Dir.TheVariants.{Ul}
 use Rattle.gnb_types.specs.declared.outputs.Output.{Output}
 use Rattle.gnb_types.specs.declared.outputs.Output.TheVariants as outs
-use Rattle.pdcp_defs.specs.Receivers.{Delivery, deliver as handed_up, with_packet}
+use Rattle.pdcp_defs.specs.Receivers.{Receiver, Delivery, deliver as handed_up, deliver_from, with_packet}
 use Rattle.unit_defs.specs.Ways.{gives}
 use Rattle.unit_defs.specs.UpRecords.{UpBearer}
 use Rattle.unit_defs.specs.UpBearers.{delivered, deliver_stored}
@@ -47,3 +48,30 @@ delivered_facts old new o d says is = subst (λ (x : Option Delivered). IsDelive
 pub not_delivered : (old new : DownlinkState) (o : Option Delivered) → IsDelivered old new o → o ≡ None
     → (new ≡ old) × (handed_up old.receiver ≡ record { packets = []; after = old.receiver })
 not_delivered old new o says is = subst (λ (x : Option Delivered). IsDelivered old new x) is says
+
+-- ---- what is stored: first what is delivered, then what stays
+
+abbrev more_from : ℕ × List ℕ → Delivery (List ℕ) → Delivery (List ℕ) → Bool → Delivery (List ℕ)
+more_from e rest none b = cond b (with_packet e rest) none
+
+split_from : (deliv : ℕ) (es : List (ℕ × List ℕ)) → es ≡ (deliver_from deliv es).packets ++ (deliver_from deliv es).after.stored
+split_from deliv [] = refl
+split_from deliv (e ∷ es) = by (deliver_from (deliv + 1) es) (e.0 == deliv) (split_from (deliv + 1) es)
+  where
+    by : (rest : Delivery (List ℕ)) (b : Bool) → es ≡ rest.packets ++ rest.after.stored
+        → e ∷ es ≡ (more_from e rest (record { packets = []; after = record { deliv = deliv; stored = e ∷ es } }) b).packets
+        ++ (more_from e rest (record { packets = []; after = record { deliv = deliv; stored = e ∷ es } }) b).after.stored
+    by rest true is = ap (λ (xs : List (ℕ × List ℕ)). e ∷ xs) is
+    by rest false is = refl
+
+split : (r : Receiver (List ℕ)) → r.stored ≡ (handed_up r).packets ++ (handed_up r).after.stored
+unfolding handed_up
+split r = split_from r.deliv r.stored
+
+pub first_stored : (old new : Receiver (List ℕ)) (e : ℕ × List ℕ) → handed_up old ≡ with_packet e (handed_up new) → old.stored ≡ e ∷ new.stored
+first_stored old new e is =
+    split old ∙ ap (λ (d : Delivery (List ℕ)). d.packets ++ d.after.stored) is ∙ ap (λ (xs : List (ℕ × List ℕ)). e ∷ xs) (sym (split new))
+
+pub all_kept : (P : ℕ × List ℕ → Type 0) (old new : Receiver (List ℕ)) (e : ℕ × List ℕ) → handed_up old ≡ with_packet e (handed_up new)
+    → AllByRecursion P old.stored → AllByRecursion P new.stored
+all_kept P old new e is all = (subst (λ (xs : List (ℕ × List ℕ)). AllByRecursion P xs) (first_stored old new e is) all).1

@@ -1,20 +1,21 @@
 -- What goes to the target, one packet after another.
-use Rattle.std.proofs.Common.{◌≡◌, ℕ, ◌+◌, List, [], ◌∷◌, ◌++◌, map, length, Option, Some, refl, sym, ap, ◌∙◌, arith, append-nil, append_assoc}
+use Rattle.std.proofs.Common.{◌≡◌, ℕ, ◌+◌, Bool, true, false, cond, nat_le, List, [], ◌∷◌, ◌++◌, map, length, Option, Some, refl, sym, ap, ◌∙◌, subst, arith, append-nil, append_assoc}
+use Rattle.std.specs.List.{AllByRecursion}
 use Rattle.gnb_types.specs.declared.names.Dir.{Dir}
-use Rattle.gnb_types.specs.declared.names.Dir.TheVariants.{Dl}
+use Rattle.gnb_types.specs.declared.names.Dir.TheVariants.{Dl, Ul}
 use Rattle.gnb_types.specs.declared.outputs.Output.{Output}
 use Rattle.gnb_types.specs.declared.outputs.Output.TheVariants as outs
 use Rattle.gnb_types.specs.declared.outputs.Tag.TheVariants.{Absent, Own}
 use Rattle.link_defs.specs.Layouts.{forwarded_numbered, forwarded_fresh}
 use Rattle.unit_defs.specs.Ways.{fresh, numbered, packet, ◌then◌, with_outputs}
 use Rattle.unit_defs.specs.UpRecords.{SourceHop, UpBearer}
-use Rattle.unit_defs.specs.UpBearers.{forward_numbered, forward_fresh, forwarded_down, put_down}
+use Rattle.unit_defs.specs.UpBearers.{forward_numbered, forward_fresh, forward_late, forwarded_down, forwarded_up, put_down, put_up}
 use Rattle.unit_octet_defs.specs.Codec.{Codec, octet_way}
 use Rattle.unit_octet_defs.specs.Units.{OctetAnswer}
 use Rattle.unit_octet_defs.specs.Writing.{output_of}
 use Rattle.unit_steps.specs.Steps.{stepped, step_after}
 use Rattle.unit_steps.proofs.StepLaws.{OctetPut, step_with}
-use Rattle.ue_bearers.specs.Uplinks.{from_on}
+use Rattle.ue_bearers.specs.Uplinks.{from_on, IsPacket}
 use Rattle.up_tunnels.specs.declared.at.At.{At}
 use Rattle.up_tunnels.specs.declared.hop.Hop.{Hop}
 use Rattle.up_tunnels.specs.Tunnels.{at_as, hop_as, hop_teid}
@@ -65,6 +66,15 @@ module _ (a : At) (h : Hop) where
         ∙ one_more start (packet h.peer h.down a.ue a.bearer Dl (Own e.0) (numbered a.sn e.0 e.1)) (forward_numbered (octet_way codec) (at_as a) es b) b (counted_outputs Dl es)
         (downs es)
 
+    pub lates : (es : List (ℕ × List ℕ)) (start : List Output)
+        → step_after start (forward_late (octet_way codec) (at_as a) es b) ≡ stepped (start ++ counted_outputs Ul es) b
+    unfolding forwarded_up
+    lates [] start = refl
+    lates (e ∷ es) start =
+        ap (λ (o : Option SourceHop). step_after start (put_up (octet_way codec) (at_as a) (Own e.0) (numbered a.sn e.0 e.1) b o then forward_late (octet_way codec) (at_as a) es)) hop_is
+        ∙ one_more start (packet h.peer h.up a.ue a.bearer Ul (Own e.0) (numbered a.sn e.0 e.1)) (forward_late (octet_way codec) (at_as a) es b) b (counted_outputs Ul es)
+        (lates es)
+
     pub waiting : (ps : List (List ℕ)) (start : List Output)
         → step_after start (forward_fresh (octet_way codec) (at_as a) ps b) ≡ stepped (start ++ fresh_outputs ps) b
     unfolding forwarded_down
@@ -72,3 +82,18 @@ module _ (a : At) (h : Hop) where
     waiting (p ∷ ps) start =
         ap (λ (o : Option SourceHop). step_after start (put_down (octet_way codec) (at_as a) Absent (fresh p) b o then forward_fresh (octet_way codec) (at_as a) ps)) hop_is
         ∙ one_more start (packet h.peer h.down a.ue a.bearer Dl Absent (fresh p)) (forward_fresh (octet_way codec) (at_as a) ps b) b (fresh_outputs ps) (waiting ps)
+
+-- ---- what holds of all, from a COUNT on
+
+all_from_on : (P : ℕ × List ℕ → Type 0) (from : ℕ) (es : List (ℕ × List ℕ)) → AllByRecursion P es → AllByRecursion P (from_on from es)
+all_from_on P from [] all = tt
+all_from_on P from (e ∷ es) all = by (nat_le from e.0) (all_from_on P from es all.1)
+  where
+    by : (b : Bool) → AllByRecursion P (from_on from es) → AllByRecursion P (cond b (e ∷ from_on from es) (from_on from es))
+    by true later = (all.0, later)
+    by false later = later
+
+pub first_packet : (from : ℕ) (es more : List (ℕ × List ℕ)) (count : ℕ) (p : List ℕ) → AllByRecursion (λ e. IsPacket e.1) es
+    → from_on from es ≡ (count, p) ∷ more → IsPacket p
+first_packet from es more count p all is =
+    (subst (λ (xs : List (ℕ × List ℕ)). AllByRecursion (λ e. IsPacket e.1) xs) is (all_from_on (λ e. IsPacket e.1) from es all)).0

@@ -1,7 +1,9 @@
 -- A bearer of a CU-UP as the procedure tables see it.
 use Rattle.std.specs.Prelude.{◌≡◌}
+use Rattle.std.specs.List.{AllByRecursion}
 use Rattle.unit_defs.specs.UpRecords.{UpBearer}
 use Rattle.ue_bearers.specs.Downlinks.{DownlinkState}
+use Rattle.ue_bearers.specs.Uplinks.{IsPacket}
 use Rattle.up_tunnels.specs.declared.at.At.{At}
 use Rattle.up_tunnels.specs.Tunnels.{downlink_as, hop_as}
 use Rattle.up_downlink.specs.Downlinks.{IsDown}
@@ -31,9 +33,9 @@ kept b = record {
   taken_while_frozen = b.taken_while_frozen;
 }
 
--- the entities have the numbers and the quota of the context
+-- the entities have the numbers and the quota of the context, and what is stored is packets
 abbrev pub IsUp : At → DownlinkState → Type 0
-IsUp a d = (d.sn ≡ a.sn) × (d.quota ≡ a.quota)
+IsUp a d = (d.sn ≡ a.sn) × (d.quota ≡ a.quota) × AllByRecursion (λ e. IsPacket e.1) d.receiver.stored
 
 abbrev pub IsOf : At → Bearer → Type 0
 IsOf a b = IsDown a b.down × IsUp a b.receiving

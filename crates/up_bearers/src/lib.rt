@@ -4,6 +4,7 @@
 
 pub mod bearer;
 pub mod forwarding;
+pub mod late;
 pub mod uplink;
 
 pub use bearer::Bearer;

@@ -21,7 +21,13 @@ use up_packets::passing::drop_item;
 use up_tunnels::{At, Hop};
 
 /// The End Marker of a direction goes to the target.
-fn pass_end(hop: Hop, alloc: Global, at: &At, dir: Dir, out: &mut Outputs) -> Result<(), StepError>
+pub(crate) fn pass_end(
+    hop: Hop,
+    alloc: Global,
+    at: &At,
+    dir: Dir,
+    out: &mut Outputs,
+) -> Result<(), StepError>
     ensures { (codec : Codec) (b : UpBearer) → b.hop ≡ hop_as (Some hop) → IsStep (step_after out.old
         (passed_on (octet_way codec) dir (at_as at.now) Absent end_marker b)) out.new b result }
 {

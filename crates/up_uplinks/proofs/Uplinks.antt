@@ -1,5 +1,5 @@
 -- Packets up: what each case of the tables comes to.
-use Rattle.std.proofs.Common.{◌≡◌, ℕ, ◌<◌, ◌≤◌, Bool, true, false, cond, nat_lt, List, Option, Some, None, refl, sym, ap, ◌∙◌, arith}
+use Rattle.std.proofs.Common.{◌≡◌, ℕ, ◌<◌, ◌≤◌, Bool, true, false, cond, nat_lt, List, Option, Some, None, refl, sym, ap, ◌∙◌, subst, arith}
 use Rattle.std.proofs.lemmas.Bool.Decides.{nat_tests}
 use Rattle.gnb_types.specs.declared.outputs.Tag.TheVariants.{Same}
 use Rattle.gnb_types.specs.declared.reasons.DropReason.TheVariants.{Duplicate}
@@ -13,8 +13,11 @@ use Rattle.unit_octet_defs.specs.Units.{OctetAnswer}
 use Rattle.ue_bearers.specs.declared.downlink.Reception.{Reception}
 use Rattle.ue_bearers.specs.declared.downlink.Reception.TheVariants as receptions
 use Rattle.ue_bearers.specs.Downlinks.{DownlinkState, received}
+use Rattle.ue_bearers.specs.Uplinks.{IsPacket}
+use Rattle.ue_bearers.proofs.StoredLemmas.{all_put}
 use Rattle.up_tunnels.specs.declared.at.At.{At}
 use Rattle.up_tunnels.specs.Tunnels.{at_as}
+use Rattle.up_bearers.specs.Bearers.{IsUp}
 use Rattle.up_uplinks.specs.Storing.{kept_at}
 
 module _ (codec : Codec) (a : At) (b : UpBearer) (p : List ℕ) where
@@ -104,3 +107,10 @@ module _ (old new : DownlinkState) (count : ℕ) (p : List ℕ) where
 
   pub facts : (r : Reception) → with_state r new ≡ received old (Some count) p → is_ahead old.quota old.receiver count ≡ false → Facts r
   facts r is near = facts_by (is_duplicate old.receiver count) (is_ahead old.quota old.receiver count) refl near r is
+
+  -- it is one packet more
+  pub kept_up : (a : At) → IsUp a old → IsPacket p → new ≡ keeps → IsUp a new
+  unfolding stored
+  kept_up a up packet is =
+      subst (λ (d : DownlinkState). IsUp a d) (sym is)
+      (up.0, up.1, all_put (λ e. IsPacket e.1) old.receiver.stored count p up.2 (λ key same. packet) packet)

@@ -5,8 +5,9 @@ use Rattle.unit_defs.specs.UpRecords.{UpBearer}
 use Rattle.unit_octet_defs.specs.Units.{OctetAnswer}
 use Rattle.unit_steps.specs.Steps.{step_after, stepped}
 use Rattle.ue_bearers.specs.Downlinks.{DownlinkState}
+use Rattle.ue_bearers.specs.Uplinks.{IsPacket}
 use Rattle.up_bearers.specs.Bearers.{with_receiver}
-use Rattle.up_bearers.proofs.Deliveries.{handing, delivers, delivers_one, delivers_none, delivered_facts, not_delivered}
+use Rattle.up_bearers.proofs.Deliveries.{handing, delivers, delivers_one, delivers_none, delivered_facts, not_delivered, all_kept}
 use Rattle.up_bearers.proofs.uplink.deliver_stored.Goals as goal
 
 pub loop-count-preserved : goal.loop-count-preserved
@@ -20,7 +21,11 @@ loop-count-preserved c =
           ap (λ (os : List Output). step_after os (handing codec c.args.at.now b e)) c.in_ok-push.ensures.ok
           ∙ (sym (delivers_one codec c.args.at.now b l.out (handed_up l.receiving.receiver) e c.in-Some.field-0.count c.in-Some.field-0.packet f.1)
           ∙ l.invariant.all codec b);
-      of = (ap (λ (d : DownlinkState). d.sn) f.0 ∙ of.0, ap (λ (d : DownlinkState). d.quota) f.0 ∙ of.1);
+      of = (
+        ap (λ (d : DownlinkState). d.sn) f.0 ∙ of.0,
+        ap (λ (d : DownlinkState). d.quota) f.0 ∙ of.1,
+        all_kept (λ x. IsPacket x.1) l.receiving.receiver c.deliver.new.self.receiver (c.in-Some.field-0.count, c.in-Some.field-0.packet) f.1 of.2,
+      );
     }
 
 pub returns-clause-step : goal.returns-clause-step

@@ -14,7 +14,7 @@ use Rattle.up_tunnels.specs.Tunnels.{at_as}
 use Rattle.up_downlink.proofs.Sequels.{step_as}
 use Rattle.up_bearers.specs.Bearers.{kept, with_receiver}
 use Rattle.up_uplinks.specs.Storing.{kept_at}
-use Rattle.up_uplinks.proofs.Uplinks.{uplink_none, uplink_released, uplink_duplicate, uplink_stored, with_state, Facts, facts}
+use Rattle.up_uplinks.proofs.Uplinks.{uplink_none, uplink_released, uplink_duplicate, uplink_stored, with_state, Facts, facts, kept_up}
 use Rattle.up_uplinks.proofs.taking.take_uplink.Goals as goal
 
 pub returns-in_default-clause-step : goal.returns-in_default-clause-step
@@ -77,3 +77,20 @@ returns-in-Duplicate-clause-step c = λ codec.
     (ap (λ (x : OctetAnswer UpBearer). step_after c.args.out.now x) (uplink_duplicate codec c.args.at.now b p o count found c.if-at.false f.0)
     ∙ ap (λ (d : DownlinkState). step_after c.args.out.now (drops Duplicate (with_receiver b d))) (sym f.1))
     (c.drop_item-in-Duplicate.ensures (with_receiver b c.take.new.self))
+
+pub keep-requires-clause-of : goal.keep-requires-clause-of
+keep-requires-clause-of c =
+    let b = kept c.args.bearer.now in
+    let old = c.args.bearer.now.receiving in
+    let o = near_count c.args.at.now.sn old.receiver.deliv c.args.number in
+    let seen = sym (ap (λ (k : SnBits). near_count k old.receiver.deliv c.args.number) c.requires.of.1.0) ∙ sym c.count_of.ensures in
+    let found = seen ∙ c.in-Some.is in
+    let count = c.in-Some.count in
+    let p = c.args.packet.now in
+    let came : with_state c.take.result c.take.new.self ≡ received old (Some count) p =
+    c.take.ensures ∙ ap (λ (x : Option ℕ). received old x p) (sym c.count_of.ensures ∙ c.in-Some.is) in
+    let near : is_ahead old.quota old.receiver count ≡ false =
+    ap (λ (n : ℕ). is_ahead n old.receiver count) c.requires.of.1.1
+    ∙ sym (ap (λ (x : Option ℕ). is_ahead_if (at_as c.args.at.now) b x) found) ∙ c.requires.near c.if-at.false in
+    let f = subst (Facts old c.take.new.self count p) c.in-Stored.is (facts old c.take.new.self count p c.take.result came near) in
+    (c.requires.of.0, kept_up old c.take.new.self count p c.args.at.now c.requires.of.1 c.requires.packet f.1)

@@ -1,0 +1,22 @@
+use Rattle.std.proofs.Common.{ap}
+use Rattle.unit_defs.specs.UpRecords.{UpBearer}
+use Rattle.unit_octet_defs.specs.Units.{OctetAnswer}
+use Rattle.unit_steps.specs.Steps.{step_after}
+use Rattle.up_downlink.proofs.Sequels.{step_as}
+use Rattle.up_bearers.specs.Bearers.{kept}
+use Rattle.up_ends.proofs.UplinkEnds.{up_twice, up_once}
+use Rattle.up_ends.proofs.uplinks.end_up.Goals as goal
+
+pub returns-then-bearer-clause-step : goal.returns-then-bearer-clause-step
+returns-then-bearer-clause-step c = λ codec.
+    let b = kept c.args.bearer.now in
+    step_as _ _ _ _ _
+    (ap (λ (x : OctetAnswer UpBearer). step_after c.args.out.now x) (up_twice codec c.args.at.now b c.if-bearer.true))
+    (c.drop_item.ensures b)
+
+pub returns-clause-step : goal.returns-clause-step
+returns-clause-step c = λ codec.
+    let b = kept c.args.bearer.now in
+    step_as _ _ _ _ _
+    (ap (λ (x : OctetAnswer UpBearer). step_after c.args.out.now x) (up_once codec c.args.at.now b c.if-bearer.false))
+    (c.end_hop_up.ensures.step codec)

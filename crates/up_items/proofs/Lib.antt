@@ -1,0 +1,3 @@
+pub mod Comings
+pub mod HeldTests
+pub mod Reading

@@ -1,0 +1,30 @@
+use Rattle.std.proofs.Common.{Ok, true, false, refl, sym, ◌∙◌}
+use Rattle.gnb_types.specs.declared.outputs.Output.TheVariants as outs
+use Rattle.up_bearers.specs.Bearers.{kept}
+use Rattle.up_items.specs.Coming.{stays, takes}
+use Rattle.up_items.proofs.Comings.{came_waits, came_free, as_came, came_fails, taking}
+use Rattle.up_items.proofs.coming.come_as.Goals as goal
+
+pub returns-in-Some-clause-came : goal.returns-in-Some-clause-came
+returns-in-Some-clause-came c = λ codec.
+    let b = kept c.args.bearer.now in
+    as_came c.args.out.now c.push.new.self b b _ (stays (outs.Held c.in-Some.reason)) (Ok false)
+    (came_waits codec c.args.at.now c.args.kind c.args.teid c.args.item.now b c.in-Some.reason (sym c.held_reason.ensures ∙ c.in-Some.is))
+    (c.in_ok-push.ensures.ok, refl)
+
+pub returns-in_err-take-clause-came : goal.returns-in_err-take-clause-came
+returns-in_err-take-clause-came c = λ codec.
+    let b = kept c.args.bearer.now in
+    let free = sym c.held_reason.ensures ∙ c.in_default.is in
+    let answer = taking codec c.args.at.now c.args.kind c.args.teid c.args.item.now b in
+    as_came c.args.out.now c.take.new.out b (kept c.take.new.bearer) _ (takes answer) _ (came_free codec c.args.at.now c.args.kind c.args.teid c.args.item.now b free)
+    (came_fails c.args.out.now c.take.new.out b (kept c.take.new.bearer) answer c.in_err-take.field-0.0 _ c.from_residual-in_err-take.ensures.1
+    (c.in_err-take.ensures.step codec))
+
+pub returns-clause-came : goal.returns-clause-came
+returns-clause-came c = λ codec.
+    let b = kept c.args.bearer.now in
+    let free = sym c.held_reason.ensures ∙ c.in_default.is in
+    let answer = taking codec c.args.at.now c.args.kind c.args.teid c.args.item.now b in
+    as_came c.args.out.now c.take.new.out b (kept c.take.new.bearer) _ (takes answer) (Ok true)
+    (came_free codec c.args.at.now c.args.kind c.args.teid c.args.item.now b free) (c.in_ok-take.ensures.step codec)
