@@ -25,7 +25,7 @@ use Rattle.unit_defs.specs.Ways.{Message, f1, e1, xn, core, control, Output, Way
 use Rattle.unit_defs.specs.Messages.{channel}
 use Rattle.unit_defs.specs.Transactions.{with_instance, Waiting, Transactions, Asked, is_empty, waits_at, with_waiting, begun_as, begin_request, ask, advance_with, advance, ask_at_once}
 use Rattle.law_intervals.proofs.Intervals.{all_filter}
-use Rattle.law_unit_tunnels.proofs.Keyed.{keyed_found, keyed_put}
+use Rattle.law_unit_packets.proofs.Keyed.{keyed_found, keyed_put}
 use Rattle.law_downlink_names.specs.Places.{DownlinkTeid, Grant, Place, away, known, waits, asked, Gives, OnSwitch, NoSwitch, SwitchIs}
 use Rattle.law_downlink_names.specs.Claims.{IsClosed, HasClosed, KeptIs, PutIs, RequestIs, WaitIs, AreMarked, TransactionsAre}
 use Rattle.law_downlink_names.proofs.Moves.{gives_by, on_switch, Source, nowhere, from_waits, same_channel, move, From, from_moves, Moves, stays_there, cp_moves, Asks, KeepsKnown, known_fixed, waits_fixed, IsNew, new_fixes}

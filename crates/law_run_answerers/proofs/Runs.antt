@@ -41,7 +41,7 @@ use Rattle.law_tunnel_names.specs.CuCps.{TerminalNames, PathNames, CpNames, Core
 use Rattle.law_tunnel_names.proofs.CuCps.{cu_cp_names}
 use Rattle.law_tunnel_names.proofs.Cores.{core_names}
 use Rattle.law_unit_tunnels.specs.Units.{Each, BearerNames, BearerHolds, UplinkNames, UpHolds, DuHolds, UpNames, DuNames, AnswerIf}
-use Rattle.law_unit_tunnels.proofs.Keyed.{keyed_put}
+use Rattle.law_unit_packets.proofs.Keyed.{keyed_put}
 use Rattle.law_unit_tunnels.proofs.CuUps.{cu_up_names}
 use Rattle.law_unit_tunnels.proofs.Dus.{du_names}
 use Rattle.law_unit_tunnels.proofs.Terminals.{terminal_fits}
