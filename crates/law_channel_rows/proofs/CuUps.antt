@@ -291,7 +291,7 @@ module _ {M C P : Type 0} (talk : Talk M C P) (n : NodeId) where
         (last_replies t here (e1 (e1s.BearerContextReleaseCommand owner instance is_final)) i (e1s.BearerContextReleaseComplete owner instance) q at reply_kind refl)
         (λ s. released_leaves owner is_final s (context_of s owner))
 
-  asked_replies : (r : CuUp M C) (t : Transactions M C) (from : NodeId) (m : Message C) (ue i : ℕ) → kind_of m ≡ request ue i
+  pub asked_replies : (r : CuUp M C) (t : Transactions M C) (from : NodeId) (m : Message C) (ue i : ℕ) → kind_of m ≡ request ue i
       → Replies talk n kept t (channel ue from) m i (asked talk.way (channel ue from) m (with_transactions r t))
   unfolding kind_of setup
   asked_replies r t from (e1 (e1s.BearerContextSetupRequest owner instance count sn quota forward)) ue i is =
@@ -354,7 +354,7 @@ module _ {M C P : Type 0} (talk : Talk M C P) (n : NodeId) where
       (bearer_leaves r t.ue c t.bearer (took talk.way (up_at t.ue c t.bearer) t.kind teid item b) (took_quiet talk.way n (up_at t.ue c t.bearer) t.kind teid item b))
       (λ s e. subst (λ (u : Transactions M C). Leaves talk n kept u (end_where_over talk.way t.ue s)) e (over_leaves t.ue s))
 
-  take_leaves : (teid : ℕ) (item : Taken P) (r : CuUp M C) → Leaves talk n kept r.transactions (take talk.way teid item r)
+  pub take_leaves : (teid : ℕ) (item : Taken P) (r : CuUp M C) → Leaves talk n kept r.transactions (take talk.way teid item r)
   unfolding take
   take_leaves teid item r = by (find nat_cmp r.tunnels teid)
     where
@@ -375,7 +375,7 @@ module _ {M C P : Type 0} (talk : Talk M C P) (n : NodeId) where
   leaves_if t true x y p q = p
   leaves_if t false x y p q = q
 
-  poll_leaves : (ue : UeId) (bearer : BearerId) (r : CuUp M C) → Leaves talk n kept r.transactions (poll talk.way ue bearer r)
+  pub poll_leaves : (ue : UeId) (bearer : BearerId) (r : CuUp M C) → Leaves talk n kept r.transactions (poll talk.way ue bearer r)
   unfolding poll
   poll_leaves ue bearer r = by (context_of r ue)
     where
