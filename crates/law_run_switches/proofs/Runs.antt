@@ -8,11 +8,12 @@ use Rattle.std.specs.Ordering.{eq_by_cmp}
 use Rattle.gnb_types.specs.declared.names.Gnb.{Gnb}
 use Rattle.gnb_types.specs.declared.names.Gnb.TheVariants.{A, B}
 use Rattle.gnb_types.specs.declared.names.NodeId.{NodeId}
-use Rattle.gnb_types.specs.declared.names.NodeId.TheVariants.{Du as du_id, Core}
+use Rattle.gnb_types.specs.declared.names.NodeId.TheVariants.{CuUp as up_id, Du as du_id, Core}
 use Rattle.gnb_types.specs.declared.names.UeId.{UeId}
 use Rattle.gnb_types.specs.declared.names.BearerId.{BearerId}
 use Rattle.gnb_types.specs.declared.keys.Channel.{Channel}
 use Rattle.gnb_types.specs.declared.plans.Plan.{Plan}
+use Rattle.gnb_types.specs.declared.plans.Tunnel.{Tunnel}
 use Rattle.gnb_types.specs.Orders.{node_cmp, ue_cmp}
 use Rattle.gnb_types.proofs.OrderLemmas.{ue_total}
 use Rattle.tables.specs.Tables.{find, put, at}
@@ -25,7 +26,7 @@ use Rattle.unit_defs.specs.Core.{CoreRecord, core_acts}
 use Rattle.unit_defs.specs.Du.{new_du}
 use Rattle.unit_defs.specs.CpRecords.{Attempt, CpContext, CpTerminal, terminal_in, terminal_of}
 use Rattle.unit_defs.specs.Teids.{teid_after}
-use Rattle.unit_defs.specs.Static.{up_has_teids, du_has_teids, up_placed, du_placed, cp_context, cp_placed, cp_set_up, du_set_up}
+use Rattle.unit_defs.specs.Static.{up_has_room, up_has_teids, du_has_teids, up_placed, du_placed, cp_context, cp_placed, cp_set_up, du_set_up}
 use Rattle.unit_defs.specs.Ue.{new_ue, placed as placed_ue}
 use Rattle.run_defs.specs.Units.{new_units, cp_of, with_cp, up_of, with_up, du_of, with_du, with_ue}
 use Rattle.run_defs.specs.Written.{Written, written_put, PlainStepped, WrittenStepped, WrittenCoreStepped, written_step}
@@ -50,7 +51,7 @@ use Rattle.law_downlink_grants.specs.Grants.{IsLeft, DuKeeps}
 use Rattle.law_downlink_grants.proofs.Lists.{left_before}
 use Rattle.law_run_answerers.proofs.Runs.{any, Any, AnyNames, any_kept}
 use Rattle.law_run_switches.specs.Switches.{AsksOnce, TellsOnce, NamedOnce}
-use Rattle.law_run_switches.proofs.Units.{Records, PlainCp, PlainDu, same_gnb, same_du, cp_same, cp_here, cp_apart, du_beside, du_here, du_apart, cp_of_set_up, du_set_up_holds}
+use Rattle.law_run_switches.proofs.Units.{Records, PlainCp, PlainDu, same_gnb, same_du, apart_node, cp_same, cp_here, cp_apart, du_beside, du_here, du_apart, cp_of_set_up, du_set_up_holds}
 use Rattle.law_run_switches.proofs.Steps.{PlainLetter, contained, puts_as, free, LetterIs, HasPlace, letters_later, same_story, Moved, acted}
 
 abbrev PlainControl : Type 0
@@ -124,9 +125,12 @@ module _ (t : DownlinkTeid) where
   du_started s r h = record { left = h.left; opened = h.opened; waiting = h.waiting; replies = h.replies }
 
   -- where some of the DU's TEIDs are given to the terminal, this one may be among them
+  abbrev pub IsTaken : PlainDu → Plan → Type 0
+  IsTaken r plan = IsLeft r.next_teid t.teid × (IsLeft (teid_after r.next_teid plan.bearers) t.teid → ⊥)
+
   abbrev DuPlaced : Story → PlainDu → Plan → ℕ → Type 0
   DuPlaced s r plan uplink =
-      (q : Story) × GoesTo s q × DuKeeps t q (du_placed r plan uplink) × ((x : PlainCp) → CpHas t s x → CpHas t q x)
+      (q : Story) × GoesTo s q × DuKeeps t q (du_placed r plan uplink) × ((x : PlainCp) → CpHas t s x → CpHas t q x) × (IsTaken r plan → q.place ≡ placed)
 
   du_places : (s : Story) (r : PlainDu) (plan : Plan) (uplink : ℕ) → du_has_teids r plan ≡ true → DuKeeps t s r → DuPlaced s r plan uplink
   unfolding du_placed
@@ -135,13 +139,14 @@ module _ (t : DownlinkTeid) where
       not_asked : (c : Channel) (i : ℕ) (b : BearerId) → away ≡ asked c i b → ⊥
       not_asked c i b e = absurd cc
 
-      keeps : (IsLeft (teid_after r.next_teid plan.bearers) t.teid → (s.grant ≡ None) × (s.place ≡ away)) → DuPlaced s r plan uplink
-      keeps each = (s, same_story t s, record { left = each; opened = h.opened; waiting = h.waiting; replies = h.replies }, λ x k. k)
+      keeps : (IsLeft (teid_after r.next_teid plan.bearers) t.teid → (s.grant ≡ None) × (s.place ≡ away)) → (IsTaken r plan → s.place ≡ placed)
+          → DuPlaced s r plan uplink
+      keeps each never = (s, same_story t s, record { left = each; opened = h.opened; waiting = h.waiting; replies = h.replies }, λ x k. k, never)
 
       by : IsLeft (teid_after r.next_teid plan.bearers) t.teid ⊎ (IsLeft (teid_after r.next_teid plan.bearers) t.teid → ⊥)
           → IsLeft r.next_teid t.teid ⊎ (IsLeft r.next_teid t.teid → ⊥) → DuPlaced s r plan uplink
-      by (inl still) was = keeps (λ is. h.left (left_before r.next_teid plan.bearers t.teid left is).0)
-      by (inr none) (inr never) = keeps (λ is. absurd (none is))
+      by (inl still) was = keeps (λ is. h.left (left_before r.next_teid plan.bearers t.teid left is).0) (λ is. absurd (is.1 still))
+      by (inr none) (inr never) = keeps (λ is. absurd (none is)) (λ is. absurd (never is.0))
       by (inr none) (inl was) = (
         record s { place = placed },
         record {
@@ -151,6 +156,7 @@ module _ (t : DownlinkTeid) where
         },
         record { left = λ is. absurd (none is); opened = h.opened; waiting = h.waiting; replies = h.replies },
         λ x k. free_of s placed x (h.left was).0 (h.left was).1 k,
+        λ is. refl,
       )
 
   -- the CU-CP of the TEID's gNB, whichever the plan's is
@@ -172,8 +178,12 @@ module _ (t : DownlinkTeid) where
       by (inr off) =
           ready (subst (CpHas t q) (sym (cp_apart v plan.gnb t.gnb (cp_placed (cp_of u plan.gnb) plan) (λ e. off (sym e)) ∙ one)) h)
 
+  -- the TEID is given to the terminal
+  abbrev pub IsPlaced : Records → Plan → Type 0
+  IsPlaced u plan = (◌≡◌ {A = Gnb × ℕ} (plan.gnb, plan.du) (t.gnb, t.du)) × IsTaken (du_of u plan.gnb plan.du) plan
+
   abbrev Places : Story → Records → List PlainLetter → Plan → Type 0
-  Places s u ls plan = (q : Story) × GoesTo s q × HasPlace t q (all_set_up (units_placed plan u)) ls
+  Places s u ls plan = (q : Story) × GoesTo s q × HasPlace t q (all_set_up (units_placed plan u)) ls × (IsPlaced u plan → q.place ≡ placed)
 
   place_placed : (s : Story) (u : Records) (ls : List PlainLetter) (plan : Plan)
       → up_has_teids (up_of u plan.gnb plan.up) plan && du_has_teids (du_of u plan.gnb plan.du) plan ≡ true → HasPlace t s u ls → Places s u ls plan
@@ -185,8 +195,9 @@ module _ (t : DownlinkTeid) where
       now : PlainDu
       now = du_placed (du_of u plan.gnb plan.du) plan ((up_of u plan.gnb plan.up).next_teid + 1)
 
-      made : (q : Story) → GoesTo s q → CpHas t q (cp_of u t.gnb) → DuKeeps t q (du_of (with_du b plan.gnb plan.du now) t.gnb t.du) → Places s u ls plan
-      made q goes cp keeps = (
+      made : (q : Story) → GoesTo s q → CpHas t q (cp_of u t.gnb) → DuKeeps t q (du_of (with_du b plan.gnb plan.du now) t.gnb t.du)
+          → (IsPlaced u plan → q.place ≡ placed) → Places s u ls plan
+      made q goes cp keeps there = (
         q,
         goes,
         record {
@@ -196,6 +207,7 @@ module _ (t : DownlinkTeid) where
               (subst (DuKeeps t q) (sym (du_beside (with_du b plan.gnb plan.du now) plan.gnb t.gnb t.du (cp_placed (cp_of u plan.gnb) plan))) keeps);
           letters = letters_later t s q ls goes h.letters;
         },
+        there,
       )
 
       other : eq_by_cmp node_cmp (du_id plan.gnb plan.du) (du_id t.gnb t.du) ≡ false → eq_by_cmp node_cmp (du_id t.gnb t.du) (du_id plan.gnb plan.du) ≡ false
@@ -216,9 +228,11 @@ module _ (t : DownlinkTeid) where
           made p.0 p.1 (p.3 (cp_of u t.gnb) h.cp)
           (subst (λ (x : Gnb × ℕ). DuKeeps t p.0 (du_of (with_du b plan.gnb plan.du now) x.0 x.1)) same
           (subst (DuKeeps t p.0) (sym (du_here b plan.gnb plan.du now)) p.2))
+          (λ is. p.4 is.1)
       by (inr off) =
           made s (same_story t s) h.cp
           (subst (DuKeeps t s) (sym (du_apart b plan.gnb t.gnb plan.du t.du now (other off))) h.du)
+          (λ is. absurd (apart_node plan.gnb t.gnb plan.du t.du off (λ i. du_id (sym is.0 i).0 (sym is.0 i).1)))
 
   module _ (reading : Reading) (first : Story) where
     -- ---- all that goes on to hold, from a story on
@@ -360,6 +374,29 @@ module _ (t : DownlinkTeid) where
       core_answered (octets_from from octets) was = no_more
       core_answered (octets_on teid octets) was = no_more
 
+    -- after a terminal is set up without messages
+    abbrev pub with_placed : PlainControl → Plan → List Tunnel → PlainControl
+    with_placed k plan n3 = record k {
+      units = all_set_up (units_placed plan k.units);
+      core = record k.core { paths = put ue_cmp k.core.paths plan.ue (record { up = up_id plan.gnb plan.up; n3 = n3 }) };
+    }
+
+    pub good_placed : (k : PlainControl) (plan : Plan) (n3 : List Tunnel) → up_has_room (up_of k.units plan.gnb plan.up) plan ≡ true
+        → up_has_teids (up_of k.units plan.gnb plan.up) plan && du_has_teids (du_of k.units plan.gnb plan.du) plan ≡ true → IsGood k
+        → (h : IsGood (with_placed k plan n3)) × (IsPlaced k.units plan → h.story.place ≡ placed)
+    good_placed k plan n3 room teids h =
+        let p = place_placed h.story k.units k.letters plan teids h.has in (
+          record {
+            units = placed_holds AnyNames any_kept k.units plan room teids h.units;
+            core = any_kept.places_path k.core plan n3 h.core;
+            names = h.names;
+            story = p.0;
+            goes = goes_then first h.story p.0 h.goes p.1;
+            has = p.2;
+          },
+          p.3,
+        )
+
     pub all_kept : IsKept (plain_world reading) IsGood
     all_kept = record {
       answers = λ sn k v node given outputs h was is. subst (GoodWritten k h sn node) is (answered k h sn node given was);
@@ -375,21 +412,24 @@ module _ (t : DownlinkTeid) where
           letters = h.has.letters;
         };
       };
-      placed = λ k plan n3 free room teids h.
-          let p = place_placed h.story k.units k.letters plan teids h.has in record {
-            units = placed_holds AnyNames any_kept k.units plan room teids h.units;
-            core = any_kept.places_path k.core plan n3 h.core;
-            names = h.names;
-            story = p.0;
-            goes = goes_then first h.story p.0 h.goes p.1;
-            has = p.2;
-          };
+      placed = λ k plan n3 free room teids h. (good_placed k plan n3 room teids h).0;
       core_answers = λ sn k q given outputs h was is. subst (GoodCore k h sn) is (core_answered k h sn given was);
     }
 
+-- a story may be told from where it is now
+pub good_from_here : (t : DownlinkTeid) (reading : Reading) (first : Story) (k : PlainControl) (h : IsGood t reading first k) → IsGood t reading h.story k
+good_from_here t reading first k h = record {
+  units = h.units;
+  core = h.core;
+  names = h.names;
+  story = h.story;
+  goes = same_story t h.story;
+  has = h.has;
+}
+
 -- ---- the first state
 
-abbrev unnamed : Story
+abbrev pub unnamed : Story
 unnamed = record { grant = None; place = away }
 
 first_cp : (t : DownlinkTeid) (g : Gnb) → CpHas t unnamed (cp_of (new_units {M = Message Token} {C = Token}) g)
@@ -425,7 +465,7 @@ module _ (t : DownlinkTeid) where
       pick h j false o is = is
 
   module _ (reading : Reading) where
-    first_good : IsGood t reading unnamed (control_of {L = Written (Load Pdu)} {P = Written Pdu} new_state)
+    pub first_good : IsGood t reading unnamed (control_of {L = Written (Load Pdu)} {P = Written Pdu} new_state)
     first_good = record {
       units = first_units AnyNames any_kept;
       core = any_kept.first_core;
