@@ -1,0 +1,3 @@
+pub mod Happenings
+pub mod Dus
+pub mod Ups
