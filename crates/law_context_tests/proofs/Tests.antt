@@ -260,11 +260,14 @@ module _ {M C P : Type 0} (way : Way M C P) (r : CuUp M C) (ue : UeId) (bearer :
         by : (t : Bool) → ends way (as_released way c) ≡ t → (o : Option UpBearer) → find bearer_cmp c.bearers bearer ≡ o
             → AreTested way ue bearer false r.next_teid (releases ∷ only_if way t (closes ∷ [])) (part_of_bearer ue c bearer o)
         by true e None there = (tt, tt)
-        by true e (Some b) there = (refl, (
+        by true e (Some b) there = (
           refl,
-          all_found (λ x. is_over (as_released way c).flags (released x)) c.bearers bearer b
-              (sym (all_released (λ x. is_over (as_released way c).flags x) c.bearers) ∙ e) there,
-        ))
+          (
+            refl,
+            all_found (λ x. is_over (as_released way c).flags (released x)) c.bearers bearer b
+                (sym (all_released (λ x. is_over (as_released way c).flags x) c.bearers) ∙ e) there,
+          ),
+        )
         by false e None there = (tt, tt)
         by false e (Some b) there = (refl, tt)
 
