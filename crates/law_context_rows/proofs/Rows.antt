@@ -39,7 +39,7 @@ use Rattle.law_tunnel_frames.specs.OneTunnel.{BearersInOrder}
 use Rattle.law_tunnel_frames.proofs.Contexts.{Apart, sorted_apart}
 use Rattle.law_context_orders.specs.Orders.{UpPart, part_with, UpOrder, adds, switches, freezes, knows, resumes, releases, takes, polls, kept_in, carried_out, carried}
 use Rattle.law_context_orders.specs.Inputs as orders
-use Rattle.law_context_orders.specs.Inputs.{only_if, closes_if, closes_after, new_teid, makes_with, setup_orders, adds_if, switches_if, freezes_if, status_in, knows_if, modify_orders, release_orders, asked_orders, new_orders, control_orders, orders_of}
+use Rattle.law_context_orders.specs.Inputs.{only_if, closes_if, closes_after, new_teid, makes_with, setup_orders, switches_if, freezes_if, status_in, knows_if, modify_orders, release_orders, asked_orders, new_orders, control_orders, orders_of}
 use Rattle.law_context_orders.specs.Shown.{is_bearer, Follows, Untouched}
 use Rattle.law_context_orders.proofs.Others.{Off, off_ask, off_advance, off_due, off_framed, off_switched, off_frozen, off_resumed, off_took}
 use Rattle.law_context_orders.proofs.Bearers.{and_false, each_step, status_step, uplink_step, off_bearers, off_uplinks, off_statuses}

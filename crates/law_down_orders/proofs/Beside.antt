@@ -8,7 +8,7 @@ use Rattle.gnb_types.specs.declared.outputs.Tag.{Tag}
 use Rattle.gnb_types.specs.declared.outputs.Tag.TheVariants.{Absent, Same}
 use Rattle.gnb_types.specs.declared.reasons.DropReason.TheVariants.{Duplicate, Unexpected}
 use Rattle.pdcp_defs.specs.Receivers.{deliver as handed_up, is_duplicate, stored}
-use Rattle.unit_defs.specs.Ways.{packet_content, Load, numbered, end_marker, Taken, numbered_item, uplink_item, end_item, closed, Output, Way, Answer, gives, spent, with_outputs, ◌then◌, nothing, puts, drops}
+use Rattle.unit_defs.specs.Ways.{packet_content, Load, numbered, end_marker, Taken, numbered_item, uplink_item, end_item, closed, Way, Answer, gives, spent, with_outputs, ◌then◌, nothing, puts, drops}
 use Rattle.unit_defs.specs.UpRecords.{UpBearer, SourceHop, TunnelKind, f1u_uplink, forwarding_up}
 use Rattle.unit_defs.specs.UpBearers.{no_uplink, delivered, deliver_stored, put_up, forwarded_up}
 use Rattle.unit_defs.specs.UpItems.{passed_up, stored_at, took_uplink, up_hop_ends_if, uplink_ended, up_ended, took}

@@ -12,7 +12,7 @@ use Rattle.unit_defs.specs.UpBearers.{forwarded_down}
 use Rattle.unit_defs.specs.Ways.{numbered as numbered_load}
 use Rattle.gnb_types.specs.declared.outputs.Tag.TheVariants.{Same}
 use Rattle.chain_defs.specs.Parts.{Item, numbered, fresh, end_marker, Member, Part}
-use Rattle.chain_defs.specs.Orders.{Order, keeps_n3, keeps_fresh, passes_n3, passes_fresh, sends, passes_numbered, ends_n3, ends_hop, confirms, reports, tells_loss, sends_again, waits, waits_unless, takes_unless, holds, changed, sent, after, run}
+use Rattle.chain_defs.specs.Orders.{keeps_n3, keeps_fresh, passes_n3, passes_fresh, sends, passes_numbered, ends_n3, ends_hop, reports, tells_loss, sends_again, waits, waits_unless, takes_unless, holds, changed, sent, after, run}
 use Rattle.chain_defs.specs.Orders as chain
 use Rattle.law_chain.proofs.Frames.{set_here}
 use Rattle.law_chain_rows.specs.Shown.{plain, without_number, items_of, pdus_of, Gives, number_orders, numbered_packets}

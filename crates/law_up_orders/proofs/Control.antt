@@ -19,8 +19,8 @@ use Rattle.law_handover_rows.specs.Shown.{Does, handed_up}
 use Rattle.law_handover_rows.proofs.Rows.{switch_begins, switch_waits, status_begins, status_waits, resume_sends}
 use Rattle.law_context_orders.specs.Orders.{UpPart, UpOrder, on_switch, on_freeze, on_status, on_resume, on_release, kept_in, done}
 use Rattle.law_context_orders.specs.Orders as ups
-use Rattle.law_up_orders.specs.Up.{up_of, IsUp, status_orders, control_orders, Went, Shows, IsAsked, Froze, ShowsFrozen}
-use Rattle.law_up_orders.proofs.Items.{nothing_more, went_kept, went_handed}
+use Rattle.law_up_orders.specs.Up.{up_of, IsUp, status_orders, control_orders, Went, Shows, IsAsked, ShowsFrozen}
+use Rattle.law_up_orders.proofs.Items.{went_kept, went_handed}
 
 -- what the receiver hands up, after an order that passed nothing on
 went_later : (s t : Part) (x : ℕ) (m : Member) → Went s t x m [] [] → (k : Member) → k.next_hop ≡ m.next_hop → (d : Delivery (List ℕ))

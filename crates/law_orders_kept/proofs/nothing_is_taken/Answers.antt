@@ -1,0 +1,11 @@
+use Rattle.law_gone.specs.Silent.{TakeNone}
+use Rattle.law_orders_kept.proofs.Released.{item_none, control_none}
+use Rattle.law_orders_kept.proofs.nothing_is_taken.Goals as goal
+
+pub returns : goal.returns
+unfolding TakeNone
+returns g c = record {
+  items = λ x p rest kind item. item_none x p rest kind item;
+  asked = λ x epoch p order. control_none x p epoch order;
+  ends = λ x to hop. ((tt, tt), (tt, tt));
+}
