@@ -1,4 +1,4 @@
--- A run in which a tunnel is named once, and two frames are put on it.
+-- A run in which two frames are put on a tunnel.
 use Rattle.std.specs.Prelude.{ℕ, false, List, [], ◌∷◌, Some}
 use Rattle.gnb_types.specs.declared.names.Gnb.TheVariants.{A}
 use Rattle.gnb_types.specs.declared.names.NodeId.TheVariants.{CuUp, Du}

@@ -10,12 +10,8 @@ use Rattle.unit_defs.specs.CuUp.{end_where_over, take, cu_up_acts}
 use Rattle.run_defs.specs.Steps.{span, check_spans, put_on_tunnel, put_out_all, does}
 use Rattle.run_defs.specs.Events.{static, offer, get}
 use Rattle.run_defs.specs.Runs.{happens, run_from, run, Run}
-use Rattle.law_tunnel_numbers.proofs.a_worked_run_names_a_tunnel_once.Goals as goal
+use Rattle.law_tunnel_numbers.proofs.a_worked_run_numbers_a_tunnel.Goals as goal
 
-pub returns-clause-names : goal.returns-clause-names
+pub returns : goal.returns
 unfolding find put without at first has_room numbered up_placed du_placed cp_placed new_ue placed reserved made framed sent number_each number_waiting held_reason took_fresh took end_where_over take cu_up_acts span check_spans put_on_tunnel put_out_all does static offer get happens run_from run Run
-returns-clause-names c = λ reading. refl
-
-pub returns-clause-frames : goal.returns-clause-frames
-unfolding find put without at first has_room numbered up_placed du_placed cp_placed new_ue placed reserved made framed sent number_each number_waiting held_reason took_fresh took end_where_over take cu_up_acts span check_spans put_on_tunnel put_out_all does static offer get happens run_from run Run
-returns-clause-frames c = λ reading. refl
+returns c = λ reading. refl
