@@ -18,6 +18,7 @@ ghost use Rattle.law_tunnel_frames.specs.OneTunnel.{BearersInOrder};
 ghost use Rattle.law_context_orders.specs.Orders.{part_of as up_part_of};
 ghost use Rattle.law_du_inputs.specs.Changes.{part_of};
 ghost use Rattle.law_run_units.specs.Happenings.{Happening, UpRecord, DuRecord, after_up, after_du, after_each};
+ghost use Rattle.law_run_units.specs.Core.{CoreHappening, after_messages};
 ghost use Rattle.law_run_units.specs.Dus.{du_changes, after_changes};
 ghost use Rattle.law_run_units.specs.Ups.{all_carried, up_changes, IsLeft};
 
@@ -69,4 +70,13 @@ pub fn a_run_is_lists_of_orders()
         (hs : List Happening) × (du_of t.units gnb number ≡ after_each after_du r hs)
         × ((ue : UeId) (bearer : BearerId) → part_of (du_of t.units gnb number) ue bearer
         ≡ after_changes (part_of r ue bearer) (du_changes ue bearer r hs)) }
+{}
+
+/// In every run, from any state, the record of the core is what its table makes of the messages that it was given, one after another,
+/// and of terminals that were set up without messages: nothing else in the run changes it.
+pub fn the_core_takes_messages()
+    ensures { (reading : Reading) (events : List Event)
+        (s t : State (Message Token) Token (Written (Load Pdu)) (Written Pdu))
+        → reached (plain_world reading) events s ≡ Some t
+        → (hs : List CoreHappening) × (t.core ≡ after_messages s.core hs) }
 {}
