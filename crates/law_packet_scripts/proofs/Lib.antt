@@ -1,0 +1,3 @@
+mod Units
+mod Frames
+mod Runs

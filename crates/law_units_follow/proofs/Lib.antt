@@ -1,0 +1,6 @@
+mod Sames
+mod Steps
+mod Events
+mod Settling
+mod Runs
+mod Units
