@@ -123,8 +123,7 @@ module _ (ue : UeId) (bearer : BearerId) where
   all_go r [] order = (order, refl)
   all_go r (h ∷ hs) order =
       let one = one_goes r h order in
-      let rest = all_go (after_up r h) hs one.0 in
-      (
+      let rest = all_go (after_up r h) hs one.0 in (
         rest.0,
         left_then (up_change ue bearer r h) (up_changes ue bearer (after_up r h) hs) (part_of r ue bearer) (part_of (after_up r h) ue bearer)
             (part_of (after_each after_up (after_up r h) hs) ue bearer) one.1 rest.1,

@@ -16,8 +16,7 @@ pub returns : goal.returns
 returns c = record {
   ups = λ reading events s t is gnb number order.
       let happened = (units_go reading events s t is).0 gnb number in
-      let r : UpRecord = up_of s.units gnb number in
-      (
+      let r : UpRecord = up_of s.units gnb number in (
         happened.0,
         happened.1,
         subst (λ (x : UpRecord). BearersInOrder x) (sym happened.1) (all_go (record { 0 = 0 }) (record { 0 = 0 }) r happened.0 order).0,
@@ -26,8 +25,7 @@ returns c = record {
       );
   dus = λ reading events s t is gnb number.
       let happened = (units_go reading events s t is).1 gnb number in
-      let r : DuRecord = du_of s.units gnb number in
-      (
+      let r : DuRecord = du_of s.units gnb number in (
         happened.0,
         happened.1,
         λ ue bearer. ap (λ (x : DuRecord). part_of x ue bearer) happened.1 ∙ parts_change ue bearer r happened.0,
