@@ -28,6 +28,7 @@ module _ (t : DownlinkTeid) where
   others = record {
     up = λ gnb number kind ue bearer teid. Unit {0};
     du = λ gnb number ue bearer teid. teid ≡ t.teid → ⊥;
+    length = λ ue sn. Unit {0};
   }
 
   pub record DuKeeps {C : Type 0} (s : Story) (r : Du (Message C) C) : Type 0 where

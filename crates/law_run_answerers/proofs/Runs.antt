@@ -9,6 +9,7 @@ use Rattle.gnb_types.specs.declared.names.UeId.{UeId}
 use Rattle.gnb_types.specs.declared.names.BearerId.{BearerId}
 use Rattle.gnb_types.specs.declared.plans.Plan.{Plan}
 use Rattle.gnb_types.specs.declared.plans.Tunnel.{Tunnel}
+use Rattle.gnb_types.specs.declared.inputs.Order.TheVariants as orders
 use Rattle.gnb_types.specs.Orders.{ue_cmp}
 use Rattle.gnb_types.proofs.OrderLemmas.{ue_total, ue_exact}
 use Rattle.tables.specs.Tables.{find, put}
@@ -44,14 +45,15 @@ use Rattle.law_unit_tunnels.specs.Units.{Each, BearerNames, BearerHolds, UplinkN
 use Rattle.law_unit_packets.proofs.Keyed.{keyed_put}
 use Rattle.law_unit_tunnels.proofs.CuUps.{cu_up_names}
 use Rattle.law_unit_tunnels.proofs.Dus.{du_names}
-use Rattle.law_unit_tunnels.proofs.Terminals.{terminal_fits}
+use Rattle.law_unit_tunnels.proofs.Terminals.{terminal_keeps}
 use Rattle.law_run_answerers.specs.Answerers.{AnswersOwn, AllAnswerOwn}
 
--- any TEID may be named for any
+-- any TEID may be named for any, and any terminal's numbers may have any length
 abbrev pub any : Owners
 any = record {
   up = λ gnb number kind ue bearer teid. Unit {0};
   du = λ gnb number ue bearer teid. Unit {0};
+  length = λ ue sn. Unit {0};
 }
 
 abbrev pub Any : Property {M = Message Token} {C = Token} {P = Pdu} plain_way
@@ -117,6 +119,7 @@ given_names node taken (radio_input ue bearer dir pdu content) p = tt
 given_names node taken (confirm_input ue bearer dir pdu content) p = tt
 given_names node taken (offer_input ue bearer x) p = tt
 given_names node taken tick_input p = tt
+given_names node taken (order_input (orders.Attach plan)) p = tt
 given_names node taken (order_input order) p = tt
 
 up_holds : (g : Gnb) (n : ℕ) (r : CuUp (Message Token) Token) → UpHolds any g n r
@@ -161,6 +164,7 @@ up_placed_names r plan downlink p = record {
   own = p.own;
   contexts = keyed_put ue_cmp ue_exact (λ (ue : UeId) (c : UpContext). Each (BearerNames any ue) c.bearers) r.contexts plan.ue (up_context r plan downlink) p.contexts
       (placed_bearers plan.ue r.gnb plan.du downlink r.next_teid (bearers_from 1 plan.bearers));
+  lengths = keyed_put ue_cmp ue_exact (λ (ue : UeId) (c : UpContext). Unit {0}) r.contexts plan.ue (up_context r plan downlink) p.lengths tt;
   kept = p.kept;
 }
 
@@ -170,6 +174,7 @@ du_placed_names r plan uplink p = record {
   own = p.own;
   uplinks = keyed_put ue_cmp ue_exact (λ (ue : UeId) (c : DuContext). Each (UplinkNames any ue) c.bearers) r.contexts plan.ue (du_context r plan uplink) p.uplinks
       (placed_uplinks plan.ue r.gnb plan.up r.next_teid (uplinks_from uplink (bearers_from 1 plan.bearers)));
+  lengths = keyed_put ue_cmp ue_exact (λ (ue : UeId) (c : DuContext). Unit {0}) r.contexts plan.ue (du_context r plan uplink) p.lengths tt;
   kept = p.kept;
 }
 
@@ -214,7 +219,7 @@ any_kept = record {
       (du_names Any g n r input (given_names (du_id g n) taken input fits) p);
   cps_act = λ g r taken input p fits. names_fit (CpNames Any g) (CuCp g) taken (cu_cp_acts plain_way r input)
       (cu_cp_names Any g r input (given_names (CuCp g) taken input fits) p);
-  ues_act = λ ue x taken input p fits. names_fit (λ (y : UeNode). Unit {0}) (Ue ue.0) taken (ue_acts plain_way x input) (terminal_fits Any (Ue ue.0) x input);
+  ues_act = λ ue x taken input p fits. names_fit (λ (y : UeNode). Unit {0}) (Ue ue.0) taken (ue_acts plain_way x input) (terminal_keeps Any (Ue ue.0) x input tt);
   core_acts = λ r from message p fits. names_fit (CoreNames Any) Core None _ (core_names Any r from message fits.1 p);
   lays = λ r ue bearer x path h found. tt;
   comes = λ plan. tt;
@@ -223,11 +228,11 @@ any_kept = record {
   places_du = λ r plan uplink teids p. du_placed_names r plan uplink p;
   places_cp = λ r plan p. cp_placed_names r plan p;
   places_path = λ r plan ts p. path_names r plan ts p;
-  sets_up = λ g n r p. record { own = p.own; contexts = p.contexts; kept = p.kept };
-  sets_du = λ g n r p. record { own = p.own; uplinks = p.uplinks; kept = p.kept };
+  sets_up = λ g n r p. record { own = p.own; contexts = p.contexts; lengths = p.lengths; kept = p.kept };
+  sets_du = λ g n r p. record { own = p.own; uplinks = p.uplinks; lengths = p.lengths; kept = p.kept };
   sets_cp = λ g r p. record { own = p.own; terminals = p.terminals; kept = p.kept };
-  first_up = λ g n. record { own = refl; contexts = tt; kept = record { opened = tt; waiting = tt; replies = tt } };
-  first_du = λ g n. record { own = refl; uplinks = tt; kept = record { opened = tt; waiting = tt; replies = tt } };
+  first_up = λ g n. record { own = refl; contexts = tt; lengths = tt; kept = record { opened = tt; waiting = tt; replies = tt } };
+  first_du = λ g n. record { own = refl; uplinks = tt; lengths = tt; kept = record { opened = tt; waiting = tt; replies = tt } };
   first_cp = λ g. record { own = refl; terminals = λ ue t e. absurd cc; kept = record { opened = tt; waiting = tt; replies = tt } };
   first_core = record { paths = λ ue path e. absurd cc; kept = record { opened = tt; waiting = tt; replies = tt } };
 }

@@ -14,6 +14,7 @@ use Rattle.gnb_types.specs.declared.names.BearerId.{BearerId}
 use Rattle.gnb_types.specs.declared.keys.Channel.{Channel}
 use Rattle.gnb_types.specs.declared.plans.Plan.{Plan}
 use Rattle.gnb_types.specs.declared.plans.Tunnel.{Tunnel}
+use Rattle.gnb_types.specs.declared.inputs.Order.TheVariants as orders
 use Rattle.gnb_types.specs.Orders.{node_cmp, ue_cmp}
 use Rattle.gnb_types.proofs.OrderLemmas.{ue_total}
 use Rattle.tables.specs.Tables.{find, put, at}
@@ -297,6 +298,7 @@ module _ (t : DownlinkTeid) where
       given_is node (confirmed_for item) was = (tt, tt)
       given_is node (offer_for ue bearer x) was = (tt, tt)
       given_is node tick_for was = (tt, tt)
+      given_is node (order_for (orders.Attach plan)) was = (tt, tt)
       given_is node (order_for order) was = (tt, tt)
       given_is node (octets_from from octets) was = tt
       given_is node (octets_on teid octets) was = tt

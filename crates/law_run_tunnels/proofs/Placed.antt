@@ -164,6 +164,7 @@ module _ (u : Records) (plan : Plan) where
               (subst (λ (g : Gnb). Each (BearerNames Its plan.ue)
               (with_downlinks g plan.du its_du.next_teid (up_bearers false its_up.next_teid (bearers_from 1 plan.bearers)))) (sym old.own)
               (downlinks_of Its plan.ue plan.gnb plan.du (up_id its_du.gnb plan.up) its_du.next_teid its_up.next_teid (its_up.next_teid + 1) 1 plan.bearers dus));
+          lengths = keyed_put ue_cmp ue_exact (λ (ue : UeId) (c : UpContext). Its.length ue c.sn) its_up.contexts plan.ue at_up old.lengths refl;
           kept = old.kept;
         }
 
@@ -177,6 +178,7 @@ module _ (u : Records) (plan : Plan) where
               (subst (λ (g : Gnb). Each (UplinkNames Its plan.ue)
               (du_bearers (up_id g plan.up) its_du.next_teid (uplinks_from (its_up.next_teid + 1) (bearers_from 1 plan.bearers)))) (sym old.own)
               (uplinks_of Its plan.ue plan.gnb plan.up its_up.gnb plan.du its_du.next_teid its_up.next_teid (its_up.next_teid + 1) its_du.next_teid 1 plan.bearers refl ups));
+          lengths = keyed_put ue_cmp ue_exact (λ (ue : UeId) (c : DuContext). Its.length ue c.sn) its_du.contexts plan.ue at_du old.lengths refl;
           kept = old.kept;
         }
 
@@ -187,14 +189,14 @@ module _ (u : Records) (plan : Plan) where
           own = old.own;
           terminals =
               found_put (λ (ue : UeId) (t : CpTerminal). TerminalNames (Is w) plan.gnb ue t.context) (cp_of u plan.gnb).terminals plan.ue
-              (record { context = Some (cp_context plan); taken = None }) old.terminals tt;
+              (record { context = Some (cp_context plan); taken = None }) old.terminals refl;
           kept = old.kept;
         }
 
     pub placed_named : OfUnits (Parts w) units_then
     placed_named =
-        units_set_up (Parts w) (λ g n r h. (record { own = h.0.own; contexts = h.0.contexts; kept = h.0.kept }, h.1))
-        (λ g n r h. (record { own = h.0.own; uplinks = h.0.uplinks; kept = h.0.kept }, h.1)) (λ g r h. record { own = h.own; terminals = h.terminals; kept = h.kept })
+        units_set_up (Parts w) (λ g n r h. (record { own = h.0.own; contexts = h.0.contexts; lengths = h.0.lengths; kept = h.0.kept }, h.1))
+        (λ g n r h. (record { own = h.0.own; uplinks = h.0.uplinks; lengths = h.0.lengths; kept = h.0.kept }, h.1)) (λ g r h. record { own = h.own; terminals = h.terminals; kept = h.kept })
         u plan p tt (up_named, subst (λ (r : CuUp (Message Token) Token). UpOwns r) up_then (owned.0 plan.gnb plan.up))
         (du_named, subst (λ (r : Du (Message Token) Token). DuOwns r) du_then (owned.1 plan.gnb plan.du)) cp_named
 

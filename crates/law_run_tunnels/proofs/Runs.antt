@@ -9,6 +9,7 @@ use Rattle.gnb_types.specs.declared.names.BearerId.{BearerId}
 use Rattle.gnb_types.specs.declared.names.Dir.TheVariants.{Dl}
 use Rattle.gnb_types.specs.declared.plans.Tunnel.{Tunnel}
 use Rattle.gnb_types.specs.declared.keys.TunnelEnd.{TunnelEnd}
+use Rattle.gnb_types.specs.declared.inputs.Order.TheVariants as orders
 use Rattle.gnb_types.specs.Orders.{tunnel_cmp}
 use Rattle.message_types.specs.declared.rrc.Token.{Token}
 use Rattle.scenario_text.specs.declared.event.Event.{Event}
@@ -49,10 +50,10 @@ use Rattle.law_tunnel_names.specs.Names.{by_book, Names, Property, OwnUpList, Pu
 use Rattle.law_tunnel_names.specs.CuCps.{CpNames, CoreNames}
 use Rattle.law_tunnel_names.proofs.CuCps.{cu_cp_names}
 use Rattle.law_tunnel_names.proofs.Cores.{core_names}
-use Rattle.law_unit_tunnels.specs.Units.{UpHolds, DuHolds, NoneIsFree, UpNames, DuNames, AnswerIf}
+use Rattle.law_unit_tunnels.specs.Units.{UpHolds, DuHolds, NoneIsFree, UpNames, DuNames, IsLong, AnswerIf}
 use Rattle.law_unit_tunnels.proofs.CuUps.{cu_up_names, named_teid}
 use Rattle.law_unit_tunnels.proofs.Dus.{du_names}
-use Rattle.law_unit_tunnels.proofs.Terminals.{terminal_fits}
+use Rattle.law_unit_tunnels.proofs.Terminals.{terminal_keeps}
 use Rattle.law_tunnel_book.specs.Book.{book_of}
 use Rattle.law_tunnel_book.proofs.Books.{own_in_run}
 use Rattle.law_run_tunnels.specs.Own.{IsOwnAt, TunnelsHoldTheirOwn, IsLaidAt, OctetsAreOfTheirKind}
@@ -106,7 +107,7 @@ module _ (w : Records) (none : NoneIsFree (by_book (book_of w))) where
     fit_one : (lengths : Lengths) (node : NodeId) (taken : Option ℕ) (output : Put (Message Token) (Load Pdu) Pdu) → OutputNames Its node output
         → PutFits named node taken (written_put lengths output)
     fit_one lengths node taken (control to ue message) p = p
-    fit_one lengths node taken (packet to teid ue bearer dir tag load) p = p
+    fit_one lengths node taken (packet to teid ue bearer dir tag load) p = p.0
     fit_one lengths node taken (radio ue bearer dir epoch tag pdu) p = refl
     fit_one lengths node taken (deliver ue bearer dir count x) p = tt
     fit_one lengths node taken (dropped reason) p = tt
@@ -161,13 +162,13 @@ module _ (w : Records) (none : NoneIsFree (by_book (book_of w))) where
         du_acted (spent counter) owns f = tt
     acted u (Ue ue) input names = there (ue_of u (record { 0 = ue }))
       where
-        by_ue : (a : Plain UeNode) → AnswerNames Its (λ (x : UeNode). Unit {0}) (Ue ue) a → Answered u (Ue ue) (stepped_with reading (with_ue u (record { 0 = ue })) a)
+        by_ue : (a : Plain UeNode) → AnswerNames Its (IsLong Its) (Ue ue) a → Answered u (Ue ue) (stepped_with reading (with_ue u (record { 0 = ue })) a)
         by_ue (gives outputs x) p = λ h l. (with_ue_holds (Parts w) u (record { 0 = ue }) x h tt, p.1)
         by_ue (spent counter) p = tt
 
         there : (o : Option UeNode) → Answered u (Ue ue) (ue_stepped reading u ue input o)
         there None = λ h l. (h, tt)
-        there (Some x) = by_ue (ue_acts plain_way x input) (terminal_fits Its (Ue ue) x input)
+        there (Some x) = by_ue (ue_acts plain_way x input) (terminal_keeps Its (Ue ue) x input refl)
     acted u Core input names = λ h l. (h, tt)
 
     abbrev NamesIf : Option (Input Token Pdu) → Type 0
@@ -185,6 +186,7 @@ module _ (w : Records) (none : NoneIsFree (by_book (book_of w))) where
     given_names node taken (confirmed_for item) p = tt
     given_names node taken (offer_for ue bearer x) p = tt
     given_names node taken tick_for p = tt
+    given_names node taken (order_for (orders.Attach plan)) p = refl
     given_names node taken (order_for order) p = tt
     given_names node taken (octets_from from octets) p = tt
     given_names node taken (octets_on teid octets) p = tt
@@ -244,10 +246,10 @@ module _ (w : Records) (none : NoneIsFree (by_book (book_of w))) where
   -- ---- the first state
 
   new_up : (g : Gnb) (k : ℕ) → UpNames Its g k (new_cu_up g k)
-  new_up g k = record { own = refl; contexts = tt; kept = record { opened = tt; waiting = tt; replies = tt } }
+  new_up g k = record { own = refl; contexts = tt; lengths = tt; kept = record { opened = tt; waiting = tt; replies = tt } }
 
   new_node : (g : Gnb) (k : ℕ) → DuNames Its g k (new_du g k)
-  new_node g k = record { own = refl; uplinks = tt; kept = record { opened = tt; waiting = tt; replies = tt } }
+  new_node g k = record { own = refl; uplinks = tt; lengths = tt; kept = record { opened = tt; waiting = tt; replies = tt } }
 
   new_cp : (g : Gnb) → CpNames Its g (new_cu_cp g)
   unfolding find

@@ -1,5 +1,5 @@
 -- The book of a state: for which terminal, bearer and kind each TEID may be named there: where it was given, and is open as theirs or
--- not open any more. 0 is none, and may be named for any.
+-- not open any more. 0 is none, and may be named for any. Of how long a terminal's numbers are it says nothing.
 use Rattle.std.specs.Prelude.{ℕ, ◌≡◌, ◌==◌, Bool, true, false, ◌&&◌, nat_lt, List, Option, Some, None}
 use Rattle.std.specs.Ordering.{nat_cmp}
 use Rattle.gnb_types.specs.declared.names.Gnb.{Gnb}
@@ -39,6 +39,7 @@ book_of units = record {
   up = λ gnb number kind ue bearer teid.
       may_be (is_up_owner kind ue bearer) (up_of units gnb number).next_teid (up_of units gnb number).tunnels teid;
   du = λ gnb number ue bearer teid. may_be (is_du_owner ue bearer) (du_of units gnb number).next_teid (du_of units gnb number).tunnels teid;
+  length = λ ue sn. true;
 }
 
 -- what one book has, the other has

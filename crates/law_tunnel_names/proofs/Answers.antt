@@ -115,7 +115,7 @@ module _ {M C P : Type 0} {way : Way M C P} (is : Property way) (at : CpAt) wher
         by false = refl
 
     closes_names : Fits (only_closes way t c a)
-    closes_names = (record { paths = n.paths; downlinks = n.downlinks; down = n.down; up = n.up; awaits = n.awaits; at_goal = n.at_goal }, tt)
+    closes_names = (record { paths = n.paths; downlinks = n.downlinks; down = n.down; up = n.up; awaits = n.awaits; at_goal = n.at_goal; sn = n.sn }, tt)
 
     attaching_names : (m : Message C) → NamesFor is.owners from at.ue m → a.du ≡ c.du → FitsIf (in_attaching way at m t c a)
     attaching_names (e1 (e1s.BearerContextSetupResponse ue instance uplinks paths down up)) p same =
@@ -140,7 +140,7 @@ module _ {M C P : Type 0} {way : Way M C P} (is : Property way) (at : CpAt) wher
         listed_names (name_bearers c down && name_bearers c up) (handover_is_acknowledged way at peer down up t c a)
         (acknowledged_names is at peer down up t c a n p.0 p.1)
     preparing_names (xn (xns.HandoverPreparationFailure ue instance cause)) p =
-        caused_names (cause_name cause) (λ name. handover_is_declined way name t c) (λ name. declined_names is at name t c)
+        caused_names (cause_name cause) (λ name. handover_is_declined way name t c) (λ name. declined_names is at name t c n.sn)
     preparing_names m p = closes_names
 
     prepared_names : (m : Message C) → FitsIf (in_prepared way at m t c a)
@@ -148,7 +148,7 @@ module _ {M C P : Type 0} {way : Way M C P} (is : Property way) (at : CpAt) wher
         listed_names (are_bearers (bearers_in c) (statuses_of statuses)) (handover_is_frozen way at statuses t c a) (frozen_names is at statuses t c a n)
     prepared_names (e1 (e1s.BearerContextModificationResponse ue instance uplinks None)) = tt
     prepared_names (e1 (e1s.BearerContextModificationFailure ue instance cause)) =
-        caused_names (cause_name cause) (λ name. handover_is_not_frozen way at name t c) (λ name. not_frozen_names is at name t c)
+        caused_names (cause_name cause) (λ name. handover_is_not_frozen way at name t c) (λ name. not_frozen_names is at name t c n.sn)
     prepared_names m = closes_names
 
     offered_names : (m : Message C) → NamesFor is.owners from at.ue m → a.du ≡ c.du → FitsIf (in_offered way at m t c a)
@@ -205,6 +205,7 @@ module _ {M C P : Type 0} {way : Way M C P} (is : Property way) (at : CpAt) wher
     up = n.up;
     awaits = all_filter (λ (v : Awaited). AwaitedOf at.gnb c.up (asked_du c a) v.from) (λ v. not (is_from from v)) a.awaits n.awaits;
     at_goal = n.at_goal;
+    sn = n.sn;
   }
 
   pub answer_names : (from : NodeId) (instance : ℕ) (m : Message C) (t : CpTerminal) → NamesFor is.owners from at.ue m → FitsOf t
@@ -240,7 +241,7 @@ module _ {M C P : Type 0} {way : Way M C P} (is : Property way) (at : CpAt) wher
     return_names : (c : CpContext) (a : Attempt) → Good c a → Fits (token_of_return way at from token epoch t c a)
     return_names c a n =
         row_if is at (is_reestablish way token && is_epoch way c.epoch 1 epoch && same_node from (own_du at c.du)) _ _
-        (λ e. row_if is at (may_return way c.state a.kind) _ _ (λ f. returns_names is at epoch t c)
+        (λ e. row_if is at (may_return way c.state a.kind) _ _ (λ f. returns_names is at epoch t c n.sn)
         (λ f. row_if is at (is_too_early way c.state a.kind) _ _ (λ g. (h, (tt, tt))) (λ g. ready_names c a n))) (λ e. ready_names c a n)
 
     attempt_names : (c : CpContext) (a : Attempt) → Good c a → Fits (token_of_attempt way at from token epoch t c a)
@@ -254,7 +255,7 @@ module _ {M C P : Type 0} {way : Way M C P} (is : Property way) (at : CpAt) wher
 
     by_attempt_names : (c : CpContext) (o : Option Attempt) → ContextNames is at.gnb at.ue c o → Fits (token_by_attempt way at from token epoch t c o)
     by_attempt_names c None n =
-        row_if is at (is_reestablish way token && is_epoch way c.epoch 1 epoch && same_node from (own_du at c.du)) _ _ (λ e. returns_names is at epoch t c)
+        row_if is at (is_reestablish way token && is_epoch way c.epoch 1 epoch && same_node from (own_du at c.du)) _ _ (λ e. returns_names is at epoch t c n)
         (λ e. (h, (tt, tt)))
     by_attempt_names c (Some a) n = attempt_names c a n
 

@@ -41,7 +41,7 @@ module _ {M C P : Type 0} {way : Way M C P} (is : Property way) where
 
   ends_name : (ue : UeId) (up : NodeId) (ts : List Tunnel) → OwnUpList is.owners up n3 ue ts → OutputsName is Core (map (end_of way ue up) ts)
   ends_name ue up [] p = tt
-  ends_name ue up (t ∷ ts) p = (on_path ue up ts t p, ends_name ue up ts (rest_of ue up ts t p))
+  ends_name ue up (t ∷ ts) p = ((on_path ue up ts t p, tt), ends_name ue up ts (rest_of ue up ts t p))
 
   moved_names : (ue : UeId) (peer : Peer) (paths : List Tunnel) (r : CoreRecord M C) → PeerList is.owners peer n3 ue paths → CoreNames is r
       → AnswerNames is (CoreNames is) Core (moved way ue peer paths r)

@@ -28,7 +28,7 @@ use Rattle.unit_defs.specs.Transactions.{Kind, request, reply, transfer, kind_of
 use Rattle.unit_defs.specs.CpRecords.{Awaited, Attempt, CpContext, CpTerminal, CuCpRecord, terminal_in, terminal_of, with_terminal, with_transactions, with_instance_of, is_from, awaiting, begun, on_attempt, on_context, with_attempt, waiting_of, after_begun, after_asked, noted, not_awaited, unawaited, forgotten, Say, asks, cancels, replies, replies_late, sends, fails, ignores, refuses, forgets, say_one, say_all, Row, row, row_spent, carry_out}
 use Rattle.unit_defs.specs.CuCp.{at_of, Answered, answers_none, answers_with, answer, is_up_release, without_release, is_setup_failure, after_failed_setup, put_next, closed_at, answered_by, reply_came, with_unit, set_up, asked, token_came, transferred, control_by, control_came, expired_on, due_one, due_each, command_by, command_on, command_each, ues_of, tick, ordered, cu_cp_acts}
 use Rattle.law_intervals.proofs.Intervals.{all_append}
-use Rattle.law_tunnel_names.specs.Names.{Property, Names, NamesFor, ue_of, InputNames, AnswerNames, KeptNames}
+use Rattle.law_tunnel_names.specs.Names.{Property, Names, NamesFor, ue_of, OrderNames, InputNames, AnswerNames, KeptNames}
 use Rattle.law_tunnel_names.specs.CuCps.{asked_du, AwaitedOf, ContextNames, TerminalNames, CpNames}
 use Rattle.law_tunnel_names.proofs.Kept.{all_mapped, either, after, waits_name, with_waiting_names, closed_names, ask_names, advance_names, at_once_names, replied_names, late_names, on_request_names, on_reply_names, DueNames, due_names, ticked_names}
 use Rattle.law_tunnel_names.proofs.Rows.{key_of, awaits_at, MayAwait, SayNames, SaysName, RowNames, attach_names, handover_names, cancel_names, release_names, expires_names, command_names, offer_names, status_names, xn_cancelled_names, xn_released_names}
@@ -100,7 +100,7 @@ module _ {M C P : Type 0} {way : Way M C P} (is : Property way) where
       by : (o : Option Attempt) → key_of c o ≡ key → ContextNames is gnb ue c o
           → ContextNames is gnb ue (record c { attempt = on_attempt (λ a. awaiting a node) o }) (on_attempt (λ a. awaiting a node) o)
           × (key_of (record c { attempt = on_attempt (λ a. awaiting a node) o }) (on_attempt (λ a. awaiting a node) o) ≡ key)
-      by None k m = (tt, k)
+      by None k m = (m, k)
       by (Some a) k m = (
         record {
           paths = m.paths;
@@ -110,6 +110,7 @@ module _ {M C P : Type 0} {way : Way M C P} (is : Property way) where
           awaits = all_append (λ (w : Awaited). AwaitedOf gnb c.up (asked_du c a) w.from) a.awaits (record { from = node; instance = None } ∷ []) m.awaits
               (subst (λ (x : Option (ℕ × ℕ)). MayAwait gnb x node) (sym k) may, tt);
           at_goal = m.at_goal;
+          sn = m.sn;
         },
         k,
       )
@@ -126,7 +127,7 @@ module _ {M C P : Type 0} {way : Way M C P} (is : Property way) where
       by : (o : Option Attempt) → key_of c o ≡ key → ContextNames is gnb ue c o
           → ContextNames is gnb ue (record c { attempt = on_attempt (λ a. begun a node instance) o }) (on_attempt (λ a. begun a node instance) o)
           × (key_of (record c { attempt = on_attempt (λ a. begun a node instance) o }) (on_attempt (λ a. begun a node instance) o) ≡ key)
-      by None k m = (tt, k)
+      by None k m = (m, k)
       by (Some a) k m = (
         record {
           paths = m.paths;
@@ -136,6 +137,7 @@ module _ {M C P : Type 0} {way : Way M C P} (is : Property way) where
           awaits = all_mapped (λ (w : Awaited). AwaitedOf gnb c.up (asked_du c a) w.from) (λ (w : Awaited). AwaitedOf gnb c.up (asked_du c a) w.from)
               (with_instance_of node instance) (λ w q. one a w q (is_from node w)) a.awaits m.awaits;
           at_goal = m.at_goal;
+          sn = m.sn;
         },
         k,
       )
@@ -283,19 +285,19 @@ module _ {M C P : Type 0} {way : Way M C P} (is : Property way) where
         (λ t. nothing (with_transactions (with_unit way from r) t)) (replied_names is (CuCp gnb) r.transactions (channel 0 from) m p.kept names)
         (λ t k. (record { own = p.own; terminals = p.terminals; kept = k }, tt))
 
-    asked_names : (from : NodeId) (m : Message C) (r : Record) → CpNames is gnb r → Keeps (asked way from m r)
+    asked_names : (from : NodeId) (m : Message C) (r : Record) → Names is.owners from m → CpNames is gnb r → Keeps (asked way from m r)
     unfolding kind_of
-    asked_names from (f1 (f1s.F1SetupRequest instance name)) r p = set_up_names from (f1 (f1s.F1SetupResponse instance)) r tt p
-    asked_names from (e1 (e1s.E1SetupRequest instance name)) r p = set_up_names from (e1 (e1s.E1SetupResponse instance)) r tt p
-    asked_names from (xn (xns.HandoverRequest ue instance epoch bearers sn quota peer du origin)) r p =
-        row_names ue r r _ p (λ q. offer_names is (at_of r ue) from peer.up du instance bearers sn quota epoch (terminal_of r ue) (terminal_names r.gnb r ue q)) p
-    asked_names from (xn (xns.SnStatusTransfer ue instance statuses)) r p =
+    asked_names from (f1 (f1s.F1SetupRequest instance name)) r names p = set_up_names from (f1 (f1s.F1SetupResponse instance)) r tt p
+    asked_names from (e1 (e1s.E1SetupRequest instance name)) r names p = set_up_names from (e1 (e1s.E1SetupResponse instance)) r tt p
+    asked_names from (xn (xns.HandoverRequest ue instance epoch bearers sn quota peer du origin)) r names p =
+        row_names ue r r _ p (λ q. offer_names is (at_of r ue) from peer.up du instance bearers sn quota epoch (terminal_of r ue) names (terminal_names r.gnb r ue q)) p
+    asked_names from (xn (xns.SnStatusTransfer ue instance statuses)) r names p =
         row_names ue r r _ p (λ q. status_names is (at_of r ue) from instance statuses (terminal_of r ue) (terminal_names r.gnb r ue q)) p
-    asked_names from (xn (xns.HandoverCancel ue instance)) r p =
+    asked_names from (xn (xns.HandoverCancel ue instance)) r names p =
         row_names ue r r _ p (λ q. xn_cancelled_names is (at_of r ue) from instance (terminal_of r ue) (terminal_names r.gnb r ue q)) p
-    asked_names from (xn (xns.UeContextRelease ue instance)) r p =
+    asked_names from (xn (xns.UeContextRelease ue instance)) r names p =
         row_names ue r r _ p (λ q. xn_released_names is (at_of r ue) from instance (terminal_of r ue) (terminal_names r.gnb r ue q)) p
-    asked_names from m r p = (p, (tt, tt))
+    asked_names from m r names p = (p, (tt, tt))
 
     transferred_names : (from : NodeId) (m : Message C) (r : Record) → CpNames is gnb r → Keeps (transferred way from m r)
     unfolding token_came
@@ -304,29 +306,30 @@ module _ {M C P : Type 0} {way : Way M C P} (is : Property way) where
         (λ q. container_names is (at_of r ue) from (terminal_of r ue) (terminal_of r ue).context (way.unwrap container) (terminal_names r.gnb r ue q)) p
     transferred_names from m r p = (p, (tt, tt))
 
-    by_kind_names : (from : NodeId) (m : Message C) (r : Record) (k : Kind) → NamesFor is.owners from (ue_of k) m → CpNames is gnb r → Keeps (control_by way from m r k)
-    by_kind_names from m r (request ue i) names p =
+    by_kind_names : (from : NodeId) (m : Message C) (r : Record) (k : Kind) → NamesFor is.owners from (ue_of k) m → Names is.owners from m → CpNames is gnb r
+        → Keeps (control_by way from m r k)
+    by_kind_names from m r (request ue i) names own p =
         on_request_names is (CuCp gnb) (CpNames is gnb) r r.transactions (channel ue from) i (λ t. asked way from m (with_transactions r t)) p p.kept
-        (λ t k. asked_names from m (with_transactions r t) (with_kept gnb r t p k))
-    by_kind_names from m r (reply ue i) names p =
+        (λ t k. asked_names from m (with_transactions r t) own (with_kept gnb r t p k))
+    by_kind_names from m r (reply ue i) names own p =
         on_reply_names is (CuCp gnb) (CpNames is gnb) r r.transactions (channel ue from) i (reply_came way (record { 0 = ue }) (channel ue from) i m r) p
         (reply_names (record { 0 = ue }) (channel ue from) i m r names p)
-    by_kind_names from m r (transfer ue) names p = transferred_names from m r p
+    by_kind_names from m r (transfer ue) names own p = transferred_names from m r p
 
     control_names : (from : NodeId) (m : Message C) (r : Record) → Names is.owners from m → CpNames is gnb r → Keeps (control_came way from m r)
     unfolding control_came
     control_names from m r names p =
         either is (CuCp gnb) (CpNames is gnb) (shares_interface (CuCp r.gnb) from) (control_by way from m r (kind_of m)) (drops Unexpected r)
-        (by_kind_names from m r (kind_of m) names p) (p, (tt, tt))
+        (by_kind_names from m r (kind_of m) names names p) (p, (tt, tt))
 
     -- ---- a tick
 
     expired_names : (r : Record) (ue : UeId) → CpNames is r.gnb r → RowNames is r.gnb ue (expired_on way (at_of r ue) (terminal_of r ue) (terminal_of r ue).context)
-    expired_names r ue q = by (terminal_of r ue).context
+    expired_names r ue q = by (terminal_of r ue).context (terminal_names r.gnb r ue q)
       where
-        by : (o : Option CpContext) → RowNames is r.gnb ue (expired_on way (at_of r ue) (terminal_of r ue) o)
-        by None = (terminal_names r.gnb r ue q, tt)
-        by (Some c) = expires_names is (at_of r ue) (terminal_of r ue) c
+        by : (o : Option CpContext) → TerminalNames is r.gnb ue o → RowNames is r.gnb ue (expired_on way (at_of r ue) (terminal_of r ue) o)
+        by None n = (terminal_names r.gnb r ue q, tt)
+        by (Some c) n = expires_names is (at_of r ue) (terminal_of r ue) c c.attempt n
 
     due_one_names : (r : Record) (d : Due M) → DueNames is (CuCp gnb) d → CpNames is gnb r → Keeps (due_one way r d)
     due_one_names r (repeats ch m) says p = (p, (says, tt))
@@ -368,14 +371,14 @@ module _ {M C P : Type 0} {way : Way M C P} (is : Property way) where
 
     -- ---- the table
 
-    ordered_names : (order : Order) (r : Record) → CpNames is gnb r → Keeps (ordered way order r)
-    ordered_names (orders.Attach plan) r p =
-        row_names plan.ue r r _ p (λ q. attach_names is (at_of r plan.ue) plan (terminal_of r plan.ue) (terminal_names r.gnb r plan.ue q)) p
-    ordered_names (orders.Handover plan) r p =
+    ordered_names : (order : Order) (r : Record) → OrderNames is.owners order → CpNames is gnb r → Keeps (ordered way order r)
+    ordered_names (orders.Attach plan) r names p =
+        row_names plan.ue r r _ p (λ q. attach_names is (at_of r plan.ue) plan (terminal_of r plan.ue) names (terminal_names r.gnb r plan.ue q)) p
+    ordered_names (orders.Handover plan) r names p =
         row_names plan.ue r r _ p (λ q. handover_names is (at_of r plan.ue) plan (terminal_of r plan.ue) (terminal_names r.gnb r plan.ue q)) p
-    ordered_names (orders.Cancel ue) r p = row_names ue r r _ p (λ q. cancel_names is (at_of r ue) (terminal_of r ue) (terminal_names r.gnb r ue q)) p
-    ordered_names (orders.Release ue) r p = row_names ue r r _ p (λ q. release_names is (at_of r ue) (terminal_of r ue) (terminal_names r.gnb r ue q)) p
-    ordered_names order r p = (p, (tt, tt))
+    ordered_names (orders.Cancel ue) r names p = row_names ue r r _ p (λ q. cancel_names is (at_of r ue) (terminal_of r ue) (terminal_names r.gnb r ue q)) p
+    ordered_names (orders.Release ue) r names p = row_names ue r r _ p (λ q. release_names is (at_of r ue) (terminal_of r ue) (terminal_names r.gnb r ue q)) p
+    ordered_names order r names p = (p, (tt, tt))
 
     pub cu_cp_names : (r : Record) (input : Input C P) → InputNames is input → CpNames is gnb r → Keeps (cu_cp_acts way r input)
     unfolding cu_cp_acts
@@ -385,4 +388,4 @@ module _ {M C P : Type 0} {way : Way M C P} (is : Property way) where
     cu_cp_names r (confirm_input ue bearer dir pdu content) names p = (p, (tt, tt))
     cu_cp_names r (offer_input ue bearer x) names p = (p, (tt, tt))
     cu_cp_names r tick_input names p = tick_names r p
-    cu_cp_names r (order_input order) names p = ordered_names order r p
+    cu_cp_names r (order_input order) names p = ordered_names order r names p

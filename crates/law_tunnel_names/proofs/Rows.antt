@@ -91,6 +91,14 @@ module _ {M C P : Type 0} {way : Way M C P} (is : Property way) where
     abbrev Ups : CpContext → List Tunnel → Type 0
     Ups c tunnels = UpList is.owners at.gnb c.up f1u_uplink at.ue tunnels
 
+    -- the length of the terminal's numbers
+    abbrev Of : SnBits → Type 0
+    Of sn = is.owners.length at.ue sn
+
+    length_of : (c : CpContext) (o : Option Attempt) → ContextNames is at.gnb at.ue c o → Of c.sn
+    length_of c None n = n
+    length_of c (Some a) n = n.sn
+
     pub row_if : (t : Bool) (x y : Row C) → (t ≡ true → Fits x) → (t ≡ false → Fits y) → Fits (if t then x else y)
     row_if true x y p q = p refl
     row_if false x y p q = q refl
@@ -98,34 +106,35 @@ module _ {M C P : Type 0} {way : Way M C P} (is : Property way) where
     -- an attempt in another state
     moved : (c : CpContext) (a : Attempt) (state : StateName) → Good c a → (is_at_goal state a.kind ≡ true → a.du ≡ c.du) → Good (attempted c state a) a
     moved c a state n goal =
-        record { paths = n.paths; downlinks = n.downlinks; down = n.down; up = n.up; awaits = n.awaits; at_goal = goal }
+        record { paths = n.paths; downlinks = n.downlinks; down = n.down; up = n.up; awaits = n.awaits; at_goal = goal; sn = n.sn }
 
     placed : (c : CpContext) (a : Attempt) (state : StateName) (downlinks : List Tunnel) → Good c a → DuList is.owners at.gnb a.du at.ue downlinks
         → (is_at_goal state a.kind ≡ true → a.du ≡ c.du) → Good (attempted c state (record a { downlinks = downlinks })) (record a { downlinks = downlinks })
     placed c a state downlinks n fits goal =
-        record { paths = n.paths; downlinks = fits; down = n.down; up = n.up; awaits = n.awaits; at_goal = goal }
+        record { paths = n.paths; downlinks = fits; down = n.down; up = n.up; awaits = n.awaits; at_goal = goal; sn = n.sn }
 
-    new_names : (c : CpContext) (kind : AttemptKind) (epoch up du : ℕ) → (is_at_goal c.state kind ≡ true → du ≡ c.du) → Good c (new_attempt kind epoch up du)
-    new_names c kind epoch up du goal = record { paths = tt; downlinks = tt; down = tt; up = tt; awaits = tt; at_goal = goal }
+    new_names : (c : CpContext) (kind : AttemptKind) (epoch up du : ℕ) → Of c.sn → (is_at_goal c.state kind ≡ true → du ≡ c.du)
+        → Good c (new_attempt kind epoch up du)
+    new_names c kind epoch up du s goal = record { paths = tt; downlinks = tt; down = tt; up = tt; awaits = tt; at_goal = goal; sn = s }
 
     -- ---- attach
 
-    pub attach_names : (plan : Plan) (t : CpTerminal) → FitsOf t → Fits (attach way at plan t)
+    pub attach_names : (plan : Plan) (t : CpTerminal) → Of plan.sn → FitsOf t → Fits (attach way at plan t)
     unfolding attach kind_of
-    attach_names plan t h = by t.context
+    attach_names plan t s h = by t.context
       where
         by : (o : Option CpContext) → Fits (attach_on way at plan t o)
         by (Some c) = (h, (tt, tt))
         by None =
             row_if (not (has_unit at.units (own_up at plan.up)) || not (has_unit at.units (own_du at plan.du))) _ _ (λ e. (h, (tt, tt)))
-            (λ e. (new_names (attach_context way plan) kinds.Attach 1 plan.up plan.du (λ g. refl), ((tt, λ w. (refl, refl)), tt)))
+            (λ e. (new_names (attach_context way plan) kinds.Attach 1 plan.up plan.du s (λ g. refl), ((s, λ w. (refl, refl)), tt)))
 
     pub attach_has_names : (uplinks paths : List Tunnel) (t : CpTerminal) (c : CpContext) (a : Attempt) → Good c a → a.du ≡ c.du → Ups c uplinks
         → UpList is.owners at.gnb c.up n3 at.ue paths → Fits (attach_has_tunnels way at uplinks paths t c a)
     unfolding attach_has_tunnels kind_of
     attach_has_names uplinks paths t c a n same ups fits = (
-      record { paths = fits; downlinks = n.downlinks; down = n.down; up = n.up; awaits = n.awaits; at_goal = λ g. same },
-      ((ups, λ w. (refl, asked_here c a same)), tt),
+      record { paths = fits; downlinks = n.downlinks; down = n.down; up = n.up; awaits = n.awaits; at_goal = λ g. same; sn = n.sn },
+      (((ups, n.sn), λ w. (refl, asked_here c a same)), tt),
     )
 
     pub attach_placed_names : (downlinks : List Tunnel) (t : CpTerminal) (c : CpContext) (a : Attempt) → Good c a → DuList is.owners at.gnb a.du at.ue downlinks
@@ -139,10 +148,10 @@ module _ {M C P : Type 0} {way : Way M C P} (is : Property way) where
 
     -- ---- between own DUs
 
-    move_begins_names : (goal : Plan) (epoch : ℕ) (t : CpTerminal) (c : CpContext) → Fits (move_begins way at goal epoch t c)
+    move_begins_names : (goal : Plan) (epoch : ℕ) (t : CpTerminal) (c : CpContext) → Of c.sn → Fits (move_begins way at goal epoch t c)
     unfolding move_begins kind_of
-    move_begins_names goal epoch t c = (
-      new_names (attempted c states.Preparing (new_attempt kinds.BetweenDus (epoch + 1) c.up goal.du)) kinds.BetweenDus (epoch + 1) c.up goal.du (λ g. absurd cc),
+    move_begins_names goal epoch t c s = (
+      new_names (attempted c states.Preparing (new_attempt kinds.BetweenDus (epoch + 1) c.up goal.du)) kinds.BetweenDus (epoch + 1) c.up goal.du s (λ g. absurd cc),
       (((tt, tt), λ w. (refl, refl)), tt),
     )
 
@@ -151,7 +160,7 @@ module _ {M C P : Type 0} {way : Way M C P} (is : Property way) where
     unfolding move_has_uplinks kind_of
     move_has_names uplinks t c a n own ups =
         row_if (nat_lt last_epoch a.epoch) _ _ (λ e. tt)
-        (λ e. (moved c a states.Preparing n (λ g. absurd cc), ((ups, λ w. (refl, asked_there c a own)), tt)))
+        (λ e. (moved c a states.Preparing n (λ g. absurd cc), (((ups, n.sn), λ w. (refl, asked_there c a own)), tt)))
 
     pub move_placed_names : (downlinks : List Tunnel) (t : CpTerminal) (c : CpContext) (a : Attempt) → Good c a → DuList is.owners at.gnb a.du at.ue downlinks
         → Fits (move_is_placed way downlinks t c a)
@@ -160,28 +169,28 @@ module _ {M C P : Type 0} {way : Way M C P} (is : Property way) where
 
     -- ---- between gNBs, at the source
 
-    handover_begins_names : (goal : Plan) (epoch : ℕ) (t : CpTerminal) (c : CpContext) → Fits (handover_begins way at goal epoch t c)
+    handover_begins_names : (goal : Plan) (epoch : ℕ) (t : CpTerminal) (c : CpContext) → Of c.sn → Fits (handover_begins way at goal epoch t c)
     unfolding handover_begins kind_of
-    handover_begins_names goal epoch t c =
+    handover_begins_names goal epoch t c s =
         row_if (nat_le last_epoch epoch) _ _ (λ e. tt)
         (λ e. (
-          new_names (attempted c states.Preparing (new_attempt kinds.BetweenGnbs (epoch + 1) goal.up goal.du)) kinds.BetweenGnbs (epoch + 1) goal.up goal.du
+          new_names (attempted c states.Preparing (new_attempt kinds.BetweenGnbs (epoch + 1) goal.up goal.du)) kinds.BetweenGnbs (epoch + 1) goal.up goal.du s
               (λ g. absurd cc),
-          ((tt, λ w. tt), tt),
+          ((s, λ w. tt), tt),
         ))
 
     pub handover_names : (goal : Plan) (t : CpTerminal) → FitsOf t → Fits (handover way at goal t)
     unfolding handover
-    handover_names goal t h = by t.context
+    handover_names goal t h = by t.context h
       where
-        by : (o : Option CpContext) → Fits (handover_on way at goal t o)
-        by None = (h, (tt, tt))
-        by (Some c) =
+        by : (o : Option CpContext) → TerminalNames is at.gnb at.ue o → Fits (handover_on way at goal t o)
+        by None n = (h, (tt, tt))
+        by (Some c) n =
             row_if (is_same_gnb goal.gnb at.gnb && goal.du == c.du) _ _ (λ e. (h, (tt, tt)))
             (λ e. row_if (is_same_gnb goal.gnb at.gnb && not (goal.up == c.up)) _ _ (λ e. (h, (tt, tt)))
             (λ e. row_if (not (is_serving way c.state)) _ _ (λ e. (h, (tt, tt)))
-            (λ e. row_if (is_same_gnb goal.gnb at.gnb) _ _ (λ e. move_begins_names goal (epoch_of way c) t c)
-            (λ e. handover_begins_names goal (epoch_of way c) t c))))
+            (λ e. row_if (is_same_gnb goal.gnb at.gnb) _ _ (λ e. move_begins_names goal (epoch_of way c) t c (length_of c c.attempt n))
+            (λ e. handover_begins_names goal (epoch_of way c) t c (length_of c c.attempt n)))))
 
     pub acknowledged_names : (peer : Peer) (down up : List Tunnel) (t : CpTerminal) (c : CpContext) (a : Attempt) → Good c a
         → UpList is.owners peer.gnb peer.up forwarding_down at.ue down → UpList is.owners peer.gnb peer.up forwarding_up at.ue up
@@ -190,21 +199,21 @@ module _ {M C P : Type 0} {way : Way M C P} (is : Property way) where
     acknowledged_names peer down up t c a n downs ups =
         (moved c a states.Prepared n (λ g. absurd cc), (((tt, (downs, ups)), λ w. (refl, refl)), tt))
 
-    pub declined_names : (cause : CauseName) (t : CpTerminal) (c : CpContext) → Fits (handover_is_declined way cause t c)
+    pub declined_names : (cause : CauseName) (t : CpTerminal) (c : CpContext) → Of c.sn → Fits (handover_is_declined way cause t c)
     unfolding handover_is_declined
-    declined_names cause t c = (tt, (tt, tt))
+    declined_names cause t c s = (s, (tt, tt))
 
-    pub expires_names : (t : CpTerminal) (c : CpContext) → Fits (handover_expires way at t c)
+    pub expires_names : (t : CpTerminal) (c : CpContext) (o : Option Attempt) → ContextNames is at.gnb at.ue c o → Fits (handover_expires way at t c)
     unfolding handover_expires kind_of
-    expires_names t c = (tt, (tt, (tt, tt)))
+    expires_names t c o n = (length_of c o n, (tt, (tt, tt)))
 
     pub frozen_names : (statuses : List SnStatus) (t : CpTerminal) (c : CpContext) (a : Attempt) → Good c a → Fits (handover_is_frozen way at statuses t c a)
     unfolding handover_is_frozen kind_of
     frozen_names statuses t c a n = (moved c a states.Frozen n (λ g. absurd cc), ((tt, λ w. absurd cc), tt))
 
-    pub not_frozen_names : (cause : CauseName) (t : CpTerminal) (c : CpContext) → Fits (handover_is_not_frozen way at cause t c)
+    pub not_frozen_names : (cause : CauseName) (t : CpTerminal) (c : CpContext) → Of c.sn → Fits (handover_is_not_frozen way at cause t c)
     unfolding handover_is_not_frozen kind_of
-    not_frozen_names cause t c = (tt, (tt, (tt, tt)))
+    not_frozen_names cause t c s = (s, (tt, (tt, tt)))
 
     pub command_names : (t : CpTerminal) (c : CpContext) (a : Attempt) → Good c a → Fits (command way at t c a)
     unfolding command kind_of
@@ -212,29 +221,29 @@ module _ {M C P : Type 0} {way : Way M C P} (is : Property way) where
 
     -- ---- cancel and release
 
-    cancel_names_of : (t : CpTerminal) (c : CpContext) (state : StateName) (kind : AttemptKind) (a : Attempt) → FitsOf t
+    cancel_names_of : (t : CpTerminal) (c : CpContext) (state : StateName) (kind : AttemptKind) (a : Attempt) → Of c.sn → FitsOf t
         → Fits (cancel_attempt way at t c state kind a)
     unfolding kind_of
-    cancel_names_of t c states.Preparing kinds.BetweenGnbs a h = (tt, (tt, tt))
-    cancel_names_of t c states.Preparing kinds.BetweenDus a h = (h, (tt, tt))
-    cancel_names_of t c states.Prepared kind a h = (h, (tt, tt))
-    cancel_names_of t c states.Frozen kinds.BetweenDus a h = (tt, ((tt, λ w. absurd cc), tt))
-    cancel_names_of t c states.Frozen kind a h = (tt, (tt, (((tt, tt), λ w. absurd cc), tt)))
-    cancel_names_of t c states.Commanded kinds.BetweenDus a h = (h, (tt, tt))
-    cancel_names_of t c states.Commanded kinds.BetweenGnbs a h = (h, (tt, tt))
-    cancel_names_of t c state kind a h = (h, (tt, tt))
+    cancel_names_of t c states.Preparing kinds.BetweenGnbs a s h = (s, (tt, tt))
+    cancel_names_of t c states.Preparing kinds.BetweenDus a s h = (h, (tt, tt))
+    cancel_names_of t c states.Prepared kind a s h = (h, (tt, tt))
+    cancel_names_of t c states.Frozen kinds.BetweenDus a s h = (s, ((tt, λ w. absurd cc), tt))
+    cancel_names_of t c states.Frozen kind a s h = (s, (tt, (((tt, tt), λ w. absurd cc), tt)))
+    cancel_names_of t c states.Commanded kinds.BetweenDus a s h = (h, (tt, tt))
+    cancel_names_of t c states.Commanded kinds.BetweenGnbs a s h = (h, (tt, tt))
+    cancel_names_of t c state kind a s h = (h, (tt, tt))
 
     pub cancel_names : (t : CpTerminal) → FitsOf t → Fits (cancel way at t)
     unfolding cancel
-    cancel_names t h = by t.context
+    cancel_names t h = by t.context h
       where
-        of_attempt : (c : CpContext) (o : Option Attempt) → Fits (cancel_of way at t c o)
-        of_attempt c None = (h, (tt, tt))
-        of_attempt c (Some a) = cancel_names_of t c c.state a.kind a h
+        of_attempt : (c : CpContext) (o : Option Attempt) → ContextNames is at.gnb at.ue c o → Fits (cancel_of way at t c o)
+        of_attempt c None n = (h, (tt, tt))
+        of_attempt c (Some a) n = cancel_names_of t c c.state a.kind a n.sn h
 
-        by : (o : Option CpContext) → Fits (cancel_on way at t o)
-        by None = (h, (tt, tt))
-        by (Some c) = of_attempt c c.attempt
+        by : (o : Option CpContext) → TerminalNames is at.gnb at.ue o → Fits (cancel_on way at t o)
+        by None n = (h, (tt, tt))
+        by (Some c) n = of_attempt c c.attempt n
 
     pub release_names : (t : CpTerminal) → FitsOf t → Fits (release way at t)
     unfolding release kind_of
@@ -268,10 +277,10 @@ module _ {M C P : Type 0} {way : Way M C P} (is : Property way) where
 
     -- ---- at the target
 
-    pub offer_names : (from : NodeId) (up du instance bearers : ℕ) (sn : SnBits) (quota epoch : ℕ) (t : CpTerminal) → FitsOf t
+    pub offer_names : (from : NodeId) (up du instance bearers : ℕ) (sn : SnBits) (quota epoch : ℕ) (t : CpTerminal) → Of sn → FitsOf t
         → Fits (offer way at from instance (offer_context way up du instance bearers sn quota epoch) t)
     unfolding offer kind_of
-    offer_names from up du instance bearers sn quota epoch t h = by t.context
+    offer_names from up du instance bearers sn quota epoch t s h = by t.context
       where
         new : CpContext
         new = offer_context way up du instance bearers sn quota epoch
@@ -280,15 +289,15 @@ module _ {M C P : Type 0} {way : Way M C P} (is : Property way) where
         by (Some c) = (h, (tt, tt))
         by None =
             row_if (has_unit at.units (own_up at up) && has_unit at.units (own_du at du)) _ _
-            (λ e. (record { paths = tt; downlinks = tt; down = tt; up = tt; awaits = tt; at_goal = λ g. refl }, ((tt, λ w. (refl, refl)), tt))) (λ e. (h, (tt, tt)))
+            (λ e. (record { paths = tt; downlinks = tt; down = tt; up = tt; awaits = tt; at_goal = λ g. refl; sn = s }, ((s, λ w. (refl, refl)), tt))) (λ e. (h, (tt, tt)))
 
     pub offer_has_names : (uplinks paths down up : List Tunnel) (t : CpTerminal) (c : CpContext) (a : Attempt) → Good c a → a.du ≡ c.du → Ups c uplinks
         → UpList is.owners at.gnb c.up n3 at.ue paths → UpList is.owners at.gnb c.up forwarding_down at.ue down
         → UpList is.owners at.gnb c.up forwarding_up at.ue up → Fits (offer_has_tunnels way at uplinks paths down up t c a)
     unfolding offer_has_tunnels kind_of
     offer_has_names uplinks paths down up t c a n same ups fits downs forwards = (
-      record { paths = fits; downlinks = n.downlinks; down = downs; up = forwards; awaits = n.awaits; at_goal = λ g. same },
-      ((ups, λ w. (refl, asked_here c a same)), tt),
+      record { paths = fits; downlinks = n.downlinks; down = downs; up = forwards; awaits = n.awaits; at_goal = λ g. same; sn = n.sn },
+      (((ups, n.sn), λ w. (refl, asked_here c a same)), tt),
     )
 
     pub offer_declined_names : (cause : ℕ) (t : CpTerminal) (a : Attempt) → Fits (offer_is_declined way at cause t a)
@@ -343,20 +352,20 @@ module _ {M C P : Type 0} {way : Way M C P} (is : Property way) where
     -- where it is over, or goes on
     ended_or_on : (says : List (Say C)) (t : CpTerminal) (c : CpContext) (a : Attempt) → Good c a → ((key : Option (ℕ × ℕ)) → SaysName at.gnb key says) → (b : Bool)
         → Fits (keeps t says (if b then serving c else attempted c c.state a))
-    ended_or_on says t c a n all true = (tt, all None)
+    ended_or_on says t c a n all true = (n.sn, all None)
     ended_or_on says t c a n all false = (moved c a c.state n n.at_goal, all (Some (c.up, asked_du c a)))
 
     pub switched_names : (t : CpTerminal) (c : CpContext) (a : Attempt) → Good c a → Fits (is_switched way at t c a)
     unfolding is_switched kind_of
     switched_names t c a n =
         ended_or_on (say_accepted way at c a.epoch ∷ []) t (record c { epoch = Some a.epoch; finished = true }) (record a { switched = true })
-        (record { paths = n.paths; downlinks = n.downlinks; down = n.down; up = n.up; awaits = n.awaits; at_goal = n.at_goal }) (λ key. (tt, tt)) (not a.path_open)
+        (record { paths = n.paths; downlinks = n.downlinks; down = n.down; up = n.up; awaits = n.awaits; at_goal = n.at_goal; sn = n.sn }) (λ key. (tt, tt)) (not a.path_open)
 
     pub path_names : (t : CpTerminal) (c : CpContext) (a : Attempt) → Good c a → Fits (path_is_switched way at t c a)
     unfolding path_is_switched kind_of
     path_names t c a n =
         ended_or_on (let_source_go way at c.state) t c (record a { path_open = false })
-        (record { paths = n.paths; downlinks = n.downlinks; down = n.down; up = n.up; awaits = n.awaits; at_goal = n.at_goal }) (λ key. by key c.state) (a.switched && true)
+        (record { paths = n.paths; downlinks = n.downlinks; down = n.down; up = n.up; awaits = n.awaits; at_goal = n.at_goal; sn = n.sn }) (λ key. by key c.state) (a.switched && true)
       where
         by : (key : Option (ℕ × ℕ)) (state : StateName) → SaysName at.gnb key (let_source_go way at state)
         by key states.Arrived = ((tt, λ w. absurd cc), tt)
@@ -376,6 +385,7 @@ module _ {M C P : Type 0} {way : Way M C P} (is : Property way) where
         awaits = subst (λ (du : ℕ). AllByRecursion (λ (w : Awaited). AwaitedOf at.gnb c.up du w.from) a.awaits)
             (sym (asked_there c a own) ∙ asked_there (record c { du = a.du }) a own) n.awaits;
         at_goal = λ g. refl;
+        sn = n.sn;
       },
       (((n.downlinks, tt), λ w. (refl, refl)), by a.kind),
     )
@@ -400,6 +410,7 @@ module _ {M C P : Type 0} {way : Way M C P} (is : Property way) where
         awaits = subst (λ (du : ℕ). AllByRecursion (λ (w : Awaited). AwaitedOf at.gnb c.up du w.from) a.awaits)
             (sym (asked_there c a own) ∙ asked_there (record c { du = a.du }) a own) n.awaits;
         at_goal = λ g. refl;
+        sn = n.sn;
       },
       by a.kind,
     )
@@ -409,10 +420,10 @@ module _ {M C P : Type 0} {way : Way M C P} (is : Property way) where
         by kinds.Attach = ((tt, λ w. (refl, asked_there (record c { du = a.du }) a own)), ((n.paths, λ w. tt), tt))
         by kind = ((tt, λ w. absurd cc), ((tt, λ w. (refl, asked_there (record c { du = a.du }) a own)), tt))
 
-    pub returns_names : (epoch : ℕ) (t : CpTerminal) (c : CpContext) → Fits (returns way at epoch t c)
+    pub returns_names : (epoch : ℕ) (t : CpTerminal) (c : CpContext) → Of c.sn → Fits (returns way at epoch t c)
     unfolding returns kind_of
-    returns_names epoch t c = (
-      new_names (attempted c states.Returning (new_attempt kinds.Return epoch c.up c.du)) kinds.Return epoch c.up c.du (λ g. refl),
+    returns_names epoch t c s = (
+      new_names (attempted c states.Returning (new_attempt kinds.Return epoch c.up c.du)) kinds.Return epoch c.up c.du s (λ g. refl),
       ((tt, λ w. (refl, refl)), by c.attempt),
     )
       where
@@ -427,13 +438,13 @@ module _ {M C P : Type 0} {way : Way M C P} (is : Property way) where
     pub arrives_names : (epoch : ℕ) (t : CpTerminal) (c : CpContext) (a : Attempt) → Good c a → a.du ≡ c.du → Fits (arrives way at epoch t c a)
     unfolding arrives kind_of
     arrives_names epoch t c a n same = (
-      record { paths = n.paths; downlinks = n.downlinks; down = n.down; up = n.up; awaits = n.awaits; at_goal = λ g. same },
+      record { paths = n.paths; downlinks = n.downlinks; down = n.down; up = n.up; awaits = n.awaits; at_goal = λ g. same; sn = n.sn },
       (((subst (λ (du : ℕ). DuList is.owners at.gnb du at.ue a.downlinks) same n.downlinks, tt), λ w. (refl, refl)), ((n.paths, λ w. tt), tt)),
     )
 
     pub arrives_again_names : (epoch : ℕ) (t : CpTerminal) (c : CpContext) (a : Attempt) → Good c a → a.du ≡ c.du → Fits (arrives_again way at epoch t c a)
     unfolding arrives_again kind_of
     arrives_again_names epoch t c a n same = (
-      record { paths = n.paths; downlinks = n.downlinks; down = n.down; up = n.up; awaits = n.awaits; at_goal = λ g. same },
+      record { paths = n.paths; downlinks = n.downlinks; down = n.down; up = n.up; awaits = n.awaits; at_goal = λ g. same; sn = n.sn },
       ((tt, λ w. (refl, asked_here c a same)), ((n.paths, λ w. tt), tt)),
     )

@@ -1,4 +1,4 @@
--- What a CU-CP names: the tunnels of its attempts, and who it is that an attempt awaits.
+-- What a CU-CP names: the tunnels of its attempts, who it is that an attempt awaits, and how long its terminals' numbers are.
 use Rattle.std.specs.Prelude.{ℕ, ◌≡◌, Bool, true, false, not, if◌then◌else◌, Option, Some, None}
 use Rattle.std.specs.List.{AllByRecursion}
 use Rattle.gnb_types.specs.declared.names.Gnb.{Gnb}
@@ -45,9 +45,10 @@ module _ {M C P : Type 0} {way : Way M C P} (is : Property way) where
     pub up : UpList is.owners gnb c.up forwarding_up ue a.forward_up
     pub awaits : AllByRecursion (λ (w : Awaited). AwaitedOf gnb c.up (asked_du c a) w.from) a.awaits
     pub at_goal : is_at_goal c.state a.kind ≡ true → a.du ≡ c.du
+    pub sn : is.owners.length ue c.sn
 
   abbrev pub ContextNames : Gnb → UeId → CpContext → Option Attempt → Type 0
-  ContextNames gnb ue c None = Unit {0}
+  ContextNames gnb ue c None = is.owners.length ue c.sn
   ContextNames gnb ue c (Some a) = AttemptNames gnb ue c a
 
   abbrev pub TerminalNames : Gnb → UeId → Option CpContext → Type 0

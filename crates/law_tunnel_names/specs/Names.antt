@@ -1,5 +1,5 @@
--- Whose a tunnel is said to be: which control messages name tunnels, of which node and kind, for which terminal and bearer; and what a
--- unit keeps of such messages.
+-- Whose a tunnel is said to be: which control messages name tunnels, of which node and kind, for which terminal and bearer; how long the
+-- numbers of a terminal's COUNTs are said to be; and what a unit keeps of such messages.
 use Rattle.std.specs.Prelude.{ℕ, ◌≡◌, Bool, true, List, Option, Some, None}
 use Rattle.std.specs.List.{AllByRecursion}
 use Rattle.gnb_types.specs.declared.names.Gnb.{Gnb}
@@ -10,6 +10,9 @@ use Rattle.gnb_types.specs.declared.names.UeId.{UeId}
 use Rattle.gnb_types.specs.declared.names.BearerId.{BearerId}
 use Rattle.gnb_types.specs.declared.names.Dir.{Dir}
 use Rattle.gnb_types.specs.declared.names.Dir.TheVariants.{Dl, Ul}
+use Rattle.gnb_types.specs.declared.names.SnBits.{SnBits}
+use Rattle.gnb_types.specs.declared.inputs.Order.{Order}
+use Rattle.gnb_types.specs.declared.inputs.Order.TheVariants as orders
 use Rattle.gnb_types.specs.declared.keys.Channel.{Channel}
 use Rattle.gnb_types.specs.declared.plans.Peer.{Peer}
 use Rattle.gnb_types.specs.declared.plans.Tunnel.{Tunnel}
@@ -19,15 +22,17 @@ use Rattle.message_types.specs.declared.xn.XnMessage.TheVariants as xns
 use Rattle.message_types.specs.declared.xn.CoreMessage.TheVariants as cores
 use Rattle.transaction_defs.specs.Callers.{Opened}
 use Rattle.transaction_defs.specs.Callees.{Kept}
-use Rattle.unit_defs.specs.Ways.{Message, f1, e1, xn, core, Input, control_input, Output, control, packet, Way, Answer, gives, spent}
+use Rattle.unit_defs.specs.Ways.{Message, f1, e1, xn, core, Load, numbered, frame, uplink, Input, control_input, order_input, Output, control, packet, radio, Way, Answer, gives, spent}
 use Rattle.unit_defs.specs.Transactions.{Kind, request, reply, transfer, kind_of, Waiting, Transactions}
 use Rattle.unit_defs.specs.UpRecords.{TunnelKind, n3, f1u_uplink, forwarding_down, forwarding_up}
 
--- ---- a TEID of a CU-UP may be named for a tunnel of this kind, of this terminal and bearer; one of a DU for its downlink
+-- ---- a TEID of a CU-UP may be named for a tunnel of this kind, of this terminal and bearer; one of a DU for its downlink; and the numbers
+-- of a terminal may have this length
 
 pub record Owners : Type 1 where
   pub up : (gnb : Gnb) (number : ℕ) (kind : TunnelKind) (ue : UeId) (bearer : BearerId) (teid : ℕ) → Type 0
   pub du : (gnb : Gnb) (number : ℕ) (ue : UeId) (bearer : BearerId) (teid : ℕ) → Type 0
+  pub length : (ue : UeId) (sn : SnBits) → Type 0
 
 abbrev pub IfAny : {X : Type 0} → (X → Type 0) → Option X → Type 0
 IfAny Q None = Unit {0}
@@ -67,7 +72,7 @@ module _ (owners : Owners) where
   PeerList peer kind ue tunnels = UpList peer.gnb peer.up kind ue tunnels
 
   -- ---- messages: a response names tunnels of its sender; an uplink, a hop and a path are those of the CU-UP that is named beside them,
-  -- and a switch those of a DU of the sender's gNB
+  -- and a switch those of a DU of the sender's gNB; a request for a context, or for a handover, says the length of the terminal's numbers
 
   abbrev pub SwitchNames : NodeId → UeId → Option (List Tunnel) → Option ℕ → Type 0
   SwitchNames from ue (Some downlinks) (Some du) = DuList (gnb_of from) du ue downlinks
@@ -78,15 +83,17 @@ module _ (owners : Owners) where
   FreezeNames ue peer down up = Unit {0}
 
   abbrev pub NamesFor : {C : Type 0} → NodeId → UeId → Message C → Type 0
-  NamesFor from ue (f1 (f1s.UeContextSetupRequest u instance epoch uplinks sn peer)) = PeerList peer f1u_uplink ue uplinks
+  NamesFor from ue (f1 (f1s.UeContextSetupRequest u instance epoch uplinks sn peer)) = PeerList peer f1u_uplink ue uplinks × owners.length ue sn
   NamesFor from ue (f1 (f1s.UeContextSetupResponse u instance downlinks)) = OwnDuList from ue downlinks
   NamesFor from ue (f1 (f1s.UeContextModificationResponse u instance downlinks)) = OwnDuList from ue downlinks
+  NamesFor from ue (e1 (e1s.BearerContextSetupRequest u instance bearers sn quota forward)) = owners.length ue sn
   NamesFor from ue (e1 (e1s.BearerContextSetupResponse u instance uplinks paths down up)) =
       OwnUpList from f1u_uplink ue uplinks × OwnUpList from n3 ue paths × IfAny (OwnUpList from forwarding_down ue) down
       × IfAny (OwnUpList from forwarding_up ue) up
   NamesFor from ue (e1 (e1s.BearerContextModificationRequest u instance downlinks mode peer down up statuses du)) =
       SwitchNames from ue downlinks du × FreezeNames ue peer down up
   NamesFor from ue (e1 (e1s.BearerContextModificationResponse u instance uplinks statuses)) = IfAny (OwnUpList from f1u_uplink ue) uplinks
+  NamesFor from ue (xn (xns.HandoverRequest u instance epoch bearers sn quota peer du origin)) = owners.length ue sn
   NamesFor from ue (xn (xns.HandoverRequestAcknowledge u instance peer down up)) =
       PeerList peer forwarding_down ue down × PeerList peer forwarding_up ue up
   NamesFor from ue (core (cores.PathSwitchRequest u instance peer paths)) = PeerList peer n3 ue paths
@@ -94,6 +101,20 @@ module _ (owners : Owners) where
 
   abbrev pub Names : {C : Type 0} → NodeId → Message C → Type 0
   Names from message = NamesFor from (ue_of (kind_of message)) message
+
+  -- an order to attach says it too; so does a forwarded packet with a number; and PDUs are of terminals of which it is known
+  abbrev pub OrderNames : Order → Type 0
+  OrderNames (orders.Attach plan) = owners.length plan.ue plan.sn
+  OrderNames order = Unit {0}
+
+  abbrev pub HasLength : UeId → Type 0
+  HasLength ue = (sn : SnBits) × owners.length ue sn
+
+  abbrev pub LoadNames : {P : Type 0} → UeId → Load P → Type 0
+  LoadNames ue (numbered sn count p) = owners.length ue sn
+  LoadNames ue (frame poll restart number pdu) = HasLength ue
+  LoadNames ue (uplink pdu) = HasLength ue
+  LoadNames ue load = Unit {0}
 
 -- ---- the same of what stands for a message: it is so where its message is, and a container names no tunnel
 
@@ -107,11 +128,13 @@ pub record Property {M C P : Type 0} (way : Way M C P) : Type 1 where
 pub record Book : Type 0 where
   pub up : (gnb : Gnb) (number : ℕ) (kind : TunnelKind) (ue : UeId) (bearer : BearerId) (teid : ℕ) → Bool
   pub du : (gnb : Gnb) (number : ℕ) (ue : UeId) (bearer : BearerId) (teid : ℕ) → Bool
+  pub length : (ue : UeId) (sn : SnBits) → Bool
 
 abbrev pub by_book : Book → Owners
 by_book book = record {
   up = λ gnb number kind ue bearer teid. book.up gnb number kind ue bearer teid ≡ true;
   du = λ gnb number ue bearer teid. book.du gnb number ue bearer teid ≡ true;
+  length = λ ue sn. book.length ue sn ≡ true;
 }
 
 pub record Test {M C P : Type 0} (way : Way M C P) : Type 0 where
@@ -141,7 +164,8 @@ module _ {M C P : Type 0} {way : Way M C P} (is : Property way) where
 
   abbrev pub OutputNames : NodeId → Output M P → Type 0
   OutputNames node (control to ue message) = is.says node message
-  OutputNames node (packet to teid ue bearer dir tag load) = PutOn node to teid ue bearer dir
+  OutputNames node (packet to teid ue bearer dir tag load) = PutOn node to teid ue bearer dir × LoadNames is.owners ue load
+  OutputNames node (radio ue bearer dir epoch tag pdu) = HasLength is.owners ue
   OutputNames node output = Unit {0}
 
   abbrev pub OutputsName : NodeId → List (Output M P) → Type 0
@@ -151,9 +175,10 @@ module _ {M C P : Type 0} {way : Way M C P} (is : Property way) where
   AnswerNames Q node (gives outputs after) = Q after × OutputsName node outputs
   AnswerNames Q node (spent counter) = Unit {0}
 
-  -- a message that comes names tunnels as it should
+  -- a message or an order that comes names tunnels and lengths as it should
   abbrev pub InputNames : Input C P → Type 0
   InputNames (control_input from message) = Names is.owners from message
+  InputNames (order_input order) = OrderNames is.owners order
   InputNames input = Unit {0}
 
   -- ---- what a node keeps of messages: open requests, those that wait, and replies

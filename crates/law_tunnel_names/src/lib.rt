@@ -13,7 +13,9 @@ ghost use Rattle.unit_defs.specs.Ways.{Input, Message, Way};
 
 /// Whatever book says for which terminal, bearer and kind a TEID of a CU-UP or a DU may be named: where a message that comes
 /// names tunnels as the book has it, and all that a CU-CP keeps does, so do all messages that it puts then, and all that it
-/// keeps. In particular it takes a response's tunnels for those of the unit that it asked.
+/// keeps. In particular it takes a response's tunnels for those of the unit that it asked. And whatever the book says of how long a
+/// terminal's numbers may be: where requests for contexts and handovers, and orders to attach, say so, all that it puts then does,
+/// and its contexts do.
 pub fn a_cu_cp_names_what_it_was_told<M, C, P>()
     ensures { (way : Way M C P) (test : Test way) (gnb : Gnb) (r : CuCpRecord M C) (input : Input C P)
         → CpNames (by_test test) gnb r → InputNames (by_test test) input

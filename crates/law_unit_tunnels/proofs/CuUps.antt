@@ -107,6 +107,9 @@ module _ {M C P : Type 0} {way : Way M C P} (is : Property way) (none : NoneIsFr
   abbrev OfContext : UeId → UpContext → Type 0
   OfContext ue c = Named ue c.bearers
 
+  abbrev Long : UeId → UpContext → Type 0
+  Long ue c = is.owners.length ue c.sn
+
   abbrev Held : UeId → Bearers → Type 0
   Held ue bearers = Each (BearerHolds is.owners gnb number ue) bearers
 
@@ -126,13 +129,21 @@ module _ {M C P : Type 0} {way : Way M C P} (is : Property way) (none : NoneIsFr
   either_then t x y p q = either_if is (up_id gnb number) Holds Good t x y p q
 
   with_kept : (r : Record) (t : Transactions M C) → Good r → Kept t → Good (with_transactions r t)
-  with_kept r t p k = record { own = p.own; contexts = p.contexts; kept = k }
+  with_kept r t p k = record { own = p.own; contexts = p.contexts; lengths = p.lengths; kept = k }
 
-  context_put : (r : Record) (ue : UeId) (c : UpContext) → Good r → Named ue c.bearers → Good (with_context ue r c)
-  context_put r ue c p all = record { own = p.own; contexts = keyed_put ue_cmp ue_exact OfContext r.contexts ue c p.contexts all; kept = p.kept }
+  context_put : (r : Record) (ue : UeId) (c : UpContext) → Good r → Long ue c → Named ue c.bearers → Good (with_context ue r c)
+  context_put r ue c p long all = record {
+    own = p.own;
+    contexts = keyed_put ue_cmp ue_exact OfContext r.contexts ue c p.contexts all;
+    lengths = keyed_put ue_cmp ue_exact Long r.contexts ue c p.lengths long;
+    kept = p.kept;
+  }
 
   found_context : (r : Record) (ue : UeId) (c : UpContext) → Good r → find ue_cmp r.contexts ue ≡ Some c → Named ue c.bearers
   found_context r ue c p there = keyed_found ue_cmp ue_exact OfContext r.contexts ue c p.contexts there
+
+  found_length : (r : Record) (ue : UeId) (c : UpContext) → Good r → find ue_cmp r.contexts ue ≡ Some c → Long ue c
+  found_length r ue c p there = keyed_found ue_cmp ue_exact Long r.contexts ue c p.lengths there
 
   replies_name : (ch : Channel) (m : E1Message) (r : Record) → Names is.owners {C = C} (up_id gnb number) (e1 m) → Good r → Fits (replies way ch m r)
   replies_name ch m r named p =
@@ -158,19 +169,19 @@ module _ {M C P : Type 0} {way : Way M C P} (is : Property way) (none : NoneIsFr
   each_names ue order each (e ∷ es) all =
       step_names ue e.0 (order e.0 e.1) (each_bearer way order es) (each e.0 e.1 all.0) (each_names ue order each es all.1)
 
-  statuses_name : (ue : UeId) (c : UpContext) (ss : List SnStatus) (es : Bearers) → Named ue es → StepNames ue (status_each way ue c ss es)
-  statuses_name ue c [] es all = (all, tt)
-  statuses_name ue c (s ∷ ss) [] all = (tt, tt)
-  statuses_name ue c (s ∷ ss) (e ∷ es) all =
-      step_names ue e.0 (with_status way (up_at ue c e.0) s e.1) (status_each way ue c ss es) (status_fits is gnb number (up_at ue c e.0) s e.1 all.0)
-      (statuses_name ue c ss es all.1)
+  statuses_name : (ue : UeId) (c : UpContext) (ss : List SnStatus) (es : Bearers) → Long ue c → Named ue es → StepNames ue (status_each way ue c ss es)
+  statuses_name ue c [] es long all = (all, tt)
+  statuses_name ue c (s ∷ ss) [] long all = (tt, tt)
+  statuses_name ue c (s ∷ ss) (e ∷ es) long all =
+      step_names ue e.0 (with_status way (up_at ue c e.0) s e.1) (status_each way ue c ss es) (status_fits is gnb number (up_at ue c e.0) long s e.1 all.0)
+      (statuses_name ue c ss es long all.1)
 
-  steps_name : (r : Record) (ch : Channel) (ue : UeId) (d : UpContext) (s : UpStep way) (m : E1Message) → Names is.owners {C = C} (up_id gnb number) (e1 m) → Good r
+  steps_name : (r : Record) (ch : Channel) (ue : UeId) (d : UpContext) (s : UpStep way) (m : E1Message) → Long ue d → Names is.owners {C = C} (up_id gnb number) (e1 m) → Good r
       → StepNames ue s → Fits (answer_with way r ue d s then replies way ch m)
-  steps_name r ch ue d s m named p h = after (answer_with way r ue d s) (replies way ch m) (by s h) (λ q k. replies_name ch m q named k)
+  steps_name r ch ue d s m long named p h = after (answer_with way r ue d s) (replies way ch m) (by s h) (λ q k. replies_name ch m q named k)
     where
       by : (s : UpStep way) → StepNames ue s → Fits (answer_with way r ue d s)
-      by (steps os bearers) q = (context_put r ue (record d { bearers = bearers }) p q.0, q.1)
+      by (steps os bearers) q = (context_put r ue (record d { bearers = bearers }) p long q.0, q.1)
       by (stops k) q = tt
 
   -- ---- a context ends
@@ -181,6 +192,7 @@ module _ {M C P : Type 0} {way : Way M C P} (is : Property way) (none : NoneIsFr
     record {
       own = p.own;
       contexts = all_filter (λ (e : UeId × UpContext). Named e.0 e.1.bearers) (λ e. not (is_at (ue_cmp ue) e.0)) r.contexts p.contexts;
+      lengths = all_filter (λ (e : UeId × UpContext). Long e.0 e.1) (λ e. not (is_at (ue_cmp ue) e.0)) r.contexts p.lengths;
       kept = p.kept;
     },
     all_flat (OutputNames is (up_id gnb number)) (λ e. map (λ teid. closed teid) (open_teids e.1))
@@ -204,7 +216,7 @@ module _ {M C P : Type 0} {way : Way M C P} (is : Property way) (none : NoneIsFr
   released_fits ue true r (Some c) there p = ended_names r ue c p
   released_fits ue false r (Some c) there p =
       over_names ue (with_context ue r (as_released way c))
-      (context_put r ue (as_released way c) p (released_name ue c.bearers (found_context r ue c p there)))
+      (context_put r ue (as_released way c) p (found_length r ue c p there) (released_name ue c.bearers (found_context r ue c p there)))
 
   release_names : (ch : Channel) (ue : UeId) (instance : ℕ) (is_final : Bool) (r : Record) → Good r → Fits (release way ch ue instance is_final r)
   unfolding release kind_of
@@ -224,14 +236,16 @@ module _ {M C P : Type 0} {way : Way M C P} (is : Property way) (none : NoneIsFr
       all_flat (OutputNames is (up_id gnb number)) (opened_of way)
       (λ e. all_map (OutputNames is (up_id gnb number)) (λ t. opened t.0) (λ t. tt) (entries_of (record { 0 = 0 }) 0 e)) es
 
-  makes_names : (ue : UeId) (sn : SnBits) (quota : ℕ) (target : Bool) (count : ℕ) (r : Record) → Good r → Fits (makes way ue sn quota target count r)
+  makes_names : (ue : UeId) (sn : SnBits) (quota : ℕ) (target : Bool) (count : ℕ) (r : Record) → is.owners.length ue sn → Good r
+      → Fits (makes way ue sn quota target count r)
   unfolding makes
-  makes_names ue sn quota target count r p =
+  makes_names ue sn quota target count r long p =
       let c : UpContext = new_context way r sn quota target count in
       either (teids_are_left r.next_teid (count * teids_of_bearer target)) (with_new way ue r (count * teids_of_bearer target) c) (spent teids_spent) (
         record {
           own = p.own;
           contexts = keyed_put ue_cmp ue_exact OfContext r.contexts ue c p.contexts (made_name ue target r.next_teid (bearers_from 1 count));
+          lengths = keyed_put ue_cmp ue_exact Long r.contexts ue c p.lengths long;
           kept = p.kept;
         },
         opened_put c.bearers,
@@ -274,17 +288,17 @@ module _ {M C P : Type 0} {way : Way M C P} (is : Property way) (none : NoneIsFr
   set_up_names_for ch ue instance forward s (Some c) there p =
       reply_if ch (setup_response way ue instance forward c.bearers) s (λ h. response_names ue instance forward c.bearers (h ue c there)) p
 
-  setup_names : (ch : Channel) (ue : UeId) (instance count : ℕ) (sn : SnBits) (quota : ℕ) (forward : Bool) (r : Record) → Good r → (o : Option UpContext)
-      → FitsIf (setup_on way ch ue instance count sn quota forward r o)
+  setup_names : (ch : Channel) (ue : UeId) (instance count : ℕ) (sn : SnBits) (quota : ℕ) (forward : Bool) (r : Record) → is.owners.length ue sn → Good r
+      → (o : Option UpContext) → FitsIf (setup_on way ch ue instance count sn quota forward r o)
   unfolding kind_of
-  setup_names ch ue instance count sn quota forward r p (Some c) =
+  setup_names ch ue instance count sn quota forward r long p (Some c) =
       simply (replies way ch (e1s.BearerContextSetupFailure ue instance cause_busy) r) (replies_name ch (e1s.BearerContextSetupFailure ue instance cause_busy) r tt p)
-  setup_names ch ue instance count sn quota forward r p None =
+  setup_names ch ue instance count sn quota forward r long p None =
       either_then (not (fits way count quota r)) (replies way ch (e1s.BearerContextSetupFailure ue instance cause_quota) r) _
       (simply (replies way ch (e1s.BearerContextSetupFailure ue instance cause_quota) r)
       (replies_name ch (e1s.BearerContextSetupFailure ue instance cause_quota) r tt p))
       (if_then is (up_id gnb number) Holds Good Good (makes way ue sn quota forward count r) (λ s. set_up_for way ch ue instance forward s (context_of s ue))
-      (makes_names ue sn quota forward count r p) (λ s q. set_up_names_for ch ue instance forward s (context_of s ue) refl q))
+      (makes_names ue sn quota forward count r long p) (λ s q. set_up_names_for ch ue instance forward s (context_of s ue) refl q))
 
   -- ---- Bearer Context Modification
 
@@ -313,14 +327,15 @@ module _ {M C P : Type 0} {way : Way M C P} (is : Property way) (none : NoneIsFr
     abbrev Added : List Tunnel → Record → Type 0
     Added tunnels s = Good s × (Holds s → Ups f1u_uplink ue tunnels)
 
-    added : (c : UpContext) (tunnels : List Tunnel) (s : UpStep way) → StepNames ue s
+    added : (c : UpContext) (tunnels : List Tunnel) (s : UpStep way) → Long ue c → StepNames ue s
         → StepTells ue r.next_teid c.bearers s → tunnels ≡ teids_from way r.next_teid c.bearers
         → AnswerNames is (Added tunnels) (up_id gnb number) (answer_with way (uplinks_given way ue r c tunnels) ue c s)
-    added c tunnels (steps os bearers) q tells same = (
+    added c tunnels (steps os bearers) long q tells same = (
       (
         record {
           own = p.own;
           contexts = keyed_put ue_cmp ue_exact OfContext r.contexts ue (record c { bearers = bearers }) p.contexts q.0;
+          lengths = keyed_put ue_cmp ue_exact Long r.contexts ue (record c { bearers = bearers }) p.lengths long;
           kept = p.kept;
         },
         λ h. subst (λ (ts : List Tunnel). Ups f1u_uplink ue ts) (sym same)
@@ -328,64 +343,64 @@ module _ {M C P : Type 0} {way : Way M C P} (is : Property way) (none : NoneIsFr
       ),
       q.1,
     )
-    added c tunnels (stops k) q tells same = tt
+    added c tunnels (stops k) long q tells same = tt
 
-    add_names : (c : UpContext) → Named ue c.bearers → FitsIf (add_uplinks way ch ue instance c r)
+    add_names : (c : UpContext) → Long ue c → Named ue c.bearers → FitsIf (add_uplinks way ch ue instance c r)
     unfolding add_uplinks kind_of
-    add_names c all =
+    add_names c long all =
         let tunnels : List Tunnel = teids_from way r.next_teid c.bearers in
         either_then (not (teids_are_left r.next_teid (length c.bearers))) (spent teids_spent) _ tt
         (if_then is (up_id gnb number) Holds (Added tunnels) Good
         (answer_with way (uplinks_given way ue r c tunnels) ue c (uplinks_from way r.next_teid c.bearers)) (replies way ch (modified way ue instance (Some tunnels) None))
-        (added c tunnels (uplinks_from way r.next_teid c.bearers) (uplinks_name ue r.next_teid c.bearers all) (uplinks_tell ue r.next_teid c.bearers) refl)
+        (added c tunnels (uplinks_from way r.next_teid c.bearers) long (uplinks_name ue r.next_teid c.bearers all) (uplinks_tell ue r.next_teid c.bearers) refl)
         (λ s q. reply_if ch (modified way ue instance (Some tunnels) None) s q.1 q.0))
 
-    switch_names : (du : Option ℕ) (list : Option (List Tunnel)) (c : UpContext) → SwitchNames is.owners (CuCp r.gnb) ue list du → Named ue c.bearers
+    switch_names : (du : Option ℕ) (list : Option (List Tunnel)) (c : UpContext) → SwitchNames is.owners (CuCp r.gnb) ue list du → Long ue c → Named ue c.bearers
         → Fits (switch_if way ch ue instance du list c r)
     unfolding switch kind_of
-    switch_names (Some d) (Some list) c named all =
+    switch_names (Some d) (Some list) c named long all =
         either (c.flags.released || not (are_bearers (names way c) (bearers_of list))) (drops Unexpected r) _ (p, (tt, tt))
         (steps_name r ch ue (as_switched way c) (each_bearer way (λ b. switched way (up_at ue (as_switched way c) b) (du_id r.gnb d) (teid_of list b)) c.bearers)
-        (modified way ue instance None None) tt p
+        (modified way ue instance None None) long tt p
         (each_names ue (λ b. switched way (up_at ue (as_switched way c) b) (du_id r.gnb d) (teid_of list b))
-        (λ b x h. switched_fits is gnb number (up_at ue (as_switched way c) b) (du_id r.gnb d) (teid_of list b) x
+        (λ b x h. switched_fits is gnb number (up_at ue (as_switched way c) b) long (du_id r.gnb d) (teid_of list b) x
         (named_teid (is.owners.du r.gnb d ue) list b named (none.du r.gnb d ue b)) h) c.bearers all))
-    switch_names (Some d) None c named all = (p, (tt, tt))
-    switch_names None list c named all = (p, (tt, tt))
+    switch_names (Some d) None c named long all = (p, (tt, tt))
+    switch_names None list c named long all = (p, (tt, tt))
 
-    freeze_names : (peer : Option Peer) (a b : Option (List Tunnel)) (c : UpContext) → FreezeNames is.owners ue peer a b → Named ue c.bearers
+    freeze_names : (peer : Option Peer) (a b : Option (List Tunnel)) (c : UpContext) → FreezeNames is.owners ue peer a b → Long ue c → Named ue c.bearers
         → Fits (freeze_if way ch ue instance peer a b c r)
     unfolding freeze kind_of
-    freeze_names (Some peer) (Some a) (Some b) c named all =
+    freeze_names (Some peer) (Some a) (Some b) c named long all =
         either (c.flags.frozen || c.flags.released || not c.flags.arrived || not (are_bearers (names way c) (bearers_of a)) || not (are_bearers (names way c) (bearers_of b)))
         (drops Unexpected r) _ (p, (tt, tt))
         (either (not c.flags.has_status) (replies way ch (e1s.BearerContextModificationFailure ue instance cause_busy) r) _
         (replies_name ch (e1s.BearerContextModificationFailure ue instance cause_busy) r tt p)
         (steps_name r ch ue (as_frozen way c)
         (each_bearer way (λ x. frozen_to way (up_at ue (as_frozen way c) x) (peer_node way peer) (teid_of a x) (teid_of b x)) c.bearers)
-        (modified way ue instance None (Some (statuses way c))) tt p
+        (modified way ue instance None (Some (statuses way c))) long tt p
         (each_names ue (λ x. frozen_to way (up_at ue (as_frozen way c) x) (peer_node way peer) (teid_of a x) (teid_of b x))
-        (λ x y h. frozen_fits is gnb number (up_at ue (as_frozen way c) x) (peer_node way peer) (teid_of a x) (teid_of b x) y
+        (λ x y h. frozen_fits is gnb number (up_at ue (as_frozen way c) x) long (peer_node way peer) (teid_of a x) (teid_of b x) y
         (named_teid (is.owners.up peer.gnb peer.up forwarding_down ue) a x named.0 (none.up peer.gnb peer.up forwarding_down ue x))
         (named_teid (is.owners.up peer.gnb peer.up forwarding_up ue) b x named.1 (none.up peer.gnb peer.up forwarding_up ue x)) h) c.bearers all)))
-    freeze_names (Some peer) (Some a) None c named all = (p, (tt, tt))
-    freeze_names (Some peer) None b c named all = (p, (tt, tt))
-    freeze_names None a b c named all = (p, (tt, tt))
+    freeze_names (Some peer) (Some a) None c named long all = (p, (tt, tt))
+    freeze_names (Some peer) None b c named long all = (p, (tt, tt))
+    freeze_names None a b c named long all = (p, (tt, tt))
 
-    known_names : (list : Option (List SnStatus)) (c : UpContext) → Named ue c.bearers → Fits (status_if way ch ue instance list c r)
+    known_names : (list : Option (List SnStatus)) (c : UpContext) → Long ue c → Named ue c.bearers → Fits (status_if way ch ue instance list c r)
     unfolding take_status kind_of
-    known_names (Some list) c all =
+    known_names (Some list) c long all =
         either (c.flags.has_status || not (are_bearers (names way c) (statuses_of list))) (drops Unexpected r) _ (p, (tt, tt))
-        (steps_name r ch ue (as_known way c) (status_each way ue (as_known way c) list c.bearers) (modified way ue instance None None) tt p
-        (statuses_name ue (as_known way c) list c.bearers all))
-    known_names None c all = (p, (tt, tt))
+        (steps_name r ch ue (as_known way c) (status_each way ue (as_known way c) list c.bearers) (modified way ue instance None None) long tt p
+        (statuses_name ue (as_known way c) list c.bearers long all))
+    known_names None c long all = (p, (tt, tt))
 
-    resume_names : (c : UpContext) → Named ue c.bearers → Fits (resume_if way ch ue instance c r)
+    resume_names : (c : UpContext) → Long ue c → Named ue c.bearers → Fits (resume_if way ch ue instance c r)
     unfolding resume kind_of
-    resume_names c all =
+    resume_names c long all =
         either (c.flags.frozen && not c.flags.released) _ (drops Unexpected r)
-        (steps_name r ch ue (as_resumed way c) (each_bearer way (λ b. resumed way (up_at ue (as_resumed way c) b)) c.bearers) (modified way ue instance None None) tt p
-        (each_names ue (λ b. resumed way (up_at ue (as_resumed way c) b)) (λ b x h. resumed_fits is gnb number (up_at ue (as_resumed way c) b) x h) c.bearers all))
+        (steps_name r ch ue (as_resumed way c) (each_bearer way (λ b. resumed way (up_at ue (as_resumed way c) b)) c.bearers) (modified way ue instance None None) long tt p
+        (each_names ue (λ b. resumed way (up_at ue (as_resumed way c) b)) (λ b x h. resumed_fits is gnb number (up_at ue (as_resumed way c) b) long x h) c.bearers all))
         (p, (tt, tt))
 
     modify_names : (downlinks : Option (List Tunnel)) (mode : ℕ) (peer : Option Peer) (down up : Option (List Tunnel)) (ss : Option (List SnStatus)) (du : Option ℕ)
@@ -394,23 +409,24 @@ module _ {M C P : Type 0} {way : Way M C P} (is : Property way) (none : NoneIsFr
     modify_names downlinks mode peer down up ss du a b None there = λ h. (p, (tt, tt))
     modify_names downlinks mode peer down up ss du a b (Some c) there =
         let all : Named ue c.bearers = found_context r ue c p there in
+        let long : Long ue c = found_length r ue c p there in
         either_then (mode == mode_uplinks) (uplinks_if way ch ue instance c r) _
-        (either_then c.flags.released (drops Unexpected r) (add_uplinks way ch ue instance c r) (λ h. (p, (tt, tt))) (add_names c all))
+        (either_then c.flags.released (drops Unexpected r) (add_uplinks way ch ue instance c r) (λ h. (p, (tt, tt))) (add_names c long all))
         (either_then (mode == mode_switch) (switch_if way ch ue instance du downlinks c r) _
-        (simply (switch_if way ch ue instance du downlinks c r) (switch_names du downlinks c a all))
+        (simply (switch_if way ch ue instance du downlinks c r) (switch_names du downlinks c a long all))
         (either_then (mode == mode_freeze) (freeze_if way ch ue instance peer down up c r) _
-        (simply (freeze_if way ch ue instance peer down up c r) (freeze_names peer down up c b all))
+        (simply (freeze_if way ch ue instance peer down up c r) (freeze_names peer down up c b long all))
         (either_then (mode == mode_status) (status_if way ch ue instance ss c r) _
-        (simply (status_if way ch ue instance ss c r) (known_names ss c all))
+        (simply (status_if way ch ue instance ss c r) (known_names ss c long all))
         (either_then (mode == mode_resume) (resume_if way ch ue instance c r) (drops Unexpected r)
-        (simply (resume_if way ch ue instance c r) (resume_names c all)) (λ h. (p, (tt, tt)))))))
+        (simply (resume_if way ch ue instance c r) (resume_names c long all)) (λ h. (p, (tt, tt)))))))
 
   -- ---- requests and replies
 
   asked_names : (ch : Channel) (m : Message C) (r : Record) → Names is.owners (CuCp r.gnb) m → Good r → FitsIf (asked way ch m r)
   unfolding setup kind_of
   asked_names ch (e1 (e1s.BearerContextSetupRequest ue instance count sn quota forward)) r named p =
-      setup_names ch ue instance count sn quota forward r p (context_of r ue)
+      setup_names ch ue instance count sn quota forward r named p (context_of r ue)
   asked_names ch (e1 (e1s.BearerContextModificationRequest ue instance downlinks mode peer down up ss du)) r named p =
       modify_names ch ue instance r p downlinks mode peer down up ss du named.0 named.1 (context_of r ue) refl
   asked_names ch (e1 (e1s.BearerContextReleaseCommand ue instance is_final)) r named p =
@@ -424,7 +440,7 @@ module _ {M C P : Type 0} {way : Way M C P} (is : Property way) (none : NoneIsFr
       (advance way (record r.transactions { caller = close r.transactions.caller ch }) ch)
       (λ a. nothing (record r { is_set_up = true; transactions = a.transactions }))
       (advance_names is (up_id gnb number) (record r.transactions { caller = close r.transactions.caller ch }) ch
-      (closed_names is (up_id gnb number) r.transactions ch p.kept)) (λ a k. (record { own = p.own; contexts = p.contexts; kept = k }, tt))
+      (closed_names is (up_id gnb number) r.transactions ch p.kept)) (λ a k. (record { own = p.own; contexts = p.contexts; lengths = p.lengths; kept = k }, tt))
 
   control_by_names : (ch : Channel) (m : Message C) (r : Record) (k : Kind) → Names is.owners (CuCp r.gnb) m → Good r → FitsIf (control_by way ch m r k)
   control_by_names ch m r (request ue i) named p =
@@ -451,45 +467,46 @@ module _ {M C P : Type 0} {way : Way M C P} (is : Property way) (none : NoneIsFr
 
   -- ---- items, polls, ticks
 
-  bearer_names : (r : Record) (ue : UeId) (c : UpContext) (bearer : BearerId) (a : Answer M P UpBearer) → Good r → Named ue c.bearers
+  bearer_names : (r : Record) (ue : UeId) (c : UpContext) (bearer : BearerId) (a : Answer M P UpBearer) → Good r → Long ue c → Named ue c.bearers
       → BearerAnswer is gnb number ue bearer a → Fits (with_bearer way r ue c bearer a)
-  bearer_names r ue c bearer (gives os b) p all h = (
+  bearer_names r ue c bearer (gives os b) p long all h = (
     record {
       own = p.own;
       contexts = keyed_put ue_cmp ue_exact OfContext r.contexts ue (record c { bearers = put bearer_cmp c.bearers bearer b }) p.contexts
           (keyed_put bearer_cmp bearer_exact (BearerNames is.owners ue) c.bearers bearer b all h.0);
+      lengths = keyed_put ue_cmp ue_exact Long r.contexts ue (record c { bearers = put bearer_cmp c.bearers bearer b }) p.lengths long;
       kept = p.kept;
     },
     h.1,
   )
-  bearer_names r ue c bearer (spent k) p all h = tt
+  bearer_names r ue c bearer (spent k) p long all h = tt
 
   module _ (r : Record) (p : Good r) where
     found_bearer : (ue : UeId) (c : UpContext) (bearer : BearerId) (b : UpBearer) → Named ue c.bearers → find bearer_cmp c.bearers bearer ≡ Some b
         → BearerNames is.owners ue bearer b
     found_bearer ue c bearer b all there = keyed_found bearer_cmp bearer_exact (BearerNames is.owners ue) c.bearers bearer b all there
 
-    taken_names : (t : UpTunnel) (teid : ℕ) (item : Taken P) (c : UpContext) (b : UpBearer) → Named t.ue c.bearers → BearerNames is.owners t.ue t.bearer b
+    taken_names : (t : UpTunnel) (teid : ℕ) (item : Taken P) (c : UpContext) (b : UpBearer) → Long t.ue c → Named t.ue c.bearers → BearerNames is.owners t.ue t.bearer b
         → (reason : Option HeldReason) → Fits (taken_by way r t teid item c b reason)
-    taken_names t teid item c b all h (Some reason) = (p, (tt, tt))
-    taken_names t teid item c b all h None =
+    taken_names t teid item c b long all h (Some reason) = (p, (tt, tt))
+    taken_names t teid item c b long all h None =
         after (with_bearer way r t.ue c t.bearer (took way (up_at t.ue c t.bearer) t.kind teid item b)) (end_where_over way t.ue)
-        (bearer_names r t.ue c t.bearer (took way (up_at t.ue c t.bearer) t.kind teid item b) p all (item_fits is gnb number (up_at t.ue c t.bearer) t.kind teid item b h))
+        (bearer_names r t.ue c t.bearer (took way (up_at t.ue c t.bearer) t.kind teid item b) p long all (item_fits is gnb number (up_at t.ue c t.bearer) long t.kind teid item b h))
         (over_names t.ue)
 
     take_names : (teid : ℕ) (item : Taken P) → Fits (take way teid item r)
     unfolding take
     take_names teid item = by (find nat_cmp r.tunnels teid)
       where
-        in_bearer : (t : UpTunnel) (c : UpContext) → Named t.ue c.bearers → (o : Option UpBearer) → find bearer_cmp c.bearers t.bearer ≡ o
+        in_bearer : (t : UpTunnel) (c : UpContext) → Long t.ue c → Named t.ue c.bearers → (o : Option UpBearer) → find bearer_cmp c.bearers t.bearer ≡ o
             → Fits (taken_in way r t teid item c o)
-        in_bearer t c all None there = (p, (tt, tt))
-        in_bearer t c all (Some b) there =
-            taken_names t teid item c b all (found_bearer t.ue c t.bearer b all there) (held_reason (up_at t.ue c t.bearer) b t.kind item)
+        in_bearer t c long all None there = (p, (tt, tt))
+        in_bearer t c long all (Some b) there =
+            taken_names t teid item c b long all (found_bearer t.ue c t.bearer b all there) (held_reason (up_at t.ue c t.bearer) b t.kind item)
 
         in_context : (t : UpTunnel) (o : Option UpContext) → find ue_cmp r.contexts t.ue ≡ o → Fits (taken_of way r t teid item o)
         in_context t None there = (p, (tt, tt))
-        in_context t (Some c) there = in_bearer t c (found_context r t.ue c p there) (find bearer_cmp c.bearers t.bearer) refl
+        in_context t (Some c) there = in_bearer t c (found_length r t.ue c p there) (found_context r t.ue c p there) (find bearer_cmp c.bearers t.bearer) refl
 
         by : (t : Option UpTunnel) → Fits (taken_on way r teid item t)
         by None = (p, (tt, tt))
@@ -499,17 +516,17 @@ module _ {M C P : Type 0} {way : Way M C P} (is : Property way) (none : NoneIsFr
     unfolding poll
     poll_names ue bearer = by (context_of r ue) refl
       where
-        in_bearer : (c : UpContext) → Named ue c.bearers → (o : Option UpBearer) → find bearer_cmp c.bearers bearer ≡ o → Fits (poll_bearer way r ue c bearer o)
-        in_bearer c all None there = (p, (tt, tt))
-        in_bearer c all (Some b) there =
+        in_bearer : (c : UpContext) → Long ue c → Named ue c.bearers → (o : Option UpBearer) → find bearer_cmp c.bearers bearer ≡ o → Fits (poll_bearer way r ue c bearer o)
+        in_bearer c long all None there = (p, (tt, tt))
+        in_bearer c long all (Some b) there =
             either (length b.sender.unconfirmed == 0) (puts (no Empty) r) _ (p, (tt, tt))
             (either (c.flags.frozen || not (has_downlink b.downlink)) (puts (no NoRadio) r) _ (p, (tt, tt))
-            (bearer_names r ue c bearer (framed way (up_at ue c bearer) true false None Absent b) p all
-            (framed_fits is gnb number (up_at ue c bearer) true false None Absent b (found_bearer ue c bearer b all there))))
+            (bearer_names r ue c bearer (framed way (up_at ue c bearer) true false None Absent b) p long all
+            (framed_fits is gnb number (up_at ue c bearer) long true false None Absent b (found_bearer ue c bearer b all there))))
 
         by : (o : Option UpContext) → find ue_cmp r.contexts ue ≡ o → Fits (poll_on way r ue bearer o)
         by None there = (p, (tt, tt))
-        by (Some c) there = in_bearer c (found_context r ue c p there) (find bearer_cmp c.bearers bearer) refl
+        by (Some c) there = in_bearer c (found_length r ue c p there) (found_context r ue c p there) (find bearer_cmp c.bearers bearer) refl
 
   start_names : (r : Record) → Good r → Fits (start way r)
   unfolding start kind_of

@@ -65,6 +65,9 @@ module _ {M C P : Type 0} {way : Way M C P} (is : Property way) (gnb : Gnb) (num
   abbrev OfContext : UeId → DuContext → Type 0
   OfContext ue c = Uplinks ue c.bearers
 
+  abbrev Long : UeId → DuContext → Type 0
+  Long ue c = is.owners.length ue c.sn
+
   either : (t : Bool) (x y : Answer M P Record) → Fits x → Fits y → Fits (if t then x else y)
   either t x y p q = either_way is (du_id gnb number) Good t x y p q
 
@@ -72,10 +75,13 @@ module _ {M C P : Type 0} {way : Way M C P} (is : Property way) (gnb : Gnb) (num
   simply a p = always is (du_id gnb number) (DuHolds is.owners gnb number) Good a p
 
   with_kept : (r : Record) (t : Transactions M C) → Good r → Kept t → Good (with_transactions r t)
-  with_kept r t p k = record { own = p.own; uplinks = p.uplinks; kept = k }
+  with_kept r t p k = record { own = p.own; uplinks = p.uplinks; lengths = p.lengths; kept = k }
 
   found_context : (r : Record) (ue : UeId) (c : DuContext) → Good r → context_of r ue ≡ Some c → Uplinks ue c.bearers
   found_context r ue c p there = keyed_found ue_cmp ue_exact OfContext r.contexts ue c p.uplinks there
+
+  found_length : (r : Record) (ue : UeId) (c : DuContext) → Good r → context_of r ue ≡ Some c → Long ue c
+  found_length r ue c p there = keyed_found ue_cmp ue_exact Long r.contexts ue c p.lengths there
 
   replies_name : (ch : Channel) (m : F1 C) (r : Record) → Names is.owners (du_id gnb number) (f1 m) → Good r → Fits (replies way ch m r)
   replies_name ch m r names p =
@@ -96,14 +102,19 @@ module _ {M C P : Type 0} {way : Way M C P} (is : Property way) (gnb : Gnb) (num
   abbrev Replaced : UeId → DuContext → Record → Type 0
   Replaced ue c s = Good s × (DuHolds is.owners gnb number s → DuList is.owners gnb number ue (downlink_list c))
 
-  replaced_names : (ue : UeId) (old : Option DuContext) (c : DuContext) (r : Record) → Uplinks ue c.bearers → Good r
+  replaced_names : (ue : UeId) (old : Option DuContext) (c : DuContext) (r : Record) → Long ue c → Uplinks ue c.bearers → Good r
       → AnswerNames is (Replaced ue c) (du_id gnb number) (replaces way ue old c r)
   unfolding replaces
-  replaced_names ue old c r ups p =
+  replaced_names ue old c r long ups p =
       either_way is (du_id gnb number) (Replaced ue c) (teids_are_left r.next_teid (length c.bearers))
       (gives (map (λ teid. closed teid) (old_downlinks way old) ++ openings way c) (replaced way ue old c r)) (spent teids_spent) (
         (
-          record { own = p.own; uplinks = keyed_put ue_cmp ue_exact OfContext r.contexts ue c p.uplinks ups; kept = p.kept },
+          record {
+            own = p.own;
+            uplinks = keyed_put ue_cmp ue_exact OfContext r.contexts ue c p.uplinks ups;
+            lengths = keyed_put ue_cmp ue_exact Long r.contexts ue c p.lengths long;
+            kept = p.kept;
+          },
           λ h. told_list ue c.bearers (h ue c (put_found r.contexts ue c)),
         ),
         all_append (OutputNames is (du_id gnb number)) (map (λ teid. closed teid) (old_downlinks way old)) (openings way c)
@@ -126,15 +137,15 @@ module _ {M C P : Type 0} {way : Way M C P} (is : Property way) (gnb : Gnb) (num
   anew_uplinks ue next (e ∷ es) all = (all.0, anew_uplinks ue (next + 1) es all.1)
 
   setup_names : (ch : Channel) (ue : UeId) (instance epoch : ℕ) (uplinks : List Tunnel) (sn : SnBits) (peer : Peer) (r : Record)
-      → PeerList is.owners peer f1u_uplink ue uplinks → Good r → FitsIf (setup way ch ue instance epoch uplinks sn peer r)
+      → PeerList is.owners peer f1u_uplink ue uplinks → is.owners.length ue sn → Good r → FitsIf (setup way ch ue instance epoch uplinks sn peer r)
   unfolding setup kind_of
-  setup_names ch ue instance epoch uplinks sn peer r ups p =
+  setup_names ch ue instance epoch uplinks sn peer r ups long p =
       let c : DuContext = context_with way r epoch uplinks sn peer in
       either_if is (du_id gnb number) (DuHolds is.owners gnb number) Good (not (are_first_bearers (bearers_of uplinks))) (drops Unexpected r) _
       (simply (drops Unexpected r) (p, (tt, tt)))
       (if_then is (du_id gnb number) (DuHolds is.owners gnb number) (Replaced ue c) Good (replaces way ue (context_of r ue) c r)
       (replies way ch (f1s.UeContextSetupResponse ue instance (downlink_list c)))
-      (replaced_names ue (context_of r ue) c r (made_uplinks ue peer r.next_teid uplinks ups) p)
+      (replaced_names ue (context_of r ue) c r long (made_uplinks ue peer r.next_teid uplinks ups) p)
       (λ s q. reply_if ch ue c (f1s.UeContextSetupResponse ue instance (downlink_list c)) s (λ h. h) q))
 
   modify_names : (ch : Channel) (ue : UeId) (instance epoch : ℕ) (r : Record) (o : Option DuContext) → context_of r ue ≡ o → Good r
@@ -145,7 +156,7 @@ module _ {M C P : Type 0} {way : Way M C P} (is : Property way) (gnb : Gnb) (num
       let c : DuContext = context_anew way r epoch d in
       if_then is (du_id gnb number) (DuHolds is.owners gnb number) (Replaced ue c) Good (replaces way ue (Some d) c r)
       (replies way ch (f1s.UeContextModificationResponse ue instance (downlink_list c)))
-      (replaced_names ue (Some d) c r (anew_uplinks ue r.next_teid d.bearers (found_context r ue d p there)) p)
+      (replaced_names ue (Some d) c r (found_length r ue d p there) (anew_uplinks ue r.next_teid d.bearers (found_context r ue d p there)) p)
       (λ s q. reply_if ch ue c (f1s.UeContextModificationResponse ue instance (downlink_list c)) s (λ h. h) q)
 
   -- what goes up a bearer's uplink
@@ -160,13 +171,18 @@ module _ {M C P : Type 0} {way : Way M C P} (is : Property way) (gnb : Gnb) (num
   markers_name : (ue : UeId) (es : List (BearerId × DuBearer)) → Uplinks ue es
       → Put (map (λ e. packet e.1.up e.1.uplink ue e.0 Ul Absent end_marker) es)
   markers_name ue [] all = tt
-  markers_name ue (e ∷ es) all = (put_up e.1.up ue e.0 e.1.uplink Ul all.0, markers_name ue es all.1)
+  markers_name ue (e ∷ es) all = ((put_up e.1.up ue e.0 e.1.uplink Ul all.0, tt), markers_name ue es all.1)
 
   released_names : (ue : UeId) (r : Record) (o : Option DuContext) → context_of r ue ≡ o → Good r → Fits (released_on way ue r o)
   unfolding without
   released_names ue r None there p = (p, tt)
   released_names ue r (Some c) there p = (
-    record { own = p.own; uplinks = all_filter (λ (e : UeId × DuContext). Uplinks e.0 e.1.bearers) (λ e. not (is_at (ue_cmp ue) e.0)) r.contexts p.uplinks; kept = p.kept },
+    record {
+      own = p.own;
+      uplinks = all_filter (λ (e : UeId × DuContext). Uplinks e.0 e.1.bearers) (λ e. not (is_at (ue_cmp ue) e.0)) r.contexts p.uplinks;
+      lengths = all_filter (λ (e : UeId × DuContext). Long e.0 e.1) (λ e. not (is_at (ue_cmp ue) e.0)) r.contexts p.lengths;
+      kept = p.kept;
+    },
     all_append (OutputNames is (du_id gnb number)) (end_markers way ue c) (closings way c) (markers_name ue c.bearers (found_context r ue c p there))
         (closed_have (downlinks_of c)),
   )
@@ -182,7 +198,7 @@ module _ {M C P : Type 0} {way : Way M C P} (is : Property way) (gnb : Gnb) (num
   asked_names : (ch : Channel) (from : NodeId) (m : Message C) (r : Record) → Names is.owners from m → Good r → FitsIf (asked way ch m r)
   unfolding modify kind_of
   asked_names ch from (f1 (f1s.UeContextSetupRequest ue instance epoch uplinks sn peer)) r names p =
-      setup_names ch ue instance epoch uplinks sn peer r names p
+      setup_names ch ue instance epoch uplinks sn peer r names.0 names.1 p
   asked_names ch from (f1 (f1s.UeContextModificationRequest ue instance epoch)) r names p = modify_names ch ue instance epoch r (context_of r ue) refl p
   asked_names ch from (f1 (f1s.UeContextReleaseCommand ue instance)) r names p =
       simply (release way ch ue instance r) (release_names ch ue instance r p)
@@ -216,7 +232,7 @@ module _ {M C P : Type 0} {way : Way M C P} (is : Property way) (gnb : Gnb) (num
       (advance way (record r.transactions { caller = close r.transactions.caller ch }) ch)
       (λ a. nothing (record r { is_set_up = true; transactions = a.transactions }))
       (advance_names is (du_id gnb number) (record r.transactions { caller = close r.transactions.caller ch }) ch
-      (closed_names is (du_id gnb number) r.transactions ch p.kept)) (λ a k. (record { own = p.own; uplinks = p.uplinks; kept = k }, tt))
+      (closed_names is (du_id gnb number) r.transactions ch p.kept)) (λ a k. (record { own = p.own; uplinks = p.uplinks; lengths = p.lengths; kept = k }, tt))
 
   of_cp_names : (from : NodeId) (m : Message C) (r : Record) (k : Kind) → Names is.owners from m → Good r → FitsIf (of_cp way from m r k)
   of_cp_names from m r (request ue i) names p =
@@ -241,18 +257,18 @@ module _ {M C P : Type 0} {way : Way M C P} (is : Property way) (gnb : Gnb) (num
   told_have ue bearer b poll n names = by (is_missing way b n || poll)
     where
       by : (t : Bool) → Put (if t then packet b.up b.uplink ue bearer Dl Absent (status (missing way b n) None) ∷ [] else [])
-      by true = (put_up b.up ue bearer b.uplink Dl names, tt)
+      by true = ((put_up b.up ue bearer b.uplink Dl names, tt), tt)
       by false = tt
 
-  carried_names : (ue : UeId) (bearer : BearerId) (c : DuContext) (gap : Bool) (pdu : Option P) (r : Record) → Good r
+  carried_names : (ue : UeId) (bearer : BearerId) (c : DuContext) (gap : Bool) (pdu : Option P) (r : Record) → Long ue c → Good r
       → Fits (carried way ue bearer c gap pdu r)
-  carried_names ue bearer c gap None r p = (p, tt)
-  carried_names ue bearer c true (Some pdu) r p = (p, (tt, tt))
-  carried_names ue bearer c false (Some pdu) r p = (p, (tt, tt))
+  carried_names ue bearer c gap None r long p = (p, tt)
+  carried_names ue bearer c true (Some pdu) r long p = (p, (tt, tt))
+  carried_names ue bearer c false (Some pdu) r long p = (p, ((c.sn, long), tt))
 
-  frame_names : (ue : UeId) (bearer : BearerId) (c : DuContext) (b : DuBearer) (item : Taken P) (r : Record) → Uplinks ue c.bearers
+  frame_names : (ue : UeId) (bearer : BearerId) (c : DuContext) (b : DuBearer) (item : Taken P) (r : Record) → Long ue c → Uplinks ue c.bearers
       → UplinkNames is.owners ue bearer b → Good r → Fits (frame_came way ue bearer c b item r)
-  frame_names ue bearer c b (frame_item poll restart n pdu) r ups names p =
+  frame_names ue bearer c b (frame_item poll restart n pdu) r long ups names p =
       let on : DuBearer = record b { awaited = n + 1; gap = gap_after way b n restart pdu } in
       after_one is (du_id gnb number) Good Good (gives (told way ue bearer b poll n) (with_bearer way ue bearer c on r))
       (carried way ue bearer c (gap_after way b n restart pdu) pdu) (
@@ -260,44 +276,45 @@ module _ {M C P : Type 0} {way : Way M C P} (is : Property way) (gnb : Gnb) (num
           own = p.own;
           uplinks = keyed_put ue_cmp ue_exact OfContext r.contexts ue (record c { bearers = put bearer_cmp c.bearers bearer on }) p.uplinks
               (keyed_put bearer_cmp bearer_exact (UplinkNames is.owners ue) c.bearers bearer on ups names);
+          lengths = keyed_put ue_cmp ue_exact Long r.contexts ue (record c { bearers = put bearer_cmp c.bearers bearer on }) p.lengths long;
           kept = p.kept;
         },
         told_have ue bearer b poll n names,
-      ) (λ s q. carried_names ue bearer c (gap_after way b n restart pdu) pdu s q)
-  frame_names ue bearer c b item r ups names p = (p, (tt, tt))
+      ) (λ s q. carried_names ue bearer c (gap_after way b n restart pdu) pdu s long q)
+  frame_names ue bearer c b item r long ups names p = (p, (tt, tt))
 
   take_names : (teid : ℕ) (item : Taken P) (r : Record) → Good r → Fits (take way teid item r)
   unfolding take
   take_names teid item r p = by (find nat_cmp r.tunnels teid)
     where
-      in_bearer : (ue : UeId) (bearer : BearerId) (c : DuContext) (o : Option DuBearer) → Uplinks ue c.bearers → find bearer_cmp c.bearers bearer ≡ o
+      in_bearer : (ue : UeId) (bearer : BearerId) (c : DuContext) (o : Option DuBearer) → Long ue c → Uplinks ue c.bearers → find bearer_cmp c.bearers bearer ≡ o
           → Fits (taken_in way ue bearer c item r o)
-      in_bearer ue bearer c None ups there = (p, (tt, tt))
-      in_bearer ue bearer c (Some b) ups there =
-          frame_names ue bearer c b item r ups (keyed_found bearer_cmp bearer_exact (UplinkNames is.owners ue) c.bearers bearer b ups there) p
+      in_bearer ue bearer c None long ups there = (p, (tt, tt))
+      in_bearer ue bearer c (Some b) long ups there =
+          frame_names ue bearer c b item r long ups (keyed_found bearer_cmp bearer_exact (UplinkNames is.owners ue) c.bearers bearer b ups there) p
 
       in_context : (ue : UeId) (bearer : BearerId) (o : Option DuContext) → context_of r ue ≡ o → Fits (taken_of way ue bearer item r o)
       in_context ue bearer None there = (p, (tt, tt))
-      in_context ue bearer (Some c) there = in_bearer ue bearer c (find bearer_cmp c.bearers bearer) (found_context r ue c p there) refl
+      in_context ue bearer (Some c) there = in_bearer ue bearer c (find bearer_cmp c.bearers bearer) (found_length r ue c p there) (found_context r ue c p there) refl
 
       by : (t : Option DuTunnel) → Fits (taken_on way item r t)
       by None = (p, (tt, tt))
       by (Some t) = in_context t.ue t.bearer (context_of r t.ue) refl
 
   of_context_names : (r : Record) (ue : UeId) (row : DuContext → DuBearer → Answer M P Record) (bearer : BearerId) (o : Option DuContext)
-      → context_of r ue ≡ o → Good r → ((d : DuContext) (b : DuBearer) → UplinkNames is.owners ue bearer b → Fits (row d b))
+      → context_of r ue ≡ o → Good r → ((d : DuContext) (b : DuBearer) → Long ue d → UplinkNames is.owners ue bearer b → Fits (row d b))
       → Fits (of_context way r row bearer o)
   of_context_names r ue row bearer None there p each = (p, (tt, tt))
   of_context_names r ue row bearer (Some c) there p each = by (find bearer_cmp c.bearers bearer) refl
     where
       by : (o : Option DuBearer) → find bearer_cmp c.bearers bearer ≡ o → Fits (of_bearer way r row c o)
       by None e = (p, (tt, tt))
-      by (Some b) e = each c b (keyed_found bearer_cmp bearer_exact (UplinkNames is.owners ue) c.bearers bearer b (found_context r ue c p there) e)
+      by (Some b) e = each c b (found_length r ue c p there) (keyed_found bearer_cmp bearer_exact (UplinkNames is.owners ue) c.bearers bearer b (found_context r ue c p there) e)
 
   confirmed_names : (ue : UeId) (bearer : BearerId) (r : Record) (b : DuBearer) (n : Option ℕ) → UplinkNames is.owners ue bearer b → Good r
       → Fits (confirmed way ue bearer r b n)
   confirmed_names ue bearer r b None names p = (p, tt)
-  confirmed_names ue bearer r b (Some n) names p = (p, (put_up b.up ue bearer b.uplink Dl names, tt))
+  confirmed_names ue bearer r b (Some n) names p = (p, ((put_up b.up ue bearer b.uplink Dl names, tt), tt))
 
   -- ---- F1 Setup, a tick, and the table
 
@@ -331,11 +348,11 @@ module _ {M C P : Type 0} {way : Way M C P} (is : Property way) (gnb : Gnb) (num
   du_names r (radio_input ue bearer Ul pdu content) names p =
       simply (of_context way r (λ c b. puts (packet b.up b.uplink ue bearer Ul Same (uplink pdu)) r) bearer (context_of r ue))
       (of_context_names r ue (λ c b. puts (packet b.up b.uplink ue bearer Ul Same (uplink pdu)) r) bearer (context_of r ue) refl p
-      (λ d b h. (p, (put_up b.up ue bearer b.uplink Ul h, tt))))
+      (λ d b long h. (p, ((put_up b.up ue bearer b.uplink Ul h, (d.sn, long)), tt))))
   du_names r (confirm_input ue bearer Dl pdu content) names p =
       simply (of_context way r (λ c b. confirmed way ue bearer r b (way.number c.sn pdu)) bearer (context_of r ue))
       (of_context_names r ue (λ c b. confirmed way ue bearer r b (way.number c.sn pdu)) bearer (context_of r ue) refl p
-      (λ d b h. confirmed_names ue bearer r b (way.number d.sn pdu) h p))
+      (λ d b long h. confirmed_names ue bearer r b (way.number d.sn pdu) h p))
   du_names r tick_input names p = simply (tick way r) (tick_names r p)
   du_names r (order_input orders.Start) names p = simply (start way r) (start_names r p)
   du_names r input names p = λ h. (p, (tt, tt))

@@ -1,4 +1,4 @@
--- A terminal names no tunnel, and puts no item on one.
+-- A terminal names no tunnel, and puts no item on one; and its numbers are as long as its plan says.
 use Rattle.std.proofs.Common.{◌==◌, ℕ, ◌+◌, Bool, not, ◌&&◌, List, [], ◌∷◌, ◌++◌, length, Option, Some, None}
 use Rattle.std.specs.Prelude.{if◌then◌else◌, nat_lt, nat_le}
 use Rattle.gnb_types.specs.declared.names.NodeId.{NodeId}
@@ -26,6 +26,7 @@ use Rattle.unit_defs.specs.Ue.{UeBearer, UeNode, last_epoch, largest_packet, is_
 use Rattle.law_unit_packets.proofs.Answers.{all_map}
 use Rattle.law_tunnel_names.specs.Names.{Property, OutputNames, OutputsName, AnswerNames}
 use Rattle.law_tunnel_names.proofs.Kept.{either as either_way, after as after_one}
+use Rattle.law_unit_tunnels.specs.Units.{IsLong}
 
 module _ {M C P : Type 0} {way : Way M C P} (is : Property way) (node : NodeId) where
   abbrev Fits : {R : Type 0} → Answer M P R → Type 0
@@ -33,6 +34,9 @@ module _ {M C P : Type 0} {way : Way M C P} (is : Property way) (node : NodeId) 
 
   abbrev Put : List (Output M P) → Type 0
   Put os = OutputsName is node os
+
+  abbrev Long : UeNode → Type 0
+  Long u = IsLong is u
 
   either : {R : Type 0} (t : Bool) (x y : Answer M P R) → Fits x → Fits y → Fits (if t then x else y)
   either {R = R} t x y p q = either_way is node (λ (r : R). Unit {0}) t x y p q
@@ -42,48 +46,60 @@ module _ {M C P : Type 0} {way : Way M C P} (is : Property way) (node : NodeId) 
 
   -- ---- one bearer
 
-  number_each_fits : (u : UeNode) (bearer : BearerId) (ps : List (List ℕ)) (b : UeBearer) → Fits (number_each way u bearer ps b)
+  number_each_fits : (u : UeNode) (bearer : BearerId) (ps : List (List ℕ)) (b : UeBearer) → Long u → Fits (number_each way u bearer ps b)
   unfolding number_each
-  number_each_fits u bearer [] b = (tt, tt)
-  number_each_fits u bearer (x ∷ xs) b =
+  number_each_fits u bearer [] b l = (tt, tt)
+  number_each_fits u bearer (x ∷ xs) b l =
       let on : UeBearer = record b { sender = numbered b.sender x; waiting = xs } in
       either (not (has_room u.plan.sn u.plan.quota b.sender)) (nothing b) _ (tt, tt)
       (after (if nat_lt last_count b.sender.next then spent counts_spent else puts (data_output way u bearer b.sender.next x) on) (number_each way u bearer xs)
-      (either (nat_lt last_count b.sender.next) (spent counts_spent) (puts (data_output way u bearer b.sender.next x) on) tt (tt, (tt, tt)))
-      (number_each_fits u bearer xs))
+      (either (nat_lt last_count b.sender.next) (spent counts_spent) (puts (data_output way u bearer b.sender.next x) on) tt (tt, ((u.plan.sn, l), tt)))
+      (λ c. number_each_fits u bearer xs c l))
 
-  number_waiting_fits : (u : UeNode) (bearer : BearerId) (b : UeBearer) → Fits (number_waiting way u bearer b)
+  number_waiting_fits : (u : UeNode) (bearer : BearerId) (b : UeBearer) → Long u → Fits (number_waiting way u bearer b)
   unfolding number_waiting
-  number_waiting_fits u bearer b =
-      either (is_connected u.state) (number_each way u bearer b.waiting b) (nothing b) (number_each_fits u bearer b.waiting b) (tt, tt)
+  number_waiting_fits u bearer b l =
+      either (is_connected u.state) (number_each way u bearer b.waiting b) (nothing b) (number_each_fits u bearer b.waiting b l) (tt, tt)
 
-  connect_bearer_fits : (u : UeNode) (bearer : BearerId) (b : UeBearer) → Fits (connect_bearer way u bearer b)
+  connect_bearer_fits : (u : UeNode) (bearer : BearerId) (b : UeBearer) → Long u → Fits (connect_bearer way u bearer b)
   unfolding connect_bearer
-  connect_bearer_fits u bearer b =
+  connect_bearer_fits u bearer b l =
       after (gives (on_air way u bearer Absent (way.write u.plan.sn (report_pdu b.receiver.deliv (received_bits b.receiver))) ∷ unconfirmed_outputs way u bearer b) b)
       (number_waiting way u bearer)
-      (tt, (tt, all_map (OutputNames is node) (λ (e : ℕ × List ℕ). data_output way u bearer e.0 e.1) (λ e. tt) b.sender.unconfirmed)) (number_waiting_fits u bearer)
+      (tt, ((u.plan.sn, l), all_map (OutputNames is node) (λ (e : ℕ × List ℕ). data_output way u bearer e.0 e.1) (λ e. (u.plan.sn, l)) b.sender.unconfirmed))
+      (λ c. number_waiting_fits u bearer c l)
 
   -- ---- all bearers
 
-  connect_each_fits : (u : UeNode) (es : List (BearerId × UeBearer)) → Fits (connect_each way u es)
-  connect_each_fits u [] = (tt, tt)
-  connect_each_fits u (e ∷ es) =
-      after (connect_bearer way u e.0 e.1) (λ b. connect_each way u es then (λ bearers. nothing ((e.0, b) ∷ bearers))) (connect_bearer_fits u e.0 e.1)
-      (λ b. after (connect_each way u es) (λ bearers. nothing ((e.0, b) ∷ bearers)) (connect_each_fits u es) (λ bearers. (tt, tt)))
+  connect_each_fits : (u : UeNode) (es : List (BearerId × UeBearer)) → Long u → Fits (connect_each way u es)
+  connect_each_fits u [] l = (tt, tt)
+  connect_each_fits u (e ∷ es) l =
+      after (connect_bearer way u e.0 e.1) (λ b. connect_each way u es then (λ bearers. nothing ((e.0, b) ∷ bearers))) (connect_bearer_fits u e.0 e.1 l)
+      (λ b. after (connect_each way u es) (λ bearers. nothing ((e.0, b) ∷ bearers)) (connect_each_fits u es l) (λ bearers. (tt, tt)))
 
-  connect_fits : (u : UeNode) → Fits (connect way u)
-  connect_fits u = after (connect_each way u u.bearers) (λ bearers. nothing (with_bearers way u bearers)) (connect_each_fits u u.bearers) (λ bearers. (tt, tt))
+  -- ---- the terminal: it keeps its plan
 
-  with_one : (u : UeNode) (bearer : BearerId) (a : Answer M P UeBearer) → Fits a → Fits (a then (λ c. nothing (with_bearer way u bearer c)))
-  with_one u bearer a h = after a (λ c. nothing (with_bearer way u bearer c)) h (λ c. (tt, tt))
+  abbrev Keeps : Answer M P UeNode → Type 0
+  Keeps a = AnswerNames is Long node a
 
-  at_bearer_fits : (u : UeNode) (bearer : BearerId) (row : UeBearer → Answer M P UeBearer) → ((b : UeBearer) → Fits (row b)) → Fits (at_bearer way u bearer row)
-  at_bearer_fits u bearer row each = by (find bearer_cmp u.bearers bearer)
+  keeps_either : (t : Bool) (x y : Answer M P UeNode) → Keeps x → Keeps y → Keeps (if t then x else y)
+  keeps_either t x y p q = either_way is node Long t x y p q
+
+  connect_keeps : (u : UeNode) → Long u → Keeps (connect way u)
+  connect_keeps u l =
+      after_one is node (λ (es : List (BearerId × UeBearer)). Unit {0}) Long (connect_each way u u.bearers) (λ bearers. nothing (with_bearers way u bearers))
+      (connect_each_fits u u.bearers l) (λ bearers h. (l, tt))
+
+  with_one : (u : UeNode) (bearer : BearerId) (a : Answer M P UeBearer) → Long u → Fits a → Keeps (a then (λ c. nothing (with_bearer way u bearer c)))
+  with_one u bearer a l h = after_one is node (λ (b : UeBearer). Unit {0}) Long a (λ c. nothing (with_bearer way u bearer c)) h (λ c k. (l, tt))
+
+  at_bearer_keeps : (u : UeNode) (bearer : BearerId) (row : UeBearer → Answer M P UeBearer) → Long u → ((b : UeBearer) → Fits (row b))
+      → Keeps (at_bearer way u bearer row)
+  at_bearer_keeps u bearer row l each = by (find bearer_cmp u.bearers bearer)
     where
-      by : (o : Option UeBearer) → Fits (of_bearer way u bearer row o)
-      by None = (tt, (tt, tt))
-      by (Some b) = with_one u bearer (row b) (each b)
+      by : (o : Option UeBearer) → Keeps (of_bearer way u bearer row o)
+      by None = (l, (tt, tt))
+      by (Some b) = with_one u bearer (row b) l (each b)
 
   -- ---- its state
 
@@ -93,56 +109,57 @@ module _ {M C P : Type 0} {way : Way M C P} (is : Property way) (node : NodeId) 
   said_put u (Some kind) None = tt
   said_put u (Some kind) (Some home) = (is.spells node (rrc (token_of way u kind)) tt, tt)
 
-  says_fits : (u : UeNode) → Fits (says_it way u)
-  says_fits u = (tt, said_put u u.token u.home)
+  says_keeps : (u : UeNode) → Long u → Keeps (says_it way u)
+  says_keeps u l = (l, said_put u u.token u.home)
 
-  obey_fits : (epoch : ℕ) (goal : NodeId) (u : UeNode) → Fits (obey way epoch goal u)
+  obey_keeps : (epoch : ℕ) (goal : NodeId) (u : UeNode) → Long u → Keeps (obey way epoch goal u)
   unfolding obey
-  obey_fits epoch goal u =
-      either (may_obey way u.state && epoch == u.epoch + 1) (nothing (record u { state = states.Accessing; goal = Some goal })) (drops Stale u) (tt, tt) (tt, (tt, tt))
+  obey_keeps epoch goal u l =
+      keeps_either (may_obey way u.state && epoch == u.epoch + 1) (nothing (record u { state = states.Accessing; goal = Some goal })) (drops Stale u) (l, tt)
+      (l, (tt, tt))
 
-  arrive_fits : (u : UeNode) → Fits (arrive way u)
+  arrive_keeps : (u : UeNode) → Long u → Keeps (arrive way u)
   unfolding arrive
-  arrive_fits u =
-      either (not (is_accessing u.state)) (puts (no NotAccessing) u) _ (tt, (tt, tt))
-      (after (if nat_le last_epoch u.epoch then spent epochs_spent else says_it way (arrived way u)) (connect way)
-      (either (nat_le last_epoch u.epoch) (spent epochs_spent) (says_it way (arrived way u)) tt (says_fits (arrived way u))) connect_fits)
+  arrive_keeps u l =
+      keeps_either (not (is_accessing u.state)) (puts (no NotAccessing) u) _ (l, (tt, tt))
+      (after_one is node Long Long (if nat_le last_epoch u.epoch then spent epochs_spent else says_it way (arrived way u)) (connect way)
+      (keeps_either (nat_le last_epoch u.epoch) (spent epochs_spent) (says_it way (arrived way u)) tt (says_keeps (arrived way u) l)) connect_keeps)
 
-  come_back_fits : (u : UeNode) → Fits (come_back way u)
+  come_back_keeps : (u : UeNode) → Long u → Keeps (come_back way u)
   unfolding come_back
-  come_back_fits u = by u.home
+  come_back_keeps u l = by u.home
     where
-      by : (o : Option NodeId) → Fits (return_to way u o)
-      by None = (tt, (tt, tt))
+      by : (o : Option NodeId) → Keeps (return_to way u o)
+      by None = (l, (tt, tt))
       by (Some home) =
-          either (not (may_return u.state)) (puts (no Busy) u) _ (tt, (tt, tt))
-          (either (nat_le last_epoch u.epoch) (spent epochs_spent) (says_it way (returned way u)) tt (says_fits (returned way u)))
+          keeps_either (not (may_return u.state)) (puts (no Busy) u) _ (l, (tt, tt))
+          (keeps_either (nat_le last_epoch u.epoch) (spent epochs_spent) (says_it way (returned way u)) tt (says_keeps (returned way u) l))
 
-  accept_fits : (epoch : ℕ) (u : UeNode) → Fits (accept way epoch u)
+  accept_keeps : (epoch : ℕ) (u : UeNode) → Long u → Keeps (accept way epoch u)
   unfolding accept
-  accept_fits epoch u = either (epoch == u.epoch) (accepted_in way u u.state) (drops Stale u) (by u.state) (tt, (tt, tt))
+  accept_keeps epoch u l = keeps_either (epoch == u.epoch) (accepted_in way u u.state) (drops Stale u) (by u.state) (l, (tt, tt))
     where
-      by : (s : UeState) → Fits (accepted_in way u s)
-      by states.Returning = connect_fits (record u { token = None; state = states.Connected })
-      by s = (tt, tt)
+      by : (s : UeState) → Keeps (accepted_in way u s)
+      by states.Returning = connect_keeps (record u { token = None; state = states.Connected }) l
+      by s = (l, tt)
 
-  fail_fits : (u : UeNode) → Fits (fail way u)
+  fail_keeps : (u : UeNode) → Long u → Keeps (fail way u)
   unfolding fail
-  fail_fits u = either (is_connected u.state) (nothing (record u { state = states.Lost })) (puts (no NoRadio) u) (tt, tt) (tt, (tt, tt))
+  fail_keeps u l = keeps_either (is_connected u.state) (nothing (record u { state = states.Lost })) (puts (no NoRadio) u) (l, tt) (l, (tt, tt))
 
   -- ---- packets
 
-  offer_fits : (bearer : BearerId) (x : List ℕ) (u : UeNode) → Fits (offer way bearer x u)
+  offer_keeps : (bearer : BearerId) (x : List ℕ) (u : UeNode) → Long u → Keeps (offer way bearer x u)
   unfolding offer
-  offer_fits bearer x u = by (find bearer_cmp u.bearers bearer)
+  offer_keeps bearer x u l = by (find bearer_cmp u.bearers bearer)
     where
-      by : (o : Option UeBearer) → Fits (offered way u bearer x o)
-      by None = (tt, (tt, tt))
+      by : (o : Option UeBearer) → Keeps (offered way u bearer x o)
+      by None = (l, (tt, tt))
       by (Some b) =
-          either (nat_lt largest_packet (length x)) (puts (no Size) u) _ (tt, (tt, tt))
-          (either (nat_le u.plan.quota (used_uplink way b)) (puts (no Quota) u) _ (tt, (tt, tt))
-          (with_one u bearer (number_waiting way u bearer (record b { waiting = b.waiting ++ x ∷ [] }))
-          (number_waiting_fits u bearer (record b { waiting = b.waiting ++ x ∷ [] }))))
+          keeps_either (nat_lt largest_packet (length x)) (puts (no Size) u) _ (l, (tt, tt))
+          (keeps_either (nat_le u.plan.quota (used_uplink way b)) (puts (no Quota) u) _ (l, (tt, tt))
+          (with_one u bearer (number_waiting way u bearer (record b { waiting = b.waiting ++ x ∷ [] })) l
+          (number_waiting_fits u bearer (record b { waiting = b.waiting ++ x ∷ [] }) l)))
 
   took_data_fits : (u : UeNode) (bearer : BearerId) (count : Option ℕ) (x : List ℕ) (b : UeBearer) → Fits (took_data way u bearer count x b)
   took_data_fits u bearer None x b = (tt, (tt, tt))
@@ -151,35 +168,36 @@ module _ {M C P : Type 0} {way : Way M C P} (is : Property way) (node : NodeId) 
       (either (is_ahead u.plan.quota b.receiver count) (puts (held Ahead) b) (handed way u bearer b (handed_up (stored b.receiver count x))) (tt, (tt, tt))
       (tt, all_map (OutputNames is node) (λ (e : ℕ × List ℕ). deliver u.plan.ue bearer Dl e.0 e.1) (λ e. tt) (handed_up (stored b.receiver count x)).packets))
 
-  took_fits : (u : UeNode) (bearer : BearerId) (content : Content) (b : UeBearer) → Fits (took way u bearer content b)
-  took_fits u bearer (packet_content count x) b = took_data_fits u bearer count x b
-  took_fits u bearer (report_content fmc bits) b = number_waiting_fits u bearer (record b { sender = confirmed_by b.sender fmc bits })
+  took_fits : (u : UeNode) (bearer : BearerId) (content : Content) (b : UeBearer) → Long u → Fits (took way u bearer content b)
+  took_fits u bearer (packet_content count x) b l = took_data_fits u bearer count x b
+  took_fits u bearer (report_content fmc bits) b l = number_waiting_fits u bearer (record b { sender = confirmed_by b.sender fmc bits }) l
 
-  confirmed_fits : (u : UeNode) (bearer : BearerId) (content : Content) (b : UeBearer) → Fits (confirmed way u bearer content b)
-  confirmed_fits u bearer (packet_content count x) b = number_waiting_fits u bearer (confirmed_if way count b)
-  confirmed_fits u bearer (report_content fmc bits) b = (tt, tt)
+  confirmed_fits : (u : UeNode) (bearer : BearerId) (content : Content) (b : UeBearer) → Long u → Fits (confirmed way u bearer content b)
+  confirmed_fits u bearer (packet_content count x) b l = number_waiting_fits u bearer (confirmed_if way count b) l
+  confirmed_fits u bearer (report_content fmc bits) b l = (tt, tt)
 
   -- ---- tokens, and the table
 
-  told_fits : (token : Token) (u : UeNode) → Fits (told way token u)
-  told_fits (tokens.Command to epoch gnb du) u =
-      either (to.0 == u.plan.ue.0) (obey way epoch (du_id gnb du) u) (drops Unexpected u) (obey_fits epoch (du_id gnb du) u) (tt, (tt, tt))
-  told_fits (tokens.Accepted to epoch) u =
-      either (to.0 == u.plan.ue.0) (accept way epoch u) (drops Unexpected u) (accept_fits epoch u) (tt, (tt, tt))
-  told_fits token u = (tt, (tt, tt))
+  told_keeps : (token : Token) (u : UeNode) → Long u → Keeps (told way token u)
+  told_keeps (tokens.Command to epoch gnb du) u l =
+      keeps_either (to.0 == u.plan.ue.0) (obey way epoch (du_id gnb du) u) (drops Unexpected u) (obey_keeps epoch (du_id gnb du) u l) (l, (tt, tt))
+  told_keeps (tokens.Accepted to epoch) u l =
+      keeps_either (to.0 == u.plan.ue.0) (accept way epoch u) (drops Unexpected u) (accept_keeps epoch u l) (l, (tt, tt))
+  told_keeps token u l = (l, (tt, tt))
 
-  told_by_fits : (from : NodeId) (m : Message C) (u : UeNode) → Fits (told_by way from m u)
-  told_by_fits (du_id gnb number) (rrc token) u = told_fits token u
-  told_by_fits from m u = (tt, (tt, tt))
+  told_by_keeps : (from : NodeId) (m : Message C) (u : UeNode) → Long u → Keeps (told_by way from m u)
+  told_by_keeps (du_id gnb number) (rrc token) u l = told_keeps token u l
+  told_by_keeps from m u l = (l, (tt, tt))
 
-  pub terminal_fits : (u : UeNode) (input : Input C P) → Fits (ue_acts way u input)
+  pub terminal_keeps : (u : UeNode) (input : Input C P) → Long u → Keeps (ue_acts way u input)
   unfolding ue_acts take confirm
-  terminal_fits u (control_input from m) = told_by_fits from m u
-  terminal_fits u (radio_input who bearer Dl pdu content) = at_bearer_fits u bearer (took way u bearer content) (took_fits u bearer content)
-  terminal_fits u (confirm_input who bearer Ul pdu content) = at_bearer_fits u bearer (confirmed way u bearer content) (confirmed_fits u bearer content)
-  terminal_fits u (offer_input who bearer x) = offer_fits bearer x u
-  terminal_fits u tick_input = says_fits u
-  terminal_fits u (order_input (orders.Arrive who)) = arrive_fits u
-  terminal_fits u (order_input (orders.Return who)) = come_back_fits u
-  terminal_fits u (order_input (orders.Fail who)) = fail_fits u
-  terminal_fits u input = (tt, (tt, tt))
+  terminal_keeps u (control_input from m) l = told_by_keeps from m u l
+  terminal_keeps u (radio_input who bearer Dl pdu content) l = at_bearer_keeps u bearer (took way u bearer content) l (λ b. took_fits u bearer content b l)
+  terminal_keeps u (confirm_input who bearer Ul pdu content) l =
+      at_bearer_keeps u bearer (confirmed way u bearer content) l (λ b. confirmed_fits u bearer content b l)
+  terminal_keeps u (offer_input who bearer x) l = offer_keeps bearer x u l
+  terminal_keeps u tick_input l = says_keeps u l
+  terminal_keeps u (order_input (orders.Arrive who)) l = arrive_keeps u l
+  terminal_keeps u (order_input (orders.Return who)) l = come_back_keeps u l
+  terminal_keeps u (order_input (orders.Fail who)) l = fail_keeps u l
+  terminal_keeps u input l = (l, (tt, tt))

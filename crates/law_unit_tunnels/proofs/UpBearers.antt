@@ -1,4 +1,4 @@
--- What a CU-UP's rows put for a bearer goes on the downlink and on the hop that the bearer names.
+-- What a CU-UP's rows put for a bearer goes on the downlink and on the hop that the bearer names; and numbers are as long as the context says.
 use Rattle.std.proofs.Common.{◌==◌, ℕ, Bool, true, false, not, ◌&&◌, ◌||◌, List, [], ◌∷◌, ◌++◌, Option, Some, None}
 use Rattle.std.specs.Prelude.{if◌then◌else◌, nat_lt, filter}
 use Rattle.gnb_types.specs.declared.names.Gnb.{Gnb}
@@ -19,7 +19,7 @@ use Rattle.unit_defs.specs.UpRecords.{Downlink, SourceHop, UpBearer, TunnelKind,
 use Rattle.unit_defs.specs.UpBearers.{last_frame, has_downlink, owed, thawed, no_uplink, bits_in, framed_on, framed, sent, sent_again, number_each, number_waiting, deliver_stored, put_down, forwarded_down, put_up, forwarded_up, begin_downlink, begin_where_known, switched, forward_numbered, forward_fresh, forward_late, frozen_to, with_status, resumed}
 use Rattle.unit_defs.specs.UpItems.{took_fresh, closed_n3, n3_ended, restored_at, took_numbered, stored_at, passed_up, took_uplink, took_report, took_content, confirmed_if, lost_frames, took_delivery_status, up_hop_ends_if, uplink_ended, up_ended, took}
 use Rattle.law_unit_packets.proofs.Answers.{all_map}
-use Rattle.law_tunnel_names.specs.Names.{Property, PutOn, OutputNames, AnswerNames}
+use Rattle.law_tunnel_names.specs.Names.{Property, LoadNames, PutOn, OutputNames, AnswerNames}
 use Rattle.law_tunnel_names.proofs.Kept.{either as either_way, after as after_one}
 use Rattle.law_unit_tunnels.specs.Units.{UpTeid, DuTeid, DownlinkNames, HopNames, BearerNames}
 
@@ -52,7 +52,7 @@ module _ {M C P : Type 0} {way : Way M C P} (is : Property way) (gnb : Gnb) (num
   abbrev pub BearerAnswer : UeId → BearerId → Answer M P UpBearer → Type 0
   BearerAnswer ue bearer a = AnswerNames is (BearerNames is.owners ue bearer) (up_id gnb number) a
 
-  module _ (at : UpAt) where
+  module _ (at : UpAt) (long : is.owners.length at.ue at.sn) where
     abbrev Has : UpBearer → Type 0
     Has b = BearerNames is.owners at.ue at.bearer b
 
@@ -76,7 +76,7 @@ module _ {M C P : Type 0} {way : Way M C P} (is : Property way) (gnb : Gnb) (num
       where
         by : (d : Option Downlink) → DownlinkNames is.owners at.ue at.bearer d → Fits (framed_on way at b poll restart pdu tag d)
         by None q = (p, tt)
-        by (Some d) q = either (nat_lt last_frame d.next) (spent frames_spent) _ tt ((q, p.1), (on_downlink d.du at.ue at.bearer d.teid q, tt))
+        by (Some d) q = either (nat_lt last_frame d.next) (spent frames_spent) _ tt ((q, p.1), ((on_downlink d.du at.ue at.bearer d.teid q, (at.sn, long)), tt))
 
     sent_fits : (count : ℕ) (x : List ℕ) (tag : Tag) (b : UpBearer) → Has b → Fits (sent way at count x tag b)
     unfolding sent
@@ -111,21 +111,21 @@ module _ {M C P : Type 0} {way : Way M C P} (is : Property way) (gnb : Gnb) (num
     deliver_fits b p =
         (p, all_map (OutputNames is (up_id gnb number)) (λ (e : ℕ × List ℕ). deliver at.ue at.bearer Ul e.0 e.1) (λ e. tt) (handed_up b.receiver).packets)
 
-    down_fits : (tag : Tag) (load : Load P) (b : UpBearer) → Has b → Fits (forwarded_down way at tag load b)
+    down_fits : (tag : Tag) (load : Load P) (b : UpBearer) → LoadNames is.owners at.ue load → Has b → Fits (forwarded_down way at tag load b)
     unfolding forwarded_down
-    down_fits tag load b p = by b.hop p.1
+    down_fits tag load b says p = by b.hop p.1
       where
         by : (h : Option SourceHop) → HasHop h → Fits (put_down way at tag load b h)
         by None q = (p, tt)
-        by (Some h) q = (p, (on_down h.peer at.ue at.bearer h.down q.0, tt))
+        by (Some h) q = (p, ((on_down h.peer at.ue at.bearer h.down q.0, says), tt))
 
-    up_fits : (tag : Tag) (load : Load P) (b : UpBearer) → Has b → Fits (forwarded_up way at tag load b)
+    up_fits : (tag : Tag) (load : Load P) (b : UpBearer) → LoadNames is.owners at.ue load → Has b → Fits (forwarded_up way at tag load b)
     unfolding forwarded_up
-    up_fits tag load b p = by b.hop p.1
+    up_fits tag load b says p = by b.hop p.1
       where
         by : (h : Option SourceHop) → HasHop h → Fits (put_up way at tag load b h)
         by None q = (p, tt)
-        by (Some h) q = (p, (on_up h.peer at.ue at.bearer h.up q.1, tt))
+        by (Some h) q = (p, ((on_up h.peer at.ue at.bearer h.up q.1, says), tt))
 
     -- ---- switch, freeze, SN status, resume
 
@@ -148,17 +148,17 @@ module _ {M C P : Type 0} {way : Way M C P} (is : Property way) (gnb : Gnb) (num
     numbered_fits : (es : List (ℕ × List ℕ)) (b : UpBearer) → Has b → Fits (forward_numbered way at es b)
     numbered_fits [] b p = (p, tt)
     numbered_fits (e ∷ es) b p =
-        after (forwarded_down way at (Own e.0) (numbered at.sn e.0 e.1) b) (forward_numbered way at es) (down_fits (Own e.0) (numbered at.sn e.0 e.1) b p)
+        after (forwarded_down way at (Own e.0) (numbered at.sn e.0 e.1) b) (forward_numbered way at es) (down_fits (Own e.0) (numbered at.sn e.0 e.1) b long p)
         (numbered_fits es)
 
     fresh_fits : (ps : List (List ℕ)) (b : UpBearer) → Has b → Fits (forward_fresh way at ps b)
     fresh_fits [] b p = (p, tt)
-    fresh_fits (x ∷ xs) b p = after (forwarded_down way at Absent (fresh x) b) (forward_fresh way at xs) (down_fits Absent (fresh x) b p) (fresh_fits xs)
+    fresh_fits (x ∷ xs) b p = after (forwarded_down way at Absent (fresh x) b) (forward_fresh way at xs) (down_fits Absent (fresh x) b tt p) (fresh_fits xs)
 
     late_fits : (es : List (ℕ × List ℕ)) (b : UpBearer) → Has b → Fits (forward_late way at es b)
     late_fits [] b p = (p, tt)
     late_fits (e ∷ es) b p =
-        after (forwarded_up way at (Own e.0) (numbered at.sn e.0 e.1) b) (forward_late way at es) (up_fits (Own e.0) (numbered at.sn e.0 e.1) b p) (late_fits es)
+        after (forwarded_up way at (Own e.0) (numbered at.sn e.0 e.1) b) (forward_late way at es) (up_fits (Own e.0) (numbered at.sn e.0 e.1) b long p) (late_fits es)
 
     pub frozen_fits : (peer : NodeId) (down up : ℕ) (b : UpBearer) → UpTeid is.owners peer forwarding_down at.ue at.bearer down
         → UpTeid is.owners peer forwarding_up at.ue at.bearer up → Has b → Fits (frozen_to way at peer down up b)
@@ -190,12 +190,12 @@ module _ {M C P : Type 0} {way : Way M C P} (is : Property way) (gnb : Gnb) (num
     unfolding took_fresh
     took_fresh_fits x b p =
         let on : UpBearer = record b { waiting = b.waiting ++ x ∷ [] } in
-        either at.flags.released (forwarded_down way at Absent (fresh x) b) _ (down_fits Absent (fresh x) b p)
-        (either at.flags.frozen (forwarded_down way at Absent (fresh x) on) (number_waiting way at on) (down_fits Absent (fresh x) on p) (number_waiting_fits on p))
+        either at.flags.released (forwarded_down way at Absent (fresh x) b) _ (down_fits Absent (fresh x) b tt p)
+        (either at.flags.frozen (forwarded_down way at Absent (fresh x) on) (number_waiting way at on) (down_fits Absent (fresh x) on tt p) (number_waiting_fits on p))
 
     n3_fits : (b : UpBearer) (h : Option SourceHop) → Has b → Fits (n3_ended way at b h)
     n3_fits b None p = (p, (tt, tt))
-    n3_fits b (Some h) p = after (forwarded_down way at Absent end_marker b) (λ c. closed_n3 way c c.n3) (down_fits Absent end_marker b p) (λ c q. by c c.n3 q)
+    n3_fits b (Some h) p = after (forwarded_down way at Absent end_marker b) (λ c. closed_n3 way c c.n3) (down_fits Absent end_marker b tt p) (λ c q. by c c.n3 q)
       where
         by : (c : UpBearer) (t : Option ℕ) → Has c → Fits (closed_n3 way c t)
         by c None q = (q, tt)
@@ -206,10 +206,10 @@ module _ {M C P : Type 0} {way : Way M C P} (is : Property way) (gnb : Gnb) (num
     took_numbered_fits None x b p = (p, (tt, tt))
     took_numbered_fits (Some count) x b p =
         let on : UpBearer = record b { sender = restored b.sender count x } in
-        either at.flags.released (forwarded_down way at Same (numbered at.sn count x) b) _ (down_fits Same (numbered at.sn count x) b p)
+        either at.flags.released (forwarded_down way at Same (numbered at.sn count x) b) _ (down_fits Same (numbered at.sn count x) b long p)
         (either (may_restore at.sn at.quota b.sender count) (restored_at way at count x b) _
         (either at.flags.frozen _ (sent way at count x Same on)
-        (down_fits Same (numbered at.sn count x) (record on { taken_while_frozen = b.taken_while_frozen ++ count ∷ [] }) p) (sent_fits count x Same on p))
+        (down_fits Same (numbered at.sn count x) (record on { taken_while_frozen = b.taken_while_frozen ++ count ∷ [] }) long p) (sent_fits count x Same on p))
         (p, (tt, tt)))
 
     took_uplink_fits : (count : Option ℕ) (x : List ℕ) (b : UpBearer) → Has b → Fits (took_uplink way at count x b)
@@ -219,9 +219,9 @@ module _ {M C P : Type 0} {way : Way M C P} (is : Property way) (gnb : Gnb) (num
         let on : UpBearer = record b { receiver = stored b.receiver count x } in
         either at.flags.released (passed_up way at count x b) _
         (either (nat_lt count b.receiver.deliv) (drops Duplicate b) (forwarded_up way at Same (numbered at.sn count x) b) (p, (tt, tt))
-        (up_fits Same (numbered at.sn count x) b p))
+        (up_fits Same (numbered at.sn count x) b long p))
         (either (is_duplicate b.receiver count) (drops Duplicate b) (stored_at way at count x b) (p, (tt, tt))
-        (either at.flags.frozen (forwarded_up way at Same (numbered at.sn count x) on) (deliver_stored way at on) (up_fits Same (numbered at.sn count x) on p)
+        (either at.flags.frozen (forwarded_up way at Same (numbered at.sn count x) on) (deliver_stored way at on) (up_fits Same (numbered at.sn count x) on long p)
         (deliver_fits on p)))
 
     took_content_fits : (content : Content) (b : UpBearer) → Has b → Fits (took_content way at content b)
@@ -244,7 +244,7 @@ module _ {M C P : Type 0} {way : Way M C P} (is : Property way) (gnb : Gnb) (num
     hop_fits (Some h) b q p =
         either (not h.up_ended && no_uplink b.uplinks && (not at.flags.target || b.up_ended))
         (forwarded_up way at Absent end_marker (record b { hop = Some (record h { up_ended = true }) })) (nothing b)
-        (up_fits Absent end_marker (record b { hop = Some (record h { up_ended = true }) }) (p.0, q)) (p, tt)
+        (up_fits Absent end_marker (record b { hop = Some (record h { up_ended = true }) }) tt (p.0, q)) (p, tt)
 
     uplink_fits : (teid : ℕ) (b : UpBearer) → Has b → Fits (uplink_ended way at teid b)
     unfolding uplink_ended

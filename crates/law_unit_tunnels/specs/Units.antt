@@ -1,4 +1,5 @@
--- What a DU and a CU-UP name: the tunnels of others that their bearers put packets on, and their own.
+-- What a DU and a CU-UP name: the tunnels of others that their bearers put packets on, and their own; and how long their terminals'
+-- numbers are.
 use Rattle.std.specs.Prelude.{ℕ, ◌≡◌, List, Option, Some}
 use Rattle.std.specs.List.{AllByRecursion}
 use Rattle.gnb_types.specs.declared.names.Gnb.{Gnb}
@@ -12,6 +13,7 @@ use Rattle.unit_defs.specs.Ways.{Way, Answer, gives, spent}
 use Rattle.unit_defs.specs.UpRecords.{TunnelKind, n3, f1u_uplink, forwarding_down, forwarding_up, Downlink, SourceHop, UpBearer, UpContext, CuUp}
 use Rattle.unit_defs.specs.UpBearers.{teid_in}
 use Rattle.unit_defs.specs.Du.{DuBearer, DuContext, Du}
+use Rattle.unit_defs.specs.Ue.{UeNode}
 use Rattle.law_tunnel_names.specs.Names.{Owners, IfAny, Property, OutputsName, KeptNames}
 
 -- of a table whose keys matter
@@ -67,12 +69,18 @@ module _ {M C P : Type 0} {way : Way M C P} (is : Property way) where
   pub record UpNames (gnb : Gnb) (number : ℕ) (r : CuUp M C) : Type 0 where
     pub own : r.gnb ≡ gnb
     pub contexts : Each (λ ue c. Each (BearerNames is.owners ue) c.bearers) r.contexts
+    pub lengths : Each (λ ue c. is.owners.length ue c.sn) r.contexts
     pub kept : KeptNames is (up_id gnb number) r.transactions
 
   pub record DuNames (gnb : Gnb) (number : ℕ) (r : Du M C) : Type 0 where
     pub own : r.gnb ≡ gnb
     pub uplinks : Each (λ ue c. Each (UplinkNames is.owners ue) c.bearers) r.contexts
+    pub lengths : Each (λ ue c. is.owners.length ue c.sn) r.contexts
     pub kept : KeptNames is (du_id gnb number) r.transactions
+
+  -- a terminal's plan says how long its numbers are
+  abbrev pub IsLong : UeNode → Type 0
+  IsLong u = is.owners.length u.plan.ue u.plan.sn
 
   -- ---- an answer, where what is there afterwards holds its own tunnels
 
