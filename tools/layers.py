@@ -4,6 +4,8 @@
 - A crate stands after the crates that it lists, so crates.txt is in layer order.
 - No crate of code lists a crate of laws (`law_..`), and no crate of definitions does; none lists a crate of tests (`tests_..`).
 - A crate of definitions (`.._defs`) lists only crates of which its definitions cite something, and has no code: its `src/` has types alone.
+- Every crate lists only crates that it names: the gate reads the sources of all below a crate once for each way to them through the lists, so one needless name
+  high up costs it minutes.
 - docs/architecture.md has the same headings, with the same crates in the same order.
 
 The family `asn1_` keeps its old names, and so do `run_model`, `run_laws` and `static_runner`: of them the order alone is checked.
@@ -64,6 +66,13 @@ def cites(name, of):
     return any(f"Rattle.{of}.specs." in path.read_text() for path in files)
 
 
+def names(name, of):
+    """Whether the crate names another one: in an import of Rust or of a clause, or in a path."""
+    word = re.compile(rf"Rattle\.{of}\b|\b{of}::|\buse {of}\b")
+    files = (path for path in (TOP / "crates" / name).rglob("*") if path.suffix in (".rt", ".antt") and "out" not in path.parts)
+    return any(word.search(path.read_text()) for path in files)
+
+
 def has_code(name):
     files = (TOP / "crates" / name / "src").rglob("*.rt")
     return any(re.search(r"^\s*(pub )?fn ", path.read_text(), re.MULTILINE) for path in files)
@@ -83,6 +92,8 @@ def faults():
                 yield f"{name}: lists {use}, which stands after it"
             if is_tests(use):
                 yield f"{name}: lists {use}, a crate of tests"
+            if use in known and not names(name, use):
+                yield f"{name}: lists {use}, which it doesn't name"
             if OLD_NAMES.match(name):
                 continue
             if is_law(use) and not is_law(name):

@@ -2,7 +2,7 @@
 
 ghost use Rattle.std.specs.Prelude.{◌<◌, length, IfOk};
 ghost use Rattle.aper_defs.specs.Spelling.{Spells};
-ghost use Rattle.aper_types.specs.Types.{tree};
+ghost use Rattle.aper_value_checks.specs.aper_types.Types.{tree};
 ghost use Rattle.aper_values.specs.Views.{view};
 ghost use Rattle.aper.specs.Refusals.{OnRefusal, IsRefused, IsFirstWrong};
 ghost use Rattle.aper.specs.inside.Printed.{IsPrinted};

@@ -3,9 +3,9 @@ use Rattle.std.proofs.Common.{◌≡◌, ℕ, ◌+◌, ◌*◌, ◌^◌, ◌<◌
 use Rattle.asn1_types.specs.declared.definition.Size.{Size}
 use Rattle.aper_defs.specs.Fields.{Ask, extent, whole, part}
 use Rattle.aper_defs.specs.Reading.{Cursor, asked_width, answer_of, read}
-use Rattle.aper_proof_values.proofs.Found.{Answered, answer_read}
-use Rattle.aper_proof_values.proofs.FoundNumbers.{flag_read, pad_read, constrained_read, small_read, digits_read}
-use Rattle.aper_proof_values.proofs.FoundExtents.{whole_read, part_read, PartLength, last, more}
+use Rattle.aper_cursor.proofs.aper_proof_values.Found.{Answered, answer_read}
+use Rattle.aper_cursor.proofs.aper_proof_values.FoundNumbers.{flag_read, pad_read, constrained_read, small_read, digits_read}
+use Rattle.aper_cursor.proofs.aper_proof_values.FoundExtents.{whole_read, part_read, PartLength, last, more}
 use Rattle.aper_cursor.specs.declared.lengths.Extent.{Extent}
 use Rattle.aper_cursor.specs.declared.lengths.Extent.TheVariants as extents
 use Rattle.aper_cursor.specs.declared.questions.Question.{Question}

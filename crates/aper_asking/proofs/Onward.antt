@@ -11,8 +11,8 @@ use Rattle.aper_defs.specs.Bits.{unit_width}
 use Rattle.aper_defs.specs.Questions.{Prog, ask, take, ask_aligned, ask_extension, ask_index, ask_index_by, ask_integer, ask_integer_by, ask_count, ask_count_by}
 use Rattle.aper_defs.specs.Reading.{Cursor, Fault, passes, bit_limit, read, read_units, units_within, run, goes_on, answered_at, moved_by}
 use Rattle.aper_proof_answers.proofs.Standing.{answered}
-use Rattle.aper_proof_values.proofs.Found.{Answered, answer_read, taken_limit}
-use Rattle.aper_proof_values.proofs.FoundBits.{written}
+use Rattle.aper_cursor.proofs.aper_proof_values.Found.{Answered, answer_read, taken_limit}
+use Rattle.aper_cursor.proofs.aper_proof_values.FoundBits.{written}
 use Rattle.aper_cursor.specs.declared.error.Unanswered.{Unanswered}
 use Rattle.aper_cursor.specs.declared.error.Unanswered.TheVariants.{Wrong, Memory}
 use Rattle.aper_cursor.specs.Answers.{AnswersOrMemory, TakesRun, ReadsRun}

@@ -2,7 +2,7 @@
 use Rattle.std.proofs.Common.{◌≡◌, ℕ, suc, ◌+◌, ◌-◌, ◌*◌, ◌^◌, ◌<◌, ◌≤◌, cond, Bool, sym, ap, ◌∙◌, arith}
 use Rattle.std.proofs.Math.Nat.{mul-le-mul_left}
 use Rattle.aper_defs.specs.Numbers.{least_count}
-use Rattle.aper_proof_answers.proofs.NumberFacts.{is_below, is_not_below}
+use Rattle.aper_proof_values.proofs.aper_proof_answers.NumberFacts.{is_below, is_not_below}
 
 -- a count that is too little
 pub count_on : (unit count end n : ℕ) → count < end → 2 ^ (unit * count) ≤ n

@@ -8,7 +8,7 @@ use Rattle.aper_defs.specs.declared.reason.Reason.TheVariants as reasons
 use Rattle.aper_defs.specs.Fields.{Ask, extent, opening, whole}
 use Rattle.aper_defs.specs.Bits.{width_at}
 use Rattle.aper_defs.specs.Reading.{Cursor, Opened, bits_at, told_width, passes, asked_width, judged, answer_of, answered, read, read_within, opens_after, answered_at, moved_by, unless}
-use Rattle.aper_proof_answers.proofs.NumberFacts.{is_same}
+use Rattle.aper_proof_values.proofs.aper_proof_answers.NumberFacts.{is_same}
 use Rattle.aper_proof_values.proofs.Found.{answer_read}
 use Rattle.aper_proof_values.proofs.FoundBits.{written}
 use Rattle.aper_cursor.specs.declared.questions.Question.{Question}

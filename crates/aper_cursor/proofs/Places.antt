@@ -8,7 +8,7 @@ use Rattle.bits_core.proofs.BitLemmas.{length-octet_bits}
 use Rattle.aper_defs.specs.declared.reason.Reason.{Reason}
 use Rattle.aper_defs.specs.declared.reason.Reason.TheVariants as reasons
 use Rattle.aper_defs.specs.Reading.{Cursor, is_within, passes, bits_at, bit_limit}
-use Rattle.aper_proof_answers.proofs.NumberFacts.{is_at_most, is_not_below, is_below}
+use Rattle.aper_proof_values.proofs.aper_proof_answers.NumberFacts.{is_at_most, is_not_below, is_below}
 use Rattle.aper_proof_values.proofs.Found.{taken_size, taken_limit}
 use Rattle.aper_cursor.specs.declared.cursor.OpenType.{OpenType}
 use Rattle.aper_cursor.specs.declared.cursor.Cursor.TheInside.{Inside}

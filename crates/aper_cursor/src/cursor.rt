@@ -21,7 +21,7 @@ use std::marker::Model;
 const BIT_LIMIT: u64 = 1_048_576;
 
 /// An open type around a place: where its contents begin, where they end, and the nearest end of the open types around it.
-#[derive(Clone, Copy, Debug)]
+#[derive(Clone, Copy)]
 struct OpenType {
     start: u64,
     finish: u64,

@@ -13,7 +13,7 @@ const PART_UNITS: u64 = 16384;
 
 /// The bounds of a length determinant: of a whole length, or of one that may come in parts. In both, the whole length isn't in
 /// the root of a size.
-#[derive(Clone, Copy, Debug)]
+#[derive(Clone, Copy)]
 pub enum Extent {
     Whole {
         least: u64,
@@ -29,7 +29,7 @@ pub enum Extent {
 }
 
 /// The forms of a length determinant: an octet, two octets, or so many times 16,384 units.
-#[derive(Clone, Copy, Debug)]
+#[derive(Clone, Copy)]
 pub enum LengthForm {
     Octet(u64),
     TwoOctets(u64),

@@ -15,7 +15,7 @@ use aper_defs::Reason;
 use asn1_assignments::IeRow;
 
 /// What a number stands for; a number that is too great is refused for it.
-#[derive(Clone, Copy, Debug, PartialEq, Eq)]
+#[derive(Clone, Copy, PartialEq, Eq)]
 pub enum Role {
     Value,
     Index,
@@ -23,14 +23,14 @@ pub enum Role {
 }
 
 /// The numbers from low to high.
-#[derive(Clone, Copy, Debug, PartialEq, Eq)]
+#[derive(Clone, Copy, PartialEq, Eq)]
 pub struct Range {
     pub low: i128,
     pub high: i128,
 }
 
 /// What is asked at a place.
-#[derive(Clone, Copy, Debug)]
+#[derive(Clone, Copy)]
 pub enum Question<'m> {
     /// A bit of its own.
     Flag,
@@ -71,7 +71,7 @@ pub enum Question<'m> {
 }
 
 /// What a run is made of.
-#[derive(Clone, Copy, Debug, PartialEq, Eq)]
+#[derive(Clone, Copy, PartialEq, Eq)]
 pub enum RunUnit {
     Bit,
     Octet,

@@ -11,3 +11,5 @@ pub mod Questions
 pub mod Asking
 pub mod Reading
 pub mod Bounds
+pub use Rattle.asn1_types.specs as asn1_types
+pub use Rattle.bits_core.specs as bits_core

@@ -17,7 +17,7 @@ use Rattle.aper_defs.specs.Reading.{Cursor, run}
 use Rattle.aper_cursor.specs.declared.error.Unanswered.{Unanswered}
 use Rattle.aper_cursor.specs.declared.error.Unanswered.TheVariants.{Wrong}
 use Rattle.aper_asking.specs.Going.{GoesOn}
-use Rattle.aper_types.specs.Types.{parts_of}
+use Rattle.aper_members.specs.aper_types.Types.{parts_of}
 use Rattle.aper_frames.specs.declared.frame.Frame.{Frame}
 use Rattle.aper_frames.specs.declared.frame.Turn.{Turn}
 use Rattle.aper_frames.specs.Frames.{path_of, next_of}

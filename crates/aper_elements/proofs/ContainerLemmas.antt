@@ -16,8 +16,8 @@ use Rattle.aper_cursor.specs.declared.error.Unanswered.{Unanswered}
 use Rattle.aper_cursor.specs.declared.error.Unanswered.TheVariants.{Wrong}
 use Rattle.aper_cursor.specs.Questions.{slots_of, slot_of, is_mandatory}
 use Rattle.aper_asking.specs.Going.{GoesOn}
-use Rattle.aper_types.specs.Types.{rows_of}
-use Rattle.aper_types.specs.Types as types
+use Rattle.aper_members.specs.aper_types.Types.{rows_of}
+use Rattle.aper_members.specs.aper_types.Types as types
 use Rattle.aper_values.specs.declared.value.Value.{Value}
 use Rattle.aper_values.specs.declared.value.Element.{Element}
 use Rattle.aper_values.specs.Views.{view, ies_view}

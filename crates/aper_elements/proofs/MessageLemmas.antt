@@ -9,7 +9,7 @@ use Rattle.aper_defs.specs.Fields.{Path}
 use Rattle.aper_defs.specs.Fields as fields
 use Rattle.aper_defs.specs.Questions.{Prog, ask_open, ask_raw}
 use Rattle.aper_defs.specs.Asking.{asks, ask_body, ask_outcome}
-use Rattle.aper_types.specs.Types.{procedures_of, outcome_of}
+use Rattle.aper_members.specs.aper_types.Types.{procedures_of, outcome_of}
 use Rattle.aper_heads.specs.declared.messages.MessageHead.{MessageHead}
 use Rattle.aper_heads.specs.declared.messages.MessageHead.TheVariants.{Known, Past}
 use Rattle.aper_heads.specs.Heads.{ask_message_head}

@@ -7,7 +7,7 @@ ghost use Rattle.aper_defs.specs.Trees.{choice};
 ghost use Rattle.aper_defs.specs.Values as seen;
 ghost use Rattle.aper_defs.specs.Fields as fields;
 ghost use Rattle.aper_defs.specs.Reading.{Cursor as Place};
-ghost use Rattle.aper_types.specs.Types.{choice_tree, parts_of};
+ghost use Rattle.aper_members.specs.aper_types.Types.{choice_tree, parts_of};
 ghost use Rattle.aper_frames.specs.Frames.{path_of, next_of};
 ghost use Rattle.aper_frames.specs.Steps.{Steps};
 ghost use Rattle.aper_frames.specs.Weights.{part_weight, choice_weight, frames_weight, Lighter};

@@ -3,7 +3,7 @@
 ghost use Rattle.std.specs.Prelude.{◌+◌};
 ghost use Rattle.aper_defs.specs.Trees.{container};
 ghost use Rattle.aper_defs.specs.Asking.{asks};
-ghost use Rattle.aper_types.specs.Types.{rows_of};
+ghost use Rattle.aper_members.specs.aper_types.Types.{rows_of};
 ghost use Rattle.aper_values.specs.Views.{view};
 ghost use Rattle.aper_frames.specs.Frames.{elements_left, element_after, path_of, next_of};
 ghost use Rattle.aper_frames.specs.Steps.{Steps};

@@ -4,7 +4,7 @@ ghost use Rattle.std.specs.Prelude.{◌+◌, ◌<◌};
 ghost use Rattle.aper_defs.specs.Trees.{pdu};
 ghost use Rattle.aper_defs.specs.Asking.{asks, ask_body};
 ghost use Rattle.aper_defs.specs.Values as seen;
-ghost use Rattle.aper_types.specs.Types.{procedures_of};
+ghost use Rattle.aper_members.specs.aper_types.Types.{procedures_of};
 ghost use Rattle.aper_frames.specs.Frames.{path_of, next_of};
 ghost use Rattle.aper_frames.specs.Steps.{Steps};
 ghost use Rattle.aper_frames.specs.Weights.{message_weight, frames_weight, Lighter};

@@ -7,7 +7,7 @@ use Rattle.aper_defs.specs.Fields.{Path}
 use Rattle.aper_defs.specs.Fields as fields
 use Rattle.aper_defs.specs.Questions.{Prog, ask_open, ask_raw}
 use Rattle.aper_defs.specs.Asking.{asks, ask_components, ask_additions, ask_marks}
-use Rattle.aper_types.specs.Types.{parts_of}
+use Rattle.aper_heads.specs.aper_types.Types.{parts_of}
 use Rattle.aper_values.specs.declared.value.Value.{Value}
 use Rattle.aper_values.specs.Views.{options_view}
 use Rattle.aper_frames.specs.declared.frame.Components.{Components}

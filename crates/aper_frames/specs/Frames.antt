@@ -9,7 +9,7 @@ use Rattle.aper_defs.specs.Fields as fields
 use Rattle.aper_defs.specs.Questions.{Prog, done, ask, ask_open, ask_raw, ask_members, ask_ies}
 use Rattle.aper_defs.specs.Asking.{asks, ask_components, ask_marks, ask_additions, ask_row}
 use Rattle.aper_cursor.specs.Questions.{slots_of}
-use Rattle.aper_types.specs.Types.{parts_of, rows_of}
+use Rattle.aper_heads.specs.aper_types.Types.{parts_of, rows_of}
 use Rattle.aper_values.specs.declared.value.Value.{Value}
 use Rattle.aper_values.specs.declared.value.Element.{Element}
 use Rattle.aper_values.specs.Views.{view, options_view}

@@ -15,7 +15,7 @@ use aper_defs::Reason;
 use asn1_assignments::IeRow;
 
 /// What stands before the body of an information element. Criticality is 0 reject, 1 ignore, 2 notify.
-#[derive(Clone, Copy, Debug, PartialEq, Eq)]
+#[derive(Clone, Copy, PartialEq, Eq)]
 pub struct ElementHead {
     pub id: u16,
     pub criticality: u8,

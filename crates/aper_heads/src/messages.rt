@@ -9,7 +9,7 @@ use aper_cursor::{Cursor, Question, Role};
 use aper_defs::Reason;
 
 /// What stands before the body of a PDU.
-#[derive(Clone, Copy, Debug, PartialEq, Eq)]
+#[derive(Clone, Copy, PartialEq, Eq)]
 pub enum MessageHead {
     /// The outcome: 0 initiating message, 1 successful outcome, 2 unsuccessful outcome. The procedure's code, and its
     /// criticality: 0 reject, 1 ignore, 2 notify.

@@ -9,7 +9,7 @@ use Rattle.aper_defs.specs.Layouts.{flag_fields, mark_fields, message_head}
 use Rattle.aper_defs.specs.Membership.{HasComponents, AreAdditions, some_present}
 use Rattle.aper_proof_answers.proofs.NumberFacts.{same}
 use Rattle.aper_proof_places.proofs.Bits.{total}
-use Rattle.aper_types.specs.Types.{parts_of}
+use Rattle.aper_members.specs.aper_types.Types.{parts_of}
 use Rattle.aper_values.specs.declared.value.Value.{Value}
 use Rattle.aper_values.specs.Views.{options_view}
 use Rattle.aper_widths.specs.Ends.{passed, end_of, Ends}

@@ -10,7 +10,7 @@ use Rattle.aper_defs.specs.Fields as fields
 use Rattle.aper_defs.specs.Bits.{open_fields}
 use Rattle.aper_defs.specs.Layouts.{layout, raw_fields, component_fields, addition_fields, ie_fields, row_fields}
 use Rattle.aper_defs.specs.Membership.{Has, HasComponents, HasAdditions, HasRow, FitsOpen, IsRaw, EachFrom, AreElements}
-use Rattle.aper_types.specs.Types.{parts_of, rows_of}
+use Rattle.aper_members.specs.aper_types.Types.{parts_of, rows_of}
 use Rattle.aper_values.specs.declared.value.Value.{Value as CodeValue}
 use Rattle.aper_values.specs.declared.value.Element.{Element}
 use Rattle.aper_values.specs.Views.{values_view, options_view, ies_view}

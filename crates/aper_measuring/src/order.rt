@@ -2,7 +2,7 @@
 
 ghost use Rattle.std.specs.Prelude.{◌≡◌, ℕ, List, nat_lt, option_map};
 ghost use Rattle.aper_defs.specs.Trees.{Tree, Slot, slots, has_slot, mandatory_count};
-ghost use Rattle.aper_types.specs.Types.{rows_of, is_mandatory};
+ghost use Rattle.aper_members.specs.aper_types.Types.{rows_of, is_mandatory};
 ghost use Rattle.aper_measuring.specs.Order.{LeavesRows, LeavesKnown};
 
 use asn1_assignments::{IeRow, Presence};

@@ -1,7 +1,7 @@
 -- The layout of a value answers what is asked for its type, and gives the value.
 use Rattle.std.proofs.Common.{◌≡◌, ℕ, zero, suc, ◌+◌, ◌-◌, ◌≤◌, Bool, true, false, cond, ◌==◌, nat_lt, List, [], ◌∷◌, ◌++◌, length, map, None, refl, sym, ap, ◌∙◌, arith}
-use Rattle.bits_core.specs.Bits.{bit_value, bits_of, number_of}
-use Rattle.bits_core.proofs.BitLemmas.{bits_of-number_of}
+use Rattle.aper_defs.specs.bits_core.Bits.{bit_value, bits_of, number_of}
+use Rattle.aper_defs.proofs.bits_core.BitLemmas.{bits_of-number_of}
 use Rattle.aper_defs.specs.Trees.{Tree, Parts, Rows, Procedures, Outcome, Slot, slots, slots_left, mandatory_count, part_count}
 use Rattle.aper_defs.specs.Trees.{boolean, integer, enumerated, bit_string, octet_string, printable_string, sequence, choice, sequence_of, container, pdu, no_parts, part, no_rows, row, no_procedures, procedure, no_outcome, outcome}
 use Rattle.aper_defs.specs.Values.{Value, Values, Options, Ies, value_count, ie_count, presence, has_options, each_from}
@@ -22,16 +22,16 @@ use Rattle.aper_proof_answers.proofs.ForthNumbers.{aligned, forth_extension, for
 use Rattle.aper_proof_answers.proofs.ForthStrings.{forth_string, forth_count}
 
 -- ---- bits of BOOLEAN and BIT STRING
-bit_again : (b : Bool) → (bit_value b == 1) ≡ b
+pub bit_again : (b : Bool) → (bit_value b == 1) ≡ b
 bit_again true = refl
 bit_again false = refl
 
-bits_again : (bs : List Bool) → map (λ b. b == 1) (map bit_value bs) ≡ bs
+pub bits_again : (bs : List Bool) → map (λ b. b == 1) (map bit_value bs) ≡ bs
 bits_again [] = refl
 bits_again (b ∷ bs) = ap (λ (x : Bool). x ∷ map (λ n. n == 1) (map bit_value bs)) (bit_again b)
     ∙ ap (λ (xs : List Bool). b ∷ xs) (bits_again bs)
 
-length_of_bits : (bs : List Bool) → length (map bit_value bs) ≡ length bs
+pub length_of_bits : (bs : List Bool) → length (map bit_value bs) ≡ length bs
 length_of_bits [] = refl
 length_of_bits (b ∷ bs) = ap suc (length_of_bits bs)
 
@@ -160,7 +160,7 @@ by_either : (b : Bool) (A B : Type 0) (x y : List Field) (P Q R : Prog) (c : Cur
 by_either true A B x y P Q R c first second h = first refl h
 by_either false A B x y P Q R c first second h = second refl h
 
-not_extended : (extensible : Bool) (more : Options) → AreAdditions extensible more → extensible ≡ false → has_options more ≡ false
+pub not_extended : (extensible : Bool) (more : Options) → AreAdditions extensible more → extensible ≡ false → has_options more ≡ false
 not_extended extensible no_options h e = refl
 not_extended extensible (absent more) h e = cc (h.0, e)
 not_extended extensible (present v more) h e = cc (h.0, e)

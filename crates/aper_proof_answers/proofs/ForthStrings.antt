@@ -2,7 +2,7 @@
 use Rattle.std.proofs.Common.{◌≡◌, ℕ, zero, suc, ◌+◌, ◌-◌, ◌*◌, ◌/◌, ◌<◌, ◌≤◌, Bool, true, false, cond, ◌&&◌, ◌||◌, ◌==◌, nat_lt, List, [], ◌∷◌, ◌++◌, length, map, take, drop, None, Some, Option, Ok, refl, sym, ap, ◌∙◌, arith}
 use Rattle.std.specs.Prelude.{nat_le}
 use Rattle.std.proofs.lemmas.List.{length-take, length-drop, take-append-drop}
-use Rattle.asn1_types.specs.declared.definition.Size.{Size}
+use Rattle.aper_defs.specs.asn1_types.declared.definition.Size.{Size}
 use Rattle.aper_defs.specs.declared.reason.Reason.{Reason}
 use Rattle.aper_defs.specs.declared.reason.Reason.TheVariants as reasons
 use Rattle.aper_defs.specs.Fields.{Path, Ask, Field, RunUnit, bit, octet, character, extent, pad, whole, part, asked, run as run_field}
@@ -93,7 +93,7 @@ last_part p content outside (suc tries) before previous units K c room short s =
     (ap (λ b. cond b (K units) (ask_parts p content outside tries (before + length units) (length units) (λ more. K (units ++ more))))
     (is_below (length units) part_units short)) s
 
-next_some : (n : ℕ) → part_units ≤ n → (part_units ≤ next_part n) × (next_part n ≤ n)
+pub next_some : (n : ℕ) → part_units ≤ n → (part_units ≤ next_part n) × (next_part n ≤ n)
 next_some n h = (omega arith, omega arith)
 
 -- a part that isn't the last one
@@ -169,7 +169,7 @@ all_parts p content outside units K c =
     forth_parts p content outside (length units / part_units) turn_limit 0 (4 * part_units) units K c (omega arith) (omega arith)
 
 -- a string in the root of its size
-fixed_size : (size : Size) (n : ℕ) → in_size size n ≡ true → (size.low == size.high) ≡ true → size.low ≡ n
+pub fixed_size : (size : Size) (n : ℕ) → in_size size n ≡ true → (size.low == size.high) ≡ true → size.low ≡ n
 fixed_size size n h e =
     omega (
       arith,
@@ -178,7 +178,7 @@ fixed_size size n h e =
       at_most n size.high (second_of_both (nat_le size.low n) (nat_le n size.high) h),
     )
 
-from_low : (size : Size) (n : ℕ) → in_size size n ≡ true → (size.low + (n - size.low) ≡ n) × (n - size.low ≤ size.high - size.low)
+pub from_low : (size : Size) (n : ℕ) → in_size size n ≡ true → (size.low + (n - size.low) ≡ n) × (n - size.low ≤ size.high - size.low)
 from_low size n h =
     let low : size.low ≤ n = at_most size.low n (first_of_both (nat_le size.low n) (nat_le n size.high) h) in
     let high : n ≤ size.high = at_most n size.high (second_of_both (nat_le size.low n) (nat_le n size.high) h) in
@@ -214,7 +214,7 @@ past_size true extensible other h out = cc
 past_size false true other h out = refl
 past_size false false other h out = cc
 
-either_extensible : (b extensible : Bool) → (b || extensible) ≡ true → b ≡ false → extensible ≡ true
+pub either_extensible : (b extensible : Bool) → (b || extensible) ≡ true → b ≡ false → extensible ≡ true
 either_extensible true extensible h out = cc
 either_extensible false extensible h out = h
 

@@ -15,10 +15,10 @@ use Rattle.aper_defs.specs.Parts.{index_fields}
 use Rattle.aper_defs.specs.Layouts.{layout, raw_fields, alternative_fields, added_fields, row_fields, body_fields, outcome_fields, message_head}
 use Rattle.aper_defs.specs.Membership.{Has, HasAlternative, HasAdded, HasRow, HasBody, HasOutcome, FitsOpen, IsRaw, Either, is_index_of}
 use Rattle.aper_proof_answers.proofs.NumberFacts.{by_cases, is_below, is_not_below}
-use Rattle.aper_types.specs.Types.{parts_of, rows_of, outcome_of, procedures_of}
+use Rattle.aper_measuring.specs.aper_types.Types.{parts_of, rows_of, outcome_of, procedures_of}
 use Rattle.aper_widths.specs.Ends.{passed, Ends}
-use Rattle.aper_members.specs.Rows.{row_type, outcome_type, message_type}
-use Rattle.aper_members.proofs.ChoiceLemmas.{parts_count}
+use Rattle.aper_measuring.specs.aper_members.Rows.{row_type, outcome_type, message_type}
+use Rattle.aper_measuring.proofs.aper_members.ChoiceLemmas.{parts_count}
 use Rattle.aper_measuring.specs.Measured.{Measured, ValueMeasured, RawMeasured, InsideMeasured}
 use Rattle.aper_measuring.proofs.HeadLemmas.{head_end, past_end}
 use Rattle.aper_proof_measures.proofs.Turns.{both_measured, value_at, open_at, raw_at}

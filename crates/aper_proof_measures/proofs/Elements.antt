@@ -9,13 +9,13 @@ use Rattle.aper_defs.specs.Fields as fields
 use Rattle.aper_defs.specs.Layouts.{layout, row_fields, ie_fields}
 use Rattle.aper_defs.specs.Membership.{Has, HasRow, AreElements, IsInOrder}
 use Rattle.aper_proof_answers.proofs.NumberFacts.{below}
-use Rattle.aper_types.specs.Types.{rows_of}
+use Rattle.aper_measuring.specs.aper_types.Types.{rows_of}
 use Rattle.aper_values.specs.declared.value.Value.{Value}
 use Rattle.aper_values.specs.declared.value.Element.{Element}
 use Rattle.aper_values.specs.Views.{view, ies_view}
 use Rattle.aper_widths.specs.Ends.{passed, end_of, Ends}
 use Rattle.aper_widths.proofs.EndLemmas.{ends_both}
-use Rattle.aper_members.specs.Rows.{row_type}
+use Rattle.aper_measuring.specs.aper_members.Rows.{row_type}
 use Rattle.aper_measuring.specs.Measured.{Measured, ValueMeasured, InsideMeasured, ElementsMeasured}
 use Rattle.aper_measuring.specs.Order.{LeavesRows}
 use Rattle.aper_measuring.proofs.HeadLemmas.{element_head}

@@ -9,16 +9,16 @@ use Rattle.aper_defs.specs.Fields as fields
 use Rattle.aper_defs.specs.Parts.{index_fields}
 use Rattle.aper_defs.specs.Layouts.{added_fields}
 use Rattle.aper_defs.specs.Membership.{HasAdded, is_index_of}
-use Rattle.aper_types.specs.Types.{parts_of}
+use Rattle.aper_measuring.specs.aper_types.Types.{parts_of}
 use Rattle.aper_values.specs.declared.value.Value.{Value as CodeValue}
 use Rattle.aper_values.specs.Views.{view}
 use Rattle.aper_widths.specs.Ends.{Ends}
-use Rattle.aper_members.proofs.Turns.{item_at}
+use Rattle.aper_measuring.proofs.aper_members.Turns.{item_at}
 use Rattle.aper_measuring.specs.Measured.{Measured, ValueMeasured, InsideMeasured, ComponentsMeasured, AdditionsMeasured}
 use Rattle.aper_proof_measures.proofs.Turns.{open_at, raw_at, component_absent, component_missing, component_present, component_wrong, components_none, components_count, addition_present, addition_wrong, unknown_present, unknown_wrong, addition_absent, unknown_absent, additions_none}
 use Rattle.aper_proof_measures.proofs.Bodies.{added_chosen}
-use Rattle.aper_members.specs.Rows.{part_type}
-use Rattle.aper_members.proofs.Members.{further}
+use Rattle.aper_measuring.specs.aper_members.Rows.{part_type}
+use Rattle.aper_measuring.proofs.aper_members.Members.{further}
 
 module _ (of : ℕ → Tree) (parts : List Component) where
   -- ---- components

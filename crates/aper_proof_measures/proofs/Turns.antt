@@ -10,7 +10,7 @@ use Rattle.aper_defs.specs.Bits.{open_fields}
 use Rattle.aper_defs.specs.Parts.{extension_fields, count_fields}
 use Rattle.aper_defs.specs.Layouts.{layout, raw_fields, raw_additions, flag_fields, mark_fields, component_fields, addition_fields}
 use Rattle.aper_defs.specs.Membership.{Has, HasComponents, HasAdditions, AreAdditions, FitsOpen, IsRaw, AreRaw, EachFrom, is_count_of}
-use Rattle.aper_types.specs.Types.{parts_of}
+use Rattle.aper_measuring.specs.aper_types.Types.{parts_of}
 use Rattle.aper_values.specs.declared.value.Value.{Value as CodeValue}
 use Rattle.aper_values.specs.Views.{view, values_view, options_view}
 use Rattle.aper_widths.specs.Ends.{end_of, passed, Ends}

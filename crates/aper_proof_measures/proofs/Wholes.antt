@@ -13,18 +13,18 @@ use Rattle.aper_defs.specs.Parts.{count_fields}
 use Rattle.aper_defs.specs.Layouts.{layout}
 use Rattle.aper_defs.specs.Membership.{is_count_of}
 use Rattle.aper_defs.specs.Spelling.{whole_layout}
-use Rattle.aper_types.specs.Types.{rows_of, procedures_of}
+use Rattle.aper_measuring.specs.aper_types.Types.{rows_of, procedures_of}
 use Rattle.aper_values.specs.declared.value.Value.{Value as CodeValue}
 use Rattle.aper_values.specs.declared.value.Element.{Element}
 use Rattle.aper_values.specs.Views.{values_view, ies_view}
 use Rattle.aper_widths.specs.Ends.{passed, end_of, Ends}
 use Rattle.aper_widths.proofs.EndLemmas.{ends_at}
-use Rattle.aper_members.specs.Rows.{message_type}
+use Rattle.aper_measuring.specs.aper_members.Rows.{message_type}
 use Rattle.aper_measuring.specs.Measured.{ValueMeasured, RawMeasured, InsideMeasured, MembersMeasured, ElementsMeasured}
 use Rattle.aper_proof_measures.proofs.Turns.{list_measured, list_wrong}
 use Rattle.aper_proof_measures.proofs.Bodies.{body_measured, known_measured, past_measured}
 use Rattle.aper_proof_measures.proofs.Elements.{elements_measured}
-use Rattle.aper_members.proofs.Members.{values_count, elements_count}
+use Rattle.aper_measuring.proofs.aper_members.Members.{values_count, elements_count}
 
 -- a type as its form
 pub measured_as : (t u : Tree) (v w : Value) (old : ℕ) (r : Option ℕ) → t ≡ u → v ≡ w → ValueMeasured u w old r → ValueMeasured t v old r

@@ -2,13 +2,13 @@
 use Rattle.std.proofs.Common.{◌≡◌, ℕ, ◌+◌, ◌-◌, ◌*◌, ◌%◌, ◌/◌, ◌^◌, ◌<◌, ◌≤◌, ◌==◌, nat_lt, cond, ◌&&◌, Bool, true, false, List, ◌∷◌, ◌++◌, None, Option, refl, sym, ap, subst, ◌∙◌, arith}
 use Rattle.std.specs.Prelude.{nat_le}
 use Rattle.std.proofs.lemmas.Bool.Decides.{nat_tests}
-use Rattle.asn1_types.specs.declared.definition.Size.{Size}
+use Rattle.aper_proof_answers.specs.asn1_types.declared.definition.Size.{Size}
 use Rattle.bits_core.specs.Bits.{bits_of}
-use Rattle.aper_defs.specs.declared.reason.Reason.{Reason}
-use Rattle.aper_defs.specs.declared.reason.Reason.TheVariants as reasons
-use Rattle.aper_defs.specs.Fields.{extent, opening, whole, part}
-use Rattle.aper_defs.specs.Bits.{part_units, extent_width, extent_number}
-use Rattle.aper_defs.specs.Reading.{told_width, octet_form, two_octets, units_form, form_of, told, is_inside, unless, judged_length, judged_extent}
+use Rattle.aper_proof_answers.specs.aper_defs.declared.reason.Reason.{Reason}
+use Rattle.aper_proof_answers.specs.aper_defs.declared.reason.Reason.TheVariants as reasons
+use Rattle.aper_proof_answers.specs.aper_defs.Fields.{extent, opening, whole, part}
+use Rattle.aper_proof_answers.specs.aper_defs.Bits.{part_units, extent_width, extent_number}
+use Rattle.aper_proof_answers.specs.aper_defs.Reading.{told_width, octet_form, two_octets, units_form, form_of, told, is_inside, unless, judged_length, judged_extent}
 use Rattle.aper_proof_answers.proofs.NumberFacts.{by_cases, below, not_below, is_below, is_not_below, is_at_most}
 use Rattle.aper_proof_places.proofs.Placed.{Allowed}
 

@@ -5,3 +5,4 @@ pub mod Opened
 pub mod PlacedNumbers
 pub mod PlacedStrings
 pub mod PlacedAll
+pub use Rattle.aper_proof_answers.proofs as aper_proof_answers

@@ -4,10 +4,10 @@ use Rattle.std.proofs.lemmas.Bool.Decides.{nat_tests}
 use Rattle.std.proofs.lemmas.Nat.{pow_pos}
 use Rattle.bits_core.specs.Bits.{bits_of, pad_of}
 use Rattle.bits_core.proofs.BitLemmas.{length-bits_of}
-use Rattle.aper_defs.specs.declared.reason.Reason.TheVariants as reasons
-use Rattle.aper_defs.specs.Fields.{Path, Field, pad, opening, closing, end, asked}
-use Rattle.aper_defs.specs.Bits.{width_at, spelled, put_all, extent_width, closed, octet_count, open_fields}
-use Rattle.aper_defs.specs.Reading.{Cursor, unless, bits_at, is_within, ends_at, start_of, read, answered_at, moved_by}
+use Rattle.aper_proof_answers.specs.aper_defs.declared.reason.Reason.TheVariants as reasons
+use Rattle.aper_proof_answers.specs.aper_defs.Fields.{Path, Field, pad, opening, closing, end, asked}
+use Rattle.aper_proof_answers.specs.aper_defs.Bits.{width_at, spelled, put_all, extent_width, closed, octet_count, open_fields}
+use Rattle.aper_proof_answers.specs.aper_defs.Reading.{Cursor, unless, bits_at, is_within, ends_at, start_of, read, answered_at, moved_by}
 use Rattle.aper_proof_answers.proofs.Standing.{StandAll, after_all, after_all-append}
 use Rattle.aper_proof_answers.proofs.NumberFacts.{by_cases, same, is_same, is_at_most}
 use Rattle.aper_proof_places.proofs.Bits.{all_bits, total, length-all_bits, total-append, all_bits-append, put_all-nil, total-aligned}

@@ -5,10 +5,10 @@ use Rattle.std.specs.List.{flat_map}
 use Rattle.std.proofs.lemmas.List.{take_at, drop_at, drop-drop}
 use Rattle.bits_core.specs.Bits.{bits_of, number_of, numbers_at, octet_bits}
 use Rattle.bits_core.proofs.BitLemmas.{length-bits_of, number_is}
-use Rattle.aper_defs.specs.declared.reason.Reason.TheVariants as reasons
-use Rattle.aper_defs.specs.Fields.{Path, Ask, RunUnit, Field, asked, run as run_field}
-use Rattle.aper_defs.specs.Bits.{width_at, spelled, unit_width, field_bits}
-use Rattle.aper_defs.specs.Reading.{Opened, Cursor, bits_at, is_within, passes, bit_limit, asked_width, judged, answered, read, read_within, answer_of, opens_after, moved_by, after_field, read_units, units_within}
+use Rattle.aper_proof_answers.specs.aper_defs.declared.reason.Reason.TheVariants as reasons
+use Rattle.aper_proof_answers.specs.aper_defs.Fields.{Path, Ask, RunUnit, Field, asked, run as run_field}
+use Rattle.aper_proof_answers.specs.aper_defs.Bits.{width_at, spelled, unit_width, field_bits}
+use Rattle.aper_proof_answers.specs.aper_defs.Reading.{Opened, Cursor, bits_at, is_within, passes, bit_limit, asked_width, judged, answered, read, read_within, answer_of, opens_after, moved_by, after_field, read_units, units_within}
 use Rattle.aper_proof_answers.proofs.Standing.{Stands, StandAll, after_all, after_all-append}
 use Rattle.aper_proof_answers.proofs.NumberFacts.{at_most, is_at_most, is_not_below, first_of_both, second_of_both}
 use Rattle.aper_proof_places.proofs.Bits.{field_width, all_bits, total, length-field_bits, length-all_bits, total-append, all_bits-append}

@@ -4,19 +4,19 @@ use Rattle.std.specs.Prelude.{nat_le}
 use Rattle.std.proofs.lemmas.Nat.{pow_pos}
 use Rattle.bits_core.specs.Bits.{bit_value, number_of}
 use Rattle.bits_core.proofs.BitLemmas.{number_small}
-use Rattle.aper_defs.specs.declared.reason.Reason.TheVariants as reasons
-use Rattle.aper_defs.specs.Trees.{Tree, Parts, Rows, Procedures, Outcome, Slot, slots, slots_left, slots_before, slots_after, has_slot, mandatory_count, part_count}
-use Rattle.aper_defs.specs.Trees.{boolean, integer, enumerated, bit_string, octet_string, printable_string, sequence, choice, sequence_of, container, pdu, no_parts, part, no_rows, row, no_procedures, procedure, no_outcome, outcome}
-use Rattle.aper_defs.specs.Values.{Value, Values, Options, Ies, value_count, ie_count, presence, has_options, each_from}
-use Rattle.aper_defs.specs.Values.{truth, number, enumeral, bits, octets, text, components, chosen, list, elements, message, raw, no_values, value, no_options, absent, present, no_ies, ie}
-use Rattle.aper_defs.specs.Fields.{Path, Ask, Field, flag, constrained, small, extent, addition_bits, ie_id, pad, whole, octet, asked, run as run_field}
-use Rattle.aper_defs.specs.Fields as fields
-use Rattle.aper_defs.specs.Bits.{open_fields}
-use Rattle.aper_defs.specs.Parts.{of_bits, of_octets, of_characters, extension_fields, index_fields, count_fields}
-use Rattle.aper_defs.specs.Layouts.{raw_fields, flag_fields, mark_fields, raw_additions, ie_fields, message_head, layout, component_fields, addition_fields, alternative_fields, added_fields, row_fields, body_fields, outcome_fields}
-use Rattle.aper_defs.specs.Membership.{Either, are_octets, IsRaw, EachFrom, AreRaw, AreAdditions, AreElements, IsInOrder, some_present, Has, HasComponents, HasAdditions, HasAlternative, HasAdded, HasRow, HasBody, HasOutcome}
-use Rattle.aper_defs.specs.Bounds.{IsBounded, ArePartsBounded, AreRowsBounded, AreProceduresBounded, IsOutcomeBounded}
-use Rattle.aper_defs.specs.Reading.{unless}
+use Rattle.aper_proof_answers.specs.aper_defs.declared.reason.Reason.TheVariants as reasons
+use Rattle.aper_proof_answers.specs.aper_defs.Trees.{Tree, Parts, Rows, Procedures, Outcome, Slot, slots, slots_left, slots_before, slots_after, has_slot, mandatory_count, part_count}
+use Rattle.aper_proof_answers.specs.aper_defs.Trees.{boolean, integer, enumerated, bit_string, octet_string, printable_string, sequence, choice, sequence_of, container, pdu, no_parts, part, no_rows, row, no_procedures, procedure, no_outcome, outcome}
+use Rattle.aper_proof_answers.specs.aper_defs.Values.{Value, Values, Options, Ies, value_count, ie_count, presence, has_options, each_from}
+use Rattle.aper_proof_answers.specs.aper_defs.Values.{truth, number, enumeral, bits, octets, text, components, chosen, list, elements, message, raw, no_values, value, no_options, absent, present, no_ies, ie}
+use Rattle.aper_proof_answers.specs.aper_defs.Fields.{Path, Ask, Field, flag, constrained, small, extent, addition_bits, ie_id, pad, whole, octet, asked, run as run_field}
+use Rattle.aper_proof_answers.specs.aper_defs.Fields as fields
+use Rattle.aper_proof_answers.specs.aper_defs.Bits.{open_fields}
+use Rattle.aper_proof_answers.specs.aper_defs.Parts.{of_bits, of_octets, of_characters, extension_fields, index_fields, count_fields}
+use Rattle.aper_proof_answers.specs.aper_defs.Layouts.{raw_fields, flag_fields, mark_fields, raw_additions, ie_fields, message_head, layout, component_fields, addition_fields, alternative_fields, added_fields, row_fields, body_fields, outcome_fields}
+use Rattle.aper_proof_answers.specs.aper_defs.Membership.{Either, are_octets, IsRaw, EachFrom, AreRaw, AreAdditions, AreElements, IsInOrder, some_present, Has, HasComponents, HasAdditions, HasAlternative, HasAdded, HasRow, HasBody, HasOutcome}
+use Rattle.aper_proof_answers.specs.aper_defs.Bounds.{IsBounded, ArePartsBounded, AreRowsBounded, AreProceduresBounded, IsOutcomeBounded}
+use Rattle.aper_proof_answers.specs.aper_defs.Reading.{unless}
 use Rattle.aper_proof_answers.proofs.NumberFacts.{by_cases, below, is_below, is_at_most, is_same, first_of_both, second_of_both}
 use Rattle.aper_proof_places.proofs.Placed.{Allowed, Placed, placed_none, placed_asked, placed_run, placed_both, AreBelow}
 use Rattle.aper_proof_places.proofs.Extents.{unless_true, allowed_whole}

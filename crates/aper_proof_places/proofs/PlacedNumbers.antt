@@ -2,13 +2,13 @@
 use Rattle.std.proofs.Common.{◌≡◌, ℕ, ◌-◌, ◌*◌, ◌^◌, ◌<◌, ◌≤◌, ◌==◌, nat_lt, cond, ◌&&◌, Bool, true, false, List, [], ◌∷◌, Some, refl, ap, ◌∙◌, arith}
 use Rattle.std.specs.Prelude.{ℤ, nat_le}
 use Rattle.std.proofs.lemmas.Bool.Decides.{nat_tests}
-use Rattle.aper_defs.specs.declared.reason.Reason.TheVariants as reasons
-use Rattle.aper_defs.specs.Numbers.{bits_for, octets_for, signed_octets_for, twos_complement, signed_number, is_signed, in_range}
-use Rattle.aper_defs.specs.Fields.{Path, Role, Ask, Field, bit, octet, flag, constrained, digits, signed, small, extent, character, pad, whole, part, asked, run as run_field}
-use Rattle.aper_defs.specs.Fields as fields
-use Rattle.aper_defs.specs.Parts.{large_fields, number_fields, extension_fields}
-use Rattle.aper_defs.specs.Membership.{is_printable}
-use Rattle.aper_defs.specs.Reading.{unless, too_great}
+use Rattle.aper_proof_answers.specs.aper_defs.declared.reason.Reason.TheVariants as reasons
+use Rattle.aper_proof_answers.specs.aper_defs.Numbers.{bits_for, octets_for, signed_octets_for, twos_complement, signed_number, is_signed, in_range}
+use Rattle.aper_proof_answers.specs.aper_defs.Fields.{Path, Role, Ask, Field, bit, octet, flag, constrained, digits, signed, small, extent, character, pad, whole, part, asked, run as run_field}
+use Rattle.aper_proof_answers.specs.aper_defs.Fields as fields
+use Rattle.aper_proof_answers.specs.aper_defs.Parts.{large_fields, number_fields, extension_fields}
+use Rattle.aper_proof_answers.specs.aper_defs.Membership.{is_printable}
+use Rattle.aper_proof_answers.specs.aper_defs.Reading.{unless, too_great}
 use Rattle.aper_proof_answers.proofs.NumberFacts.{by_cases, below, not_below, is_below, is_not_below, is_at_most, same, octets_fit, octets_least, octets_grow, octets_at_most, bits_fit, signed_again, signed_part_fits, twos_complement_fits, signed_octets_positive}
 use Rattle.aper_proof_places.proofs.Placed.{Allowed, Placed, placed_none, placed_asked}
 use Rattle.aper_proof_places.proofs.Extents.{unless_true}

@@ -3,15 +3,15 @@ use Rattle.std.proofs.Common.{◌≡◌, ℕ, zero, suc, ◌+◌, ◌-◌, ◌*�
 use Rattle.std.specs.Prelude.{ℤ, nat_le}
 use Rattle.std.specs.List.{list_all}
 use Rattle.std.proofs.lemmas.List.{length-take, length-drop}
-use Rattle.asn1_types.specs.declared.definition.Size.{Size}
-use Rattle.aper_defs.specs.Numbers.{signed_octets_for, twos_complement, is_signed, in_range, above}
-use Rattle.aper_defs.specs.Fields.{Path, Role, Ask, Field, bit, octet, flag, signed, small, extent, character, pad, whole, part, asked, run as run_field}
-use Rattle.aper_defs.specs.Fields as fields
-use Rattle.aper_defs.specs.Bits.{part_units}
-use Rattle.aper_defs.specs.Parts.{number_fields, extension_fields, integer_fields, index_fields, Content, of_bits, of_octets, of_characters, unit_fields, pad_limit, in_size, part_of_fields, next_part, part_fields, all_part_fields, sized_fields, string_fields, count_fields}
-use Rattle.aper_defs.specs.Membership.{is_number_of, is_index_of, is_count_of, is_printable}
-use Rattle.aper_defs.specs.Bounds.{IsSizeBounded}
-use Rattle.aper_defs.specs.Reading.{is_inside}
+use Rattle.aper_proof_answers.specs.asn1_types.declared.definition.Size.{Size}
+use Rattle.aper_proof_answers.specs.aper_defs.Numbers.{signed_octets_for, twos_complement, is_signed, in_range, above}
+use Rattle.aper_proof_answers.specs.aper_defs.Fields.{Path, Role, Ask, Field, bit, octet, flag, signed, small, extent, character, pad, whole, part, asked, run as run_field}
+use Rattle.aper_proof_answers.specs.aper_defs.Fields as fields
+use Rattle.aper_proof_answers.specs.aper_defs.Bits.{part_units}
+use Rattle.aper_proof_answers.specs.aper_defs.Parts.{number_fields, extension_fields, integer_fields, index_fields, Content, of_bits, of_octets, of_characters, unit_fields, pad_limit, in_size, part_of_fields, next_part, part_fields, all_part_fields, sized_fields, string_fields, count_fields}
+use Rattle.aper_proof_answers.specs.aper_defs.Membership.{is_number_of, is_index_of, is_count_of, is_printable}
+use Rattle.aper_proof_answers.specs.aper_defs.Bounds.{IsSizeBounded}
+use Rattle.aper_proof_answers.specs.aper_defs.Reading.{is_inside}
 use Rattle.aper_proof_answers.proofs.NumberFacts.{below, not_below, at_most, first_of_both, second_of_both, above_at_most, signed_octets_positive, signed_octets_at_most}
 use Rattle.aper_proof_answers.proofs.ForthNumbers.{in_or_signed}
 use Rattle.aper_proof_places.proofs.Placed.{Allowed, Placed, placed_none, placed_asked, placed_run, placed_both, AreBelow}

@@ -4,14 +4,14 @@ use Rattle.std.proofs.lemmas.List.{length-take, length-drop}
 use Rattle.std.proofs.Math.Nat.{pow-le-pow_right}
 use Rattle.bits_core.specs.Bits.{number_of, octet_bits}
 use Rattle.bits_core.proofs.BitLemmas.{number_small, length-octet_bits}
-use Rattle.aper_defs.specs.declared.reason.Reason.{Reason}
-use Rattle.aper_defs.specs.declared.reason.Reason.TheVariants as reasons
-use Rattle.aper_defs.specs.Values.{Value}
-use Rattle.aper_defs.specs.Fields.{Path, Ask, Field, asked}
-use Rattle.aper_defs.specs.Questions.{Prog, ask}
-use Rattle.aper_defs.specs.Reading.{Cursor, bits_at, is_within, bit_limit, passes, asked_width, judged, answered, answer_of, read, read_within, run, goes_on, answered_at, unless}
-use Rattle.aper_proof_answers.proofs.Standing.{StandAll, after_all, after_all-append}
-use Rattle.aper_proof_answers.proofs.NumberFacts.{not_below}
+use Rattle.aper_proof_places.specs.aper_defs.declared.reason.Reason.{Reason}
+use Rattle.aper_proof_places.specs.aper_defs.declared.reason.Reason.TheVariants as reasons
+use Rattle.aper_proof_places.specs.aper_defs.Values.{Value}
+use Rattle.aper_proof_places.specs.aper_defs.Fields.{Path, Ask, Field, asked}
+use Rattle.aper_proof_places.specs.aper_defs.Questions.{Prog, ask}
+use Rattle.aper_proof_places.specs.aper_defs.Reading.{Cursor, bits_at, is_within, bit_limit, passes, asked_width, judged, answered, answer_of, read, read_within, run, goes_on, answered_at, unless}
+use Rattle.aper_proof_places.proofs.aper_proof_answers.Standing.{StandAll, after_all, after_all-append}
+use Rattle.aper_proof_places.proofs.aper_proof_answers.NumberFacts.{not_below}
 use Rattle.aper_proof_places.proofs.Placed.{stand_both}
 
 -- the reading goes to this end

@@ -4,13 +4,13 @@ use Rattle.std.specs.List.{flat_map}
 use Rattle.std.proofs.lemmas.List.{length-take, length-drop, take-append-drop, drop-drop}
 use Rattle.bits_core.specs.Bits.{bits_of, number_of, numbers_at, octet_bits, pad_of}
 use Rattle.bits_core.proofs.BitLemmas.{bits_of-number_of, number_small}
-use Rattle.aper_defs.specs.declared.reason.Reason.{Reason}
-use Rattle.aper_defs.specs.declared.reason.Reason.TheVariants as reasons
-use Rattle.aper_defs.specs.Fields.{Ask, Extent, RunUnit, Field, flag, constrained, digits, signed, small, extent, addition_bits, character, ie_count, ie_id, pad, opening, closing, end, whole, asked, run as run_field}
-use Rattle.aper_defs.specs.Bits.{width_at, spelled, unit_width, field_bits}
-use Rattle.aper_defs.specs.Reading.{Cursor, bits_at, told_width, form_of, told, start_of, passes, asked_width, judged_extent, moved_by, after_field, read_units, units_within}
-use Rattle.aper_proof_answers.proofs.Standing.{Stands, StandAll, after_all}
-use Rattle.aper_proof_answers.proofs.NumberFacts.{same}
+use Rattle.aper_proof_places.specs.aper_defs.declared.reason.Reason.{Reason}
+use Rattle.aper_proof_places.specs.aper_defs.declared.reason.Reason.TheVariants as reasons
+use Rattle.aper_proof_places.specs.aper_defs.Fields.{Ask, Extent, RunUnit, Field, flag, constrained, digits, signed, small, extent, addition_bits, character, ie_count, ie_id, pad, opening, closing, end, whole, asked, run as run_field}
+use Rattle.aper_proof_places.specs.aper_defs.Bits.{width_at, spelled, unit_width, field_bits}
+use Rattle.aper_proof_places.specs.aper_defs.Reading.{Cursor, bits_at, told_width, form_of, told, start_of, passes, asked_width, judged_extent, moved_by, after_field, read_units, units_within}
+use Rattle.aper_proof_places.proofs.aper_proof_answers.Standing.{Stands, StandAll, after_all}
+use Rattle.aper_proof_places.proofs.aper_proof_answers.NumberFacts.{same}
 use Rattle.aper_proof_places.proofs.Bits.{all_bits}
 use Rattle.aper_proof_places.proofs.Placed.{AreBelow}
 use Rattle.aper_proof_values.proofs.Found.{Answered, answer_read, not_wrong, taken_size}

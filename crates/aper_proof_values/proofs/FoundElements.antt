@@ -3,19 +3,19 @@ use Rattle.std.proofs.Common.{◌≡◌, ℕ, zero, suc, ◌+◌, ◌-◌, ◌^�
 use Rattle.std.specs.Prelude.{nat_le}
 use Rattle.bits_core.specs.Bits.{bits_of, number_of}
 use Rattle.bits_core.proofs.BitLemmas.{length-bits_of, number_is}
-use Rattle.aper_defs.specs.declared.reason.Reason.TheVariants as reasons
-use Rattle.aper_defs.specs.Trees.{Parts, Slot, slots_left, slots_before, has_slot, mandatory_count, no_parts, part}
-use Rattle.aper_defs.specs.Values.{Value, Values, Options, Ies, value_count, ie_count, presence, has_options, each_from, message, no_values, value, no_options, absent, present, no_ies, ie}
-use Rattle.aper_defs.specs.Fields.{Path, Ask, Field, flag, constrained, small, addition_bits, ie_id, pad, asked}
-use Rattle.aper_defs.specs.Fields as fields
-use Rattle.aper_defs.specs.Layouts.{raw_fields, flag_fields, mark_fields, raw_additions, ie_fields, message_head}
-use Rattle.aper_defs.specs.Membership.{Either, IsRaw, EachFrom, AreRaw, some_present, AreAdditions, IsInOrder, AreElements}
-use Rattle.aper_defs.specs.Questions.{Prog, ask, ask_aligned, ask_raw, ask_flags, ask_members, ask_raw_additions, ask_ies}
-use Rattle.aper_defs.specs.Asking.{ask_marks}
-use Rattle.aper_defs.specs.Reading.{Cursor, read, unless, answered_at}
-use Rattle.aper_proof_answers.proofs.Standing.{StandAll, after_all}
-use Rattle.aper_proof_answers.proofs.Forth.{ask_message}
-use Rattle.aper_proof_answers.proofs.NumberFacts.{below, is_below, is_not_below, same, at_most}
+use Rattle.aper_proof_places.specs.aper_defs.declared.reason.Reason.TheVariants as reasons
+use Rattle.aper_proof_places.specs.aper_defs.Trees.{Parts, Slot, slots_left, slots_before, has_slot, mandatory_count, no_parts, part}
+use Rattle.aper_proof_places.specs.aper_defs.Values.{Value, Values, Options, Ies, value_count, ie_count, presence, has_options, each_from, message, no_values, value, no_options, absent, present, no_ies, ie}
+use Rattle.aper_proof_places.specs.aper_defs.Fields.{Path, Ask, Field, flag, constrained, small, addition_bits, ie_id, pad, asked}
+use Rattle.aper_proof_places.specs.aper_defs.Fields as fields
+use Rattle.aper_proof_places.specs.aper_defs.Layouts.{raw_fields, flag_fields, mark_fields, raw_additions, ie_fields, message_head}
+use Rattle.aper_proof_places.specs.aper_defs.Membership.{Either, IsRaw, EachFrom, AreRaw, some_present, AreAdditions, IsInOrder, AreElements}
+use Rattle.aper_proof_places.specs.aper_defs.Questions.{Prog, ask, ask_aligned, ask_raw, ask_flags, ask_members, ask_raw_additions, ask_ies}
+use Rattle.aper_proof_places.specs.aper_defs.Asking.{ask_marks}
+use Rattle.aper_proof_places.specs.aper_defs.Reading.{Cursor, read, unless, answered_at}
+use Rattle.aper_proof_places.proofs.aper_proof_answers.Standing.{StandAll, after_all}
+use Rattle.aper_proof_places.proofs.aper_proof_answers.Forth.{ask_message}
+use Rattle.aper_proof_places.proofs.aper_proof_answers.NumberFacts.{below, is_below, is_not_below, same, at_most}
 use Rattle.aper_proof_values.proofs.Found.{Ends, Found, found_after, found_ask, Answered, answer_read, not_wrong}
 use Rattle.aper_proof_values.proofs.FoundNumbers.{flag_read, constrained_read, small_read, found_aligned}
 use Rattle.aper_proof_values.proofs.FoundIndices.{extensible_is}
@@ -29,11 +29,11 @@ pub found_either : {X : Type 0} (b : Bool) (A B : X → Type 0) (f g : X → Lis
 found_either true A B f g P Q K c y one other e = one e
 found_either false A B f g P Q K c y one other e = other e
 
-either_yes : (b : Bool) (A B : Type 0) → b ≡ true → A → Either b A B
+pub either_yes : (b : Bool) (A B : Type 0) → b ≡ true → A → Either b A B
 either_yes true A B e h = h
 either_yes false A B e h = cc
 
-either_no : (b : Bool) (A B : Type 0) → b ≡ false → B → Either b A B
+pub either_no : (b : Bool) (A B : Type 0) → b ≡ false → B → Either b A B
 either_no true A B e h = cc
 either_no false A B e h = h
 
@@ -55,7 +55,7 @@ flags_are p (part name optional t others) no_options = refl
 flags_are p (part name optional t others) (absent vs) = ap (λ fs. cond optional (asked p flag 0 ∷ fs) fs) (flags_are p others vs)
 flags_are p (part name optional t others) (present v vs) = ap (λ fs. cond optional (asked p flag 1 ∷ fs) fs) (flags_are p others vs)
 
-bit_again : (n : ℕ) → n < 2 → n ≡ cond (n == 1) 1 0
+pub bit_again : (n : ℕ) → n < 2 → n ≡ cond (n == 1) 1 0
 bit_again zero h = refl
 bit_again (suc zero) h = refl
 bit_again (suc (suc n)) h = absurd (omega arith)
@@ -94,16 +94,16 @@ abbrev pub AreMarks : Bool → List Bool → Type 0
 AreMarks false bs = bs ≡ []
 AreMarks true bs = (1 ≤ length bs) × (length bs ≤ 64) × (1 ≤ number_of bs)
 
-marks_some : (p : Path) (bs : List Bool) → 1 ≤ length bs
+pub marks_some : (p : Path) (bs : List Bool) → 1 ≤ length bs
     → asked p (small fields.length) (length bs - 1) ∷ asked p (addition_bits (length bs)) (number_of bs) ∷ [] ≡ marks_of p bs
 marks_some p [] h = absurd (omega arith)
 marks_some p (b ∷ bs) h = refl
 
-record SomeBits (count n : ℕ) : Type 0 where
+pub record SomeBits (count n : ℕ) : Type 0 where
   pub some : 1 ≤ n
   pub fits : n < 2 ^ count
 
-bits_read : (count : ℕ) (c : Cursor) (n : ℕ) → read (addition_bits count) c ≡ Ok n → SomeBits count n
+pub bits_read : (count : ℕ) (c : Cursor) (n : ℕ) → read (addition_bits count) c ≡ Ok n → SomeBits count n
 bits_read count c n e =
     let a : Answered (addition_bits count) c n = answer_read (addition_bits count) c n e in
     subst (SomeBits count) a.same (record {
@@ -187,7 +187,7 @@ found_members f each_one P y one i (suc count) K c e =
     (λ vs h s. (ap suc h.0, (a.is, h.1))) (λ vs h s. refl) (λ vs h. refl)
 
 -- ---- information elements
-record IsNext (known left : List Slot) (after id : ℕ) : Type 0 where
+pub record IsNext (known left : List Slot) (after id : ℕ) : Type 0 where
   pub order : IsInOrder known left id
   pub enough : mandatory_count (slots_left known id left) ≤ after
   pub fits : id < 65536
@@ -206,7 +206,7 @@ in_order : (b : Bool) (d : Bool) (n : ℕ) → Either b ((d ≡ true) × ((n == 
 in_order true d n h = (h.0, same n 0 h.1)
 in_order false d n h = tt
 
-id_read : (known left : List Slot) (after : ℕ) (c : Cursor) (id : ℕ) → read (ie_id known left after) c ≡ Ok id → IsNext known left after id
+pub id_read : (known left : List Slot) (after : ℕ) (c : Cursor) (id : ℕ) → read (ie_id known left after) c ≡ Ok id → IsNext known left after id
 id_read known left after c id e =
     let a : Answered (ie_id known left after) c id = answer_read (ie_id known left after) c id e in
     let m = a.m in

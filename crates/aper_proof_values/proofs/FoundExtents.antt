@@ -5,11 +5,11 @@ use Rattle.std.proofs.lemmas.List.{length-take}
 use Rattle.bits_core.specs.Bits.{bit_value, number_of}
 use Rattle.bits_core.proofs.BitLemmas.{number_small}
 use Rattle.asn1_types.specs.declared.definition.Size.{Size}
-use Rattle.aper_defs.specs.declared.reason.Reason.TheVariants as reasons
-use Rattle.aper_defs.specs.Fields.{Extent, extent, opening, whole, part}
-use Rattle.aper_defs.specs.Bits.{part_units, extent_width, extent_number}
-use Rattle.aper_defs.specs.Reading.{Cursor, bits_at, told_width, read, Form, octet_form, two_octets, units_form, form_of, told, is_inside, judged_length, judged_extent}
-use Rattle.aper_proof_answers.proofs.NumberFacts.{is_below, is_not_below, at_most, first_of_both, second_of_both}
+use Rattle.aper_proof_places.specs.aper_defs.declared.reason.Reason.TheVariants as reasons
+use Rattle.aper_proof_places.specs.aper_defs.Fields.{Extent, extent, opening, whole, part}
+use Rattle.aper_proof_places.specs.aper_defs.Bits.{part_units, extent_width, extent_number}
+use Rattle.aper_proof_places.specs.aper_defs.Reading.{Cursor, bits_at, told_width, read, Form, octet_form, two_octets, units_form, form_of, told, is_inside, judged_length, judged_extent}
+use Rattle.aper_proof_places.proofs.aper_proof_answers.NumberFacts.{is_below, is_not_below, at_most, first_of_both, second_of_both}
 use Rattle.aper_proof_values.proofs.Found.{Answered, answer_read, not_wrong, taken_size}
 
 -- a length that was judged, and isn't in the root

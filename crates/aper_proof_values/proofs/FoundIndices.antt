@@ -6,30 +6,30 @@ use Rattle.std.proofs.lemmas.Int.{ints}
 use Rattle.std.proofs.lemmas.Nat.{pow-add}
 use Rattle.std.proofs.Math.Nat.{pow-le-pow_right}
 use Rattle.std.proofs.lemmas.Bool.Decides.{nat_tests}
-use Rattle.aper_defs.specs.declared.reason.Reason.TheVariants as reasons
-use Rattle.aper_defs.specs.Values.{Value}
-use Rattle.aper_defs.specs.Numbers.{unsigned_part, signed_octets_for, twos_complement, signed_number, is_signed, in_range, above}
-use Rattle.aper_defs.specs.Fields.{Path, Ask, Field, signed, small, extent, pad, whole, asked}
-use Rattle.aper_defs.specs.Fields as fields
-use Rattle.aper_defs.specs.Parts.{number_fields, extension_fields, integer_fields, index_fields}
-use Rattle.aper_defs.specs.Membership.{is_number_of, is_index_of}
-use Rattle.aper_defs.specs.Questions.{Prog, ask, ask_integer, ask_integer_by, ask_index, ask_index_by}
-use Rattle.aper_defs.specs.Reading.{Cursor, read, answered_at}
-use Rattle.aper_proof_answers.proofs.Standing.{StandAll, after_all}
-use Rattle.aper_proof_answers.proofs.NumberFacts.{by_cases, below, not_below, is_below, is_not_below, at_most, first_of_both, second_of_both}
+use Rattle.aper_proof_places.specs.aper_defs.declared.reason.Reason.TheVariants as reasons
+use Rattle.aper_proof_places.specs.aper_defs.Values.{Value}
+use Rattle.aper_proof_places.specs.aper_defs.Numbers.{unsigned_part, signed_octets_for, twos_complement, signed_number, is_signed, in_range, above}
+use Rattle.aper_proof_places.specs.aper_defs.Fields.{Path, Ask, Field, signed, small, extent, pad, whole, asked}
+use Rattle.aper_proof_places.specs.aper_defs.Fields as fields
+use Rattle.aper_proof_places.specs.aper_defs.Parts.{number_fields, extension_fields, integer_fields, index_fields}
+use Rattle.aper_proof_places.specs.aper_defs.Membership.{is_number_of, is_index_of}
+use Rattle.aper_proof_places.specs.aper_defs.Questions.{Prog, ask, ask_integer, ask_integer_by, ask_index, ask_index_by}
+use Rattle.aper_proof_places.specs.aper_defs.Reading.{Cursor, read, answered_at}
+use Rattle.aper_proof_places.proofs.aper_proof_answers.Standing.{StandAll, after_all}
+use Rattle.aper_proof_places.proofs.aper_proof_answers.NumberFacts.{by_cases, below, not_below, is_below, is_not_below, at_most, first_of_both, second_of_both}
 use Rattle.aper_proof_values.proofs.Found.{Ends, Found, found_after, found_ask, Answered, answer_read, not_wrong}
 use Rattle.aper_proof_values.proofs.FoundNumbers.{small_read, octets_few, found_aligned, found_number, found_extension}
 use Rattle.aper_proof_values.proofs.FoundExtents.{IsLength, whole_read}
 
 -- ---- numbers with signs
-half : (k : ℕ) → 1 ≤ k → 2 ^ (8 * k) ≡ 2 * 2 ^ (8 * k - 1)
+pub half : (k : ℕ) → 1 ≤ k → 2 ^ (8 * k) ≡ 2 * 2 ^ (8 * k - 1)
 half k some = let e : 8 * k ≡ 1 + (8 * k - 1) = omega arith in ap (λ (m : ℕ). 2 ^ m) e ∙ pow-add 2 1 (8 * k - 1)
 
-record IsOctets (k n : ℕ) (z : ℤ) : Type 0 where
+pub record IsOctets (k n : ℕ) (z : ℤ) : Type 0 where
   pub small_part : unsigned_part z < 2 ^ (8 * k - 1)
   pub back : twos_complement k z ≡ n
 
-octets_again : (k n : ℕ) → 1 ≤ k → n < 2 ^ (8 * k) → IsOctets k n (signed_number k n)
+pub octets_again : (k n : ℕ) → 1 ≤ k → n < 2 ^ (8 * k) → IsOctets k n (signed_number k n)
 octets_again k n some h =
     by_cases (nat_lt n (2 ^ (8 * k - 1))) (λ b. IsOctets k n (cond b (pos n) (negsuc (2 ^ (8 * k) - 1 - n))))
     (λ e. record { small_part = below n (2 ^ (8 * k - 1)) e; back = refl })
@@ -40,7 +40,7 @@ octets_again k n some h =
     })
 
 -- octets of a number outside its range
-record IsOutside (count : ℕ) (low high : ℤ) (n : ℕ) : Type 0 where
+pub record IsOutside (count : ℕ) (low high : ℤ) (n : ℕ) : Type 0 where
   pub least : count ≤ signed_octets_for (signed_number count n)
   pub out : in_range low high (signed_number count n) ≡ false
   pub fits : n < 2 ^ (8 * count)
@@ -49,7 +49,7 @@ negated : (b : Bool) → cond b false true ≡ true → b ≡ false
 negated true e = cc
 negated false e = refl
 
-signed_read : (count : ℕ) (low high : ℤ) (c : Cursor) (n : ℕ) → read (signed count low high) c ≡ Ok n → IsOutside count low high n
+pub signed_read : (count : ℕ) (low high : ℤ) (c : Cursor) (n : ℕ) → read (signed count low high) c ≡ Ok n → IsOutside count low high n
 signed_read count low high c n e =
     let a : Answered (signed count low high) c n = answer_read (signed count low high) c n e in
     let least = nat_le count (signed_octets_for (signed_number count a.m)) in
@@ -109,7 +109,7 @@ integer_fields_in p low high extensible n h e =
     (twos_complement (signed_octets_for z) z) ∷ [])) h ∙ ap (λ m. extension_fields p extensible false ++ number_fields p fields.value
     (above low high) m) e)
 
-in_its_range : (low high : ℤ) (n : ℕ) → le_z low high ≡ true → n ≤ above low high
+pub in_its_range : (low high : ℤ) (n : ℕ) → le_z low high ≡ true → n ≤ above low high
     → (in_range low high (low +ℤ pos n) ≡ true) × (above low (low +ℤ pos n) ≡ n)
 in_its_range low high n b h = (
   let g : in_range low high (low +ℤ pos n) ≡ true = grind (arith, ints) in g,
@@ -164,7 +164,7 @@ found_integer p low high extensible K c y ordered bound e =
         (λ x k g. integer_fields_out p low high extensible (signed_number x.0 x.1) x.0 x.1 k)
         (λ x k. refl)
 
-index_fields_are : (p : Path) (count : ℕ) (extensible : Bool) (i : ℕ) (b d : Bool) → nat_le count i ≡ b → nat_lt i count ≡ d
+pub index_fields_are : (p : Path) (count : ℕ) (extensible : Bool) (i : ℕ) (b d : Bool) → nat_le count i ≡ b → nat_lt i count ≡ d
     → extension_fields p extensible b ++ cond d (number_fields p fields.index (count - 1) i) (asked p (small fields.index) (i - count) ∷ [])
     ≡ index_fields p count extensible i
 unfolding index_fields

@@ -2,16 +2,16 @@
 use Rattle.std.proofs.Common.{◌≡◌, ℕ, zero, suc, ◌+◌, ◌-◌, ◌*◌, ◌^◌, ◌<◌, ◌≤◌, ◌==◌, nat_lt, cond, ◌&&◌, Bool, true, false, List, [], ◌∷◌, None, Some, Ok, refl, sym, ap, subst, ◌∙◌, arith}
 use Rattle.std.specs.Prelude.{nat_le}
 use Rattle.std.proofs.Math.Nat.{pow-le-pow_right}
-use Rattle.aper_defs.specs.declared.reason.Reason.TheVariants as reasons
-use Rattle.aper_defs.specs.Values.{Value}
-use Rattle.aper_defs.specs.Numbers.{least_count, bits_for, octets_for}
-use Rattle.aper_defs.specs.Fields.{Path, Role, Ask, Field, flag, constrained, digits, signed, small, extent, pad, whole, asked}
-use Rattle.aper_defs.specs.Fields as fields
-use Rattle.aper_defs.specs.Parts.{large_fields, number_fields, extension_fields}
-use Rattle.aper_defs.specs.Questions.{Prog, ask, ask_aligned, ask_large, ask_number, ask_extension}
-use Rattle.aper_defs.specs.Reading.{Cursor, read, unless, too_great, answered_at}
-use Rattle.aper_proof_answers.proofs.Standing.{StandAll, after_all}
-use Rattle.aper_proof_answers.proofs.NumberFacts.{by_cases, below, not_below, at_most, same, octets_positive, octets_fit, octets_at_most}
+use Rattle.aper_proof_places.specs.aper_defs.declared.reason.Reason.TheVariants as reasons
+use Rattle.aper_proof_places.specs.aper_defs.Values.{Value}
+use Rattle.aper_proof_places.specs.aper_defs.Numbers.{least_count, bits_for, octets_for}
+use Rattle.aper_proof_places.specs.aper_defs.Fields.{Path, Role, Ask, Field, flag, constrained, digits, signed, small, extent, pad, whole, asked}
+use Rattle.aper_proof_places.specs.aper_defs.Fields as fields
+use Rattle.aper_proof_places.specs.aper_defs.Parts.{large_fields, number_fields, extension_fields}
+use Rattle.aper_proof_places.specs.aper_defs.Questions.{Prog, ask, ask_aligned, ask_large, ask_number, ask_extension}
+use Rattle.aper_proof_places.specs.aper_defs.Reading.{Cursor, read, unless, too_great, answered_at}
+use Rattle.aper_proof_places.proofs.aper_proof_answers.Standing.{StandAll, after_all}
+use Rattle.aper_proof_places.proofs.aper_proof_answers.NumberFacts.{by_cases, below, not_below, at_most, same, octets_positive, octets_fit, octets_at_most}
 use Rattle.aper_proof_values.proofs.Found.{Ends, Found, found_none, found_as, found_ask, Answered, answer_read, not_wrong}
 
 -- ---- answers that were read

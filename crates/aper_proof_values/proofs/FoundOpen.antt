@@ -2,16 +2,16 @@
 use Rattle.std.proofs.Common.{◌≡◌, ℕ, ◌+◌, ◌*◌, ◌%◌, ◌≤◌, ◌==◌, nat_lt, cond, ◌&&◌, true, List, [], ◌∷◌, ◌++◌, length, None, Ok, refl, sym, ap, subst, ◌∙◌, arith, append_assoc}
 use Rattle.std.proofs.lemmas.Bool.Decides.{nat_tests}
 use Rattle.bits_core.specs.Bits.{pad_of}
-use Rattle.aper_defs.specs.declared.reason.Reason.TheVariants as reasons
-use Rattle.aper_defs.specs.Values.{Value, raw}
-use Rattle.aper_defs.specs.Fields.{Path, Ask, Field, extent, pad, opening, closing, end, whole, octet, asked, run as run_field}
-use Rattle.aper_defs.specs.Bits.{extent_width, put_all, closed, octet_count, open_fields}
-use Rattle.aper_defs.specs.Layouts.{raw_fields}
-use Rattle.aper_defs.specs.Membership.{are_octets, IsRaw, FitsOpen}
-use Rattle.aper_defs.specs.Questions.{Prog, ask, take, ask_open, ask_raw}
-use Rattle.aper_defs.specs.Reading.{Cursor, read, answered_at, moved_by, start_of, ends_at}
-use Rattle.aper_proof_answers.proofs.Standing.{StandAll, after_all, after_all-append}
-use Rattle.aper_proof_answers.proofs.NumberFacts.{by_cases, same, is_below}
+use Rattle.aper_proof_places.specs.aper_defs.declared.reason.Reason.TheVariants as reasons
+use Rattle.aper_proof_places.specs.aper_defs.Values.{Value, raw}
+use Rattle.aper_proof_places.specs.aper_defs.Fields.{Path, Ask, Field, extent, pad, opening, closing, end, whole, octet, asked, run as run_field}
+use Rattle.aper_proof_places.specs.aper_defs.Bits.{extent_width, put_all, closed, octet_count, open_fields}
+use Rattle.aper_proof_places.specs.aper_defs.Layouts.{raw_fields}
+use Rattle.aper_proof_places.specs.aper_defs.Membership.{are_octets, IsRaw, FitsOpen}
+use Rattle.aper_proof_places.specs.aper_defs.Questions.{Prog, ask, take, ask_open, ask_raw}
+use Rattle.aper_proof_places.specs.aper_defs.Reading.{Cursor, read, answered_at, moved_by, start_of, ends_at}
+use Rattle.aper_proof_places.proofs.aper_proof_answers.Standing.{StandAll, after_all, after_all-append}
+use Rattle.aper_proof_places.proofs.aper_proof_answers.NumberFacts.{by_cases, same, is_below}
 use Rattle.aper_proof_places.proofs.Bits.{total, total-aligned}
 use Rattle.aper_proof_places.proofs.Placed.{Placed, AreBelow, stand_both}
 use Rattle.aper_proof_places.proofs.Opened.{empty_mark, size_is, closing_is, octets_are}
@@ -35,7 +35,7 @@ closing_mark fs c m aligned at e =
     let here : (total 0 fs == 0) ≡ (length (put_all [] fs) == 0) = ap (λ (n : ℕ). n == 0) (sym (size_is fs)) in
     sym a.same ∙ ap (λ b. cond b 1 0) (first ∙ here)
 
-end_read : (c : Cursor) (n : ℕ) → read end c ≡ Ok n → (n ≡ 0) × (ends_at c.place c.opens ≡ true)
+pub end_read : (c : Cursor) (n : ℕ) → read end c ≡ Ok n → (n ≡ 0) × (ends_at c.place c.opens ≡ true)
 end_read c n e =
     let a : Answered end c n = answer_read end c n e in
     (omega (arith, a.small, a.same), not_wrong (ends_at c.place c.opens) reasons.Tail a.right)

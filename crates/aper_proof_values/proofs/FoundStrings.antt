@@ -4,19 +4,20 @@ use Rattle.std.specs.Prelude.{nat_le}
 use Rattle.std.specs.List.{list_all}
 use Rattle.std.proofs.lemmas.List.{length-append, length-drop, take_at, drop_at}
 use Rattle.asn1_types.specs.declared.definition.Size.{Size}
-use Rattle.aper_defs.specs.declared.reason.Reason.{Reason}
-use Rattle.aper_defs.specs.declared.reason.Reason.TheVariants as reasons
-use Rattle.aper_defs.specs.Values.{Value}
-use Rattle.aper_defs.specs.Fields.{Path, Ask, Field, RunUnit, bit, octet, character, extent, pad, whole, part, asked, run as run_field}
-use Rattle.aper_defs.specs.Fields as fields
-use Rattle.aper_defs.specs.Bits.{part_units, unit_width}
-use Rattle.aper_defs.specs.Parts.{Content, of_bits, of_octets, of_characters, unit_fields, pad_limit, in_size, part_of_fields, next_part, part_fields, all_part_fields, sized_fields, string_fields, count_fields, extension_fields, number_fields}
-use Rattle.aper_defs.specs.Membership.{is_count_of, is_printable}
-use Rattle.aper_defs.specs.Bounds.{IsSizeBounded}
-use Rattle.aper_defs.specs.Questions.{Prog, ask, take, ask_units, ask_characters, ask_parts, ask_all_parts, turn_limit, ask_sized, ask_string, ask_string_by, ask_count, ask_count_by, ask_number}
-use Rattle.aper_defs.specs.Reading.{Cursor, read, read_units, goes_on, moved_by, answered_at, is_inside, run}
-use Rattle.aper_proof_answers.proofs.Standing.{StandAll, after_all}
-use Rattle.aper_proof_answers.proofs.NumberFacts.{by_cases, below, not_below, is_below, is_not_below, is_at_most, first_of_both, second_of_both}
+use Rattle.aper_proof_places.specs.aper_defs.declared.reason.Reason.{Reason}
+use Rattle.aper_proof_places.specs.aper_defs.declared.reason.Reason.TheVariants as reasons
+use Rattle.aper_proof_places.specs.aper_defs.Values.{Value}
+use Rattle.aper_proof_places.specs.aper_defs.Fields.{Path, Ask, Field, RunUnit, bit, octet, character, extent, pad, whole, part, asked, run as run_field}
+use Rattle.aper_proof_places.specs.aper_defs.Fields as fields
+use Rattle.aper_proof_places.specs.aper_defs.Bits.{part_units, unit_width}
+use Rattle.aper_proof_places.specs.aper_defs.Parts.{Content, of_bits, of_octets, of_characters, unit_fields, pad_limit, in_size, part_of_fields, next_part, part_fields, all_part_fields, sized_fields, string_fields, count_fields, extension_fields, number_fields}
+use Rattle.aper_proof_places.specs.aper_defs.Membership.{is_count_of, is_printable}
+use Rattle.aper_proof_places.specs.aper_defs.Bounds.{IsSizeBounded}
+use Rattle.aper_proof_places.specs.aper_defs.Questions.{Prog, ask, take, ask_units, ask_characters, ask_parts, ask_all_parts, turn_limit, ask_sized, ask_string, ask_string_by, ask_count, ask_count_by, ask_number}
+use Rattle.aper_proof_places.specs.aper_defs.Reading.{Cursor, read, read_units, goes_on, moved_by, answered_at, is_inside, run}
+use Rattle.aper_proof_places.proofs.aper_proof_answers.Standing.{StandAll, after_all}
+use Rattle.aper_proof_places.proofs.aper_proof_answers.NumberFacts.{by_cases, below, not_below, is_below, is_not_below, is_at_most, first_of_both, second_of_both}
+use Rattle.aper_proof_places.proofs.aper_proof_answers.ForthStrings.{next_some}
 use Rattle.aper_proof_places.proofs.Placed.{AreBelow}
 use Rattle.aper_proof_places.proofs.PlacedStrings.{AreUnits}
 use Rattle.aper_proof_values.proofs.Found.{Ends, Found, found_after, found_ask, Answered, answer_read, not_wrong}
@@ -44,7 +45,7 @@ found_take p unit count K c y e = go (read_units unit count c) refl e
         }
     go (Err reason) is h = cc
 
-character_read : (c : Cursor) (n : ℕ) → read character c ≡ Ok n → is_printable n ≡ true
+pub character_read : (c : Cursor) (n : ℕ) → read character c ≡ Ok n → is_printable n ≡ true
 character_read c n e =
     let a : Answered character c n = answer_read character c n e in subst (λ m. is_printable m ≡ true) a.same (not_wrong
     (is_printable a.m) reasons.Character a.right)
@@ -82,7 +83,7 @@ printable_joined (x ∷ xs) ys h k =
     ap (λ b. b && list_all is_printable (xs ++ ys)) (first_of_both (is_printable x) (list_all is_printable xs) h)
     ∙ printable_joined xs ys (second_of_both (is_printable x) (list_all is_printable xs) h) k
 
-units_joined : (content : Content) (xs ys : List ℕ) → AreUnits content xs → AreUnits content ys → AreUnits content (xs ++ ys)
+pub units_joined : (content : Content) (xs ys : List ℕ) → AreUnits content xs → AreUnits content ys → AreUnits content (xs ++ ys)
 units_joined of_bits xs ys h k = below_joined 2 xs ys h k
 units_joined of_octets xs ys h k = below_joined 256 xs ys h k
 units_joined of_characters xs ys h k = printable_joined xs ys h k
@@ -94,10 +95,10 @@ record AreParts (content : Content) (outside : Option Size) (before previous : �
   pub past : is_inside outside (before + length us) ≡ false
   pub full : part_units ≤ length us → 65536 ≤ previous
 
-whole_parts : Path → Content → Option Size → ℕ → ℕ → List ℕ → List Field
+unfoldable pub whole_parts : Path → Content → Option Size → ℕ → ℕ → List ℕ → List Field
 whole_parts p content outside before previous us = part_fields p content outside (length us / part_units) before previous us
 
-last_fields : (p : Path) (content : Content) (outside : Option Size) (turns before previous : ℕ) (us : List ℕ) → length us < part_units
+pub last_fields : (p : Path) (content : Content) (outside : Option Size) (turns before previous : ℕ) (us : List ℕ) → length us < part_units
     → part_fields p content outside turns before previous us ≡ part_of_fields p content outside before previous us
 unfolding part_fields
 last_fields p content outside zero before previous us h = refl
@@ -117,9 +118,6 @@ long_fields p content outside turns before previous us h =
     (next_part (length us)) us)
     ++ part_fields p content outside turns (before + next_part (length us)) (next_part (length us)) (drop (next_part (length us)) us)))
     (is_not_below (length us) part_units h)
-
-next_some : (n : ℕ) → part_units ≤ n → (part_units ≤ next_part n) × (next_part n ≤ n)
-next_some n h = (omega arith, omega arith)
 
 -- as many turns as there are units are enough
 turns_same : (p : Path) (content : Content) (outside : Option Size) (a b before previous : ℕ) (us : List ℕ)
@@ -150,7 +148,7 @@ next_is n l count size some few full = by_cases (nat_lt l part_units) (λ b. nex
     (λ e. let short : l < part_units = below l part_units e in omega (arith, size))
     (λ e. let big : 65536 ≤ n = full (not_below l part_units e) in omega (arith, size))
 
-further_fields : (p : Path) (content : Content) (outside : Option Size) (before previous count : ℕ) (us others : List ℕ)
+pub further_fields : (p : Path) (content : Content) (outside : Option Size) (before previous count : ℕ) (us others : List ℕ)
     → length us ≡ part_units * count → 1 ≤ count → count ≤ 4 → (part_units ≤ length others → 65536 ≤ length us)
     → part_of_fields p content outside before previous us ++ whole_parts p content outside (before + length us) (length us) others
     ≡ whole_parts p content outside before previous (us ++ others)
@@ -252,7 +250,7 @@ found_padded_units p content count K c y e =
     (subst (λ n. read pad c ≡ Ok n) none a.is, tt) (found_units p content count K (answered_at pad 0 c) y a.rest)
     (λ us h s. h) (λ us h s. refl) (λ us h. refl)
 
-in_the_root : (size : Size) (n : ℕ) → size.low ≤ n → n ≤ size.high → in_size size n ≡ true
+pub in_the_root : (size : Size) (n : ℕ) → size.low ≤ n → n ≤ size.high → in_size size n ≡ true
 in_the_root size n h k = ap (λ b. b && nat_le n size.high) (is_at_most size.low n h) ∙ is_at_most n size.high k
 
 abbrev InRoot : Content → Size → List ℕ → Type 0

@@ -1,21 +1,21 @@
 -- What answers the questions of a type is the layout of a value of it.
 use Rattle.std.proofs.Common.{◌≡◌, ℕ, zero, suc, ◌-◌, ◌<◌, ◌==◌, nat_lt, cond, Bool, true, false, List, [], ◌∷◌, ◌++◌, length, map, None, Some, Ok, refl, sym, ap, subst, ◌∙◌, arith, append_assoc}
 use Rattle.bits_core.specs.Bits.{bit_value}
-use Rattle.aper_defs.specs.Trees.{Tree, Parts, Rows, Procedures, Outcome, slots, mandatory_count, part_count}
-use Rattle.aper_defs.specs.Trees.{boolean, integer, enumerated, bit_string, octet_string, printable_string, sequence, choice, sequence_of, container, pdu, no_parts, part, no_rows, row, no_procedures, procedure, no_outcome, outcome}
-use Rattle.aper_defs.specs.Values.{Value, Values, Options, Ies, value_count, ie_count, presence, has_options, each_from}
-use Rattle.aper_defs.specs.Values.{truth, number, enumeral, bits, octets, text, components, chosen, list, elements, message, no_options, absent, present}
-use Rattle.aper_defs.specs.Fields.{Path, Ask, Field, flag, pad, asked}
-use Rattle.aper_defs.specs.Fields as fields
-use Rattle.aper_defs.specs.Bits.{open_fields}
-use Rattle.aper_defs.specs.Parts.{of_bits, of_octets, of_characters, extension_fields, index_fields, string_fields, count_fields}
-use Rattle.aper_defs.specs.Layouts.{flag_fields, mark_fields, ie_fields, layout, component_fields, addition_fields, alternative_fields, added_fields, row_fields, body_fields, outcome_fields}
-use Rattle.aper_defs.specs.Membership.{Either, is_count_of, EachFrom, AreElements, Has, HasComponents, HasAdditions, HasAlternative, HasAdded, HasRow, HasBody, HasOutcome}
-use Rattle.aper_defs.specs.Bounds.{IsBounded, ArePartsBounded, AreRowsBounded, AreProceduresBounded, IsOutcomeBounded}
-use Rattle.aper_defs.specs.Questions.{Prog, never, ask_flags, ask_members, ask_ies}
-use Rattle.aper_defs.specs.Asking.{ask_marks, asks, ask_components, ask_additions, ask_alternative, ask_added, ask_row, ask_body, ask_outcome}
-use Rattle.aper_defs.specs.Reading.{Cursor, read, run, answered_at}
-use Rattle.aper_proof_answers.proofs.Standing.{after_all, after_all-append}
+use Rattle.aper_proof_places.specs.aper_defs.Trees.{Tree, Parts, Rows, Procedures, Outcome, slots, mandatory_count, part_count}
+use Rattle.aper_proof_places.specs.aper_defs.Trees.{boolean, integer, enumerated, bit_string, octet_string, printable_string, sequence, choice, sequence_of, container, pdu, no_parts, part, no_rows, row, no_procedures, procedure, no_outcome, outcome}
+use Rattle.aper_proof_places.specs.aper_defs.Values.{Value, Values, Options, Ies, value_count, ie_count, presence, has_options, each_from}
+use Rattle.aper_proof_places.specs.aper_defs.Values.{truth, number, enumeral, bits, octets, text, components, chosen, list, elements, message, no_options, absent, present}
+use Rattle.aper_proof_places.specs.aper_defs.Fields.{Path, Ask, Field, flag, pad, asked}
+use Rattle.aper_proof_places.specs.aper_defs.Fields as fields
+use Rattle.aper_proof_places.specs.aper_defs.Bits.{open_fields}
+use Rattle.aper_proof_places.specs.aper_defs.Parts.{of_bits, of_octets, of_characters, extension_fields, index_fields, string_fields, count_fields}
+use Rattle.aper_proof_places.specs.aper_defs.Layouts.{flag_fields, mark_fields, ie_fields, layout, component_fields, addition_fields, alternative_fields, added_fields, row_fields, body_fields, outcome_fields}
+use Rattle.aper_proof_places.specs.aper_defs.Membership.{Either, is_count_of, EachFrom, AreElements, Has, HasComponents, HasAdditions, HasAlternative, HasAdded, HasRow, HasBody, HasOutcome}
+use Rattle.aper_proof_places.specs.aper_defs.Bounds.{IsBounded, ArePartsBounded, AreRowsBounded, AreProceduresBounded, IsOutcomeBounded}
+use Rattle.aper_proof_places.specs.aper_defs.Questions.{Prog, never, ask_flags, ask_members, ask_ies}
+use Rattle.aper_proof_places.specs.aper_defs.Asking.{ask_marks, asks, ask_components, ask_additions, ask_alternative, ask_added, ask_row, ask_body, ask_outcome}
+use Rattle.aper_proof_places.specs.aper_defs.Reading.{Cursor, read, run, answered_at}
+use Rattle.aper_proof_places.proofs.aper_proof_answers.Standing.{after_all, after_all-append}
 use Rattle.aper_proof_places.proofs.Placed.{AreBelow, stand_both}
 use Rattle.aper_proof_places.proofs.PlacedAll.{placed}
 use Rattle.aper_proof_values.proofs.Found.{Ends, Found, found_after, found_ask}
@@ -29,21 +29,21 @@ never_ends : (c : Cursor) (y : Value × Cursor) → Ends never c y → ⊥
 unfolding run
 never_ends c y e = cc
 
-bit_so : (n : ℕ) → n < 2 → n ≡ bit_value (n == 1)
+pub bit_so : (n : ℕ) → n < 2 → n ≡ bit_value (n == 1)
 bit_so zero h = refl
 bit_so (suc zero) h = refl
 bit_so (suc (suc n)) h = absurd (omega arith)
 
-bits_so : (us : List ℕ) → AreBelow 2 us → us ≡ map bit_value (map (λ b. b == 1) us)
+pub bits_so : (us : List ℕ) → AreBelow 2 us → us ≡ map bit_value (map (λ b. b == 1) us)
 bits_so [] h = refl
 bits_so (u ∷ us) h = ap (λ (n : ℕ). n ∷ us) (bit_so u h.0) ∙ ap (λ (xs : List ℕ). bit_value (u == 1) ∷ xs) (bits_so us h.1)
 
-mapped : (us : List ℕ) → length (map (λ b. b == 1) us) ≡ length us
+pub mapped : (us : List ℕ) → length (map (λ b. b == 1) us) ≡ length us
 mapped [] = refl
 mapped (u ∷ us) = ap suc (mapped us)
 
 -- the fields of a SEQUENCE, of what was read one after another
-sequence_fields : (p : Path) (extensible b : Bool) (root : Parts) (marks added : List Bool) (vs more : Options) (f g : List Field)
+pub sequence_fields : (p : Path) (extensible b : Bool) (root : Parts) (marks added : List Bool) (vs more : Options) (f g : List Field)
     → has_options more ≡ b → presence vs ≡ marks → presence more ≡ added
     → (extension_fields p extensible b ++ (flags_of p root marks ++ (f ++ marks_of p added))) ++ g
     ≡ extension_fields p extensible (has_options more) ++ (flag_fields p root vs ++ (f ++ (mark_fields p more ++ g)))

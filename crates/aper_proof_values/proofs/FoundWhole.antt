@@ -3,19 +3,19 @@ use Rattle.std.proofs.Common.{◌≡◌, ℕ, ◌+◌, ◌*◌, ◌≤◌, ◌==
 use Rattle.std.proofs.lemmas.List.{length-drop}
 use Rattle.bits_core.specs.Bits.{octet_bits}
 use Rattle.bits_core.proofs.BitLemmas.{length-octet_bits}
-use Rattle.aper_defs.specs.declared.reason.Reason.TheVariants as reasons
-use Rattle.aper_defs.specs.Trees.{Tree}
-use Rattle.aper_defs.specs.Values.{Value}
-use Rattle.aper_defs.specs.Fields.{Field, closing, asked}
-use Rattle.aper_defs.specs.Bits.{width_at, put_all, closed}
-use Rattle.aper_defs.specs.Layouts.{layout}
-use Rattle.aper_defs.specs.Bounds.{IsBounded}
-use Rattle.aper_defs.specs.Spelling.{Spells}
-use Rattle.aper_defs.specs.Questions.{ask, done}
-use Rattle.aper_defs.specs.Asking.{asks_whole}
-use Rattle.aper_defs.specs.Reading.{Cursor, Fault, at_first, bits_at, bit_limit, moved_by, asked_width, answered_at, read, run, only, decoded}
-use Rattle.aper_proof_answers.proofs.Standing.{StandAll, after_all, after_all-append}
-use Rattle.aper_proof_answers.proofs.NumberFacts.{same}
+use Rattle.aper_proof_places.specs.aper_defs.declared.reason.Reason.TheVariants as reasons
+use Rattle.aper_proof_places.specs.aper_defs.Trees.{Tree}
+use Rattle.aper_proof_places.specs.aper_defs.Values.{Value}
+use Rattle.aper_proof_places.specs.aper_defs.Fields.{Field, closing, asked}
+use Rattle.aper_proof_places.specs.aper_defs.Bits.{width_at, put_all, closed}
+use Rattle.aper_proof_places.specs.aper_defs.Layouts.{layout}
+use Rattle.aper_proof_places.specs.aper_defs.Bounds.{IsBounded}
+use Rattle.aper_proof_places.specs.aper_defs.Spelling.{Spells}
+use Rattle.aper_proof_places.specs.aper_defs.Questions.{ask, done}
+use Rattle.aper_proof_places.specs.aper_defs.Asking.{asks_whole}
+use Rattle.aper_proof_places.specs.aper_defs.Reading.{Cursor, Fault, at_first, bits_at, bit_limit, moved_by, asked_width, answered_at, read, run, only, decoded}
+use Rattle.aper_proof_places.proofs.aper_proof_answers.Standing.{StandAll, after_all, after_all-append}
+use Rattle.aper_proof_places.proofs.aper_proof_answers.NumberFacts.{same}
 use Rattle.aper_proof_places.proofs.Bits.{all_bits, total, put_all-nil}
 use Rattle.aper_proof_places.proofs.Placed.{Placed, stand_both}
 use Rattle.aper_proof_places.proofs.PlacedAll.{placed}

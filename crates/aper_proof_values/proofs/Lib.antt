@@ -8,3 +8,4 @@ pub mod FoundOpen
 pub mod FoundElements
 pub mod FoundValues
 pub mod FoundWhole
+pub use Rattle.aper_proof_places.proofs.aper_proof_answers as aper_proof_answers

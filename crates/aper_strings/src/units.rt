@@ -10,7 +10,7 @@ use aper_asking::{ask_one, ask_run};
 use aper_cursor::{Cursor, Question, RunUnit, Unanswered};
 
 /// What a string is made of.
-#[derive(Clone, Copy, Debug, PartialEq, Eq)]
+#[derive(Clone, Copy, PartialEq, Eq)]
 pub enum Content {
     Bits,
     Octets,

@@ -12,11 +12,11 @@ use Rattle.asn1_types.specs.declared.definition.Definition.TheVariants as types
 use Rattle.asn1_types.specs.declared.definition.Node.{Node}
 use Rattle.asn1_types.specs.Members.{additions_of}
 use Rattle.asn1_types.specs.Sizes.{natural}
-use Rattle.asn1_assignments.specs.declared.assignment.IeRow.{IeRow}
-use Rattle.asn1_assignments.specs.declared.assignment.ProcedureRow.{ProcedureRow}
-use Rattle.asn1_assignments.specs.declared.assignment.Assignment.{Assignment}
-use Rattle.asn1_assignments.specs.declared.assignment.Syntax.{Syntax}
-use Rattle.asn1_reading_laws.proofs.Readings.{read_of}
+use Rattle.asn1_module.specs.asn1_assignments.declared.assignment.IeRow.{IeRow}
+use Rattle.asn1_module.specs.asn1_assignments.declared.assignment.ProcedureRow.{ProcedureRow}
+use Rattle.asn1_module.specs.asn1_assignments.declared.assignment.Assignment.{Assignment}
+use Rattle.asn1_module.specs.asn1_assignments.declared.assignment.Syntax.{Syntax}
+use Rattle.asn1_module.proofs.asn1_reading_laws.Readings.{read_of}
 use Rattle.asn1_module.specs.Module.{find_type, ie_rows, procedure_rows, IsModule}
 use Rattle.asn1_module.specs.Targets.{definition_of, definition_at, all_of}
 use Rattle.asn1_bounds_laws.specs.Proper.{Each, IsSize, IsTextSize, Maybe, IsRange, IsWithin}

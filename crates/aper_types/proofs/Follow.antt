@@ -10,10 +10,10 @@ use Rattle.asn1_types.specs.declared.definition.Extensible.{Extensible}
 use Rattle.asn1_types.specs.declared.definition.Definition.{Definition}
 use Rattle.asn1_types.specs.declared.definition.Definition.TheVariants as types
 use Rattle.asn1_types.specs.Members.{additions_of}
-use Rattle.asn1_assignments.specs.declared.assignment.IeRow.{IeRow}
-use Rattle.asn1_assignments.specs.declared.assignment.ProcedureRow.{ProcedureRow}
-use Rattle.asn1_assignments.specs.declared.assignment.Assignment.{Assignment}
-use Rattle.asn1_assignments.specs.declared.assignment.Syntax.{Syntax}
+use Rattle.asn1_module.specs.asn1_assignments.declared.assignment.IeRow.{IeRow}
+use Rattle.asn1_module.specs.asn1_assignments.declared.assignment.ProcedureRow.{ProcedureRow}
+use Rattle.asn1_module.specs.asn1_assignments.declared.assignment.Assignment.{Assignment}
+use Rattle.asn1_module.specs.asn1_assignments.declared.assignment.Syntax.{Syntax}
 use Rattle.asn1_module.specs.Module.{IsModule, find_type, HasTarget}
 use Rattle.asn1_module.specs.Targets.{definition_at, referred, element_rows, message_rows}
 use Rattle.asn1_module.specs.Links.{AreBelow, PartsBelow, IsInside}

@@ -11,7 +11,7 @@ ghost use Rattle.aper_types.specs.Forms.{form_tree, IsFormInside};
 use asn1_module::{Component, Definition, Extensible, IeRow, Module, ProcedureRow, Size, TypeId};
 
 /// A type, without the name that it goes by: what an encoding of it depends on. Types inside it go by their numbers.
-#[derive(Clone, Copy, Debug)]
+#[derive(Clone, Copy)]
 pub enum Form<'m> {
     Boolean,
     Integer {

@@ -4,7 +4,7 @@ use asn1_types::{Items, Node, TypeId};
 use gnb_types::octets::Octets;
 
 /// What a receiver does that doesn't know an information element or a procedure.
-#[derive(Clone, Copy, Debug, PartialEq, Eq)]
+#[derive(Clone, Copy, PartialEq, Eq)]
 pub enum Criticality {
     Reject,
     Ignore,
@@ -12,14 +12,14 @@ pub enum Criticality {
 }
 
 /// Whether an information element is always there.
-#[derive(Clone, Copy, Debug, PartialEq, Eq)]
+#[derive(Clone, Copy, PartialEq, Eq)]
 pub enum Presence {
     Mandatory,
     Optional,
 }
 
 /// An information element of a set.
-#[derive(Clone, Copy, Debug, PartialEq, Eq)]
+#[derive(Clone, Copy, PartialEq, Eq)]
 pub struct IeRow {
     pub id: u16,
     pub criticality: Criticality,
@@ -28,7 +28,7 @@ pub struct IeRow {
 }
 
 /// A procedure of a set.
-#[derive(Clone, Copy, Debug, PartialEq, Eq)]
+#[derive(Clone, Copy, PartialEq, Eq)]
 pub struct ProcedureRow {
     pub initiating: TypeId,
     pub successful: Option<TypeId>,
@@ -38,7 +38,7 @@ pub struct ProcedureRow {
 }
 
 /// What a name stands for.
-#[derive(Debug, Drop)]
+#[derive(Drop)]
 pub enum Body {
     Type(TypeId),
     IeSet(Items<IeRow>),
@@ -47,7 +47,7 @@ pub enum Body {
 
 /// A name, its offset in the text, and what it stands for. Its types are those of the module's list from the end of the
 /// assignment before to `end`.
-#[derive(Debug, Drop)]
+#[derive(Drop)]
 pub struct Assignment {
     pub name: Octets,
     pub place: usize,
@@ -57,7 +57,7 @@ pub struct Assignment {
 
 /// A module as it stands in a text: its name, what its names stand for, and the types that stand in these.
 /// `end` is the offset behind its last word.
-#[derive(Debug, Drop)]
+#[derive(Drop)]
 pub struct Syntax {
     pub name: Octets,
     pub assignments: Items<Assignment>,

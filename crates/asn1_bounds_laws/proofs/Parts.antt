@@ -1,7 +1,7 @@
 -- Lists that grow by one part at a time, and sizes.
 use Rattle.std.proofs.lemmas.List.{append_assoc, append-nil, map-append}
 use Rattle.std.proofs.lemmas.Bool.{eq-eqb}
-use Rattle.asn1_syntax_laws.proofs.Gives.{and_parts}
+use Rattle.asn1_module.proofs.asn1_syntax_laws.Gives.{and_parts}
 use Rattle.std.proofs.Common.{◌≡◌, ℕ, ◌+◌, ◌≤◌, ◌<◌, List, [], ◌∷◌, ◌++◌, length, map, Bool, true, false, ◌||◌, ◌&&◌, eqb, refl, sym, ap, ◌∙◌, subst, arith, Option, Some, None}
 use Rattle.std.specs.Prelude.{nat_le, nat_eq, is_none, ◌==◌}
 use Rattle.std.specs.List.{list_any}

@@ -26,8 +26,7 @@ use Rattle.asn1_types.specs.Reading.{◌>>=◌, Left, fault_at, unexpected, firs
 use Rattle.asn1_types.specs.Sizes.{natural, bounded_at, natural_at, ellipsis_at, size_end_at, least_high, size_rest_at, size_at, optional_size_at, integer_ellipsis_at, integer_least, integer_greatest, greatest_beside, integer_at}
 use Rattle.asn1_types.specs.Members.{no_parts, with_part, extended, can_extend, all_parts, is_full, has_name, has_component, new_name_at, list_goes_on_at, name_entry_at, names_turn_at, names_at, least_members, composed, node, named_at, entry_at, optional_at, component, member_end_at, close_at}
 use Rattle.asn1_types.specs.Types.{enumerated_at, bit_string_at, octet_string_at, printable_string_at, simple_rest_at, is_simple, simple_at, list_head_at, components_head_at, sequence_head_at, choice_head_at, set_name_at, container_at, pdu_at, reference_at, head_by, next_id, Risen, risen, rise_at, type_turn_at, type_goes_on, type_within_at, type_at}
-use Rattle.asn1_syntax_laws.proofs.Gives.{Gives, ok, no_value, and_gives, gives_so, and_parts}
-use Rattle.asn1_text_laws.proofs.MemberTexts.{Next, repeat_gives}
+use Rattle.asn1_module.proofs.asn1_syntax_laws.Gives.{Gives, ok, no_value, and_gives, gives_so, and_parts, Next, repeat_gives}
 use Rattle.asn1_bounds_laws.specs.Proper.{IsNew, Each, IsSize, IsTextSize, Maybe, AreParts, component_name, own_name, IsWithin}
 use Rattle.asn1_bounds_laws.proofs.Parts.{le_of, or_parts, each_put, new_of, text_differs, Growing, none_yet, whole, put_grows, extended_grows}
 

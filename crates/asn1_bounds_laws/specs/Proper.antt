@@ -8,12 +8,12 @@ use Rattle.asn1_types.specs.declared.definition.Extensible.{Extensible}
 use Rattle.asn1_types.specs.declared.definition.Definition.{Definition}
 use Rattle.asn1_types.specs.declared.definition.Definition.TheVariants as types
 use Rattle.asn1_types.specs.Members.{all_parts, additions_of}
-use Rattle.asn1_assignments.specs.declared.assignment.IeRow.{IeRow}
-use Rattle.asn1_assignments.specs.declared.assignment.ProcedureRow.{ProcedureRow}
-use Rattle.asn1_assignments.specs.declared.assignment.Body.{Body}
-use Rattle.asn1_assignments.specs.declared.assignment.Body.TheVariants as bodies
-use Rattle.asn1_assignments.specs.declared.assignment.Assignment.{Assignment}
-use Rattle.asn1_assignments.specs.declared.assignment.Syntax.{Syntax}
+use Rattle.asn1_module.specs.asn1_assignments.declared.assignment.IeRow.{IeRow}
+use Rattle.asn1_module.specs.asn1_assignments.declared.assignment.ProcedureRow.{ProcedureRow}
+use Rattle.asn1_module.specs.asn1_assignments.declared.assignment.Body.{Body}
+use Rattle.asn1_module.specs.asn1_assignments.declared.assignment.Body.TheVariants as bodies
+use Rattle.asn1_module.specs.asn1_assignments.declared.assignment.Assignment.{Assignment}
+use Rattle.asn1_module.specs.asn1_assignments.declared.assignment.Syntax.{Syntax}
 
 -- it is none of these
 abbrev pub IsNew : {A : Type 0} → A → List A → Type 0

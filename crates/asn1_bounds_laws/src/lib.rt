@@ -2,7 +2,7 @@
 #![tactic(auto)]
 
 ghost use Rattle.std.specs.Prelude.{ℕ, List};
-ghost use Rattle.asn1_assignments.specs.declared.assignment.Syntax.{Syntax};
+ghost use Rattle.asn1_module.specs.asn1_assignments.declared.assignment.Syntax.{Syntax};
 ghost use Rattle.asn1_module.specs.Module.{Reads};
 ghost use Rattle.asn1_bounds_laws.specs.Proper.{IsProper};
 

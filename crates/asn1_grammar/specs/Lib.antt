@@ -1,2 +1,3 @@
 pub mod Grammar
 pub mod Open
+pub use Rattle.asn1_tokens.specs as asn1_tokens

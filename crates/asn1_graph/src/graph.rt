@@ -10,7 +10,7 @@ use gnb_types::octets::Memory;
 use std::alloc::Global;
 
 /// One step, from a vertex to another. The vertices are a module's types by their numbers, and then its assignments.
-#[derive(Clone, Copy, Debug, PartialEq, Eq)]
+#[derive(Clone, Copy, PartialEq, Eq)]
 pub struct Edge {
     pub from: usize,
     pub to: usize,

@@ -3,16 +3,16 @@ use mathlib.Core.List.{reverse_aux}
 use Rattle.std.proofs.Common.{◌≡◌, ℕ, ◌+◌, List, [], ◌∷◌, ◌++◌, length, Bool, true, false, refl, sym, ap, ◌∙◌, subst}
 use Rattle.std.proofs.lemmas.List.{append_assoc}
 use Rattle.std.specs.Prelude.{Result, Ok, Err}
-use Rattle.asn1_tokens.specs.declared.token.Word.{Word}
-use Rattle.asn1_tokens.specs.declared.token.Word.TheVariants as words
-use Rattle.asn1_tokens.specs.declared.token.Token.{Token}
-use Rattle.asn1_tokens.specs.declared.token.Token.TheVariants as tokens
-use Rattle.asn1_tokens.specs.Stream.{Placed, items_of, first_token, first_place, others}
-use Rattle.asn1_types.specs.declared.fault.Fault.{Fault}
-use Rattle.asn1_types.specs.Reading.{◌>>=◌, Left, begins_with}
-use Rattle.asn1_assignments.specs.declared.assignment.Syntax.{Syntax}
-use Rattle.asn1_assignments.specs.Module.{Parts, header_at, assignments_at, syntax_at, syntax_of}
-use Rattle.asn1_grammar.specs.Open.{tokens_of}
+use Rattle.asn1_syntax_laws.specs.asn1_tokens.declared.token.Word.{Word}
+use Rattle.asn1_syntax_laws.specs.asn1_tokens.declared.token.Word.TheVariants as words
+use Rattle.asn1_syntax_laws.specs.asn1_tokens.declared.token.Token.{Token}
+use Rattle.asn1_syntax_laws.specs.asn1_tokens.declared.token.Token.TheVariants as tokens
+use Rattle.asn1_syntax_laws.specs.asn1_tokens.Stream.{Placed, items_of, first_token, first_place, others}
+use Rattle.asn1_syntax_laws.specs.asn1_types.declared.fault.Fault.{Fault}
+use Rattle.asn1_syntax_laws.specs.asn1_types.Reading.{◌>>=◌, Left, begins_with}
+use Rattle.asn1_syntax_laws.specs.asn1_assignments.declared.assignment.Syntax.{Syntax}
+use Rattle.asn1_syntax_laws.specs.asn1_assignments.Module.{Parts, header_at, assignments_at, syntax_at, syntax_of}
+use Rattle.asn1_syntax_laws.specs.asn1_grammar.Open.{tokens_of}
 use Rattle.asn1_syntax_laws.proofs.Streams.{IsStream, items-stream, first_of_stream}
 use Rattle.asn1_syntax_laws.proofs.Streams as streams
 use Rattle.asn1_item_laws.specs.Fine.{IsFine, AreFine, Because, passes_bound, is_repeated, AreFineTo, IsJudged}

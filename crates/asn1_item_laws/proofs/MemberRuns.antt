@@ -3,23 +3,23 @@ use Rattle.std.proofs.Common.{◌≡◌, ℕ, List, ◌∷◌, ◌++◌, map, Bo
 use Rattle.std.specs.Prelude.{Result, Ok, nat_le}
 use Rattle.std.proofs.lemmas.List.{length-map, map-append}
 use Rattle.gnb_types.proofs.Choices.{by_choice}
-use Rattle.asn1_tokens.specs.declared.token.Word.TheVariants as words
-use Rattle.asn1_tokens.specs.declared.token.Sign.TheVariants as signs
-use Rattle.asn1_tokens.specs.declared.token.Token.{Token}
-use Rattle.asn1_tokens.specs.declared.token.Token.TheVariants as tokens
-use Rattle.asn1_tokens.specs.Words.{is_text}
-use Rattle.asn1_types.specs.declared.fault.Fault.{Fault}
-use Rattle.asn1_types.specs.declared.definition.Extensible.{Extensible}
-use Rattle.asn1_types.specs.declared.definition.Component.{Component}
-use Rattle.asn1_types.specs.declared.definition.TypeId.{TypeId}
-use Rattle.asn1_types.specs.declared.members.Group.{Group}
-use Rattle.asn1_types.specs.declared.members.Group.TheVariants as groups
-use Rattle.asn1_types.specs.declared.members.Frame.{Frame}
-use Rattle.asn1_types.specs.declared.members.Frame.TheVariants as frames
-use Rattle.asn1_types.specs.declared.members.Head.{Head}
-use Rattle.asn1_types.specs.declared.members.Head.TheVariants as heads
-use Rattle.asn1_types.specs.Reading.{Left, begins_with, begins_with_sign}
-use Rattle.asn1_types.specs.Members.{no_parts, put_part, with_part, extended, can_extend, additions_of, all_parts, is_full, is_filled, has_name, has_component, new_name_at, list_goes_on_at, name_entry_at, names_turn_at, names_at, least_members, named_at, entry_at, optional_at, component, member_end_at, close_at}
+use Rattle.asn1_syntax_laws.specs.asn1_tokens.declared.token.Word.TheVariants as words
+use Rattle.asn1_syntax_laws.specs.asn1_tokens.declared.token.Sign.TheVariants as signs
+use Rattle.asn1_syntax_laws.specs.asn1_tokens.declared.token.Token.{Token}
+use Rattle.asn1_syntax_laws.specs.asn1_tokens.declared.token.Token.TheVariants as tokens
+use Rattle.asn1_syntax_laws.specs.asn1_tokens.Words.{is_text}
+use Rattle.asn1_syntax_laws.specs.asn1_types.declared.fault.Fault.{Fault}
+use Rattle.asn1_syntax_laws.specs.asn1_types.declared.definition.Extensible.{Extensible}
+use Rattle.asn1_syntax_laws.specs.asn1_types.declared.definition.Component.{Component}
+use Rattle.asn1_syntax_laws.specs.asn1_types.declared.definition.TypeId.{TypeId}
+use Rattle.asn1_syntax_laws.specs.asn1_types.declared.members.Group.{Group}
+use Rattle.asn1_syntax_laws.specs.asn1_types.declared.members.Group.TheVariants as groups
+use Rattle.asn1_syntax_laws.specs.asn1_types.declared.members.Frame.{Frame}
+use Rattle.asn1_syntax_laws.specs.asn1_types.declared.members.Frame.TheVariants as frames
+use Rattle.asn1_syntax_laws.specs.asn1_types.declared.members.Head.{Head}
+use Rattle.asn1_syntax_laws.specs.asn1_types.declared.members.Head.TheVariants as heads
+use Rattle.asn1_syntax_laws.specs.asn1_types.Reading.{Left, begins_with, begins_with_sign}
+use Rattle.asn1_syntax_laws.specs.asn1_types.Members.{no_parts, put_part, with_part, extended, can_extend, additions_of, all_parts, is_full, is_filled, has_name, has_component, new_name_at, list_goes_on_at, name_entry_at, names_turn_at, names_at, least_members, named_at, entry_at, optional_at, component, member_end_at, close_at}
 use Rattle.asn1_item_laws.specs.Ranges.{is_wide, is_one_size}
 use Rattle.asn1_item_laws.specs.Given.{begins_entry, listed, numbers_behind, begins_assignment, assigned, types_assigned}
 use Rattle.asn1_item_laws.specs.Fine.{passes_bound, is_repeated, bounds, twice}

@@ -3,20 +3,20 @@ use Rattle.std.proofs.Common.{◌≡◌, ℕ, ◌+◌, List, [], ◌∷◌, ◌+
 use Rattle.std.specs.Prelude.{Result, Ok}
 use Rattle.std.specs.List.{count_by}
 use Rattle.gnb_types.proofs.Choices.{by_choice}
-use Rattle.asn1_tokens.specs.declared.token.Word.TheVariants as words
-use Rattle.asn1_tokens.specs.declared.token.Sign.TheVariants as signs
-use Rattle.asn1_tokens.specs.declared.token.Token.{Token}
-use Rattle.asn1_tokens.specs.declared.token.Token.TheVariants as tokens
-use Rattle.asn1_tokens.specs.Words.{is_text}
-use Rattle.asn1_types.specs.declared.fault.Fault.{Fault}
-use Rattle.asn1_types.specs.declared.definition.Node.{Node}
-use Rattle.asn1_types.specs.Reading.{◌>>=◌, Left, is_sign_token, begins_with, begins_with_sign, upper_at, repeat_at}
-use Rattle.asn1_types.specs.Members.{has_name}
-use Rattle.asn1_assignments.specs.declared.assignment.Body.{Body}
-use Rattle.asn1_assignments.specs.declared.assignment.Body.TheVariants as bodies
-use Rattle.asn1_assignments.specs.declared.assignment.Assignment.{Assignment}
-use Rattle.asn1_assignments.specs.Module.{Parts, is_type_body, is_type, has_all_types, is_assigned, new_assignment_at, ie_body_at, procedure_body_at, type_body_at, body_at, assignment_at, module_turn_at, header_at, no_assignments, assignments_at}
-use Rattle.asn1_grammar.specs.Open.{tokens_of}
+use Rattle.asn1_syntax_laws.specs.asn1_tokens.declared.token.Word.TheVariants as words
+use Rattle.asn1_syntax_laws.specs.asn1_tokens.declared.token.Sign.TheVariants as signs
+use Rattle.asn1_syntax_laws.specs.asn1_tokens.declared.token.Token.{Token}
+use Rattle.asn1_syntax_laws.specs.asn1_tokens.declared.token.Token.TheVariants as tokens
+use Rattle.asn1_syntax_laws.specs.asn1_tokens.Words.{is_text}
+use Rattle.asn1_syntax_laws.specs.asn1_types.declared.fault.Fault.{Fault}
+use Rattle.asn1_syntax_laws.specs.asn1_types.declared.definition.Node.{Node}
+use Rattle.asn1_syntax_laws.specs.asn1_types.Reading.{◌>>=◌, Left, is_sign_token, begins_with, begins_with_sign, upper_at, repeat_at}
+use Rattle.asn1_syntax_laws.specs.asn1_types.Members.{has_name}
+use Rattle.asn1_syntax_laws.specs.asn1_assignments.declared.assignment.Body.{Body}
+use Rattle.asn1_syntax_laws.specs.asn1_assignments.declared.assignment.Body.TheVariants as bodies
+use Rattle.asn1_syntax_laws.specs.asn1_assignments.declared.assignment.Assignment.{Assignment}
+use Rattle.asn1_syntax_laws.specs.asn1_assignments.Module.{Parts, is_type_body, is_type, has_all_types, is_assigned, new_assignment_at, ie_body_at, procedure_body_at, type_body_at, body_at, assignment_at, module_turn_at, header_at, no_assignments, assignments_at}
+use Rattle.asn1_syntax_laws.specs.asn1_grammar.Open.{tokens_of}
 use Rattle.asn1_item_laws.specs.Given.{begins_assignment, assigned, types_assigned}
 use Rattle.asn1_item_laws.specs.Fine.{defines_type, passes_bound, is_repeated, bounds, twice}
 use Rattle.asn1_item_laws.proofs.Views.{Same, map_snoc, any_map, count_snoc}

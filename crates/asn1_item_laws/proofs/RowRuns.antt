@@ -2,24 +2,24 @@
 use Rattle.std.proofs.Common.{◌≡◌, ℕ, List, [], ◌∷◌, ◌++◌, map, Bool, true, false, cond, refl, sym, ap, ◌∙◌, subst, Option, Some, None}
 use Rattle.std.specs.Prelude.{Result, Ok, Err, ℤ, pos}
 use Rattle.gnb_types.proofs.Choices.{by_choice}
-use Rattle.asn1_tokens.specs.declared.token.Word.{Word}
-use Rattle.asn1_tokens.specs.declared.token.Word.TheVariants as words
-use Rattle.asn1_tokens.specs.declared.token.Sign.{Sign}
-use Rattle.asn1_tokens.specs.declared.token.Sign.TheVariants as signs
-use Rattle.asn1_tokens.specs.declared.token.Token.{Token}
-use Rattle.asn1_tokens.specs.declared.token.Token.TheVariants as tokens
-use Rattle.asn1_tokens.specs.Words.{is_word}
-use Rattle.asn1_types.specs.declared.fault.Fault.{Fault}
-use Rattle.asn1_types.specs.declared.definition.TypeId.{TypeId}
-use Rattle.asn1_types.specs.declared.definition.Node.{Node}
-use Rattle.asn1_types.specs.Reading.{◌>>=◌, Left, begins_with, begins_with_sign, sign_at, lower_at}
-use Rattle.asn1_types.specs.Sizes.{natural, natural_at}
-use Rattle.asn1_assignments.specs.declared.assignment.Criticality.{Criticality}
-use Rattle.asn1_assignments.specs.declared.assignment.Presence.{Presence}
-use Rattle.asn1_assignments.specs.declared.assignment.IeRow.{IeRow}
-use Rattle.asn1_assignments.specs.declared.assignment.ProcedureRow.{ProcedureRow}
-use Rattle.asn1_assignments.specs.Rows.{new_number_at, found_or, criticality_of, criticality_at, presence_of, presence_at, has_id, ie_row_at, outcome_at, has_code, messages_at, procedure_row_at}
-use Rattle.asn1_assignments.specs.Sets.{set_goes_on_at, Rows, rows_with, ie_turn_at, procedure_turn_at, set_start_at, ie_set_at, procedure_set_at}
+use Rattle.asn1_syntax_laws.specs.asn1_tokens.declared.token.Word.{Word}
+use Rattle.asn1_syntax_laws.specs.asn1_tokens.declared.token.Word.TheVariants as words
+use Rattle.asn1_syntax_laws.specs.asn1_tokens.declared.token.Sign.{Sign}
+use Rattle.asn1_syntax_laws.specs.asn1_tokens.declared.token.Sign.TheVariants as signs
+use Rattle.asn1_syntax_laws.specs.asn1_tokens.declared.token.Token.{Token}
+use Rattle.asn1_syntax_laws.specs.asn1_tokens.declared.token.Token.TheVariants as tokens
+use Rattle.asn1_syntax_laws.specs.asn1_tokens.Words.{is_word}
+use Rattle.asn1_syntax_laws.specs.asn1_types.declared.fault.Fault.{Fault}
+use Rattle.asn1_syntax_laws.specs.asn1_types.declared.definition.TypeId.{TypeId}
+use Rattle.asn1_syntax_laws.specs.asn1_types.declared.definition.Node.{Node}
+use Rattle.asn1_syntax_laws.specs.asn1_types.Reading.{◌>>=◌, Left, begins_with, begins_with_sign, sign_at, lower_at}
+use Rattle.asn1_syntax_laws.specs.asn1_types.Sizes.{natural, natural_at}
+use Rattle.asn1_syntax_laws.specs.asn1_assignments.declared.assignment.Criticality.{Criticality}
+use Rattle.asn1_syntax_laws.specs.asn1_assignments.declared.assignment.Presence.{Presence}
+use Rattle.asn1_syntax_laws.specs.asn1_assignments.declared.assignment.IeRow.{IeRow}
+use Rattle.asn1_syntax_laws.specs.asn1_assignments.declared.assignment.ProcedureRow.{ProcedureRow}
+use Rattle.asn1_syntax_laws.specs.asn1_assignments.Rows.{new_number_at, found_or, criticality_of, criticality_at, presence_of, presence_at, has_id, ie_row_at, outcome_at, has_code, messages_at, procedure_row_at}
+use Rattle.asn1_syntax_laws.specs.asn1_assignments.Sets.{set_goes_on_at, Rows, rows_with, ie_turn_at, procedure_turn_at, set_start_at, ie_set_at, procedure_set_at}
 use Rattle.asn1_item_laws.specs.Ranges.{from_to, range_behind}
 use Rattle.asn1_item_laws.specs.Given.{begins_entry, numbers_behind, ids, codes_given, is_among, is_given, begins_assignment, assigned, types_assigned}
 use Rattle.asn1_item_laws.specs.Fine.{sign_passes, passes_bound, is_repeated, twice}

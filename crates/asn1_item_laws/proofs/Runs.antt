@@ -3,16 +3,16 @@ use Rattle.std.proofs.Common.{◌≡◌, ℕ, List, [], ◌∷◌, zero, suc, Bo
 use Rattle.std.specs.Prelude.{Result, Ok, Err, ℤ, pos}
 use Rattle.std.specs.Int.Signed.{le_z}
 use Rattle.gnb_types.proofs.Choices.{by_choice}
-use Rattle.asn1_tokens.specs.declared.token.Word.{Word}
-use Rattle.asn1_tokens.specs.declared.token.Sign.{Sign}
-use Rattle.asn1_tokens.specs.declared.token.Token.{Token}
-use Rattle.asn1_tokens.specs.declared.token.Token.TheVariants as tokens
-use Rattle.asn1_tokens.specs.Stream.{Placed, is_last, first_token, first_place, others}
-use Rattle.asn1_types.specs.declared.fault.ModuleReason.TheVariants as reasons
-use Rattle.asn1_types.specs.declared.fault.Fault.{Fault}
-use Rattle.asn1_types.specs.Reading.{◌>>=◌, Left, fault_at, unexpected, begins_with, begins_with_sign, word_at, sign_at, upper_of, upper_at, lower_of, lower_at, number_of, number_at, repeat_at}
-use Rattle.asn1_types.specs.Sizes.{bounded_at, natural, natural_at}
-use Rattle.asn1_grammar.specs.Open.{tokens_of}
+use Rattle.asn1_syntax_laws.specs.asn1_tokens.declared.token.Word.{Word}
+use Rattle.asn1_syntax_laws.specs.asn1_tokens.declared.token.Sign.{Sign}
+use Rattle.asn1_syntax_laws.specs.asn1_tokens.declared.token.Token.{Token}
+use Rattle.asn1_syntax_laws.specs.asn1_tokens.declared.token.Token.TheVariants as tokens
+use Rattle.asn1_syntax_laws.specs.asn1_tokens.Stream.{Placed, is_last, first_token, first_place, others}
+use Rattle.asn1_syntax_laws.specs.asn1_types.declared.fault.ModuleReason.TheVariants as reasons
+use Rattle.asn1_syntax_laws.specs.asn1_types.declared.fault.Fault.{Fault}
+use Rattle.asn1_syntax_laws.specs.asn1_types.Reading.{◌>>=◌, Left, fault_at, unexpected, begins_with, begins_with_sign, word_at, sign_at, upper_of, upper_at, lower_of, lower_at, number_of, number_at, repeat_at}
+use Rattle.asn1_syntax_laws.specs.asn1_types.Sizes.{bounded_at, natural, natural_at}
+use Rattle.asn1_syntax_laws.specs.asn1_grammar.Open.{tokens_of}
 use Rattle.asn1_syntax_laws.proofs.Exact.{a_word, a_sign}
 use Rattle.asn1_item_laws.specs.Ranges.{from_to, range_behind, is_outside}
 use Rattle.asn1_item_laws.specs.Given.{begins_assignment, is_given}

@@ -3,15 +3,15 @@ use Rattle.std.proofs.Common.{◌≡◌, ℕ, ◌-◌, ◌^◌, suc, List, ◌�
 use Rattle.std.specs.Prelude.{Err, ℤ, pos}
 use Rattle.std.specs.Int.Signed.{le_z}
 use Rattle.gnb_types.proofs.Choices.{by_test, by_choice}
-use Rattle.asn1_tokens.specs.declared.token.Word.TheVariants as words
-use Rattle.asn1_tokens.specs.declared.token.Sign.TheVariants as signs
-use Rattle.asn1_tokens.specs.declared.token.Token.{Token}
-use Rattle.asn1_tokens.specs.declared.token.Token.TheVariants as tokens
-use Rattle.asn1_types.specs.declared.fault.ModuleReason.TheVariants as reasons
-use Rattle.asn1_types.specs.declared.definition.Size.{Size}
-use Rattle.asn1_types.specs.declared.definition.Definition.TheVariants as types
-use Rattle.asn1_types.specs.Reading.{Left, fault_at, begins_with_sign}
-use Rattle.asn1_types.specs.Sizes.{natural, ellipsis_at, size_end_at, least_high, size_rest_at, size_at, optional_size_at, integer_ellipsis_at, integer_least, integer_greatest, greatest_beside, integer_at}
+use Rattle.asn1_syntax_laws.specs.asn1_tokens.declared.token.Word.TheVariants as words
+use Rattle.asn1_syntax_laws.specs.asn1_tokens.declared.token.Sign.TheVariants as signs
+use Rattle.asn1_syntax_laws.specs.asn1_tokens.declared.token.Token.{Token}
+use Rattle.asn1_syntax_laws.specs.asn1_tokens.declared.token.Token.TheVariants as tokens
+use Rattle.asn1_syntax_laws.specs.asn1_types.declared.fault.ModuleReason.TheVariants as reasons
+use Rattle.asn1_syntax_laws.specs.asn1_types.declared.definition.Size.{Size}
+use Rattle.asn1_syntax_laws.specs.asn1_types.declared.definition.Definition.TheVariants as types
+use Rattle.asn1_syntax_laws.specs.asn1_types.Reading.{Left, fault_at, begins_with_sign}
+use Rattle.asn1_syntax_laws.specs.asn1_types.Sizes.{natural, ellipsis_at, size_end_at, least_high, size_rest_at, size_at, optional_size_at, integer_ellipsis_at, integer_least, integer_greatest, greatest_beside, integer_at}
 use Rattle.asn1_item_laws.specs.Ranges.{from_to, range_behind, sizes_text, is_wide, is_one_size}
 use Rattle.asn1_item_laws.specs.Given.{listed, numbers_behind, begins_assignment, assigned, types_assigned}
 use Rattle.asn1_item_laws.specs.Fine.{passes_bound, is_repeated, bounds}

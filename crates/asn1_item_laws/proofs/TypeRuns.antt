@@ -2,26 +2,26 @@
 use Rattle.std.proofs.Common.{◌≡◌, ℕ, zero, suc, List, [], ◌∷◌, Bool, true, false, cond, refl, Option, Some, None}
 use Rattle.std.specs.Prelude.{Result}
 use Rattle.gnb_types.proofs.Choices.{by_choice}
-use Rattle.asn1_tokens.specs.declared.token.Word.{Word}
-use Rattle.asn1_tokens.specs.declared.token.Word.TheVariants as words
-use Rattle.asn1_tokens.specs.declared.token.Sign.TheVariants as signs
-use Rattle.asn1_tokens.specs.declared.token.Token.{Token}
-use Rattle.asn1_tokens.specs.declared.token.Token.TheVariants as tokens
-use Rattle.asn1_tokens.specs.Words.{is_word}
-use Rattle.asn1_tokens.specs.Stream.{first_place}
-use Rattle.asn1_types.specs.declared.fault.Fault.{Fault}
-use Rattle.asn1_types.specs.declared.definition.TypeId.{TypeId}
-use Rattle.asn1_types.specs.declared.definition.Node.{Node}
-use Rattle.asn1_types.specs.declared.definition.Definition.{Definition}
-use Rattle.asn1_types.specs.declared.definition.Definition.TheVariants as types
-use Rattle.asn1_types.specs.declared.members.Group.TheVariants as groups
-use Rattle.asn1_types.specs.declared.members.Frame.{Frame}
-use Rattle.asn1_types.specs.declared.members.Frame.TheVariants as frames
-use Rattle.asn1_types.specs.declared.members.Head.{Head}
-use Rattle.asn1_types.specs.declared.members.Head.TheVariants as heads
-use Rattle.asn1_types.specs.Reading.{Left, first_word, begins_with_sign}
-use Rattle.asn1_types.specs.Members.{no_parts, node}
-use Rattle.asn1_types.specs.Types.{enumerated_at, bit_string_at, octet_string_at, printable_string_at, simple_rest_at, is_simple, simple_at, list_head_at, components_head_at, sequence_head_at, choice_head_at, set_name_at, container_at, pdu_at, reference_at, head_by, head_at, Risen, risen, rise_at, type_turn_at, type_goes_on, type_within_at, type_at}
+use Rattle.asn1_syntax_laws.specs.asn1_tokens.declared.token.Word.{Word}
+use Rattle.asn1_syntax_laws.specs.asn1_tokens.declared.token.Word.TheVariants as words
+use Rattle.asn1_syntax_laws.specs.asn1_tokens.declared.token.Sign.TheVariants as signs
+use Rattle.asn1_syntax_laws.specs.asn1_tokens.declared.token.Token.{Token}
+use Rattle.asn1_syntax_laws.specs.asn1_tokens.declared.token.Token.TheVariants as tokens
+use Rattle.asn1_syntax_laws.specs.asn1_tokens.Words.{is_word}
+use Rattle.asn1_syntax_laws.specs.asn1_tokens.Stream.{first_place}
+use Rattle.asn1_syntax_laws.specs.asn1_types.declared.fault.Fault.{Fault}
+use Rattle.asn1_syntax_laws.specs.asn1_types.declared.definition.TypeId.{TypeId}
+use Rattle.asn1_syntax_laws.specs.asn1_types.declared.definition.Node.{Node}
+use Rattle.asn1_syntax_laws.specs.asn1_types.declared.definition.Definition.{Definition}
+use Rattle.asn1_syntax_laws.specs.asn1_types.declared.definition.Definition.TheVariants as types
+use Rattle.asn1_syntax_laws.specs.asn1_types.declared.members.Group.TheVariants as groups
+use Rattle.asn1_syntax_laws.specs.asn1_types.declared.members.Frame.{Frame}
+use Rattle.asn1_syntax_laws.specs.asn1_types.declared.members.Frame.TheVariants as frames
+use Rattle.asn1_syntax_laws.specs.asn1_types.declared.members.Head.{Head}
+use Rattle.asn1_syntax_laws.specs.asn1_types.declared.members.Head.TheVariants as heads
+use Rattle.asn1_syntax_laws.specs.asn1_types.Reading.{Left, first_word, begins_with_sign}
+use Rattle.asn1_syntax_laws.specs.asn1_types.Members.{no_parts, node}
+use Rattle.asn1_syntax_laws.specs.asn1_types.Types.{enumerated_at, bit_string_at, octet_string_at, printable_string_at, simple_rest_at, is_simple, simple_at, list_head_at, components_head_at, sequence_head_at, choice_head_at, set_name_at, container_at, pdu_at, reference_at, head_by, head_at, Risen, risen, rise_at, type_turn_at, type_goes_on, type_within_at, type_at}
 use Rattle.asn1_item_laws.specs.Given.{listed, numbers_behind, begins_assignment, assigned, types_assigned}
 use Rattle.asn1_item_laws.proofs.Runs.{Run, goes, fails, and_then, done, refused, word_then, sign_then, upper_then}
 use Rattle.asn1_item_laws.proofs.Views.{Same}

@@ -1,19 +1,19 @@
 -- Which items pass a bound of the profile, or give something that was given before: told of an item, those before it, the nearest
 -- first, and those behind it.
 use Rattle.std.specs.Prelude.{◌≡◌, ℕ, List, [], ◌∷◌, ◌++◌, reverse, Bool, true, false, ◌&&◌, nat_le}
-use Rattle.asn1_tokens.specs.declared.token.Word.TheVariants as words
-use Rattle.asn1_tokens.specs.declared.token.Sign.{Sign}
-use Rattle.asn1_tokens.specs.declared.token.Sign.TheVariants as signs
-use Rattle.asn1_tokens.specs.declared.token.Token.{Token}
-use Rattle.asn1_tokens.specs.declared.token.Token.TheVariants as tokens
-use Rattle.asn1_tokens.specs.Stream.{Placed, items_of}
-use Rattle.asn1_types.specs.declared.fault.ModuleReason.{ModuleReason}
-use Rattle.asn1_types.specs.declared.fault.ModuleReason.TheVariants.{Bounds, Twice}
-use Rattle.asn1_types.specs.declared.fault.Fault.{Fault}
-use Rattle.asn1_types.specs.Sizes.{natural}
-use Rattle.asn1_types.specs.Reading.{reason_of}
-use Rattle.asn1_types.specs.Members.{all_parts, is_full, has_name}
-use Rattle.asn1_grammar.specs.Open.{tokens_of}
+use Rattle.asn1_syntax_laws.specs.asn1_tokens.declared.token.Word.TheVariants as words
+use Rattle.asn1_syntax_laws.specs.asn1_tokens.declared.token.Sign.{Sign}
+use Rattle.asn1_syntax_laws.specs.asn1_tokens.declared.token.Sign.TheVariants as signs
+use Rattle.asn1_syntax_laws.specs.asn1_tokens.declared.token.Token.{Token}
+use Rattle.asn1_syntax_laws.specs.asn1_tokens.declared.token.Token.TheVariants as tokens
+use Rattle.asn1_syntax_laws.specs.asn1_tokens.Stream.{Placed, items_of}
+use Rattle.asn1_syntax_laws.specs.asn1_types.declared.fault.ModuleReason.{ModuleReason}
+use Rattle.asn1_syntax_laws.specs.asn1_types.declared.fault.ModuleReason.TheVariants.{Bounds, Twice}
+use Rattle.asn1_syntax_laws.specs.asn1_types.declared.fault.Fault.{Fault}
+use Rattle.asn1_syntax_laws.specs.asn1_types.Sizes.{natural}
+use Rattle.asn1_syntax_laws.specs.asn1_types.Reading.{reason_of}
+use Rattle.asn1_syntax_laws.specs.asn1_types.Members.{all_parts, is_full, has_name}
+use Rattle.asn1_syntax_laws.specs.asn1_grammar.Open.{tokens_of}
 use Rattle.asn1_item_laws.specs.Ranges.{range_behind, is_outside, is_wide, is_one_size}
 use Rattle.asn1_item_laws.specs.Given.{begins_entry, listed, is_given, begins_assignment, assigned, types_assigned}
 

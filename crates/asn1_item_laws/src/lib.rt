@@ -2,9 +2,9 @@
 #![tactic(auto)]
 
 ghost use Rattle.std.specs.Prelude.{◌≡◌, ℕ, List, Ok, Err};
-ghost use Rattle.asn1_types.specs.declared.fault.Fault.{Fault};
-ghost use Rattle.asn1_assignments.specs.declared.assignment.Syntax.{Syntax};
-ghost use Rattle.asn1_assignments.specs.Module.{syntax_of};
+ghost use Rattle.asn1_syntax_laws.specs.asn1_types.declared.fault.Fault.{Fault};
+ghost use Rattle.asn1_syntax_laws.specs.asn1_assignments.declared.assignment.Syntax.{Syntax};
+ghost use Rattle.asn1_syntax_laws.specs.asn1_assignments.Module.{syntax_of};
 ghost use Rattle.asn1_item_laws.specs.Fine.{AreFineTo, IsJudged};
 
 /// The items of a module that is read pass no bound and give nothing again, and neither do those before a fault.

@@ -4,3 +4,4 @@ pub mod Gaps
 pub mod Items
 pub mod ItemsRead
 pub mod Streams
+pub use Rattle.asn1_tokens.proofs as asn1_tokens

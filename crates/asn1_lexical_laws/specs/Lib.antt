@@ -1,1 +1,2 @@
 pub mod Lexical
+pub use Rattle.asn1_tokens.specs as asn1_tokens

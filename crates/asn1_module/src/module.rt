@@ -17,7 +17,7 @@ use std::alloc::Global;
 use std::marker::Model;
 
 /// A module of types. Contracts see its name, its assignments and the types that stand in them.
-#[derive(Debug, Drop)]
+#[derive(Drop)]
 pub struct Module {
     syntax: Syntax,
     /// For each type the number of the assignment that its name refers to, so that no name is searched for again.

@@ -8,7 +8,7 @@ use asn1_tokens::is_text;
 use asn1_types::{Definition, Node};
 
 /// What a name may stand for.
-#[derive(Clone, Copy, Debug, PartialEq, Eq)]
+#[derive(Clone, Copy, PartialEq, Eq)]
 pub enum Kind {
     Type,
     IeSet,

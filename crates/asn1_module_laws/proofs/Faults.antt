@@ -8,9 +8,9 @@ use Rattle.asn1_assignments.specs.Module.{syntax_of}
 use Rattle.asn1_module.specs.Position.{line_after, column_after}
 use Rattle.asn1_module.specs.Judgement.{Judged}
 use Rattle.asn1_module.specs.Module.{Reads, HasFault, in_text, in_module, WrongText}
-use Rattle.asn1_reading_laws.specs.Texts.{IsTextOf}
-use Rattle.asn1_reading_laws.proofs.Once.{one_wrong, not_both}
-use Rattle.asn1_reading_laws.proofs.Readings.{is_text_of, is_first_wrong, one_text}
+use Rattle.asn1_module.specs.asn1_reading_laws.Texts.{IsTextOf}
+use Rattle.asn1_module.proofs.asn1_reading_laws.Once.{one_wrong, not_both}
+use Rattle.asn1_module.proofs.asn1_reading_laws.Readings.{is_text_of, is_first_wrong, one_text}
 use Rattle.asn1_module_laws.proofs.Judgements.{sound_clash, fault_same, judged}
 
 has_one : (text : List ℕ) (f g : Fault) → HasFault text f → HasFault text g → f ≡ g

@@ -9,15 +9,15 @@ use Rattle.asn1_types.specs.declared.definition.Definition.{Definition}
 use Rattle.asn1_types.specs.declared.definition.Definition.TheVariants as types
 use Rattle.asn1_types.specs.declared.definition.Node.{Node}
 use Rattle.asn1_types.specs.Members.{additions_of}
-use Rattle.asn1_assignments.specs.declared.assignment.Body.{Body}
-use Rattle.asn1_assignments.specs.declared.assignment.Body.TheVariants as bodies
-use Rattle.asn1_assignments.specs.declared.assignment.IeRow.{IeRow}
-use Rattle.asn1_assignments.specs.declared.assignment.ProcedureRow.{ProcedureRow}
-use Rattle.asn1_assignments.specs.declared.assignment.Assignment.{Assignment}
-use Rattle.asn1_assignments.specs.declared.assignment.Syntax.{Syntax}
-use Rattle.asn1_graph.specs.declared.graph.Edge.{Edge}
-use Rattle.asn1_graph.specs.Graph.{edge, number_of, member_edges, numbered_edges, node_edges, nodes_edges, range_edges, parts_edges, vertex_count, edges_of}
-use Rattle.asn1_graph.specs.Paths.{IsAmong, IsStep}
+use Rattle.asn1_module.specs.asn1_assignments.declared.assignment.Body.{Body}
+use Rattle.asn1_module.specs.asn1_assignments.declared.assignment.Body.TheVariants as bodies
+use Rattle.asn1_module.specs.asn1_assignments.declared.assignment.IeRow.{IeRow}
+use Rattle.asn1_module.specs.asn1_assignments.declared.assignment.ProcedureRow.{ProcedureRow}
+use Rattle.asn1_module.specs.asn1_assignments.declared.assignment.Assignment.{Assignment}
+use Rattle.asn1_module.specs.asn1_assignments.declared.assignment.Syntax.{Syntax}
+use Rattle.asn1_module.specs.asn1_graph.declared.graph.Edge.{Edge}
+use Rattle.asn1_module.specs.asn1_graph.Graph.{edge, number_of, member_edges, numbered_edges, node_edges, nodes_edges, range_edges, parts_edges, vertex_count, edges_of}
+use Rattle.asn1_module.specs.asn1_graph.Paths.{IsAmong, IsStep}
 use Rattle.asn1_module.specs.Links.{AreBelow, IsInside, AreOrdered, OptionBelow, IesBelow, ProceduresBelow, BodyBelow, BodiesBelow, OptionFrom, IesFrom, ProceduresFrom, BodyFrom, AreParted}
 use Rattle.asn1_module.specs.Module.{type_of, find_type, ie_rows_of, ie_rows, procedure_rows_of, procedure_rows, IsModule}
 use Rattle.asn1_module.specs.Targets.{definition_of, definition_at, all_of}

@@ -2,11 +2,11 @@
 use Rattle.std.proofs.Common.{◌≡◌, ℕ, zero, suc, ◌+◌, ◌<◌, ◌≤◌, List, get_or, replicate, Bool, false, cond, refl, subst, inl, inr, ◌⊎◌, arith}
 use Rattle.std.proofs.lemmas.Bool.{cases_lt}
 use Rattle.gnb_types.proofs.Choices.{by_test, by_choice}
-use Rattle.asn1_assignments.specs.declared.assignment.Syntax.{Syntax}
-use Rattle.asn1_graph.specs.declared.graph.Edge.{Edge}
-use Rattle.asn1_graph.specs.Graph.{vertex_count, edges_of}
-use Rattle.asn1_graph.specs.Paths.{IsStep, Leads, first, further, IsReach, mark_step, round_of}
-use Rattle.asn1_graph.proofs.PathLemmas.{slack, MarksWell, mark_round_keeps, mark_round_less, mark_round_done, no_marks}
+use Rattle.asn1_module.specs.asn1_assignments.declared.assignment.Syntax.{Syntax}
+use Rattle.asn1_module.specs.asn1_graph.declared.graph.Edge.{Edge}
+use Rattle.asn1_module.specs.asn1_graph.Graph.{vertex_count, edges_of}
+use Rattle.asn1_module.specs.asn1_graph.Paths.{IsStep, Leads, first, further, IsReach, mark_step, round_of}
+use Rattle.asn1_module.proofs.asn1_graph.PathLemmas.{slack, MarksWell, mark_round_keeps, mark_round_less, mark_round_done, no_marks}
 
 -- ---- how many marks a table has among its first values
 

@@ -2,7 +2,7 @@
 #![tactic(auto)]
 
 ghost use Rattle.std.specs.Prelude.{ℕ};
-ghost use Rattle.asn1_assignments.specs.declared.assignment.Syntax.{Syntax};
+ghost use Rattle.asn1_module.specs.asn1_assignments.declared.assignment.Syntax.{Syntax};
 ghost use Rattle.asn1_module.specs.Module.{IsModule};
 ghost use Rattle.asn1_rank_laws.specs.Leading.{IsRank};
 

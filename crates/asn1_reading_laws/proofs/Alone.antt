@@ -3,15 +3,15 @@ use Rattle.std.proofs.lemmas.List.{append-nil}
 use Rattle.std.proofs.lemmas.Bool.{eqb-true}
 use Rattle.std.proofs.Common.{◌≡◌, ℕ, ◌+◌, ◌<◌, List, [], ◌∷◌, ◌++◌, Bool, true, false, cond, ◌&&◌, refl, sym, ap, ◌∙◌, inl, inr, arith}
 use Rattle.std.specs.Prelude.{◌==◌}
-use Rattle.asn1_tokens.specs.declared.token.Word.TheVariants as words
-use Rattle.asn1_tokens.specs.declared.token.Token.{Token}
-use Rattle.asn1_tokens.specs.declared.token.Token.TheVariants as tokens
-use Rattle.asn1_tokens.specs.Stream.{is_last}
-use Rattle.asn1_tokens.specs.Words.{is_word, word_number}
-use Rattle.asn1_grammar.specs.Grammar.{Terminal, TheWord, fits, Part, Symbol, Item, Whole, Module, Assignments, productions}
-use Rattle.asn1_grammar.proofs.Decide.{and_left, and_right}
+use Rattle.asn1_lexical_laws.specs.asn1_tokens.declared.token.Word.TheVariants as words
+use Rattle.asn1_lexical_laws.specs.asn1_tokens.declared.token.Token.{Token}
+use Rattle.asn1_lexical_laws.specs.asn1_tokens.declared.token.Token.TheVariants as tokens
+use Rattle.asn1_lexical_laws.specs.asn1_tokens.Stream.{is_last}
+use Rattle.asn1_lexical_laws.specs.asn1_tokens.Words.{is_word, word_number}
+use Rattle.asn1_value_laws.specs.asn1_grammar.Grammar.{Terminal, TheWord, fits, Part, Symbol, Item, Whole, Module, Assignments, productions}
+use Rattle.asn1_value_laws.proofs.asn1_grammar.Decide.{and_left, and_right}
 use Rattle.asn1_reading_laws.proofs.Splits.{head_same, tail_same}
-use Rattle.asn1_grammar.specs.Open.{IsOneOf, Spells, nothing, item, part, IsModuleText}
+use Rattle.asn1_value_laws.specs.asn1_grammar.Open.{IsOneOf, Spells, nothing, item, part, IsModuleText}
 
 abbrev is_end : Token → Bool
 is_end token = fits (TheWord words.End) token

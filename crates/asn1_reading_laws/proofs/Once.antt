@@ -3,13 +3,13 @@ use mathlib.Core.List.{reverse_aux}
 use Rattle.std.proofs.lemmas.List.{append_assoc, append-nil}
 use Rattle.std.proofs.Common.{◌≡◌, ℕ, List, [], ◌∷◌, ◌++◌, reverse, Bool, true, false, refl, sym, ap, ◌∙◌, subst}
 use Rattle.gnb_types.proofs.Choices.{clash}
-use Rattle.asn1_tokens.specs.declared.token.Token.{Token}
-use Rattle.asn1_tokens.specs.Stream.{Placed}
-use Rattle.asn1_types.specs.declared.fault.ModuleReason.{ModuleReason}
-use Rattle.asn1_types.specs.declared.fault.Fault.{Fault}
-use Rattle.asn1_assignments.specs.declared.assignment.Syntax.{Syntax}
-use Rattle.asn1_grammar.specs.Open.{tokens_of, IsModuleText, IsOpen}
-use Rattle.asn1_syntax_laws.specs.Grammatical.{GoesOn}
+use Rattle.asn1_lexical_laws.specs.asn1_tokens.declared.token.Token.{Token}
+use Rattle.asn1_lexical_laws.specs.asn1_tokens.Stream.{Placed}
+use Rattle.asn1_value_laws.specs.asn1_types.declared.fault.ModuleReason.{ModuleReason}
+use Rattle.asn1_value_laws.specs.asn1_types.declared.fault.Fault.{Fault}
+use Rattle.asn1_value_laws.specs.asn1_assignments.declared.assignment.Syntax.{Syntax}
+use Rattle.asn1_value_laws.specs.asn1_grammar.Open.{tokens_of, IsModuleText, IsOpen}
+use Rattle.asn1_value_laws.specs.asn1_syntax_laws.Grammatical.{GoesOn}
 use Rattle.asn1_item_laws.specs.Fine.{IsFine, AreFine}
 use Rattle.asn1_lexical_laws.specs.Lexical.{AreItems}
 use Rattle.asn1_lexical_laws.proofs.Streams.{items_scanned}

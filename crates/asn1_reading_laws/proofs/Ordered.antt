@@ -1,9 +1,9 @@
 -- A text's items stand one behind another, so each is known by its place.
 use Rattle.std.proofs.Common.{◌≡◌, ℕ, zero, suc, ◌-◌, ◌≤◌, ◌<◌, List, [], ◌∷◌, ◌++◌, length, Bool, true, false, cond, refl, sym, ◌∙◌, subst, arith}
-use Rattle.asn1_tokens.specs.declared.scan.Gap.TheVariants.{Between}
-use Rattle.asn1_tokens.specs.Scan.{after_gap, lexeme_at}
-use Rattle.asn1_tokens.specs.Stream.{Placed, placed, is_last, scan, items_of}
-use Rattle.asn1_tokens.proofs.StreamLemmas.{after_gap-le, lexeme-takes, rest-shorter}
+use Rattle.asn1_lexical_laws.specs.asn1_tokens.declared.scan.Gap.TheVariants.{Between}
+use Rattle.asn1_lexical_laws.specs.asn1_tokens.Scan.{after_gap, lexeme_at}
+use Rattle.asn1_lexical_laws.specs.asn1_tokens.Stream.{Placed, placed, is_last, scan, items_of}
+use Rattle.asn1_lexical_laws.proofs.asn1_tokens.StreamLemmas.{after_gap-le, lexeme-takes, rest-shorter}
 use Rattle.asn1_reading_laws.proofs.Splits.{Apart, same, earlier, later, compare}
 
 -- Each item begins at this octet at the least, or where the one before ends, and takes an octet, if it isn't the last.

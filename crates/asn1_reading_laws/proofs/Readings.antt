@@ -1,11 +1,11 @@
 -- Reading functions and definitions agree.
 use Rattle.std.proofs.Common.{◌≡◌, ℕ, List, ◌∷◌, ◌++◌, refl, ap, ◌∙◌, subst}
 use Rattle.std.specs.Prelude.{Result, Ok, Err}
-use Rattle.asn1_tokens.specs.Stream.{Placed}
-use Rattle.asn1_types.specs.declared.fault.Fault.{Fault}
-use Rattle.asn1_assignments.specs.declared.assignment.Syntax.{Syntax}
-use Rattle.asn1_assignments.specs.Module.{syntax_of}
-use Rattle.asn1_syntax_laws.proofs.Readings.{module_front, wrong_item}
+use Rattle.asn1_lexical_laws.specs.asn1_tokens.Stream.{Placed}
+use Rattle.asn1_value_laws.specs.asn1_types.declared.fault.Fault.{Fault}
+use Rattle.asn1_value_laws.specs.asn1_assignments.declared.assignment.Syntax.{Syntax}
+use Rattle.asn1_value_laws.specs.asn1_assignments.Module.{syntax_of}
+use Rattle.asn1_value_laws.proofs.asn1_syntax_laws.Readings.{module_front, wrong_item}
 use Rattle.asn1_item_laws.proofs.Judged.{fine_to, judged}
 use Rattle.asn1_value_laws.specs.Module.{MeansModule}
 use Rattle.asn1_value_laws.proofs.ModuleTaken.{module_means}

@@ -1,16 +1,16 @@
 -- A text is one module's, or has one first wrong item, never both.
 use Rattle.std.proofs.Common.{◌≡◌, ℕ, List, [], ◌∷◌, ◌++◌, length, reverse, refl, sym, ap, ◌∙◌, subst}
-use Rattle.asn1_tokens.specs.declared.token.Token.{Token}
-use Rattle.asn1_tokens.specs.declared.token.Token.TheVariants as tokens
-use Rattle.asn1_tokens.specs.Stream.{Placed, items_of, is_last}
-use Rattle.asn1_types.specs.declared.fault.ModuleReason.{ModuleReason}
-use Rattle.asn1_types.specs.declared.fault.ModuleReason.TheVariants as reasons
-use Rattle.asn1_types.specs.declared.fault.Fault.{Fault}
-use Rattle.asn1_types.specs.Reading.{reason_of}
-use Rattle.asn1_assignments.specs.declared.assignment.Syntax.{Syntax}
-use Rattle.asn1_syntax_laws.specs.Grammatical as grammar
-use Rattle.asn1_grammar.specs.Open.{tokens_of}
-use Rattle.asn1_syntax_laws.specs.Grammatical.{IsModuleFront, GoesOn, IsWrongItem}
+use Rattle.asn1_lexical_laws.specs.asn1_tokens.declared.token.Token.{Token}
+use Rattle.asn1_lexical_laws.specs.asn1_tokens.declared.token.Token.TheVariants as tokens
+use Rattle.asn1_lexical_laws.specs.asn1_tokens.Stream.{Placed, items_of, is_last}
+use Rattle.asn1_value_laws.specs.asn1_types.declared.fault.ModuleReason.{ModuleReason}
+use Rattle.asn1_value_laws.specs.asn1_types.declared.fault.ModuleReason.TheVariants as reasons
+use Rattle.asn1_value_laws.specs.asn1_types.declared.fault.Fault.{Fault}
+use Rattle.asn1_value_laws.specs.asn1_types.Reading.{reason_of}
+use Rattle.asn1_value_laws.specs.asn1_assignments.declared.assignment.Syntax.{Syntax}
+use Rattle.asn1_value_laws.specs.asn1_syntax_laws.Grammatical as grammar
+use Rattle.asn1_value_laws.specs.asn1_grammar.Open.{tokens_of}
+use Rattle.asn1_value_laws.specs.asn1_syntax_laws.Grammatical.{IsModuleFront, GoesOn, IsWrongItem}
 use Rattle.asn1_item_laws.specs.Fine as judged
 use Rattle.asn1_item_laws.specs.Fine.{passes_bound, is_repeated, IsFine, AreFine, Because, AreFineTo, IsJudged}
 use Rattle.asn1_value_laws.specs.Module.{MeansModule}

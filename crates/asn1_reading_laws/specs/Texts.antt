@@ -1,15 +1,15 @@
 -- Which texts are modules, but for what their names refer to, and what the first wrong item of the others is.
 use Rattle.std.specs.Prelude.{◌≡◌, ℕ, List, [], ◌∷◌, ◌++◌, length, reverse, true, false}
-use Rattle.asn1_tokens.specs.declared.token.Token.{Token}
-use Rattle.asn1_tokens.specs.Stream.{Placed}
+use Rattle.asn1_lexical_laws.specs.asn1_tokens.declared.token.Token.{Token}
+use Rattle.asn1_lexical_laws.specs.asn1_tokens.Stream.{Placed}
 use Rattle.asn1_lexical_laws.specs.Lexical.{AreItems}
-use Rattle.asn1_types.specs.declared.fault.ModuleReason.{ModuleReason}
-use Rattle.asn1_types.specs.declared.fault.ModuleReason.TheVariants.{Bounds, Twice}
-use Rattle.asn1_types.specs.declared.fault.Fault.{Fault}
-use Rattle.asn1_types.specs.Reading.{reason_of}
-use Rattle.asn1_assignments.specs.declared.assignment.Syntax.{Syntax}
-use Rattle.asn1_grammar.specs.Open.{tokens_of, IsModuleText, IsOpen}
-use Rattle.asn1_syntax_laws.specs.Grammatical.{GoesOn}
+use Rattle.asn1_value_laws.specs.asn1_types.declared.fault.ModuleReason.{ModuleReason}
+use Rattle.asn1_value_laws.specs.asn1_types.declared.fault.ModuleReason.TheVariants.{Bounds, Twice}
+use Rattle.asn1_value_laws.specs.asn1_types.declared.fault.Fault.{Fault}
+use Rattle.asn1_value_laws.specs.asn1_types.Reading.{reason_of}
+use Rattle.asn1_value_laws.specs.asn1_assignments.declared.assignment.Syntax.{Syntax}
+use Rattle.asn1_value_laws.specs.asn1_grammar.Open.{tokens_of, IsModuleText, IsOpen}
+use Rattle.asn1_value_laws.specs.asn1_syntax_laws.Grammatical.{GoesOn}
 use Rattle.asn1_item_laws.specs.Fine.{passes_bound, is_repeated, AreFine}
 use Rattle.asn1_value_laws.specs.Module.{MeansModule}
 

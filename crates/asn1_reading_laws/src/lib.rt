@@ -2,9 +2,9 @@
 #![tactic(auto)]
 
 ghost use Rattle.std.specs.Prelude.{◌≡◌, ℕ, List, Ok, Err};
-ghost use Rattle.asn1_types.specs.declared.fault.Fault.{Fault};
-ghost use Rattle.asn1_assignments.specs.declared.assignment.Syntax.{Syntax};
-ghost use Rattle.asn1_assignments.specs.Module.{syntax_of};
+ghost use Rattle.asn1_value_laws.specs.asn1_types.declared.fault.Fault.{Fault};
+ghost use Rattle.asn1_value_laws.specs.asn1_assignments.declared.assignment.Syntax.{Syntax};
+ghost use Rattle.asn1_value_laws.specs.asn1_assignments.Module.{syntax_of};
 ghost use Rattle.asn1_reading_laws.specs.Texts.{IsTextOf, IsFirstWrong};
 
 /// A text is read as a module exactly where it is that module's, and a fault is told exactly of its first wrong item.

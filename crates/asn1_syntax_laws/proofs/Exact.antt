@@ -1,14 +1,14 @@
 -- An item that is told by a number is exactly that item.
 use Rattle.std.proofs.Common.{◌≡◌, ℕ, List, [], ◌∷◌, get_or, true, refl, sym, ap, ◌∙◌}
 use Rattle.std.proofs.lemmas.Bool.{eqb-true}
-use Rattle.asn1_tokens.specs.declared.token.Word.{Word}
-use Rattle.asn1_tokens.specs.declared.token.Word.TheVariants as words
-use Rattle.asn1_tokens.specs.declared.token.Sign.{Sign}
-use Rattle.asn1_tokens.specs.declared.token.Sign.TheVariants as signs
-use Rattle.asn1_tokens.specs.declared.token.Token.{Token}
-use Rattle.asn1_tokens.specs.declared.token.Token.TheVariants as tokens
-use Rattle.asn1_tokens.specs.Words.{word_number, sign_number, is_word, is_sign}
-use Rattle.asn1_types.specs.Reading.{is_word_token, is_sign_token}
+use Rattle.asn1_grammar.specs.asn1_tokens.declared.token.Word.{Word}
+use Rattle.asn1_grammar.specs.asn1_tokens.declared.token.Word.TheVariants as words
+use Rattle.asn1_grammar.specs.asn1_tokens.declared.token.Sign.{Sign}
+use Rattle.asn1_grammar.specs.asn1_tokens.declared.token.Sign.TheVariants as signs
+use Rattle.asn1_grammar.specs.asn1_tokens.declared.token.Token.{Token}
+use Rattle.asn1_grammar.specs.asn1_tokens.declared.token.Token.TheVariants as tokens
+use Rattle.asn1_grammar.specs.asn1_tokens.Words.{word_number, sign_number, is_word, is_sign}
+use Rattle.asn1_assignments.specs.asn1_types.Reading.{is_word_token, is_sign_token}
 
 abbrev all_words : List Word
 all_words = words.Definitions ∷ words.Automatic ∷ words.Tags ∷ words.Begin ∷ words.End ∷ words.Boolean ∷ words.Integer ∷ words.Enumerated ∷ words.Bit ∷ words.Octet ∷ words.String ∷ words.PrintableString ∷ words.Sequence ∷ words.Choice ∷ words.Of ∷ words.Size ∷ words.Optional ∷ words.ProtocolIeContainer ∷ words.ProtocolPdu ∷ words.ProtocolIes ∷ words.ElementaryProcedure ∷ words.Id ∷ words.Criticality ∷ words.Type ∷ words.Presence ∷ words.Initiating ∷ words.Message ∷ words.Successful ∷ words.Unsuccessful ∷ words.Outcome ∷ words.Procedure ∷ words.Code ∷ []

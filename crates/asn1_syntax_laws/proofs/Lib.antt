@@ -8,3 +8,4 @@ pub mod RowSims
 pub mod ModuleSims
 pub mod Streams
 pub mod Readings
+pub use Rattle.asn1_grammar.proofs as asn1_grammar

@@ -1,24 +1,24 @@
 -- The lists in braces.
 use Rattle.std.proofs.Common.{◌≡◌, ℕ, ◌<◌, List, [], ◌∷◌, ◌++◌, length, Bool, true, false, cond, ◌&&◌, refl, sym, ap, ◌∙◌, subst, inl, inr, arith, Option, Some, None}
 use Rattle.std.specs.Prelude.{◌⊎◌, Result, Ok, Err, is_none, nat_le}
-use Rattle.gnb_types.proofs.Choices.{by_test, by_choice}
-use Rattle.asn1_tokens.specs.declared.token.Word.TheVariants as words
-use Rattle.asn1_tokens.specs.declared.token.Sign.TheVariants as signs
-use Rattle.asn1_tokens.specs.declared.token.Token.{Token}
-use Rattle.asn1_tokens.specs.Stream.{Placed, first_token}
-use Rattle.asn1_types.specs.declared.fault.ModuleReason.TheVariants as reasons
-use Rattle.asn1_types.specs.declared.fault.Fault.{Fault}
-use Rattle.asn1_types.specs.declared.definition.Extensible.{Extensible}
-use Rattle.asn1_types.specs.declared.definition.Component.{Component}
-use Rattle.asn1_types.specs.declared.definition.TypeId.{TypeId}
-use Rattle.asn1_types.specs.declared.members.Group.{Group}
-use Rattle.asn1_types.specs.declared.members.Group.TheVariants as groups
-use Rattle.asn1_types.specs.declared.members.Frame.{Frame}
-use Rattle.asn1_types.specs.declared.members.Frame.TheVariants as frames
-use Rattle.asn1_types.specs.declared.members.Head.{Head}
-use Rattle.asn1_types.specs.declared.members.Head.TheVariants as heads
-use Rattle.asn1_types.specs.Reading.{◌>>=◌, Left, fault_at, begins_with, begins_with_sign, sign_at}
-use Rattle.asn1_types.specs.Members.{no_parts, put_part, with_part, extended, can_extend, all_parts, is_full, has_name, has_component, new_name_at, list_goes_on_at, name_entry_at, names_turn_at, names_at, least_members, composed, node, named_at, entry_at, optional_at, component, member_end_at, close_at}
+use Rattle.asn1_assignments.proofs.gnb_types.Choices.{by_test, by_choice}
+use Rattle.asn1_grammar.specs.asn1_tokens.declared.token.Word.TheVariants as words
+use Rattle.asn1_grammar.specs.asn1_tokens.declared.token.Sign.TheVariants as signs
+use Rattle.asn1_grammar.specs.asn1_tokens.declared.token.Token.{Token}
+use Rattle.asn1_grammar.specs.asn1_tokens.Stream.{Placed, first_token}
+use Rattle.asn1_assignments.specs.asn1_types.declared.fault.ModuleReason.TheVariants as reasons
+use Rattle.asn1_assignments.specs.asn1_types.declared.fault.Fault.{Fault}
+use Rattle.asn1_assignments.specs.asn1_types.declared.definition.Extensible.{Extensible}
+use Rattle.asn1_assignments.specs.asn1_types.declared.definition.Component.{Component}
+use Rattle.asn1_assignments.specs.asn1_types.declared.definition.TypeId.{TypeId}
+use Rattle.asn1_assignments.specs.asn1_types.declared.members.Group.{Group}
+use Rattle.asn1_assignments.specs.asn1_types.declared.members.Group.TheVariants as groups
+use Rattle.asn1_assignments.specs.asn1_types.declared.members.Frame.{Frame}
+use Rattle.asn1_assignments.specs.asn1_types.declared.members.Frame.TheVariants as frames
+use Rattle.asn1_assignments.specs.asn1_types.declared.members.Head.{Head}
+use Rattle.asn1_assignments.specs.asn1_types.declared.members.Head.TheVariants as heads
+use Rattle.asn1_assignments.specs.asn1_types.Reading.{◌>>=◌, Left, fault_at, begins_with, begins_with_sign, sign_at}
+use Rattle.asn1_assignments.specs.asn1_types.Members.{no_parts, put_part, with_part, extended, can_extend, all_parts, is_full, has_name, has_component, new_name_at, list_goes_on_at, name_entry_at, names_turn_at, names_at, least_members, composed, node, named_at, entry_at, optional_at, component, member_end_at, close_at}
 use Rattle.asn1_grammar.specs.Grammar.{ALower, TheSign, fits, Part, AType, NextComponent, AfterComponent, AfterAddition, OptionalWord, NextAlternative, AfterAlternative, AfterAlternativeAddition, NextName, AfterName, AfterNameAddition, Symbol, Item, Whole, word, comma, ellipsis, close_brace, productions}
 use Rattle.asn1_grammar.proofs.Predict.{chosen}
 use Rattle.asn1_syntax_laws.proofs.Sim.{Sim, goes, and_then, and_so, first, next, maybe, fits_sign, fits_word, chosen_one, chosen_other, word_sim, sign_sim, lower_sim, weaker, done, expands, misused, part_of, repeat_sim, by_flag}

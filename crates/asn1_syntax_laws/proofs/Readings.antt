@@ -2,13 +2,13 @@
 use Rattle.std.proofs.lemmas.List.{append_assoc}
 use Rattle.std.proofs.Common.{◌≡◌, ℕ, ◌+◌, ◌≤◌, List, [], ◌∷◌, ◌++◌, zero, suc, length, Bool, true, false, cond, refl, sym, ap, ◌∙◌, subst, inl, inr, arith, Option, Some, None}
 use Rattle.std.specs.Prelude.{Result, Ok, Err}
-use Rattle.asn1_tokens.specs.declared.token.Word.TheVariants as words
-use Rattle.asn1_tokens.specs.declared.token.Sign.TheVariants as signs
-use Rattle.asn1_tokens.specs.declared.token.Token.{Token}
-use Rattle.asn1_tokens.specs.Stream.{Placed, items_of, first_token, first_place}
-use Rattle.asn1_types.specs.declared.fault.ModuleReason.{ModuleReason}
-use Rattle.asn1_types.specs.declared.fault.Fault.{Fault}
-use Rattle.asn1_types.specs.Reading.{◌>>=◌, Left, reason_of, begins_with, repeat_at}
+use Rattle.asn1_grammar.specs.asn1_tokens.declared.token.Word.TheVariants as words
+use Rattle.asn1_grammar.specs.asn1_tokens.declared.token.Sign.TheVariants as signs
+use Rattle.asn1_grammar.specs.asn1_tokens.declared.token.Token.{Token}
+use Rattle.asn1_grammar.specs.asn1_tokens.Stream.{Placed, items_of, first_token, first_place}
+use Rattle.asn1_assignments.specs.asn1_types.declared.fault.ModuleReason.{ModuleReason}
+use Rattle.asn1_assignments.specs.asn1_types.declared.fault.Fault.{Fault}
+use Rattle.asn1_assignments.specs.asn1_types.Reading.{◌>>=◌, Left, reason_of, begins_with, repeat_at}
 use Rattle.asn1_assignments.specs.declared.assignment.Syntax.{Syntax}
 use Rattle.asn1_assignments.specs.Module.{Parts, assignment_at, module_turn_at, header_at, no_assignments, assignments_at, syntax_at, syntax_of}
 use Rattle.asn1_grammar.specs.Grammar.{AnUpper, TheWord, fits, Module, Assignments, Symbol, Item, Whole, word, sign, productions}

@@ -1,17 +1,17 @@
 -- The rows of information object sets, and the sets.
 use Rattle.std.proofs.Common.{◌≡◌, ℕ, ◌<◌, List, [], ◌∷◌, length, Bool, true, false, cond, ◌||◌, refl, ap, ◌∙◌, inl, inr, arith, Option, Some, None}
 use Rattle.std.specs.Prelude.{codes, is_some}
-use Rattle.gnb_types.proofs.Choices.{by_choice}
-use Rattle.asn1_tokens.specs.declared.token.Word.{Word}
-use Rattle.asn1_tokens.specs.declared.token.Word.TheVariants as words
-use Rattle.asn1_tokens.specs.declared.token.Sign.TheVariants as signs
-use Rattle.asn1_tokens.specs.declared.token.Token.{Token}
-use Rattle.asn1_tokens.specs.declared.token.Token.TheVariants as tokens
-use Rattle.asn1_tokens.specs.Words.{is_text}
-use Rattle.asn1_tokens.specs.Stream.{Placed, first_token, others}
-use Rattle.asn1_types.specs.declared.fault.ModuleReason.TheVariants as reasons
-use Rattle.asn1_types.specs.declared.definition.Node.{Node}
-use Rattle.asn1_types.specs.Reading.{◌>>=◌, Left, fault_at, begins_with, begins_with_sign, lower_of, lower_at}
+use Rattle.asn1_assignments.proofs.gnb_types.Choices.{by_choice}
+use Rattle.asn1_grammar.specs.asn1_tokens.declared.token.Word.{Word}
+use Rattle.asn1_grammar.specs.asn1_tokens.declared.token.Word.TheVariants as words
+use Rattle.asn1_grammar.specs.asn1_tokens.declared.token.Sign.TheVariants as signs
+use Rattle.asn1_grammar.specs.asn1_tokens.declared.token.Token.{Token}
+use Rattle.asn1_grammar.specs.asn1_tokens.declared.token.Token.TheVariants as tokens
+use Rattle.asn1_grammar.specs.asn1_tokens.Words.{is_text}
+use Rattle.asn1_grammar.specs.asn1_tokens.Stream.{Placed, first_token, others}
+use Rattle.asn1_assignments.specs.asn1_types.declared.fault.ModuleReason.TheVariants as reasons
+use Rattle.asn1_assignments.specs.asn1_types.declared.definition.Node.{Node}
+use Rattle.asn1_assignments.specs.asn1_types.Reading.{◌>>=◌, Left, fault_at, begins_with, begins_with_sign, lower_of, lower_at}
 use Rattle.asn1_assignments.specs.declared.assignment.Criticality.TheVariants as criticalities
 use Rattle.asn1_assignments.specs.declared.assignment.Presence.TheVariants as presences
 use Rattle.asn1_assignments.specs.declared.assignment.IeRow.{IeRow}

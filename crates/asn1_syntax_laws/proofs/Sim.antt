@@ -1,16 +1,16 @@
 -- A reading function takes what the grammar wants, and fails where the grammar does not go on, or at an item with which it does.
 use Rattle.std.proofs.Common.{◌≡◌, ℕ, ◌+◌, ◌≤◌, ◌<◌, List, [], ◌∷◌, ◌++◌, zero, suc, length, Bool, true, false, cond, refl, sym, ap, ◌∙◌, subst, inl, inr, arith, Some, None}
 use Rattle.std.specs.Prelude.{◌⊎◌, Result, Ok, Err}
-use Rattle.gnb_types.proofs.Choices.{by_test, by_choice}
-use Rattle.asn1_tokens.specs.declared.token.Word.{Word}
-use Rattle.asn1_tokens.specs.declared.token.Sign.{Sign}
-use Rattle.asn1_tokens.specs.declared.token.Token.{Token}
-use Rattle.asn1_tokens.specs.declared.token.Token.TheVariants as tokens
-use Rattle.asn1_tokens.specs.Stream.{Placed, first_token, first_place, others}
-use Rattle.asn1_types.specs.declared.fault.ModuleReason.{ModuleReason}
-use Rattle.asn1_types.specs.declared.fault.ModuleReason.TheVariants as reasons
-use Rattle.asn1_types.specs.declared.fault.Fault.{Fault}
-use Rattle.asn1_types.specs.Reading.{◌>>=◌, Left, reason_of, unexpected, is_word_token, is_sign_token, begins_with, begins_with_sign, word_at, sign_at, upper_of, upper_at, lower_of, lower_at, number_of, number_at, repeat_at}
+use Rattle.asn1_assignments.proofs.gnb_types.Choices.{by_test, by_choice}
+use Rattle.asn1_grammar.specs.asn1_tokens.declared.token.Word.{Word}
+use Rattle.asn1_grammar.specs.asn1_tokens.declared.token.Sign.{Sign}
+use Rattle.asn1_grammar.specs.asn1_tokens.declared.token.Token.{Token}
+use Rattle.asn1_grammar.specs.asn1_tokens.declared.token.Token.TheVariants as tokens
+use Rattle.asn1_grammar.specs.asn1_tokens.Stream.{Placed, first_token, first_place, others}
+use Rattle.asn1_assignments.specs.asn1_types.declared.fault.ModuleReason.{ModuleReason}
+use Rattle.asn1_assignments.specs.asn1_types.declared.fault.ModuleReason.TheVariants as reasons
+use Rattle.asn1_assignments.specs.asn1_types.declared.fault.Fault.{Fault}
+use Rattle.asn1_assignments.specs.asn1_types.Reading.{◌>>=◌, Left, reason_of, unexpected, is_word_token, is_sign_token, begins_with, begins_with_sign, word_at, sign_at, upper_of, upper_at, lower_of, lower_at, number_of, number_at, repeat_at}
 use Rattle.asn1_grammar.specs.Grammar.{Terminal, AnUpper, ALower, ANumber, TheWord, TheSign, fits, Part, Symbol, Item, Whole, word, sign}
 use Rattle.asn1_grammar.proofs.Predict.{chosen}
 use Rattle.asn1_grammar.proofs.Steps.{Steps, here, shift, expand, then, IsStuck, at_item, at_part}

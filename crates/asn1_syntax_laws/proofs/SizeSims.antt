@@ -2,13 +2,13 @@
 use Rattle.std.proofs.Common.{◌≡◌, ℕ, ◌-◌, ◌^◌, List, [], ◌∷◌, Bool, true, false, ◌||◌, ◌&&◌, refl, inl, inr, Some, None}
 use Rattle.std.specs.Prelude.{Ok, Err, ℤ, pos}
 use Rattle.std.specs.Int.Signed.{le_z}
-use Rattle.gnb_types.proofs.Choices.{by_test, by_choice}
-use Rattle.asn1_tokens.specs.declared.token.Word.TheVariants as words
-use Rattle.asn1_tokens.specs.declared.token.Sign.TheVariants as signs
-use Rattle.asn1_tokens.specs.Stream.{Placed, first_token}
-use Rattle.asn1_types.specs.declared.fault.ModuleReason.TheVariants as reasons
-use Rattle.asn1_types.specs.Reading.{fault_at, begins_with_sign}
-use Rattle.asn1_types.specs.Sizes.{bounded_at, natural, natural_at, ellipsis_at, size_end_at, least_high, size_rest_at, size_at, optional_size_at, integer_ellipsis_at, integer_least, integer_greatest, greatest_beside, integer_at}
+use Rattle.asn1_assignments.proofs.gnb_types.Choices.{by_test, by_choice}
+use Rattle.asn1_grammar.specs.asn1_tokens.declared.token.Word.TheVariants as words
+use Rattle.asn1_grammar.specs.asn1_tokens.declared.token.Sign.TheVariants as signs
+use Rattle.asn1_grammar.specs.asn1_tokens.Stream.{Placed, first_token}
+use Rattle.asn1_assignments.specs.asn1_types.declared.fault.ModuleReason.TheVariants as reasons
+use Rattle.asn1_assignments.specs.asn1_types.Reading.{fault_at, begins_with_sign}
+use Rattle.asn1_assignments.specs.asn1_types.Sizes.{bounded_at, natural, natural_at, ellipsis_at, size_end_at, least_high, size_rest_at, size_at, optional_size_at, integer_ellipsis_at, integer_least, integer_greatest, greatest_beside, integer_at}
 use Rattle.asn1_grammar.specs.Grammar.{ANumber, Mark, OptionalSize, HighSize, Symbol, Item, Whole, sign, size, comma, ellipsis, open_bracket, close_bracket, productions}
 use Rattle.asn1_grammar.proofs.Predict.{chosen}
 use Rattle.asn1_grammar.proofs.Steps.{here}

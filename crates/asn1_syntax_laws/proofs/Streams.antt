@@ -1,11 +1,11 @@
 -- The items of a text end with the first that no module goes on with.
 use Rattle.std.proofs.Common.{◌≡◌, ℕ, ◌+◌, ◌≤◌, ◌<◌, List, [], ◌∷◌, zero, suc, length, Bool, true, false, cond, refl, arith}
-use Rattle.asn1_tokens.specs.declared.token.Token.{Token}
-use Rattle.asn1_tokens.specs.declared.token.Token.TheVariants as tokens
-use Rattle.asn1_tokens.specs.declared.scan.Gap.TheVariants.{Between}
-use Rattle.asn1_tokens.specs.Scan.{after_gap, lexeme_at}
-use Rattle.asn1_tokens.specs.Stream.{Placed, placed, is_last, scan, items_of, first_token, others}
-use Rattle.asn1_tokens.proofs.StreamLemmas.{rest-shorter}
+use Rattle.asn1_grammar.specs.asn1_tokens.declared.token.Token.{Token}
+use Rattle.asn1_grammar.specs.asn1_tokens.declared.token.Token.TheVariants as tokens
+use Rattle.asn1_grammar.specs.asn1_tokens.declared.scan.Gap.TheVariants.{Between}
+use Rattle.asn1_grammar.specs.asn1_tokens.Scan.{after_gap, lexeme_at}
+use Rattle.asn1_grammar.specs.asn1_tokens.Stream.{Placed, placed, is_last, scan, items_of, first_token, others}
+use Rattle.asn1_grammar.proofs.asn1_tokens.StreamLemmas.{rest-shorter}
 use Rattle.asn1_grammar.specs.Grammar.{Terminal, fits, Symbol}
 use Rattle.asn1_grammar.proofs.Steps.{Steps, here, shift, expand}
 

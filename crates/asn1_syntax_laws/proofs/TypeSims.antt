@@ -1,26 +1,26 @@
 -- Types, with those inside them.
 use Rattle.std.proofs.Common.{◌≡◌, ℕ, ◌≤◌, ◌<◌, List, [], ◌∷◌, ◌++◌, zero, suc, length, Bool, true, false, cond, refl, sym, ap, ◌∙◌, subst, arith, Option, Some, None}
 use Rattle.std.specs.Prelude.{Result}
-use Rattle.gnb_types.proofs.Choices.{by_choice}
-use Rattle.asn1_tokens.specs.declared.token.Word.{Word}
-use Rattle.asn1_tokens.specs.declared.token.Word.TheVariants as words
-use Rattle.asn1_tokens.specs.declared.token.Sign.TheVariants as signs
-use Rattle.asn1_tokens.specs.declared.token.Token.{Token}
-use Rattle.asn1_tokens.specs.declared.token.Token.TheVariants as tokens
-use Rattle.asn1_tokens.specs.Stream.{Placed, first_token, first_place}
-use Rattle.asn1_types.specs.declared.fault.Fault.{Fault}
-use Rattle.asn1_types.specs.declared.definition.TypeId.{TypeId}
-use Rattle.asn1_types.specs.declared.definition.Node.{Node}
-use Rattle.asn1_types.specs.declared.definition.Definition.{Definition}
-use Rattle.asn1_types.specs.declared.definition.Definition.TheVariants as types
-use Rattle.asn1_types.specs.declared.members.Group.TheVariants as groups
-use Rattle.asn1_types.specs.declared.members.Frame.{Frame}
-use Rattle.asn1_types.specs.declared.members.Frame.TheVariants as frames
-use Rattle.asn1_types.specs.declared.members.Head.{Head}
-use Rattle.asn1_types.specs.declared.members.Head.TheVariants as heads
-use Rattle.asn1_types.specs.Reading.{Left, word_in, begins_with_sign}
-use Rattle.asn1_types.specs.Members.{no_parts, node}
-use Rattle.asn1_types.specs.Types.{enumerated_at, bit_string_at, octet_string_at, printable_string_at, simple_rest_at, is_simple, simple_at, list_head_at, components_head_at, sequence_head_at, choice_head_at, set_name_at, container_at, pdu_at, reference_at, head_by, head_at, Risen, risen, rise_at, type_turn_at, type_goes_on, type_within_at, type_at}
+use Rattle.asn1_assignments.proofs.gnb_types.Choices.{by_choice}
+use Rattle.asn1_grammar.specs.asn1_tokens.declared.token.Word.{Word}
+use Rattle.asn1_grammar.specs.asn1_tokens.declared.token.Word.TheVariants as words
+use Rattle.asn1_grammar.specs.asn1_tokens.declared.token.Sign.TheVariants as signs
+use Rattle.asn1_grammar.specs.asn1_tokens.declared.token.Token.{Token}
+use Rattle.asn1_grammar.specs.asn1_tokens.declared.token.Token.TheVariants as tokens
+use Rattle.asn1_grammar.specs.asn1_tokens.Stream.{Placed, first_token, first_place}
+use Rattle.asn1_assignments.specs.asn1_types.declared.fault.Fault.{Fault}
+use Rattle.asn1_assignments.specs.asn1_types.declared.definition.TypeId.{TypeId}
+use Rattle.asn1_assignments.specs.asn1_types.declared.definition.Node.{Node}
+use Rattle.asn1_assignments.specs.asn1_types.declared.definition.Definition.{Definition}
+use Rattle.asn1_assignments.specs.asn1_types.declared.definition.Definition.TheVariants as types
+use Rattle.asn1_assignments.specs.asn1_types.declared.members.Group.TheVariants as groups
+use Rattle.asn1_assignments.specs.asn1_types.declared.members.Frame.{Frame}
+use Rattle.asn1_assignments.specs.asn1_types.declared.members.Frame.TheVariants as frames
+use Rattle.asn1_assignments.specs.asn1_types.declared.members.Head.{Head}
+use Rattle.asn1_assignments.specs.asn1_types.declared.members.Head.TheVariants as heads
+use Rattle.asn1_assignments.specs.asn1_types.Reading.{Left, word_in, begins_with_sign}
+use Rattle.asn1_assignments.specs.asn1_types.Members.{no_parts, node}
+use Rattle.asn1_assignments.specs.asn1_types.Types.{enumerated_at, bit_string_at, octet_string_at, printable_string_at, simple_rest_at, is_simple, simple_at, list_head_at, components_head_at, sequence_head_at, choice_head_at, set_name_at, container_at, pdu_at, reference_at, head_by, head_at, Risen, risen, rise_at, type_turn_at, type_goes_on, type_within_at, type_at}
 use Rattle.asn1_grammar.specs.Grammar.{AnUpper, ALower, ANumber, TheWord, fits, AType, FirstComponent, AfterAddition, OptionalSize, SequenceRest, Mark, AfterName, AfterAlternative, Symbol, Item, Whole, word, sign, size, set_name, ellipsis, open_brace, close_brace, open_bracket, close_bracket, productions}
 use Rattle.asn1_grammar.proofs.Predict.{chosen}
 use Rattle.asn1_grammar.proofs.Steps.{at_part}

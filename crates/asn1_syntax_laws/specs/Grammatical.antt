@@ -1,11 +1,11 @@
 -- What the grammar says of a text: where its module ends, and what is wrong with its first wrong item.
 use Rattle.std.specs.Prelude.{◌≡◌, ℕ, List, [], ◌∷◌, ◌++◌}
-use Rattle.asn1_tokens.specs.declared.token.Token.{Token}
-use Rattle.asn1_tokens.specs.Stream.{Placed, items_of}
-use Rattle.asn1_types.specs.declared.fault.ModuleReason.{ModuleReason}
-use Rattle.asn1_types.specs.declared.fault.ModuleReason.TheVariants.{Bounds, Twice}
-use Rattle.asn1_types.specs.declared.fault.Fault.{Fault}
-use Rattle.asn1_types.specs.Reading.{reason_of}
+use Rattle.asn1_grammar.specs.asn1_tokens.declared.token.Token.{Token}
+use Rattle.asn1_grammar.specs.asn1_tokens.Stream.{Placed, items_of}
+use Rattle.asn1_assignments.specs.asn1_types.declared.fault.ModuleReason.{ModuleReason}
+use Rattle.asn1_assignments.specs.asn1_types.declared.fault.ModuleReason.TheVariants.{Bounds, Twice}
+use Rattle.asn1_assignments.specs.asn1_types.declared.fault.Fault.{Fault}
+use Rattle.asn1_assignments.specs.asn1_types.Reading.{reason_of}
 use Rattle.asn1_grammar.specs.Open.{tokens_of, IsModuleText, IsOpen}
 
 -- the items of the text up to this octet, each as long as it can be in the whole text, are a module's

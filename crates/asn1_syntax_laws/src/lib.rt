@@ -2,7 +2,7 @@
 #![tactic(auto)]
 
 ghost use Rattle.std.specs.Prelude.{◌≡◌, ℕ, List, Ok, Err};
-ghost use Rattle.asn1_types.specs.declared.fault.Fault.{Fault};
+ghost use Rattle.asn1_assignments.specs.asn1_types.declared.fault.Fault.{Fault};
 ghost use Rattle.asn1_assignments.specs.declared.assignment.Syntax.{Syntax};
 ghost use Rattle.asn1_assignments.specs.Module.{syntax_of};
 ghost use Rattle.asn1_syntax_laws.specs.Grammatical.{IsModuleFront, IsWrongItem};

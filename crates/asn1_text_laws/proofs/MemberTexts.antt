@@ -21,7 +21,7 @@ use Rattle.asn1_types.specs.declared.members.Head.TheVariants as heads
 use Rattle.asn1_types.specs.Reading.{Left, begins_with, begins_with_sign, repeat_at}
 use Rattle.asn1_types.specs.Members.{no_parts, put_part, with_part, extended, can_extend, all_parts, is_full, has_name, has_component, new_name_at, list_goes_on_at, name_entry_at, names_turn_at, names_at, least_members, composed, node, named_at, entry_at, optional_at, component, member_end_at, close_at}
 use Rattle.asn1_text_laws.specs.Written.{Written, word, sign, lower, separated, addition_entries, entries_of, type_text, optional_text, component_text, optional_size_text, definition_text}
-use Rattle.asn1_syntax_laws.proofs.Gives.{Gives, ok, no_value, and_gives, and_parts}
+use Rattle.asn1_syntax_laws.proofs.Gives.{Gives, ok, no_value, and_gives, and_parts, Next, repeat_gives}
 use Rattle.asn1_text_laws.proofs.Taken.{Taken, ◌then◌, nothing_taken, written_as, word_gives, sign_gives, lower_gives}
 
 pub new_name_gives : (taken : List ℕ → Bool) (full : Bool) (ts : List Placed) → Gives (λ (a : List ℕ × Left). Taken (lower a.0) ts a.1) (new_name_at taken full ts)
@@ -85,18 +85,6 @@ unfolding name_entry_at
 name_entry_gives names ts = by_choice (Gives (Entered names ts)) (can_extend 1 names && begins_with_sign signs.Ellipsis ts) _ _
     (λ h. and_gives (sign_gives signs.Ellipsis ts) (λ a t. ok (sign signs.Ellipsis, entries_extended lower names (and_parts _ _ (and_parts _ _ h).0).0, t)))
     (λ h. and_gives (new_name_gives (λ name. has_name name (all_parts names)) (is_full names) ts) (λ name t. ok (lower name.0, entries_put lower names name.0, t)))
-
--- turns that each go on from one state to another, or end
-abbrev pub Next : {S : Type 0} → (S → Left → Type 0) → (S → Left → Type 0) → Bool × S × Left → Type 0
-Next P Q a = (a.0 ≡ true → P a.1 a.2) × (a.0 ≡ false → Q a.1 a.2)
-
-pub repeat_gives : {S : Type 0} (turn : S → Left → Result (Bool × S × Left) Fault) (P Q : S → Left → Type 0) → ((state : S) (ts : Left) → P state ts → Gives (Next P Q) (turn state ts)) → (turns : ℕ) (state : S) (ts : Left) → P state ts → Gives (λ (a : S × Left). Q a.0 a.1) (repeat_at turn turns state ts)
-unfolding repeat_at
-repeat_gives turn P Q step zero state ts p = no_value
-repeat_gives turn P Q step (suc turns) state ts p = and_gives (step state ts p) (λ t later.
-    by_choice (Gives (λ (a : _ × Left). Q a.0 a.1)) t.0 (repeat_at turn turns t.1 t.2) (Ok (t.1, t.2))
-    (λ h. repeat_gives turn P Q step turns t.1 t.2 (later.0 h))
-    (λ h. ok (later.1 h)))
 
 -- the entries so far were taken, each with its comma; or all, with the brace
 abbrev pub SoFar : Written → List Placed → List Written → List Placed → Type 0

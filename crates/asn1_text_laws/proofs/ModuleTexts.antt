@@ -17,10 +17,9 @@ use Rattle.asn1_assignments.specs.Module.{Parts, has_all_types, is_assigned, new
 use Rattle.asn1_module.specs.Links.{AreOrdered}
 use Rattle.asn1_module.proofs.RowLinks.{linked}
 use Rattle.asn1_text_laws.specs.Written.{Written, upper, texts_of, body_text, assignment_text, assignments_text, header_text, IsWrittenSo}
-use Rattle.asn1_syntax_laws.proofs.Gives.{Gives, ok, no_value, and_gives}
+use Rattle.asn1_syntax_laws.proofs.Gives.{Gives, ok, no_value, and_gives, Next, repeat_gives}
 use Rattle.asn1_syntax_laws.proofs.Exact.{a_word}
 use Rattle.asn1_text_laws.proofs.Taken.{Taken, ◌then◌, nothing_taken, written_as, word_gives, sign_gives, upper_gives}
-use Rattle.asn1_text_laws.proofs.MemberTexts.{Next, repeat_gives}
 use Rattle.asn1_text_laws.proofs.TypeTexts.{Grows, grows_then, grows_not, type_gives}
 use Rattle.asn1_text_laws.proofs.RowTexts.{ie_set_gives, procedure_set_gives}
 

@@ -23,10 +23,10 @@ use Rattle.asn1_assignments.specs.Rows.{new_number_at, found_or, criticality_of,
 use Rattle.asn1_assignments.specs.Sets.{set_goes_on_at, Rows, rows_with, ie_turn_at, procedure_turn_at, set_start_at, ie_set_at, procedure_set_at}
 use Rattle.asn1_module.specs.Links.{AreOrdered}
 use Rattle.asn1_text_laws.specs.Written.{Written, word, sign, natural, lower, separated, type_text, texts_of, criticality_name, presence_name, ie_row_text, outcome_text, procedure_row_text, rows_text}
-use Rattle.asn1_syntax_laws.proofs.Gives.{Gives, ok, no_value, and_gives, gives_so, and_parts}
+use Rattle.asn1_syntax_laws.proofs.Gives.{Gives, ok, no_value, and_gives, gives_so, and_parts, Next, repeat_gives}
 use Rattle.asn1_text_laws.proofs.Taken.{Taken, ◌then◌, nothing_taken, written_as, word_gives, sign_gives, lower_gives}
 use Rattle.asn1_text_laws.proofs.SizeTexts.{natural_gives}
-use Rattle.asn1_text_laws.proofs.MemberTexts.{each_with, with_sign, with_last, Next, repeat_gives}
+use Rattle.asn1_text_laws.proofs.MemberTexts.{each_with, with_sign, with_last}
 use Rattle.asn1_text_laws.proofs.TypeTexts.{Grows, grows_then, grows_not, type_gives}
 
 pointwise_same : (a b : List ℕ) → pointwise nat_eq a b ≡ true → a ≡ b

@@ -12,7 +12,7 @@ use std::alloc::Global;
 
 /// Where a byte stands that belongs to no lexical item: between comments, at the second hyphen of a comment's mark,
 /// inside the comment, or at the second hyphen of the mark that ends it.
-#[derive(Clone, Copy, Debug, PartialEq, Eq)]
+#[derive(Clone, Copy, PartialEq, Eq)]
 pub enum Gap {
     Between,
     Opens,

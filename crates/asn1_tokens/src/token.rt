@@ -3,7 +3,7 @@
 use gnb_types::octets::Octets;
 
 /// The reserved words of the grammar (X.680, 12.38), with those of its two parameterised types and of its object sets.
-#[derive(Clone, Copy, Debug, PartialEq, Eq)]
+#[derive(Clone, Copy, PartialEq, Eq)]
 pub enum Word {
     Definitions,
     Automatic,
@@ -40,7 +40,7 @@ pub enum Word {
 }
 
 /// The signs of the grammar.
-#[derive(Clone, Copy, Debug, PartialEq, Eq)]
+#[derive(Clone, Copy, PartialEq, Eq)]
 pub enum Sign {
     /// `::=`
     Assignment,
@@ -58,7 +58,7 @@ pub enum Sign {
 }
 
 /// A lexical item, or what stands where there is none.
-#[derive(Debug, Drop)]
+#[derive(Drop)]
 pub enum Token {
     /// A name that begins with an upper-case letter: a type reference, module reference or set reference.
     Upper(Octets),
@@ -77,7 +77,7 @@ pub enum Token {
 }
 
 /// Where a lexical item stands in the text, from its first octet to that behind its last one, counted from 0.
-#[derive(Clone, Copy, Debug, PartialEq, Eq)]
+#[derive(Clone, Copy, PartialEq, Eq)]
 pub struct Place {
     pub start: usize,
     pub end: usize,

@@ -4,14 +4,14 @@ use crate::items::Items;
 use gnb_types::octets::Octets;
 
 /// A type, by its number in the module's list of types: those that stand inside another one have numbers too.
-#[derive(Clone, Copy, Debug, PartialEq, Eq)]
+#[derive(Clone, Copy, PartialEq, Eq)]
 pub struct TypeId {
     pub number: usize,
 }
 
 /// How many bits, octets, characters or members a value has; with `extensible` it may have another number too
 /// (X.680, 51.5).
-#[derive(Clone, Copy, Debug, PartialEq, Eq)]
+#[derive(Clone, Copy, PartialEq, Eq)]
 pub struct Size {
     pub low: u32,
     pub high: u32,
@@ -19,14 +19,14 @@ pub struct Size {
 }
 
 /// The parts of a type that `...` may extend: those of its root, and with `...` the additions that follow it.
-#[derive(Debug, Drop)]
+#[derive(Drop)]
 pub struct Extensible<T> {
     pub root: Items<T>,
     pub additions: Option<Items<T>>,
 }
 
 /// A component of a SEQUENCE, or an alternative of a CHOICE, which is never optional.
-#[derive(Debug, Drop)]
+#[derive(Drop)]
 pub struct Component {
     pub name: Octets,
     pub definition: TypeId,
@@ -34,7 +34,7 @@ pub struct Component {
 }
 
 /// A type.
-#[derive(Debug, Drop)]
+#[derive(Drop)]
 pub enum Definition {
     Boolean,
     Integer {
@@ -61,7 +61,7 @@ pub enum Definition {
 }
 
 /// A type, and the offset in the text of the name that it refers by; for a type that refers to none, of its first word.
-#[derive(Debug, Drop)]
+#[derive(Drop)]
 pub struct Node {
     pub definition: Definition,
     pub place: usize,

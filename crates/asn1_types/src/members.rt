@@ -2,16 +2,17 @@
 
 ghost use Rattle.std.specs.Prelude.{◌≡◌, ◌++◌};
 ghost use Rattle.asn1_types.specs.Reading.{Gives};
-ghost use Rattle.asn1_types.specs.Members.{all_parts, has_component, least_members, composed, node, named_at, entry_at, optional_at, member_end_at, close_at};
+ghost use Rattle.asn1_types.specs.Members.{all_parts, has_component, least_members, composed, node, new_name_at, named_at, is_full, entry_at, optional_at, member_end_at, close_at};
 
 use crate::definition::{Component, Definition, Extensible, Node, Size, TypeId};
 use crate::fault::{ModuleReason, ReadError};
 use crate::reader::Reader;
 use asn1_tokens::{Sign, Word, is_text};
 use gnb_types::octets::Octets;
+use results::beside;
 
 /// What a list of members belongs to.
-#[derive(Clone, Copy, Debug, PartialEq, Eq)]
+#[derive(Clone, Copy, PartialEq, Eq)]
 pub enum Group {
     Sequence,
     Choice,
@@ -90,15 +91,11 @@ impl Group {
 }
 
 impl<'a> Reader<'a> {
-    /// Takes the name of a member; its type follows.
-    #[tactic(auto, unfolding(crate::specs::Members::named_at, crate::specs::Members::new_name_at))]
-    fn named(
-        &mut self,
-        group: Group,
-        members: Extensible<Component>,
-        place: usize,
-    ) -> Result<Head, ReadError>
-        ensures { Gives (λ head. (head, self.new)) result (named_at group members place self.old) }
+    /// Takes the name of a member that follows these.
+    #[tactic(auto, unfolding(crate::specs::Members::new_name_at))]
+    fn new_name(&mut self, members: &Extensible<Component>) -> Result<Octets, ReadError>
+        ensures { Gives (λ name. (name, self.new)) result
+            (new_name_at (λ name. has_component name (all_parts members.now)) (is_full members.now) self.old) }
     {
         let bounds = self.fault(ModuleReason::Bounds);
         let twice = self.fault(ModuleReason::Twice);
@@ -109,6 +106,20 @@ impl<'a> Reader<'a> {
         if members.has_name(name.as_slice()) {
             return Err(ReadError::Fault(twice));
         }
+        Ok(name)
+    }
+
+    /// Takes the name of a member; its type follows.
+    #[tactic(auto, unfolding(crate::specs::Members::named_at))]
+    fn named(
+        &mut self,
+        group: Group,
+        members: Extensible<Component>,
+        place: usize,
+    ) -> Result<Head, ReadError>
+        ensures { Gives (λ head. (head, self.new)) result (named_at group members place self.old) }
+    {
+        let (name, members) = beside(self.new_name(&members), members)?;
         Ok(Head::Opens(Frame::Member {
             group,
             members,
@@ -122,7 +133,7 @@ impl<'a> Reader<'a> {
     pub fn entry(
         &mut self,
         group: Group,
-        mut members: Extensible<Component>,
+        members: Extensible<Component>,
         place: usize,
     ) -> Result<Head, ReadError>
         ensures { Gives (λ head. (head, self.new)) result (entry_at group members place self.old) }
@@ -130,12 +141,14 @@ impl<'a> Reader<'a> {
         if !(members.can_extend(group.least_members()) && self.begins_with_sign(Sign::Ellipsis)) {
             return self.named(group, members, place);
         }
-        self.sign(Sign::Ellipsis)?;
+        let (_, mut members) = beside(self.sign(Sign::Ellipsis), members)?;
         members.extend(self.alloc());
-        if !self.list_goes_on()? {
-            return Ok(group.composed(members, place));
+        let (more, members) = beside(self.list_goes_on(), members)?;
+        if more {
+            self.named(group, members, place)
+        } else {
+            Ok(group.composed(members, place))
         }
-        self.named(group, members, place)
     }
 
     /// Takes the word OPTIONAL where it stands behind a component, and answers whether it does.
@@ -158,20 +171,21 @@ impl<'a> Reader<'a> {
     fn member_end(
         &mut self,
         group: Group,
-        mut members: Extensible<Component>,
+        members: Extensible<Component>,
         name: Octets,
         place: usize,
         definition: TypeId,
     ) -> Result<Head, ReadError>
         ensures { Gives (λ head. (head, self.new)) result (member_end_at group members name place definition self.old) }
     {
-        let optional = self.optional(group)?;
-        let more = self.list_goes_on()?;
-        members.put(Component {
+        let (optional, (members, name)) = beside(self.optional(group), (members, name))?;
+        let (more, (mut members, name)) = beside(self.list_goes_on(), (members, name))?;
+        let put = members.put(Component {
             name,
             definition,
             optional,
-        })?;
+        });
+        let (_, members) = beside(put, members)?;
         if more {
             self.entry(group, members, place)
         } else {

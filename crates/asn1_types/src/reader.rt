@@ -114,7 +114,7 @@ impl<'a> Reader<'a> {
         if !self.begins_with(word) {
             return Err(self.unexpected());
         }
-        self.tokens.advance(self.alloc)?;
+        drop(self.tokens.advance(self.alloc)?);
         Ok(())
     }
 
@@ -126,7 +126,7 @@ impl<'a> Reader<'a> {
         if !self.begins_with_sign(sign) {
             return Err(self.unexpected());
         }
-        self.tokens.advance(self.alloc)?;
+        drop(self.tokens.advance(self.alloc)?);
         Ok(())
     }
 
@@ -167,7 +167,7 @@ impl<'a> Reader<'a> {
             return Err(self.unexpected());
         };
         let value = *value;
-        self.tokens.advance(self.alloc)?;
+        drop(self.tokens.advance(self.alloc)?);
         Ok(value)
     }
 }

@@ -121,12 +121,11 @@ impl<'a> Reader<'a> {
     fn components_head(&mut self, place: usize) -> Result<Head, ReadError>
         ensures { Gives (λ head. (head, self.new)) result (components_head_at place self.old) }
     {
-        let none = Extensible::new(self.alloc());
         if !self.begins_with_sign(Sign::RightBrace) {
-            return self.entry(Group::Sequence, none, place);
+            return self.entry(Group::Sequence, Extensible::new(self.alloc()), place);
         }
         self.sign(Sign::RightBrace)?;
-        let definition = Definition::Sequence(none);
+        let definition = Definition::Sequence(Extensible::new(self.alloc()));
         Ok(Head::Leaf(Node { definition, place }))
     }
 
@@ -150,8 +149,7 @@ impl<'a> Reader<'a> {
         let place = self.place();
         self.word(Word::Choice)?;
         self.sign(Sign::LeftBrace)?;
-        let none = Extensible::new(self.alloc());
-        self.entry(Group::Choice, none, place)
+        self.entry(Group::Choice, Extensible::new(self.alloc()), place)
     }
 
     /// Takes the name of a set in its braces, and answers it with its place.

@@ -1,21 +1,21 @@
 -- What the beginnings of types mean that were read.
 use Rattle.std.proofs.Common.{ℕ, List, true, false, cond, Option, Some, None}
 use Rattle.gnb_types.proofs.Choices.{by_choice}
-use Rattle.asn1_tokens.specs.declared.token.Word.{Word}
-use Rattle.asn1_tokens.specs.declared.token.Word.TheVariants as words
-use Rattle.asn1_tokens.specs.declared.token.Sign.TheVariants as signs
-use Rattle.asn1_tokens.specs.declared.token.Token.TheVariants as tokens
-use Rattle.asn1_types.specs.declared.definition.Size.{Size}
-use Rattle.asn1_types.specs.declared.definition.TypeId.{TypeId}
-use Rattle.asn1_types.specs.declared.definition.Definition.{Definition}
-use Rattle.asn1_types.specs.declared.definition.Node.{Node}
-use Rattle.asn1_types.specs.declared.members.Group.TheVariants as groups
-use Rattle.asn1_types.specs.declared.members.Frame.TheVariants as frames
-use Rattle.asn1_types.specs.declared.members.Head.TheVariants as heads
-use Rattle.asn1_types.specs.Reading.{◌>>=◌, Left, first_word, begins_with_sign, sign_at}
-use Rattle.asn1_types.specs.Sizes.{integer_least, integer_greatest, greatest_beside, integer_at}
-use Rattle.asn1_types.specs.Members.{no_parts, node}
-use Rattle.asn1_types.specs.Types.{enumerated_at, bit_string_at, octet_string_at, printable_string_at, simple_rest_at, is_simple, simple_at, list_head_at, components_head_at, sequence_head_at, choice_head_at, container_at, pdu_at, reference_at, head_by, head_at}
+use Rattle.asn1_syntax_laws.specs.asn1_tokens.declared.token.Word.{Word}
+use Rattle.asn1_syntax_laws.specs.asn1_tokens.declared.token.Word.TheVariants as words
+use Rattle.asn1_syntax_laws.specs.asn1_tokens.declared.token.Sign.TheVariants as signs
+use Rattle.asn1_syntax_laws.specs.asn1_tokens.declared.token.Token.TheVariants as tokens
+use Rattle.asn1_syntax_laws.specs.asn1_types.declared.definition.Size.{Size}
+use Rattle.asn1_syntax_laws.specs.asn1_types.declared.definition.TypeId.{TypeId}
+use Rattle.asn1_syntax_laws.specs.asn1_types.declared.definition.Definition.{Definition}
+use Rattle.asn1_syntax_laws.specs.asn1_types.declared.definition.Node.{Node}
+use Rattle.asn1_syntax_laws.specs.asn1_types.declared.members.Group.TheVariants as groups
+use Rattle.asn1_syntax_laws.specs.asn1_types.declared.members.Frame.TheVariants as frames
+use Rattle.asn1_syntax_laws.specs.asn1_types.declared.members.Head.TheVariants as heads
+use Rattle.asn1_syntax_laws.specs.asn1_types.Reading.{◌>>=◌, Left, first_word, begins_with_sign, sign_at}
+use Rattle.asn1_syntax_laws.specs.asn1_types.Sizes.{integer_least, integer_greatest, greatest_beside, integer_at}
+use Rattle.asn1_syntax_laws.specs.asn1_types.Members.{no_parts, node}
+use Rattle.asn1_syntax_laws.specs.asn1_types.Types.{enumerated_at, bit_string_at, octet_string_at, printable_string_at, simple_rest_at, is_simple, simple_at, list_head_at, components_head_at, sequence_head_at, choice_head_at, container_at, pdu_at, reference_at, head_by, head_at}
 use Rattle.asn1_syntax_laws.proofs.Gives.{Gives, ok, no_value, and_gives, gives_so}
 use Rattle.asn1_value_laws.specs.Items.{The, start_of, OptionalSize, sized, unsized}
 use Rattle.asn1_value_laws.specs.Types.{Plain, boolean, integer, enumerated, bit_string, octet_string, printable_string, ie_container, pdu, AType, Behind, Means, reference, worded, plain, sequence_of, empty_sequence, sequence, choice}

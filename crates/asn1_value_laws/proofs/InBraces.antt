@@ -1,12 +1,12 @@
 -- Lists in braces, with `...`: where some parts are read, what follows joins them.
 use Rattle.std.proofs.Common.{◌≡◌, ℕ, List, [], ◌∷◌, ◌++◌, true, Option, Some, None, subst, sym}
 use Rattle.std.proofs.lemmas.List.{append_assoc, append-nil}
-use Rattle.asn1_tokens.specs.declared.token.Sign.TheVariants as signs
-use Rattle.asn1_tokens.specs.declared.token.Token.TheVariants as tokens
-use Rattle.asn1_types.specs.declared.definition.Extensible.{Extensible}
-use Rattle.asn1_types.specs.declared.definition.Node.{Node}
-use Rattle.asn1_types.specs.Reading.{Left}
-use Rattle.asn1_types.specs.Members.{no_parts, put_part, with_part, extended, can_extend}
+use Rattle.asn1_syntax_laws.specs.asn1_tokens.declared.token.Sign.TheVariants as signs
+use Rattle.asn1_syntax_laws.specs.asn1_tokens.declared.token.Token.TheVariants as tokens
+use Rattle.asn1_syntax_laws.specs.asn1_types.declared.definition.Extensible.{Extensible}
+use Rattle.asn1_syntax_laws.specs.asn1_types.declared.definition.Node.{Node}
+use Rattle.asn1_syntax_laws.specs.asn1_types.Reading.{Left}
+use Rattle.asn1_syntax_laws.specs.asn1_types.Members.{no_parts, put_part, with_part, extended, can_extend}
 use Rattle.asn1_value_laws.specs.Items.{The}
 
 -- what items mean, from some types to more

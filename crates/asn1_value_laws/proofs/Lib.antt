@@ -11,3 +11,5 @@ pub mod TypeTaken
 pub mod RowTaken
 pub mod SetTaken
 pub mod ModuleTaken
+pub use Rattle.asn1_syntax_laws.proofs as asn1_syntax_laws
+pub use Rattle.asn1_syntax_laws.proofs.asn1_grammar as asn1_grammar

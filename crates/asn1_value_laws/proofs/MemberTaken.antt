@@ -2,25 +2,25 @@
 use Rattle.std.proofs.Common.{◌≡◌, ℕ, List, Bool, true, false, cond, ◌&&◌, Option}
 use Rattle.std.specs.Prelude.{Result, Ok}
 use Rattle.gnb_types.proofs.Choices.{by_choice}
-use Rattle.asn1_tokens.specs.declared.token.Word.TheVariants as words
-use Rattle.asn1_tokens.specs.declared.token.Sign.TheVariants as signs
-use Rattle.asn1_tokens.specs.declared.token.Token.TheVariants as tokens
-use Rattle.asn1_types.specs.declared.fault.Fault.{Fault}
-use Rattle.asn1_types.specs.declared.definition.Size.{Size}
-use Rattle.asn1_types.specs.declared.definition.TypeId.{TypeId}
-use Rattle.asn1_types.specs.declared.definition.Component.{Component}
-use Rattle.asn1_types.specs.declared.definition.Extensible.{Extensible}
-use Rattle.asn1_types.specs.declared.definition.Definition.TheVariants as types
-use Rattle.asn1_types.specs.declared.definition.Node.{Node}
-use Rattle.asn1_types.specs.declared.members.Group.{Group}
-use Rattle.asn1_types.specs.declared.members.Group.TheVariants as groups
-use Rattle.asn1_types.specs.declared.members.Frame.{Frame}
-use Rattle.asn1_types.specs.declared.members.Frame.TheVariants as frames
-use Rattle.asn1_types.specs.declared.members.Head.{Head}
-use Rattle.asn1_types.specs.declared.members.Head.TheVariants as heads
-use Rattle.asn1_types.specs.Reading.{Left, begins_with, begins_with_sign}
-use Rattle.asn1_types.specs.Members.{no_parts, with_part, extended, can_extend, all_parts, is_full, has_component, least_members, composed, node, named_at, entry_at, optional_at, component, member_end_at, close_at}
-use Rattle.asn1_types.specs.Types.{next_id}
+use Rattle.asn1_syntax_laws.specs.asn1_tokens.declared.token.Word.TheVariants as words
+use Rattle.asn1_syntax_laws.specs.asn1_tokens.declared.token.Sign.TheVariants as signs
+use Rattle.asn1_syntax_laws.specs.asn1_tokens.declared.token.Token.TheVariants as tokens
+use Rattle.asn1_syntax_laws.specs.asn1_types.declared.fault.Fault.{Fault}
+use Rattle.asn1_syntax_laws.specs.asn1_types.declared.definition.Size.{Size}
+use Rattle.asn1_syntax_laws.specs.asn1_types.declared.definition.TypeId.{TypeId}
+use Rattle.asn1_syntax_laws.specs.asn1_types.declared.definition.Component.{Component}
+use Rattle.asn1_syntax_laws.specs.asn1_types.declared.definition.Extensible.{Extensible}
+use Rattle.asn1_syntax_laws.specs.asn1_types.declared.definition.Definition.TheVariants as types
+use Rattle.asn1_syntax_laws.specs.asn1_types.declared.definition.Node.{Node}
+use Rattle.asn1_syntax_laws.specs.asn1_types.declared.members.Group.{Group}
+use Rattle.asn1_syntax_laws.specs.asn1_types.declared.members.Group.TheVariants as groups
+use Rattle.asn1_syntax_laws.specs.asn1_types.declared.members.Frame.{Frame}
+use Rattle.asn1_syntax_laws.specs.asn1_types.declared.members.Frame.TheVariants as frames
+use Rattle.asn1_syntax_laws.specs.asn1_types.declared.members.Head.{Head}
+use Rattle.asn1_syntax_laws.specs.asn1_types.declared.members.Head.TheVariants as heads
+use Rattle.asn1_syntax_laws.specs.asn1_types.Reading.{Left, begins_with, begins_with_sign}
+use Rattle.asn1_syntax_laws.specs.asn1_types.Members.{no_parts, with_part, extended, can_extend, all_parts, is_full, has_component, least_members, composed, node, named_at, entry_at, optional_at, component, member_end_at, close_at}
+use Rattle.asn1_syntax_laws.specs.asn1_types.Types.{next_id}
 use Rattle.asn1_syntax_laws.proofs.Gives.{Gives, ok, and_gives, gives_so, and_parts}
 use Rattle.asn1_value_laws.specs.Items.{The}
 use Rattle.asn1_value_laws.specs.Types.{MayBeOptional, optional, required, alternative, AType, AMember, Members, Added, with_type, Means, member, mark, last, more, no_more, one_more}

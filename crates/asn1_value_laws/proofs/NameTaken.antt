@@ -2,13 +2,13 @@
 use Rattle.std.proofs.Common.{◌≡◌, ℕ, List, [], zero, suc, Bool, true, false, ◌&&◌}
 use Rattle.std.specs.Prelude.{Result, Ok}
 use Rattle.gnb_types.proofs.Choices.{by_choice}
-use Rattle.asn1_tokens.specs.declared.token.Sign.TheVariants as signs
-use Rattle.asn1_tokens.specs.declared.token.Token.TheVariants as tokens
-use Rattle.asn1_types.specs.declared.fault.Fault.{Fault}
-use Rattle.asn1_types.specs.declared.definition.Extensible.{Extensible}
-use Rattle.asn1_types.specs.Reading.{Left, begins_with_sign, repeat_at}
-use Rattle.asn1_types.specs.Members.{no_parts, can_extend, all_parts, is_full, has_name, new_name_at, list_goes_on_at, name_entry_at, names_turn_at, names_at}
-use Rattle.asn1_types.specs.Types.{set_name_at}
+use Rattle.asn1_syntax_laws.specs.asn1_tokens.declared.token.Sign.TheVariants as signs
+use Rattle.asn1_syntax_laws.specs.asn1_tokens.declared.token.Token.TheVariants as tokens
+use Rattle.asn1_syntax_laws.specs.asn1_types.declared.fault.Fault.{Fault}
+use Rattle.asn1_syntax_laws.specs.asn1_types.declared.definition.Extensible.{Extensible}
+use Rattle.asn1_syntax_laws.specs.asn1_types.Reading.{Left, begins_with_sign, repeat_at}
+use Rattle.asn1_syntax_laws.specs.asn1_types.Members.{no_parts, can_extend, all_parts, is_full, has_name, new_name_at, list_goes_on_at, name_entry_at, names_turn_at, names_at}
+use Rattle.asn1_syntax_laws.specs.asn1_types.Types.{set_name_at}
 use Rattle.asn1_syntax_laws.proofs.Gives.{Gives, ok, no_value, and_gives, gives_so, and_parts}
 use Rattle.asn1_value_laws.specs.Items.{The, SetName, set_name, AddedNames, none, one, Names, mark, last, more}
 use Rattle.asn1_value_laws.proofs.InBraces.{Told, Lists, FromEntry, BehindEntry, part_from, mark_from, comma_behind, brace_behind, whole_from}

@@ -1,16 +1,16 @@
 -- Single items and short rows of them have one meaning: where they are the same, so are their values and what follows them.
 use Rattle.std.proofs.Common.{◌≡◌, ℕ, List, [], ◌∷◌, Bool, true, false, refl, sym, ap, ◌∙◌, Option, Some, None}
 use Rattle.std.specs.Prelude.{ℤ, pos}
-use Rattle.asn1_tokens.specs.declared.token.Word.{Word}
-use Rattle.asn1_tokens.specs.declared.token.Sign.{Sign}
-use Rattle.asn1_tokens.specs.declared.token.Sign.TheVariants as signs
-use Rattle.asn1_tokens.specs.declared.token.Token.{Token}
-use Rattle.asn1_tokens.specs.declared.token.Token.TheVariants as tokens
-use Rattle.asn1_tokens.specs.Words.{word_number, sign_number}
-use Rattle.asn1_tokens.specs.Stream.{first_token}
-use Rattle.asn1_types.specs.declared.definition.Size.{Size}
-use Rattle.asn1_types.specs.declared.definition.Extensible.{Extensible}
-use Rattle.asn1_types.specs.Reading.{Left, begins_with, begins_with_sign, is_word_token, is_sign_token}
+use Rattle.asn1_syntax_laws.specs.asn1_tokens.declared.token.Word.{Word}
+use Rattle.asn1_syntax_laws.specs.asn1_tokens.declared.token.Sign.{Sign}
+use Rattle.asn1_syntax_laws.specs.asn1_tokens.declared.token.Sign.TheVariants as signs
+use Rattle.asn1_syntax_laws.specs.asn1_tokens.declared.token.Token.{Token}
+use Rattle.asn1_syntax_laws.specs.asn1_tokens.declared.token.Token.TheVariants as tokens
+use Rattle.asn1_syntax_laws.specs.asn1_tokens.Words.{word_number, sign_number}
+use Rattle.asn1_syntax_laws.specs.asn1_tokens.Stream.{first_token}
+use Rattle.asn1_syntax_laws.specs.asn1_types.declared.definition.Size.{Size}
+use Rattle.asn1_syntax_laws.specs.asn1_types.declared.definition.Extensible.{Extensible}
+use Rattle.asn1_syntax_laws.specs.asn1_types.Reading.{Left, begins_with, begins_with_sign, is_word_token, is_sign_token}
 use Rattle.std.proofs.lemmas.Bool.{eq-eqb}
 use Rattle.asn1_value_laws.specs.Items.{The, is, Without, start_of, Extends, extends, doesn't, HighBound, given, same, ASize, size, OptionalSize, sized, unsized, SetName, set_name, AddedNames, none, one as another, Names, mark, last, more}
 

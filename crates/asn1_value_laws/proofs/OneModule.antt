@@ -1,17 +1,17 @@
 -- Modules have one meaning.
 use Rattle.std.proofs.Common.{◌≡◌, ℕ, List, ◌∷◌, length, refl, sym, ap}
-use Rattle.asn1_tokens.specs.declared.token.Word.TheVariants as words
-use Rattle.asn1_tokens.specs.declared.token.Token.TheVariants as tokens
-use Rattle.asn1_tokens.specs.Stream.{Placed, first_place}
-use Rattle.asn1_types.specs.declared.definition.TypeId.{TypeId}
-use Rattle.asn1_types.specs.declared.definition.Node.{Node}
-use Rattle.asn1_types.specs.Reading.{Left}
-use Rattle.asn1_assignments.specs.declared.assignment.IeRow.{IeRow}
-use Rattle.asn1_assignments.specs.declared.assignment.ProcedureRow.{ProcedureRow}
-use Rattle.asn1_assignments.specs.declared.assignment.Body.{Body}
-use Rattle.asn1_assignments.specs.declared.assignment.Body.TheVariants as bodies
-use Rattle.asn1_assignments.specs.declared.assignment.Assignment.{Assignment}
-use Rattle.asn1_assignments.specs.declared.assignment.Syntax.{Syntax}
+use Rattle.asn1_syntax_laws.specs.asn1_tokens.declared.token.Word.TheVariants as words
+use Rattle.asn1_syntax_laws.specs.asn1_tokens.declared.token.Token.TheVariants as tokens
+use Rattle.asn1_syntax_laws.specs.asn1_tokens.Stream.{Placed, first_place}
+use Rattle.asn1_syntax_laws.specs.asn1_types.declared.definition.TypeId.{TypeId}
+use Rattle.asn1_syntax_laws.specs.asn1_types.declared.definition.Node.{Node}
+use Rattle.asn1_syntax_laws.specs.asn1_types.Reading.{Left}
+use Rattle.asn1_syntax_laws.specs.asn1_assignments.declared.assignment.IeRow.{IeRow}
+use Rattle.asn1_syntax_laws.specs.asn1_assignments.declared.assignment.ProcedureRow.{ProcedureRow}
+use Rattle.asn1_syntax_laws.specs.asn1_assignments.declared.assignment.Body.{Body}
+use Rattle.asn1_syntax_laws.specs.asn1_assignments.declared.assignment.Body.TheVariants as bodies
+use Rattle.asn1_syntax_laws.specs.asn1_assignments.declared.assignment.Assignment.{Assignment}
+use Rattle.asn1_syntax_laws.specs.asn1_assignments.declared.assignment.Syntax.{Syntax}
 use Rattle.asn1_value_laws.specs.Items.{start_of}
 use Rattle.asn1_value_laws.specs.Module.{MeansBody, a_type, ie_set, procedure_set, MeansAssignments, none, one as another, MeansModule, a_module}
 use Rattle.asn1_value_laws.proofs.OneItem.{One, the_same, rest_one, upper_one}

@@ -1,16 +1,16 @@
 -- The rows of sets have one meaning.
 use Rattle.std.proofs.Common.{◌≡◌, List, [], ◌∷◌, refl, sym, ap, ◌∙◌, Option, Some}
-use Rattle.asn1_tokens.specs.declared.token.Word.{Word}
-use Rattle.asn1_tokens.specs.declared.token.Sign.TheVariants as signs
-use Rattle.asn1_tokens.specs.declared.token.Token.TheVariants as tokens
-use Rattle.asn1_types.specs.declared.definition.TypeId.{TypeId}
-use Rattle.asn1_types.specs.declared.definition.Node.{Node}
-use Rattle.asn1_types.specs.Reading.{Left}
-use Rattle.asn1_assignments.specs.declared.assignment.Criticality.{Criticality}
-use Rattle.asn1_assignments.specs.declared.assignment.Presence.{Presence}
-use Rattle.asn1_assignments.specs.declared.assignment.IeRow.{IeRow}
-use Rattle.asn1_assignments.specs.declared.assignment.ProcedureRow.{ProcedureRow}
-use Rattle.asn1_assignments.specs.Rows.{criticality_of, presence_of}
+use Rattle.asn1_syntax_laws.specs.asn1_tokens.declared.token.Word.{Word}
+use Rattle.asn1_syntax_laws.specs.asn1_tokens.declared.token.Sign.TheVariants as signs
+use Rattle.asn1_syntax_laws.specs.asn1_tokens.declared.token.Token.TheVariants as tokens
+use Rattle.asn1_syntax_laws.specs.asn1_types.declared.definition.TypeId.{TypeId}
+use Rattle.asn1_syntax_laws.specs.asn1_types.declared.definition.Node.{Node}
+use Rattle.asn1_syntax_laws.specs.asn1_types.Reading.{Left}
+use Rattle.asn1_syntax_laws.specs.asn1_assignments.declared.assignment.Criticality.{Criticality}
+use Rattle.asn1_syntax_laws.specs.asn1_assignments.declared.assignment.Presence.{Presence}
+use Rattle.asn1_syntax_laws.specs.asn1_assignments.declared.assignment.IeRow.{IeRow}
+use Rattle.asn1_syntax_laws.specs.asn1_assignments.declared.assignment.ProcedureRow.{ProcedureRow}
+use Rattle.asn1_syntax_laws.specs.asn1_assignments.Rows.{criticality_of, presence_of}
 use Rattle.asn1_value_laws.specs.Rows.{ACriticality, criticality, APresence, presence, AnIe, ie, Outcome, outcome, no_outcome, AProcedure, procedure, Rows, last, more}
 use Rattle.asn1_value_laws.proofs.OneItem.{One, the_same, rest_one, word_clash, number_one, lower_one}
 use Rattle.asn1_value_laws.proofs.OneType.{OneValue, one_type}

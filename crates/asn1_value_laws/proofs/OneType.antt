@@ -1,22 +1,22 @@
 -- Types have one meaning: the same items, behind the same types, give the same type and the same list of types, and end there.
 use Rattle.std.proofs.Common.{◌≡◌, ℕ, List, [], ◌∷◌, Bool, refl, sym, ap, subst, Option, Some, None}
 use Rattle.std.specs.Prelude.{ℤ}
-use Rattle.asn1_tokens.specs.declared.token.Word.{Word}
-use Rattle.asn1_tokens.specs.declared.token.Word.TheVariants as words
-use Rattle.asn1_tokens.specs.declared.token.Sign.{Sign}
-use Rattle.asn1_tokens.specs.declared.token.Sign.TheVariants as signs
-use Rattle.asn1_tokens.specs.declared.token.Token.TheVariants as tokens
-use Rattle.asn1_types.specs.declared.definition.Size.{Size}
-use Rattle.asn1_types.specs.declared.definition.TypeId.{TypeId}
-use Rattle.asn1_types.specs.declared.definition.Component.{Component}
-use Rattle.asn1_types.specs.declared.definition.Extensible.{Extensible}
-use Rattle.asn1_types.specs.declared.definition.Definition.{Definition}
-use Rattle.asn1_types.specs.declared.definition.Definition.TheVariants as types
-use Rattle.asn1_types.specs.declared.definition.Node.{Node}
-use Rattle.asn1_types.specs.declared.members.Group.{Group}
-use Rattle.asn1_types.specs.Reading.{Left}
-use Rattle.asn1_types.specs.Members.{component, node}
-use Rattle.asn1_types.specs.Types.{next_id}
+use Rattle.asn1_syntax_laws.specs.asn1_tokens.declared.token.Word.{Word}
+use Rattle.asn1_syntax_laws.specs.asn1_tokens.declared.token.Word.TheVariants as words
+use Rattle.asn1_syntax_laws.specs.asn1_tokens.declared.token.Sign.{Sign}
+use Rattle.asn1_syntax_laws.specs.asn1_tokens.declared.token.Sign.TheVariants as signs
+use Rattle.asn1_syntax_laws.specs.asn1_tokens.declared.token.Token.TheVariants as tokens
+use Rattle.asn1_syntax_laws.specs.asn1_types.declared.definition.Size.{Size}
+use Rattle.asn1_syntax_laws.specs.asn1_types.declared.definition.TypeId.{TypeId}
+use Rattle.asn1_syntax_laws.specs.asn1_types.declared.definition.Component.{Component}
+use Rattle.asn1_syntax_laws.specs.asn1_types.declared.definition.Extensible.{Extensible}
+use Rattle.asn1_syntax_laws.specs.asn1_types.declared.definition.Definition.{Definition}
+use Rattle.asn1_syntax_laws.specs.asn1_types.declared.definition.Definition.TheVariants as types
+use Rattle.asn1_syntax_laws.specs.asn1_types.declared.definition.Node.{Node}
+use Rattle.asn1_syntax_laws.specs.asn1_types.declared.members.Group.{Group}
+use Rattle.asn1_syntax_laws.specs.asn1_types.Reading.{Left}
+use Rattle.asn1_syntax_laws.specs.asn1_types.Members.{component, node}
+use Rattle.asn1_syntax_laws.specs.asn1_types.Types.{next_id}
 use Rattle.asn1_value_laws.specs.Items.{The, start_of, Extends, OptionalSize, sized, unsized, SetName}
 use Rattle.asn1_value_laws.specs.Types.{Plain, boolean, integer, enumerated, bit_string, octet_string, printable_string, ie_container, pdu, MayBeOptional, optional, required, alternative, Piece, Behind, AMember, Members, Value, with_type, Means, reference, worded, plain, sequence_of, empty_sequence, sequence, choice, member, mark, last, more, no_more, one_more}
 use Rattle.asn1_value_laws.proofs.OneItem.{One, the_same, rest_one, word_clash, value_one, word_one, upper_one, lower_one, extends_one, opens_with, size_one, set_one, names_one, lower_sign, comma_brace}

@@ -3,14 +3,14 @@ use Rattle.std.proofs.Common.{ℕ, List, ◌++◌, ◌∷◌, [], Bool, true, fa
 use Rattle.std.proofs.lemmas.List.{append_assoc}
 use Rattle.std.specs.Prelude.{Result}
 use Rattle.gnb_types.proofs.Choices.{by_choice}
-use Rattle.asn1_tokens.specs.declared.token.Sign.TheVariants as signs
-use Rattle.asn1_tokens.specs.declared.token.Token.TheVariants as tokens
-use Rattle.asn1_types.specs.declared.fault.Fault.{Fault}
-use Rattle.asn1_types.specs.declared.definition.Node.{Node}
-use Rattle.asn1_types.specs.Reading.{Left, begins_with_sign, repeat_at}
-use Rattle.asn1_assignments.specs.declared.assignment.IeRow.{IeRow}
-use Rattle.asn1_assignments.specs.declared.assignment.ProcedureRow.{ProcedureRow}
-use Rattle.asn1_assignments.specs.Sets.{set_goes_on_at, Rows as SoFar, rows_with, ie_turn_at, procedure_turn_at, set_start_at, ie_set_at, procedure_set_at}
+use Rattle.asn1_syntax_laws.specs.asn1_tokens.declared.token.Sign.TheVariants as signs
+use Rattle.asn1_syntax_laws.specs.asn1_tokens.declared.token.Token.TheVariants as tokens
+use Rattle.asn1_syntax_laws.specs.asn1_types.declared.fault.Fault.{Fault}
+use Rattle.asn1_syntax_laws.specs.asn1_types.declared.definition.Node.{Node}
+use Rattle.asn1_syntax_laws.specs.asn1_types.Reading.{Left, begins_with_sign, repeat_at}
+use Rattle.asn1_syntax_laws.specs.asn1_assignments.declared.assignment.IeRow.{IeRow}
+use Rattle.asn1_syntax_laws.specs.asn1_assignments.declared.assignment.ProcedureRow.{ProcedureRow}
+use Rattle.asn1_syntax_laws.specs.asn1_assignments.Sets.{set_goes_on_at, Rows as SoFar, rows_with, ie_turn_at, procedure_turn_at, set_start_at, ie_set_at, procedure_set_at}
 use Rattle.asn1_syntax_laws.proofs.Gives.{Gives, ok, and_gives, gives_so}
 use Rattle.asn1_value_laws.specs.Items.{The}
 use Rattle.asn1_value_laws.specs.Rows.{AnIe, AProcedure, Rows, last, more}

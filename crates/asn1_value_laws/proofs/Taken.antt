@@ -3,17 +3,17 @@ use Rattle.std.proofs.Common.{◌≡◌, ℕ, ◌^◌, ◌-◌, List, [], ◌∷
 use Rattle.std.specs.Prelude.{Ok, Err, ℤ, pos, negsuc}
 use Rattle.std.specs.Int.Signed.{le_z}
 use Rattle.gnb_types.proofs.Choices.{by_choice}
-use Rattle.asn1_tokens.specs.declared.token.Word.{Word}
-use Rattle.asn1_tokens.specs.declared.token.Word.TheVariants as words
-use Rattle.asn1_tokens.specs.declared.token.Sign.{Sign}
-use Rattle.asn1_tokens.specs.declared.token.Sign.TheVariants as signs
-use Rattle.asn1_tokens.specs.declared.token.Token.{Token}
-use Rattle.asn1_tokens.specs.declared.token.Token.TheVariants as tokens
-use Rattle.asn1_tokens.specs.Stream.{first_token, others}
-use Rattle.asn1_types.specs.declared.definition.Size.{Size}
-use Rattle.asn1_types.specs.declared.fault.ModuleReason.TheVariants as reasons
-use Rattle.asn1_types.specs.Reading.{Left, fault_at, unexpected, begins_with, begins_with_sign, word_at, sign_at, upper_of, upper_at, lower_of, lower_at, number_of, number_at}
-use Rattle.asn1_types.specs.Sizes.{natural, bounded_at, natural_at, ellipsis_at, size_end_at, least_high, size_rest_at, size_at, optional_size_at, integer_ellipsis_at}
+use Rattle.asn1_syntax_laws.specs.asn1_tokens.declared.token.Word.{Word}
+use Rattle.asn1_syntax_laws.specs.asn1_tokens.declared.token.Word.TheVariants as words
+use Rattle.asn1_syntax_laws.specs.asn1_tokens.declared.token.Sign.{Sign}
+use Rattle.asn1_syntax_laws.specs.asn1_tokens.declared.token.Sign.TheVariants as signs
+use Rattle.asn1_syntax_laws.specs.asn1_tokens.declared.token.Token.{Token}
+use Rattle.asn1_syntax_laws.specs.asn1_tokens.declared.token.Token.TheVariants as tokens
+use Rattle.asn1_syntax_laws.specs.asn1_tokens.Stream.{first_token, others}
+use Rattle.asn1_syntax_laws.specs.asn1_types.declared.definition.Size.{Size}
+use Rattle.asn1_syntax_laws.specs.asn1_types.declared.fault.ModuleReason.TheVariants as reasons
+use Rattle.asn1_syntax_laws.specs.asn1_types.Reading.{Left, fault_at, unexpected, begins_with, begins_with_sign, word_at, sign_at, upper_of, upper_at, lower_of, lower_at, number_of, number_at}
+use Rattle.asn1_syntax_laws.specs.asn1_types.Sizes.{natural, bounded_at, natural_at, ellipsis_at, size_end_at, least_high, size_rest_at, size_at, optional_size_at, integer_ellipsis_at}
 use Rattle.asn1_syntax_laws.proofs.Gives.{Gives, ok, no_value, and_gives, gives_so, and_parts}
 use Rattle.asn1_syntax_laws.proofs.Exact.{a_word, a_sign}
 use Rattle.asn1_value_laws.specs.Items.{The, is, Extends, extends, doesn't, HighBound, given, same, ASize, size, OptionalSize, sized, unsized}

@@ -1,12 +1,12 @@
 -- What types mean that were read, with those inside them.
 use Rattle.std.proofs.Common.{ℕ, List, ◌∷◌, [], zero, suc, Some, None}
-use Rattle.asn1_types.specs.declared.definition.TypeId.{TypeId}
-use Rattle.asn1_types.specs.declared.definition.Node.{Node}
-use Rattle.asn1_types.specs.declared.members.Frame.{Frame}
-use Rattle.asn1_types.specs.declared.members.Head.{Head}
-use Rattle.asn1_types.specs.declared.members.Head.TheVariants as heads
-use Rattle.asn1_types.specs.Reading.{Left}
-use Rattle.asn1_types.specs.Types.{next_id, Risen, risen, rise_at, type_turn_at, type_goes_on, type_within_at, type_at}
+use Rattle.asn1_syntax_laws.specs.asn1_types.declared.definition.TypeId.{TypeId}
+use Rattle.asn1_syntax_laws.specs.asn1_types.declared.definition.Node.{Node}
+use Rattle.asn1_syntax_laws.specs.asn1_types.declared.members.Frame.{Frame}
+use Rattle.asn1_syntax_laws.specs.asn1_types.declared.members.Head.{Head}
+use Rattle.asn1_syntax_laws.specs.asn1_types.declared.members.Head.TheVariants as heads
+use Rattle.asn1_syntax_laws.specs.asn1_types.Reading.{Left}
+use Rattle.asn1_syntax_laws.specs.asn1_types.Types.{next_id, Risen, risen, rise_at, type_turn_at, type_goes_on, type_within_at, type_at}
 use Rattle.asn1_syntax_laws.proofs.Gives.{Gives, ok, no_value, and_gives, gives_so}
 use Rattle.asn1_value_laws.specs.Types.{AType, with_type, Means}
 use Rattle.asn1_value_laws.proofs.MemberTaken.{Meaning, FrameEnds, HeadSo, leaf, opens, close_gives}

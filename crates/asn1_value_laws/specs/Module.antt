@@ -1,18 +1,18 @@
 -- What modules and their assignments mean (X.680, clauses 13 and 16).
 use Rattle.std.specs.Prelude.{ℕ, List, [], ◌∷◌, length}
-use Rattle.asn1_tokens.specs.declared.token.Word.TheVariants as words
-use Rattle.asn1_tokens.specs.declared.token.Sign.TheVariants as signs
-use Rattle.asn1_tokens.specs.declared.token.Token.TheVariants as tokens
-use Rattle.asn1_tokens.specs.Stream.{first_place}
-use Rattle.asn1_types.specs.declared.definition.TypeId.{TypeId}
-use Rattle.asn1_types.specs.declared.definition.Node.{Node}
-use Rattle.asn1_types.specs.Reading.{Left}
-use Rattle.asn1_assignments.specs.declared.assignment.IeRow.{IeRow}
-use Rattle.asn1_assignments.specs.declared.assignment.ProcedureRow.{ProcedureRow}
-use Rattle.asn1_assignments.specs.declared.assignment.Body.{Body}
-use Rattle.asn1_assignments.specs.declared.assignment.Body.TheVariants as bodies
-use Rattle.asn1_assignments.specs.declared.assignment.Assignment.{Assignment}
-use Rattle.asn1_assignments.specs.declared.assignment.Syntax.{Syntax}
+use Rattle.asn1_syntax_laws.specs.asn1_tokens.declared.token.Word.TheVariants as words
+use Rattle.asn1_syntax_laws.specs.asn1_tokens.declared.token.Sign.TheVariants as signs
+use Rattle.asn1_syntax_laws.specs.asn1_tokens.declared.token.Token.TheVariants as tokens
+use Rattle.asn1_syntax_laws.specs.asn1_tokens.Stream.{first_place}
+use Rattle.asn1_syntax_laws.specs.asn1_types.declared.definition.TypeId.{TypeId}
+use Rattle.asn1_syntax_laws.specs.asn1_types.declared.definition.Node.{Node}
+use Rattle.asn1_syntax_laws.specs.asn1_types.Reading.{Left}
+use Rattle.asn1_syntax_laws.specs.asn1_assignments.declared.assignment.IeRow.{IeRow}
+use Rattle.asn1_syntax_laws.specs.asn1_assignments.declared.assignment.ProcedureRow.{ProcedureRow}
+use Rattle.asn1_syntax_laws.specs.asn1_assignments.declared.assignment.Body.{Body}
+use Rattle.asn1_syntax_laws.specs.asn1_assignments.declared.assignment.Body.TheVariants as bodies
+use Rattle.asn1_syntax_laws.specs.asn1_assignments.declared.assignment.Assignment.{Assignment}
+use Rattle.asn1_syntax_laws.specs.asn1_assignments.declared.assignment.Syntax.{Syntax}
 use Rattle.asn1_value_laws.specs.Items.{The, start_of}
 use Rattle.asn1_value_laws.specs.Types.{AType, Means}
 use Rattle.asn1_value_laws.specs.Rows.{AnIe, AProcedure, Rows}

@@ -1,21 +1,21 @@
 -- What types mean (X.680, clause 17): each joins the module's list of types where it ends, behind those inside it, and its place in
 -- that list is its number.
 use Rattle.std.specs.Prelude.{◌≡◌, ℕ, List, [], ◌∷◌, ◌++◌, Bool, true, false, Option, Some, None, ℤ}
-use Rattle.asn1_tokens.specs.declared.token.Word.{Word}
-use Rattle.asn1_tokens.specs.declared.token.Word.TheVariants as words
-use Rattle.asn1_tokens.specs.declared.token.Sign.TheVariants as signs
-use Rattle.asn1_tokens.specs.declared.token.Token.TheVariants as tokens
-use Rattle.asn1_types.specs.declared.definition.Size.{Size}
-use Rattle.asn1_types.specs.declared.definition.TypeId.{TypeId}
-use Rattle.asn1_types.specs.declared.definition.Component.{Component}
-use Rattle.asn1_types.specs.declared.definition.Extensible.{Extensible}
-use Rattle.asn1_types.specs.declared.definition.Definition.TheVariants as types
-use Rattle.asn1_types.specs.declared.definition.Node.{Node}
-use Rattle.asn1_types.specs.declared.members.Group.{Group}
-use Rattle.asn1_types.specs.declared.members.Group.TheVariants as groups
-use Rattle.asn1_types.specs.Reading.{Left, begins_with}
-use Rattle.asn1_types.specs.Members.{no_parts, component, node}
-use Rattle.asn1_types.specs.Types.{next_id}
+use Rattle.asn1_syntax_laws.specs.asn1_tokens.declared.token.Word.{Word}
+use Rattle.asn1_syntax_laws.specs.asn1_tokens.declared.token.Word.TheVariants as words
+use Rattle.asn1_syntax_laws.specs.asn1_tokens.declared.token.Sign.TheVariants as signs
+use Rattle.asn1_syntax_laws.specs.asn1_tokens.declared.token.Token.TheVariants as tokens
+use Rattle.asn1_syntax_laws.specs.asn1_types.declared.definition.Size.{Size}
+use Rattle.asn1_syntax_laws.specs.asn1_types.declared.definition.TypeId.{TypeId}
+use Rattle.asn1_syntax_laws.specs.asn1_types.declared.definition.Component.{Component}
+use Rattle.asn1_syntax_laws.specs.asn1_types.declared.definition.Extensible.{Extensible}
+use Rattle.asn1_syntax_laws.specs.asn1_types.declared.definition.Definition.TheVariants as types
+use Rattle.asn1_syntax_laws.specs.asn1_types.declared.definition.Node.{Node}
+use Rattle.asn1_syntax_laws.specs.asn1_types.declared.members.Group.{Group}
+use Rattle.asn1_syntax_laws.specs.asn1_types.declared.members.Group.TheVariants as groups
+use Rattle.asn1_syntax_laws.specs.asn1_types.Reading.{Left, begins_with}
+use Rattle.asn1_syntax_laws.specs.asn1_types.Members.{no_parts, component, node}
+use Rattle.asn1_syntax_laws.specs.asn1_types.Types.{next_id}
 use Rattle.asn1_value_laws.specs.Items.{The, start_of, Extends, OptionalSize, SetName, Names}
 
 -- What follows the first word of a type without another one inside: the type, with the place of the word, or of the name that it

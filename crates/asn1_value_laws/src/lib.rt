@@ -2,9 +2,9 @@
 #![tactic(auto)]
 
 ghost use Rattle.std.specs.Prelude.{◌≡◌, ℕ, List, Ok};
-ghost use Rattle.asn1_tokens.specs.Stream.{Placed, items_of};
-ghost use Rattle.asn1_assignments.specs.declared.assignment.Syntax.{Syntax};
-ghost use Rattle.asn1_assignments.specs.Module.{syntax_of};
+ghost use Rattle.asn1_syntax_laws.specs.asn1_tokens.Stream.{Placed, items_of};
+ghost use Rattle.asn1_syntax_laws.specs.asn1_assignments.declared.assignment.Syntax.{Syntax};
+ghost use Rattle.asn1_syntax_laws.specs.asn1_assignments.Module.{syntax_of};
 ghost use Rattle.asn1_value_laws.specs.Module.{MeansModule};
 
 /// A module that is read is what the text's items mean, and no items mean two modules.

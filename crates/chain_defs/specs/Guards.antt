@@ -2,7 +2,7 @@
 -- owes, and what is known of the messages that confirm.
 use Rattle.std.specs.Prelude.{◌≡◌, ◌≢◌, ℕ, ◌<◌, ◌≤◌, true, false, List, [], ◌∷◌, None, is_some, ⊤}
 use Rattle.gnb_types.specs.declared.names.SnBits.{SnBits}
-use Rattle.pdcp_defs.specs.Senders.{has_room, may_restore}
+use Rattle.unit_defs.specs.pdcp_defs.Senders.{has_room, may_restore}
 use Rattle.unit_defs.specs.UpRecords.{TunnelKind, n3, forwarding_down}
 use Rattle.unit_defs.specs.UpItems.{first_held, held_as_target}
 use Rattle.chain_defs.specs.Parts.{Item, numbered, fresh, end_marker, Member, Part, is_open}

@@ -1,8 +1,8 @@
 -- What happens to the downlink of one bearer, in small orders: a row of a unit is a list of them.
 use Rattle.std.specs.Prelude.{◌==◌, ℕ, ◌+◌, Bool, true, false, ◌||◌, if◌then◌else◌, List, [], ◌∷◌, ◌++◌, map, Some, None}
 use Rattle.gnb_types.specs.declared.plans.SnStatus.{SnStatus}
-use Rattle.pdcp_defs.specs.Senders.{numbered as with_next, restored, confirmed_to, confirmed_by}
-use Rattle.pdcp_defs.specs.Receivers.{Delivery, is_duplicate, stored, deliver}
+use Rattle.unit_defs.specs.pdcp_defs.Senders.{numbered as with_next, restored, confirmed_to, confirmed_by}
+use Rattle.unit_defs.specs.pdcp_defs.Receivers.{Delivery, is_duplicate, stored, deliver}
 use Rattle.unit_defs.specs.UpRecords.{Downlink, SourceHop, UpBearer}
 use Rattle.unit_defs.specs.UpBearers.{owed, released, thawed}
 use Rattle.chain_defs.specs.Parts.{Item, numbered, fresh, end_marker, Member, Part, set, new_member, no_member}

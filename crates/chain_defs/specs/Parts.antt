@@ -1,7 +1,7 @@
 -- The downlink of one bearer in a run: its part of each context, the tunnels that end there, its radio and its terminal (TS
 -- 38.300, 9.2.3.2; TS 38.323, 5.2). Contexts are numbered, each once in a run.
 use Rattle.std.specs.Prelude.{◌==◌, ℕ, Bool, true, false, not, ◌&&◌, if◌then◌else◌, List, [], Option, Some, None}
-use Rattle.pdcp_defs.specs.Receivers.{Receiver, new_receiver}
+use Rattle.unit_defs.specs.pdcp_defs.Receivers.{Receiver, new_receiver}
 use Rattle.unit_defs.specs.UpRecords.{UpBearer, UpFlags}
 use Rattle.unit_defs.specs.UpBearers.{made}
 use Rattle.unit_defs.specs.CuUp.{new_flags_of}

@@ -11,7 +11,7 @@ use scenario_text::event::TextReason;
 use scenario_text::line::OutLine;
 
 /// How a check ended.
-#[derive(Clone, Copy, Debug, PartialEq, Eq)]
+#[derive(Clone, Copy, PartialEq, Eq)]
 pub enum CheckEnd {
     /// The input is a header and a module, and its name was written.
     Checked,

@@ -10,7 +10,7 @@ use input_module::ModuleStop;
 use scenario_text::event::TextReason;
 
 /// A module that was read: its name, and how many types have names.
-#[derive(Debug, Drop)]
+#[derive(Drop)]
 pub struct CheckedModule {
     pub name: Octets,
     pub types: u32,

@@ -12,7 +12,7 @@ pub struct Status {
 }
 
 /// The ends that each word has beside its own.
-#[derive(Clone, Copy, Debug, PartialEq, Eq)]
+#[derive(Clone, Copy, PartialEq, Eq)]
 pub enum CommonEnd {
     /// A read failed, after so many bytes.
     ReadFault { taken: u64 },

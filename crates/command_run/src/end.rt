@@ -21,7 +21,7 @@ use scenario_text::line::OutLine;
 use std::alloc::Global;
 
 /// How a run ended.
-#[derive(Debug, Drop)]
+#[derive(Drop)]
 pub enum RunEnd {
     /// The input was read to its end, and every event was applied.
     Done {

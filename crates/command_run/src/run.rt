@@ -22,8 +22,11 @@ use std::alloc::Global;
 fn text_at(alloc: Global, end: &RunEnd, line: OutLine) -> Result<Octets, Memory>
     ensures { IfOk result (λ text. text ≡ report_of end.now ++ print (line ∷ [])) }
 {
+    let lines = [line];
+    let last = text_of(alloc, &lines);
+    drop(lines);
     let mut text = end.report(alloc)?;
-    text.append(text_of(alloc, &[line])?.as_slice())?;
+    text.append(last?.as_slice())?;
     Ok(text)
 }
 

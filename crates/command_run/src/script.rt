@@ -74,12 +74,12 @@ fn meaning_of(alloc: Global, line: &Line) -> Result<Meaning, RunEnd>
 fn event_text(alloc: Global, event: StaticEvent, lines: &[OutLine]) -> Result<Octets, Memory>
     ensures { IfOk result (λ text. text ≡ print (HappensLine (whole_event event) ∷ lines.now)) }
 {
-    let mut text = text_of(
-        alloc,
-        &[OutLine::Happens {
-            event: event.whole(),
-        }],
-    )?;
+    let own = [OutLine::Happens {
+        event: event.whole(),
+    }];
+    let text = text_of(alloc, &own);
+    drop(own);
+    let mut text = text?;
     text.append(text_of(alloc, lines)?.as_slice())?;
     Ok(text)
 }

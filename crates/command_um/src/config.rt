@@ -3,7 +3,7 @@
 use gnb_types::names::SnBits;
 
 /// The length of the bearer's sequence numbers, and the ticks of its timer t-Reordering.
-#[derive(Clone, Copy, Debug, PartialEq, Eq)]
+#[derive(Clone, Copy, PartialEq, Eq)]
 pub struct UmConfig {
     pub sn: SnBits,
     pub ticks: u16,

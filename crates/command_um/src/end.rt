@@ -14,7 +14,7 @@ use script_words::reason::TextReason;
 use um_types::stop::UmEnd;
 
 /// How a script ended.
-#[derive(Clone, Copy, Debug, PartialEq, Eq)]
+#[derive(Clone, Copy, PartialEq, Eq)]
 pub enum ScriptEnd {
     /// The input was read to its end, and every event was applied.
     Done { events: u64 },

@@ -24,7 +24,7 @@ use unit_messages::{Message, MessageCodec};
 use unit_steps::StepError;
 
 /// What an answer is to the attempt of a terminal.
-#[derive(Debug, Drop)]
+#[derive(Drop)]
 pub enum Answered {
     /// No attempt awaits it.
     NotAwaited,

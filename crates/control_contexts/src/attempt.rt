@@ -13,7 +13,7 @@ use std::marker::Model;
 use unit_defs::AttemptKind;
 
 /// An answer that an attempt awaits: from whom, and of which instance, once its request was put.
-#[derive(Clone, Copy, Debug)]
+#[derive(Clone, Copy)]
 pub struct Awaited {
     pub from: NodeId,
     pub instance: Option<u32>,
@@ -61,7 +61,7 @@ impl Awaited {
 }
 
 /// Where a terminal is to go, with which epoch, and what is known of the tunnels there so far.
-#[derive(Debug, Drop)]
+#[derive(Drop)]
 pub struct Attempt {
     pub kind: AttemptKind,
     /// The epoch that the terminal has once this is over. Where the one before was the last one there is no such epoch.

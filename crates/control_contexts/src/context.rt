@@ -12,7 +12,7 @@ use unit_defs::StateName;
 
 /// A terminal's context. The epoch is the one that was accepted last, where any was; it is finished where its acceptance was put. A
 /// context that came by Xn is that of a target.
-#[derive(Debug, Drop)]
+#[derive(Drop)]
 pub struct Context {
     pub state: StateName,
     pub epoch: Option<u32>,
@@ -95,7 +95,7 @@ fn copy_attempt(alloc: Global, attempt: &Option<Attempt>) -> Result<Option<Attem
 }
 
 /// All of one terminal but its requests and replies: its context, and the greatest epoch of a token that was taken.
-#[derive(Debug, Drop)]
+#[derive(Drop)]
 pub struct Terminal {
     pub context: Option<Context>,
     pub taken: Option<u32>,

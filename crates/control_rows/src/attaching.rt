@@ -14,6 +14,7 @@ use gnb_types::items::{Items, Memory};
 use gnb_types::names::NodeId;
 use gnb_types::plans::{Plan, TunnelList};
 use gnb_types::reasons::{CauseName, RefuseReason};
+use results::beside;
 use unit_defs::{AttemptKind, StateName};
 use unit_messages::MessageCodec;
 use unit_steps::StepError;
@@ -55,7 +56,8 @@ fn attach_begins<C: MessageCodec>(
         return Row::refuses(at, terminal, RefuseReason::NotStarted);
     }
     let context = attach_context(at, plan);
-    let says = Items::one(at.alloc, bearer_setup(at, &context, false))?;
+    let says = Items::one(at.alloc, bearer_setup(at, &context, false));
+    let (says, context) = beside(says, context)?;
     Ok(Row::keeps(terminal, says, context))
 }
 
@@ -99,7 +101,8 @@ pub fn attach_has_tunnels<C: MessageCodec>(
         result }
 {
     attempt.n3 = n3;
-    let says = Items::one(at.alloc, du_setup(at, context, context.du, FIRST, uplinks))?;
+    let says = Items::one(at.alloc, du_setup(at, context, context.du, FIRST, uplinks));
+    let (says, attempt) = beside(says, attempt)?;
     let context = context.attempted(StateName::Attaching, attempt);
     Ok(Row::keeps(terminal, says, context))
 }
@@ -131,7 +134,7 @@ pub fn attach_is_placed<C: MessageCodec>(
         result }
 {
     attempt.downlinks = downlinks;
-    let says = only_command(at, context, &attempt)?;
+    let (says, attempt) = beside(only_command(at, context, &attempt), attempt)?;
     let context = context.attempted(StateName::Commanded, attempt);
     Ok(Row::keeps(terminal, says, context))
 }

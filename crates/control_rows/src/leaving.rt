@@ -18,6 +18,7 @@ use gnb_types::names::Gnb;
 use gnb_types::plans::{Peer, Plan, StatusList, TunnelList};
 use gnb_types::reasons::{CauseName, RefuseReason};
 use message_types::XnMessage;
+use results::beside;
 use unit_defs::{AttemptKind, StateName};
 use unit_messages::{Message, MessageCodec};
 use unit_steps::StepError;
@@ -158,10 +159,8 @@ pub fn handover_is_acknowledged<C: MessageCodec>(
         (handover_is_acknowledged (octet_way C.codec) at.now peer forward_down forward_up
         terminal.now context.now attempt) result }
 {
-    let says = Items::one(
-        at.alloc,
-        say_freeze(at, context, peer, forward_down, forward_up),
-    )?;
+    let freeze = say_freeze(at, context, peer, forward_down, forward_up);
+    let (says, attempt) = beside(Items::one(at.alloc, freeze), attempt)?;
     let context = context.attempted(StateName::Prepared, attempt);
     Ok(Row::keeps(terminal, says, context))
 }
@@ -218,7 +217,7 @@ pub fn handover_is_frozen<C: MessageCodec>(
         deadline: None,
         awaited: false,
     };
-    let says = Items::one(at.alloc, transfer)?;
+    let (says, attempt) = beside(Items::one(at.alloc, transfer), attempt)?;
     let context = context.attempted(StateName::Frozen, attempt);
     Ok(Row::keeps(terminal, says, context))
 }
@@ -250,7 +249,7 @@ pub fn command<C: MessageCodec>(
     ensures { RowGives
         (command (octet_way C.codec) at.now terminal.now context.now attempt) result }
 {
-    let says = only_command(at, context, &attempt)?;
+    let (says, attempt) = beside(only_command(at, context, &attempt), attempt)?;
     let context = context.attempted(StateName::Commanded, attempt);
     Ok(Row::keeps(terminal, says, context))
 }

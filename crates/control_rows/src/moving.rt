@@ -11,6 +11,7 @@ use control_says::says::EPOCHS;
 use control_says::{At, Row};
 use gnb_types::items::Items;
 use gnb_types::plans::{Plan, TunnelList};
+use results::beside;
 use unit_defs::{AttemptKind, StateName};
 use unit_messages::MessageCodec;
 use unit_steps::StepError;
@@ -48,10 +49,12 @@ pub fn move_has_uplinks<C: MessageCodec>(
         result }
 {
     if attempt.epoch > u64::from(u32::MAX) {
+        drop(attempt);
         return Err(StepError::Spent { counter: EPOCHS });
     }
     let epoch = attempt.epoch as u32;
-    let says = Items::one(at.alloc, du_setup(at, context, attempt.du, epoch, uplinks))?;
+    let says = Items::one(at.alloc, du_setup(at, context, attempt.du, epoch, uplinks));
+    let (says, attempt) = beside(says, attempt)?;
     let context = context.attempted(StateName::Preparing, attempt);
     Ok(Row::keeps(terminal, says, context))
 }

@@ -15,6 +15,7 @@ use control_says::{At, Row, two, with_first};
 use gnb_types::items::Memory;
 use gnb_types::names::NodeId;
 use gnb_types::reasons::{DropReason, RefuseReason};
+use results::beside;
 use unit_defs::{AttemptKind, StateName};
 use unit_messages::MessageCodec;
 use unit_steps::StepError;
@@ -79,7 +80,7 @@ fn handed_over<C: MessageCodec>(
         (handed_over (octet_way C.codec) at.now from instance terminal.now context.now attempt)
         result }
 {
-    let says = says_of_release(at, from, instance, context)?;
+    let (says, attempt) = beside(says_of_release(at, from, instance, context), attempt)?;
     let context = context.attempted(StateName::Completing, attempt);
     Ok(Row::keeps(terminal, says, context))
 }

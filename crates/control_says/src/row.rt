@@ -34,7 +34,7 @@ impl<'a, C> Model for At<'a, C> {
 }
 
 /// What a row says, and what is kept of the terminal then.
-#[derive(Debug, Drop)]
+#[derive(Drop)]
 pub struct Row {
     pub says: Says,
     pub after: Terminal,

@@ -6,7 +6,7 @@ use gnb_types::reasons::{CauseName, DropReason, RefuseReason};
 use unit_messages::Message;
 
 /// One thing that a row says.
-#[derive(Debug, Drop)]
+#[derive(Drop)]
 pub enum Say {
     /// A request, which may wait; its deadline in ticks, and whether the attempt awaits the answer.
     Ask {

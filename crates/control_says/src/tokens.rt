@@ -2,7 +2,7 @@
 
 ghost use Rattle.std.specs.Prelude.{◌≡◌, IfOk};
 ghost use Rattle.unit_defs.specs.CpRows.{other_cp, target_gnb, say_command, say_accepted};
-ghost use Rattle.unit_octet_defs.specs.Codec.{octet_way};
+ghost use Rattle.unit_messages.specs.unit_octet_defs.Codec.{octet_way};
 ghost use Rattle.control_says.specs.Rows.{say_as};
 
 use crate::row::At;

@@ -16,6 +16,7 @@ use gnb_types::items::Memory;
 use gnb_types::keys::Channel;
 use gnb_types::names::{NodeId, UeId};
 use gnb_types::outputs::{Output, Outputs};
+use results::beside;
 use std::alloc::Global;
 use std::collections::VecDeque;
 use unit_messages::{Message, MessageCodec};
@@ -77,7 +78,8 @@ fn say_ask<C: MessageCodec>(
         (asks channel.peer waiting.message waiting.deadline waiting.awaited)))
         outputs.new record.new result }
 {
-    note(record, alloc, codec, channel, waiting.awaited)?;
+    let noted = note(record, alloc, codec, channel, waiting.awaited);
+    let (_, waiting) = beside(noted, waiting)?;
     let instance = record
         .requests
         .ask(alloc, codec, channel, waiting, outputs)?;

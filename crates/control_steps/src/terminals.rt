@@ -7,6 +7,7 @@ use control_contexts::{Attempt, Context};
 use control_records::ControlRecord;
 use gnb_types::items::Memory;
 use gnb_types::names::{NodeId, UeId};
+use results::beside;
 use std::alloc::Global;
 
 fn attempt_awaiting(attempt: &mut Option<Attempt>, node: NodeId) -> Result<(), Memory>
@@ -65,7 +66,8 @@ pub(crate) fn note_awaiting(
     ensures { OnOk result (record.new ≡ with_attempt ue (λ a. awaiting a node) record.old) }
 {
     let mut terminal = record.terminal(alloc, ue)?;
-    context_awaiting(&mut terminal.context, node)?;
+    let noted = context_awaiting(&mut terminal.context, node);
+    let (_, terminal) = beside(noted, terminal)?;
     record.put_terminal(ue, terminal)
 }
 
@@ -80,6 +82,7 @@ pub(crate) fn note_begun(
     ensures { OnOk result (record.new ≡ with_attempt ue (λ a. begun a node instance) record.old) }
 {
     let mut terminal = record.terminal(alloc, ue)?;
-    context_begun(alloc, &mut terminal.context, node, instance)?;
+    let noted = context_begun(alloc, &mut terminal.context, node, instance);
+    let (_, terminal) = beside(noted, terminal)?;
     record.put_terminal(ue, terminal)
 }

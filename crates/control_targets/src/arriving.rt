@@ -11,6 +11,7 @@ use control_requests::{du_modify, du_release, path_switch, say_switch, xn_cancel
 use control_says::says::Says;
 use control_says::{At, Row, two, with_first};
 use gnb_types::items::{Items, Memory};
+use results::beside;
 use unit_defs::{AttemptKind, StateName};
 use unit_messages::MessageCodec;
 use unit_steps::StepError;
@@ -132,7 +133,7 @@ pub fn arrives<C: MessageCodec>(
     ensures { RowGives
         (arrives (octet_way C.codec) at.now epoch terminal.now context.now attempt) result }
 {
-    let says = says_of_arrival(at, context, &attempt)?;
+    let (says, attempt) = beside(says_of_arrival(at, context, &attempt), attempt)?;
     Ok(took(at, terminal, epoch, says, arrived(context, attempt)))
 }
 
@@ -158,12 +159,13 @@ pub fn arrives_again<C: MessageCodec>(
     epoch: u32,
     terminal: &Terminal,
     context: &Context,
-    mut attempt: Attempt,
+    attempt: Attempt,
 ) -> Result<Row, StepError>
     ensures { RowGives
         (arrives_again (octet_way C.codec) at.now epoch terminal.now context.now attempt) result }
 {
-    let says = says_of_arrival_again(at, epoch, context, &attempt)?;
+    let says = says_of_arrival_again(at, epoch, context, &attempt);
+    let (says, mut attempt) = beside(says, attempt)?;
     attempt.epoch = u64::from(epoch);
     Ok(took(at, terminal, epoch, says, arrived(context, attempt)))
 }

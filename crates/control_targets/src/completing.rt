@@ -13,6 +13,7 @@ use control_says::says::{Say, Says};
 use control_says::{At, Row, two, with_first};
 use gnb_types::items::{Items, Memory};
 use gnb_types::plans::TunnelList;
+use results::beside;
 use unit_defs::{AttemptKind, StateName};
 use unit_messages::MessageCodec;
 use unit_steps::StepError;
@@ -109,12 +110,13 @@ pub fn completes<C: MessageCodec>(
     epoch: u32,
     terminal: &Terminal,
     context: &Context,
-    mut attempt: Attempt,
+    attempt: Attempt,
 ) -> Result<Row, StepError>
     ensures { RowGives
         (completes (octet_way C.codec) at.now epoch terminal.now context.now attempt) result }
 {
-    let says = says_of_completion(at, context, epoch, &attempt)?;
+    let says = says_of_completion(at, context, epoch, &attempt);
+    let (says, mut attempt) = beside(says, attempt)?;
     attempt.path_open = opens_path(at, attempt.kind);
     let mut there = moved(context, StateName::Completing, attempt);
     there.epoch = Some(epoch);
@@ -155,13 +157,14 @@ pub fn completes_again<C: MessageCodec>(
     epoch: u32,
     terminal: &Terminal,
     context: &Context,
-    mut attempt: Attempt,
+    attempt: Attempt,
 ) -> Result<Row, StepError>
     ensures { RowGives
         (completes_again (octet_way C.codec) at.now epoch terminal.now context.now attempt)
         result }
 {
-    let says = leave_old_again(at, context, epoch, &attempt)?;
+    let says = leave_old_again(at, context, epoch, &attempt);
+    let (says, mut attempt) = beside(says, attempt)?;
     attempt.epoch = u64::from(epoch);
     attempt.path_open = opens_path(at, attempt.kind);
     Ok(took(

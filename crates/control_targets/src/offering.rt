@@ -16,6 +16,7 @@ use gnb_types::items::{Items, Memory};
 use gnb_types::names::{NodeId, SnBits};
 use gnb_types::plans::{Peer, TunnelList};
 use message_types::XnMessage;
+use results::beside;
 use unit_defs::{AttemptKind, StateName};
 use unit_messages::{Message, MessageCodec};
 use unit_steps::StepError;
@@ -26,7 +27,7 @@ const BUSY: u32 = 1;
 const NO_UNIT: u32 = 2;
 
 /// What a Handover Request says of a terminal: its instance, the place, the bearers, and the epoch.
-#[derive(Clone, Copy, Debug)]
+#[derive(Clone, Copy)]
 pub struct Offered {
     pub instance: u32,
     pub epoch: u32,
@@ -91,7 +92,10 @@ pub fn offer<C: MessageCodec>(
 {
     match &terminal.context {
         None => offer_begins(at, from, instance, new, terminal),
-        Some(_) => Row::only_says(at, terminal, refuse_offer(at, from, instance, BUSY)),
+        Some(_) => {
+            drop(new);
+            Row::only_says(at, terminal, refuse_offer(at, from, instance, BUSY))
+        }
     }
 }
 
@@ -114,14 +118,15 @@ fn offer_begins<C: MessageCodec>(
         (offer_on (octet_way C.codec) at.now from instance new terminal.now None) result }
 {
     if !has_units(at, new.up, new.du) {
+        drop(new);
         return Row::only_says(at, terminal, refuse_offer(at, from, instance, NO_UNIT));
     }
-    let says = Items::one(at.alloc, bearer_setup(at, &new, true))?;
+    let (says, new) = beside(Items::one(at.alloc, bearer_setup(at, &new, true)), new)?;
     Ok(Row::keeps(terminal, says, new))
 }
 
 /// The tunnels of an offer: of the bearers, and of forwarding.
-#[derive(Debug, Drop)]
+#[derive(Drop)]
 pub struct OfferTunnels {
     pub uplinks: TunnelList,
     pub n3: TunnelList,
@@ -180,7 +185,8 @@ pub fn offer_has_tunnels<C: MessageCodec>(
         forward_up,
     } = tunnels;
     let attempt = with_tunnels(attempt, n3, forward_down, forward_up);
-    let says = setup_of_offer(at, context, attempt.epoch, uplinks)?;
+    let says = setup_of_offer(at, context, attempt.epoch, uplinks);
+    let (says, attempt) = beside(says, attempt)?;
     let context = context.attempted(StateName::Offered, attempt);
     Ok(Row::keeps(terminal, says, context))
 }
@@ -253,7 +259,7 @@ pub fn offer_is_placed<C: MessageCodec>(
         result }
 {
     attempt.downlinks = downlinks;
-    let says = say_ready(at, context, &attempt)?;
+    let (says, attempt) = beside(say_ready(at, context, &attempt), attempt)?;
     let context = context.attempted(StateName::Ready, attempt);
     Ok(Row::keeps(terminal, says, context))
 }

@@ -12,6 +12,7 @@ use control_says::says::Says;
 use control_says::{At, Row, say_accepted, told_epoch};
 use gnb_types::items::{Items, Memory};
 use gnb_types::plans::TunnelList;
+use results::beside;
 use unit_defs::StateName;
 use unit_messages::MessageCodec;
 use unit_steps::StepError;
@@ -29,7 +30,8 @@ pub fn place_is_renewed<C: MessageCodec>(
         (place_is_renewed (octet_way C.codec) at.now downlinks terminal.now context.now attempt)
         result }
 {
-    let says = Items::one(at.alloc, say_switch(at, context, downlinks))?;
+    let says = Items::one(at.alloc, say_switch(at, context, downlinks));
+    let (says, attempt) = beside(says, attempt)?;
     let context = context.attempted(context.state, attempt);
     Ok(Row::keeps(terminal, says, context))
 }
@@ -38,10 +40,12 @@ pub fn place_is_renewed<C: MessageCodec>(
 fn ended_where(is_over: bool, context: Context) -> Context
     ensures { result ≡ (if is_over then serving context else context) }
 {
-    if is_over {
-        return context.serving();
+    if !is_over {
+        return context;
     }
-    context
+    let over = context.serving();
+    drop(context);
+    over
 }
 
 /// The acceptance of the attempt's epoch, and that epoch.
@@ -82,7 +86,7 @@ pub fn is_switched<C: MessageCodec>(
     ensures { RowGives
         (is_switched (octet_way C.codec) at.now terminal.now context.now attempt) result }
 {
-    let (says, epoch) = acceptance(at, context, attempt.epoch)?;
+    let ((says, epoch), attempt) = beside(acceptance(at, context, attempt.epoch), attempt)?;
     let is_over = !attempt.path_open;
     let context = ended_where(is_over, accepted(context, epoch, attempt));
     Ok(Row::keeps(terminal, says, context))
@@ -115,12 +119,12 @@ pub fn path_is_switched<C: MessageCodec>(
     at: &At<'_, C>,
     terminal: &Terminal,
     context: &Context,
-    mut attempt: Attempt,
+    attempt: Attempt,
 ) -> Result<Row, StepError>
     ensures { RowGives
         (path_is_switched (octet_way C.codec) at.now terminal.now context.now attempt) result }
 {
-    let says = let_source_go(at, context.state)?;
+    let (says, mut attempt) = beside(let_source_go(at, context.state), attempt)?;
     attempt.path_open = false;
     let is_over = attempt.switched;
     let context = context.attempted(context.state, attempt);

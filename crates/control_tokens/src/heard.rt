@@ -10,7 +10,7 @@ use message_types::Token;
 use unit_messages::MessageCodec;
 
 /// A token with an epoch, and who relayed it.
-#[derive(Clone, Copy, Debug)]
+#[derive(Clone, Copy)]
 pub(crate) struct Heard {
     pub from: NodeId,
     pub token: Token,

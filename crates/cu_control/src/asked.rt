@@ -10,10 +10,10 @@ ghost use Rattle.unit_octet_defs.specs.Codec.{octet_way};
 ghost use Rattle.unit_messages.specs.Messages.{message_as};
 ghost use Rattle.unit_steps.specs.Steps.{step_after, IsStep};
 
+use crate::carrying::carry_made;
 use control_records::ControlRecord;
 use control_rows::xn_released;
 use control_says::At;
-use control_steps::carry_out;
 use control_targets::{Offered, offer, offer_context, status, xn_cancelled};
 use gnb_types::keys::Channel;
 use gnb_types::names::{NodeId, SnBits, UeId};
@@ -116,7 +116,7 @@ fn offered<C: MessageCodec>(
     let context = offer_context(&at, offered);
     let row = offer(&at, channel.peer, offered.instance, context, &terminal);
     drop(terminal);
-    carry_out(record, alloc, codec, ue, row?, outputs)
+    carry_made(record, alloc, codec, ue, row, outputs)
 }
 
 /// The source of a handover says the SN status.
@@ -142,7 +142,7 @@ fn status_came<C: MessageCodec>(
     let at = at_of(record, alloc, codec, ue);
     let row = status(&at, channel.peer, instance, copied, &terminal);
     drop(terminal);
-    carry_out(record, alloc, codec, ue, row?, outputs)
+    carry_made(record, alloc, codec, ue, row, outputs)
 }
 
 /// The source of a handover cancels it.
@@ -166,7 +166,7 @@ fn cancelled<C: MessageCodec>(
     let at = at_of(record, alloc, codec, ue);
     let row = xn_cancelled(&at, channel.peer, instance, &terminal);
     drop(terminal);
-    carry_out(record, alloc, codec, ue, row?, outputs)
+    carry_made(record, alloc, codec, ue, row, outputs)
 }
 
 /// The target of a handover has the terminal.
@@ -190,7 +190,7 @@ fn released<C: MessageCodec>(
     let at = at_of(record, alloc, codec, ue);
     let row = xn_released(&at, channel.peer, instance, &terminal);
     drop(terminal);
-    carry_out(record, alloc, codec, ue, row?, outputs)
+    carry_made(record, alloc, codec, ue, row, outputs)
 }
 
 /// A new request of another node.

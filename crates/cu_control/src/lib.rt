@@ -3,6 +3,7 @@
 #![tactic(auto)]
 
 mod asked;
+mod carrying;
 mod control;
 mod messages;
 mod orders;

@@ -8,9 +8,9 @@ ghost use Rattle.unit_octet_defs.specs.Codec.{octet_way};
 ghost use Rattle.unit_steps.specs.Steps.{step_after, IsStep};
 
 use crate::asked::at_of;
+use crate::carrying::carry_made;
 use control_records::ControlRecord;
 use control_rows as rows;
-use control_steps::carry_out;
 use gnb_types::inputs::Order;
 use gnb_types::names::UeId;
 use gnb_types::outputs::{Output, Outputs};
@@ -39,7 +39,7 @@ fn attach<C: MessageCodec>(
     let at = at_of(record, alloc, codec, plan.ue);
     let row = rows::attach(&at, plan, &terminal);
     drop(terminal);
-    carry_out(record, alloc, codec, plan.ue, row?, outputs)
+    carry_made(record, alloc, codec, plan.ue, row, outputs)
 }
 
 fn handover<C: MessageCodec>(
@@ -60,7 +60,7 @@ fn handover<C: MessageCodec>(
     let at = at_of(record, alloc, codec, goal.ue);
     let row = rows::handover(&at, goal, &terminal);
     drop(terminal);
-    carry_out(record, alloc, codec, goal.ue, row?, outputs)
+    carry_made(record, alloc, codec, goal.ue, row, outputs)
 }
 
 fn cancel<C: MessageCodec>(
@@ -80,7 +80,7 @@ fn cancel<C: MessageCodec>(
     let at = at_of(record, alloc, codec, ue);
     let row = rows::cancel(&at, &terminal);
     drop(terminal);
-    carry_out(record, alloc, codec, ue, row?, outputs)
+    carry_made(record, alloc, codec, ue, row, outputs)
 }
 
 fn release<C: MessageCodec>(
@@ -100,7 +100,7 @@ fn release<C: MessageCodec>(
     let at = at_of(record, alloc, codec, ue);
     let row = rows::release(&at, &terminal);
     drop(terminal);
-    carry_out(record, alloc, codec, ue, row?, outputs)
+    carry_made(record, alloc, codec, ue, row, outputs)
 }
 
 /// An order: one that isn't for a CU-CP is unexpected.

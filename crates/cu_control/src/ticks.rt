@@ -9,12 +9,12 @@ ghost use Rattle.unit_steps.specs.Steps.{step_after, IsStep};
 ghost use Rattle.cu_control.specs.inside.Dues.{due_in};
 
 use crate::asked::at_of;
+use crate::carrying::carry_made;
 use control_contexts::{Context, Terminal};
 use control_records::ControlRecord;
 use control_rows::{command, handover_expires};
 use control_says::says::Says;
 use control_says::{At, Row};
-use control_steps::carry_out;
 use gnb_types::items::Items;
 use gnb_types::names::UeId;
 use gnb_types::octets::Octets;
@@ -63,7 +63,7 @@ fn expired<C: MessageCodec>(
     let at = at_of(record, alloc, codec, ue);
     let row = expired_on(&at, &terminal);
     drop(terminal);
-    carry_out(record, alloc, codec, ue, row?, outputs)
+    carry_made(record, alloc, codec, ue, row, outputs)
 }
 
 /// What is due of one request: it is put again, or it expires.
@@ -195,7 +195,7 @@ fn commanded<C: MessageCodec>(
     let at = at_of(record, alloc, codec, ue);
     let row = command_on(&at, &terminal);
     drop(terminal);
-    carry_out(record, alloc, codec, ue, row?, outputs)
+    carry_made(record, alloc, codec, ue, row, outputs)
 }
 
 /// A tick.

@@ -6,8 +6,8 @@ ghost use Rattle.unit_octet_defs.specs.Codec.{octet_way};
 ghost use Rattle.unit_steps.specs.Steps.{step_after, IsStep};
 
 use crate::asked::at_of;
+use crate::carrying::carry_made;
 use control_records::ControlRecord;
-use control_steps::carry_out;
 use control_tokens as rows;
 use gnb_types::names::{NodeId, UeId};
 use gnb_types::octets::Octets;
@@ -37,5 +37,5 @@ pub(crate) fn token_came<C: MessageCodec>(
     let at = at_of(record, alloc, codec, ue);
     let row = rows::token_came(&at, from, &terminal, token);
     drop(terminal);
-    carry_out(record, alloc, codec, ue, row?, outputs)
+    carry_made(record, alloc, codec, ue, row, outputs)
 }

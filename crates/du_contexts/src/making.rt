@@ -49,7 +49,7 @@ fn made(
 }
 
 /// What a context is set up with: the epoch of its radio, the length of PDCP numbers, and the CU-UP at which its uplinks end.
-#[derive(Clone, Copy, Debug)]
+#[derive(Clone, Copy)]
 pub struct ContextSetup {
     pub epoch: u32,
     pub sn: SnBits,

@@ -34,7 +34,7 @@ use std::alloc::Global;
 use unit_steps::StepError;
 
 /// An NR-U data frame: whether it polls and restarts, its number, and the PDU in it, if there is one (TS 38.425, 5.5.2.1).
-#[derive(Clone, Copy, Debug)]
+#[derive(Clone, Copy)]
 pub struct Frame<'a> {
     pub poll: bool,
     pub restart: bool,
@@ -43,7 +43,7 @@ pub struct Frame<'a> {
 }
 
 /// A bearer of a terminal.
-#[derive(Clone, Copy, Debug)]
+#[derive(Clone, Copy)]
 pub struct RadioKey {
     pub ue: UeId,
     pub bearer: BearerId,

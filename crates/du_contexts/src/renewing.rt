@@ -25,7 +25,7 @@ use tables::table::Table;
 use unit_steps::StepError;
 
 /// Where the uplink of a bearer goes.
-#[derive(Clone, Copy, Debug)]
+#[derive(Clone, Copy)]
 pub struct Uplink {
     pub bearer: BearerId,
     pub up: NodeId,

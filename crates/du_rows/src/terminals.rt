@@ -20,7 +20,7 @@ use unit_requests::put;
 use unit_steps::StepError;
 
 /// A request for a terminal: the channel on which it came, and its instance.
-#[derive(Clone, Copy, Debug)]
+#[derive(Clone, Copy)]
 pub struct UeRequest {
     pub channel: Channel,
     pub ue: UeId,

@@ -4,7 +4,7 @@ use crate::leg::{Leg, Mode};
 use gnb_types::octets::Octets;
 
 /// An event.
-#[derive(Debug, PartialEq, Eq, Drop)]
+#[derive(Drop)]
 pub enum DupEvent {
     /// A packet is offered to the transmitting entity.
     Offer { packet: Octets },

@@ -4,7 +4,7 @@ use crate::leg::Leg;
 use gnb_types::octets::Octets;
 
 /// Why an event is refused.
-#[derive(Clone, Copy, Debug, PartialEq, Eq)]
+#[derive(Clone, Copy, PartialEq, Eq)]
 pub enum DupRefusal {
     /// The packet has more than 2,048 octets.
     Size,
@@ -21,7 +21,7 @@ pub enum DupRefusal {
 }
 
 /// A line after an event.
-#[derive(Debug, PartialEq, Eq, Drop)]
+#[derive(Drop)]
 pub enum DupLine {
     /// The PDU of a COUNT is put on a leg.
     Put { leg: Leg, count: u32, pdu: Octets },

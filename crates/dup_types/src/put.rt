@@ -5,7 +5,7 @@ use gnb_types::items::Items;
 use gnb_types::octets::Octets;
 
 /// A PDU with its COUNT, for a leg.
-#[derive(Debug, PartialEq, Eq, Drop)]
+#[derive(Drop)]
 pub struct Put {
     pub leg: Leg,
     pub count: u32,

@@ -7,7 +7,7 @@ use gnb_types::items::{Items, Memory};
 pub type DupLines = Items<DupLine>;
 
 /// Why a run has ended.
-#[derive(Clone, Copy, Debug, PartialEq, Eq)]
+#[derive(Clone, Copy, PartialEq, Eq)]
 pub enum DupEnd {
     /// So many COUNTs are outstanding, more than may be.
     Outstanding { span: u32, window: u32 },
@@ -16,7 +16,7 @@ pub enum DupEnd {
 }
 
 /// Why an event isn't done, or is the last: with its lines, where the run ends in it, and with none from then on.
-#[derive(Debug, PartialEq, Eq, Drop)]
+#[derive(Drop)]
 pub enum DupStop {
     Outstanding {
         span: u32,

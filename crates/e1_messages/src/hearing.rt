@@ -23,6 +23,7 @@ use message_values::found::{
     the_half_word, the_index, the_name, the_number, the_octet, the_sn, the_tunnels, the_ue,
 };
 use message_values::places::{INITIATING, SUCCESSFUL, UNSUCCESSFUL};
+use results::beside;
 use std::alloc::Global;
 
 /// The message that a value of the PDU says.
@@ -57,10 +58,10 @@ fn heard_at(
     ensures { Hears (e1_at outcome code criticality (ies_view found.now)) result }
 {
     match code {
-        E1_SETUP => Ok(setup(alloc, outcome, criticality, found)?),
-        BEARER_CONTEXT_SETUP => Ok(context_setup(alloc, outcome, criticality, found)?),
-        BEARER_CONTEXT_MODIFICATION => Ok(modification(alloc, outcome, criticality, found)?),
-        BEARER_CONTEXT_RELEASE => Ok(release(alloc, outcome, criticality, found)?),
+        E1_SETUP => setup(alloc, outcome, criticality, found),
+        BEARER_CONTEXT_SETUP => context_setup(alloc, outcome, criticality, found),
+        BEARER_CONTEXT_MODIFICATION => modification(alloc, outcome, criticality, found),
+        BEARER_CONTEXT_RELEASE => release(alloc, outcome, criticality, found),
         _ => Err(MsgError::UnknownProcedure { code, criticality }),
     }
 }
@@ -208,13 +209,23 @@ fn context_setup_response(alloc: Global, found: &[Ie]) -> Result<E1Message, MsgE
     if let Some(id) = first_rejected(&uses, found) {
         return Err(MsgError::UnknownIe { id });
     }
+    let uplinks = the_tunnels(alloc, found, ElementName::Uplinks)?;
+    let (n3, uplinks) = beside(the_tunnels(alloc, found, ElementName::N3), uplinks)?;
+    let (forward_down, (uplinks, n3)) = beside(
+        any_tunnels(alloc, found, ElementName::ForwardDown),
+        (uplinks, n3),
+    )?;
+    let (forward_up, (uplinks, n3, forward_down)) = beside(
+        any_tunnels(alloc, found, ElementName::ForwardUp),
+        (uplinks, n3, forward_down),
+    )?;
     Ok(E1Message::BearerContextSetupResponse {
         ue: the_ue(found),
         instance: the_number(found, ElementName::Instance),
-        uplinks: the_tunnels(alloc, found, ElementName::Uplinks)?,
-        n3: the_tunnels(alloc, found, ElementName::N3)?,
-        forward_down: any_tunnels(alloc, found, ElementName::ForwardDown)?,
-        forward_up: any_tunnels(alloc, found, ElementName::ForwardUp)?,
+        uplinks,
+        n3,
+        forward_down,
+        forward_up,
     })
 }
 
@@ -255,15 +266,28 @@ fn modification_request(alloc: Global, found: &[Ie]) -> Result<E1Message, MsgErr
     if let Some(id) = first_rejected(&uses, found) {
         return Err(MsgError::UnknownIe { id });
     }
+    let downlinks = any_tunnels(alloc, found, ElementName::Downlinks)?;
+    let (forward_down, downlinks) = beside(
+        any_tunnels(alloc, found, ElementName::ForwardDown),
+        downlinks,
+    )?;
+    let (forward_up, (downlinks, forward_down)) = beside(
+        any_tunnels(alloc, found, ElementName::ForwardUp),
+        (downlinks, forward_down),
+    )?;
+    let (statuses, (downlinks, forward_down, forward_up)) = beside(
+        any_statuses(alloc, found),
+        (downlinks, forward_down, forward_up),
+    )?;
     Ok(E1Message::BearerContextModificationRequest {
         ue: the_ue(found),
         instance: the_number(found, ElementName::Instance),
-        downlinks: any_tunnels(alloc, found, ElementName::Downlinks)?,
+        downlinks,
         mode: the_index(found, ElementName::Mode),
         peer: any_peer(found),
-        forward_down: any_tunnels(alloc, found, ElementName::ForwardDown)?,
-        forward_up: any_tunnels(alloc, found, ElementName::ForwardUp)?,
-        statuses: any_statuses(alloc, found)?,
+        forward_down,
+        forward_up,
+        statuses,
         du: any_octet(found, ElementName::Du),
     })
 }
@@ -281,11 +305,13 @@ fn modification_response(alloc: Global, found: &[Ie]) -> Result<E1Message, MsgEr
     if let Some(id) = first_rejected(&uses, found) {
         return Err(MsgError::UnknownIe { id });
     }
+    let uplinks = any_tunnels(alloc, found, ElementName::Uplinks)?;
+    let (statuses, uplinks) = beside(any_statuses(alloc, found), uplinks)?;
     Ok(E1Message::BearerContextModificationResponse {
         ue: the_ue(found),
         instance: the_number(found, ElementName::Instance),
-        uplinks: any_tunnels(alloc, found, ElementName::Uplinks)?,
-        statuses: any_statuses(alloc, found)?,
+        uplinks,
+        statuses,
     })
 }
 

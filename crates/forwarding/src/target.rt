@@ -13,7 +13,7 @@ use gnb_types::reasons::HeldReason;
 use std::marker::Model;
 
 /// The tunnels that end at a CU-UP.
-#[derive(Clone, Copy, Debug, PartialEq, Eq)]
+#[derive(Clone, Copy, PartialEq, Eq)]
 pub enum TunnelKind {
     N3,
     F1Up,

@@ -22,7 +22,7 @@ pub const INPUT_LIMIT: u64 = 16_777_216;
 pub const PIECE_SIZE: usize = 4096;
 
 /// A line of an input, without its LF. Lines are counted from 1.
-#[derive(Clone, Debug, PartialEq, Eq, Drop)]
+#[derive(PartialEq, Eq, Drop)]
 pub struct Line {
     pub number: u64,
     pub text: Octets,
@@ -40,7 +40,7 @@ pub enum ReadError {
 }
 
 /// What a line reader does from here on: it goes on, or it answers the same always.
-#[derive(Clone, Copy, Debug, PartialEq, Eq)]
+#[derive(Clone, Copy, PartialEq, Eq)]
 pub enum ReadPhase {
     Going,
     Ended,

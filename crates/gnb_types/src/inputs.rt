@@ -5,7 +5,7 @@ use crate::octets::Octets;
 use crate::plans::Plan;
 
 /// What a unit takes in one step.
-#[derive(Clone, Debug, PartialEq, Eq, Drop)]
+#[derive(Drop)]
 pub enum Input {
     /// A control message.
     Control {
@@ -42,7 +42,7 @@ pub enum Input {
 }
 
 /// What an event of a script asks of a unit.
-#[derive(Clone, Copy, Debug, PartialEq, Eq)]
+#[derive(Clone, Copy)]
 pub enum Order {
     Start,
     Attach(Plan),

@@ -8,7 +8,7 @@ use std::cmp::Ordering;
 use std::fmt;
 
 /// A gNB.
-#[derive(Clone, Copy, Debug, PartialEq, Eq, PartialOrd, Ord)]
+#[derive(Clone, Copy, Debug, PartialEq, Eq)]
 pub enum Gnb {
     A,
     B,
@@ -50,7 +50,7 @@ impl fmt::Display for BearerId {
 }
 
 /// A node: the CU-CP, a CU-UP or a DU of a gNB (both numbered 1 and 2), the core, or a terminal.
-#[derive(Clone, Copy, Debug, PartialEq, Eq)]
+#[derive(Clone, Copy, PartialEq, Eq)]
 pub enum NodeId {
     CuCp(Gnb),
     CuUp(Gnb, u8),
@@ -155,7 +155,7 @@ impl fmt::Display for Dir {
 }
 
 /// How many bits a PDCP sequence number has (TS 38.323, 6.3.2).
-#[derive(Clone, Copy, Debug, PartialEq, Eq, PartialOrd, Ord)]
+#[derive(Clone, Copy, PartialEq, Eq)]
 pub enum SnBits {
     Len12,
     Len18,

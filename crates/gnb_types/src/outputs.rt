@@ -6,7 +6,7 @@ use crate::octets::Octets;
 use crate::reasons::{CauseName, DropReason, HeldReason, RefuseReason};
 
 /// Which COUNT stands beside an item that a unit puts on a link.
-#[derive(Clone, Copy, Debug, PartialEq, Eq, PartialOrd, Ord)]
+#[derive(Clone, Copy, PartialEq, Eq)]
 pub enum Tag {
     Absent,
     /// The COUNT that the unit itself gives.
@@ -16,7 +16,7 @@ pub enum Tag {
 }
 
 /// One thing that a unit does in a step.
-#[derive(Clone, Debug, PartialEq, Eq, Drop)]
+#[derive(Drop)]
 pub enum Output {
     /// It puts a control message of this terminal, or of none where `ue` is 0.
     Control {

@@ -5,7 +5,7 @@ use crate::items::Items;
 use crate::names::{BearerId, Gnb, SnBits, UeId};
 
 /// Where a terminal is to be served, and with which bearers.
-#[derive(Clone, Copy, Debug, PartialEq, Eq, PartialOrd, Ord)]
+#[derive(Clone, Copy, PartialEq, Eq)]
 pub struct Plan {
     pub ue: UeId,
     pub gnb: Gnb,
@@ -21,14 +21,14 @@ pub struct Plan {
 }
 
 /// The CU-UP that a tunnel leads to.
-#[derive(Clone, Copy, Debug, PartialEq, Eq, PartialOrd, Ord)]
+#[derive(Clone, Copy, PartialEq, Eq)]
 pub struct Peer {
     pub gnb: Gnb,
     pub up: u8,
 }
 
 /// The tunnel of a bearer, by the TEID of its end.
-#[derive(Clone, Copy, Debug, PartialEq, Eq, PartialOrd, Ord)]
+#[derive(Clone, Copy, PartialEq, Eq)]
 pub struct Tunnel {
     pub bearer: BearerId,
     pub teid: u32,
@@ -36,7 +36,7 @@ pub struct Tunnel {
 
 /// The SN status of a bearer (TS 38.423, 9.2.1.1): the next COUNT of the downlink, the first COUNT of the uplink that is missing, and
 /// which of the COUNTs after that one were received.
-#[derive(Clone, Debug, PartialEq, Eq, Drop)]
+#[derive(PartialEq, Drop)]
 pub struct SnStatus {
     pub bearer: BearerId,
     pub dl_next: u32,

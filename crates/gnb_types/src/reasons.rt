@@ -6,7 +6,7 @@ ghost use Rattle.gnb_types.specs.Reasons.{drop_text, held_text, cause_text, refu
 use std::fmt;
 
 /// Why a unit ignores its input.
-#[derive(Clone, Copy, Debug, PartialEq, Eq, PartialOrd, Ord)]
+#[derive(Clone, Copy, PartialEq, Eq)]
 pub enum DropReason {
     Undecodable,
     Criticality,
@@ -39,7 +39,7 @@ impl fmt::Display for DropReason {
 }
 
 /// Why an item stays at the head of its link.
-#[derive(Clone, Copy, Debug, PartialEq, Eq, PartialOrd, Ord)]
+#[derive(Clone, Copy, PartialEq, Eq)]
 pub enum HeldReason {
     Quota,
     Ahead,
@@ -64,7 +64,7 @@ impl fmt::Display for HeldReason {
 }
 
 /// Why a procedure ended without success.
-#[derive(Clone, Copy, Debug, PartialEq, Eq, PartialOrd, Ord)]
+#[derive(Clone, Copy, PartialEq, Eq)]
 pub enum CauseName {
     Quota,
     Busy,
@@ -87,7 +87,7 @@ impl fmt::Display for CauseName {
 }
 
 /// Why an event can't apply.
-#[derive(Clone, Copy, Debug, PartialEq, Eq, PartialOrd, Ord)]
+#[derive(Clone, Copy, PartialEq, Eq)]
 pub enum RefuseReason {
     Attached,
     NotStarted,

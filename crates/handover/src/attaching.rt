@@ -14,7 +14,7 @@ use std::marker::Model;
 use unit_defs::AttemptKind;
 
 /// An attach is under way. Contracts see the attempt.
-#[derive(Debug, Drop)]
+#[derive(Drop)]
 pub struct Attaching {
     pub(crate) attempt: Attempt,
 }

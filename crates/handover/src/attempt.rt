@@ -10,14 +10,14 @@ use gnb_types::plans::Plan;
 use unit_defs::AttemptKind;
 
 /// A request whose answer is awaited, and its instance once it was put.
-#[derive(Clone, Copy, Debug, PartialEq, Eq)]
+#[derive(Clone, Copy)]
 pub struct Awaited {
     pub request: MessageName,
     pub instance: Option<u32>,
 }
 
 /// The answers that are awaited, at most one of each node.
-#[derive(Clone, Copy, Debug, PartialEq, Eq)]
+#[derive(Clone, Copy)]
 pub struct Awaits {
     pub du: Option<Awaited>,
     pub cu_up: Option<Awaited>,
@@ -26,7 +26,7 @@ pub struct Awaits {
 }
 
 /// What an attempt is, and how far it is. A state shows it, and nothing but the calls of the states changes it.
-#[derive(Clone, Copy, Debug, PartialEq, Eq)]
+#[derive(Clone, Copy)]
 pub struct Attempt {
     pub ue: UeId,
     pub kind: AttemptKind,

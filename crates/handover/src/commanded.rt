@@ -12,7 +12,7 @@ use std::marker::Model;
 use unit_defs::AttemptKind;
 
 /// The terminal was told to leave, or at an attach to access its first DU. Contracts see the attempt.
-#[derive(Debug, Drop)]
+#[derive(Drop)]
 pub struct Commanded {
     pub(crate) attempt: Attempt,
 }

@@ -13,7 +13,7 @@ use std::marker::Model;
 use unit_defs::AttemptKind;
 
 /// The terminal came back, and its bearers are being switched. Contracts see the attempt.
-#[derive(Debug, Drop)]
+#[derive(Drop)]
 pub struct Returning {
     pub(crate) attempt: Attempt,
 }
@@ -123,7 +123,7 @@ impl Returning {
 }
 
 /// The terminal arrived, and what it left is being released. Contracts see the attempt.
-#[derive(Debug, Drop)]
+#[derive(Drop)]
 pub struct Completing {
     pub(crate) attempt: Attempt,
 }

@@ -4,7 +4,7 @@ ghost use Rattle.std.specs.Prelude.{◌≡◌, Some, None};
 ghost use Rattle.handover.specs.Rows.{sends, modifies};
 
 /// The messages of F1AP, E1AP, XnAP and of the core.
-#[derive(Clone, Copy, Debug, PartialEq, Eq)]
+#[derive(Clone, Copy, PartialEq, Eq)]
 pub enum MessageName {
     F1SetupRequest,
     F1SetupResponse,
@@ -38,7 +38,7 @@ pub enum MessageName {
 }
 
 /// What a modification of bearers is for.
-#[derive(Clone, Copy, Debug, PartialEq, Eq)]
+#[derive(Clone, Copy)]
 pub enum ModeName {
     Uplinks,
     Switch,
@@ -48,7 +48,7 @@ pub enum ModeName {
 }
 
 /// Who gets a message. The DUs are those before the step: the one of the context, and the one of the attempt.
-#[derive(Clone, Copy, Debug, PartialEq, Eq)]
+#[derive(Clone, Copy, PartialEq, Eq)]
 pub enum Role {
     ServingDu,
     TargetDu,
@@ -58,7 +58,7 @@ pub enum Role {
 }
 
 /// A message of a step.
-#[derive(Clone, Copy, Debug, PartialEq, Eq)]
+#[derive(Clone, Copy)]
 pub struct Send {
     pub message: MessageName,
     /// Of a Bearer Context Modification Request alone.
@@ -90,7 +90,7 @@ impl Send {
 }
 
 /// Why a state is handed back.
-#[derive(Clone, Copy, Debug, PartialEq, Eq)]
+#[derive(Clone, Copy, PartialEq, Eq)]
 pub enum Refusal {
     /// The instance or the epoch isn't the awaited one.
     Stale,

@@ -15,7 +15,7 @@ use std::marker::Model;
 use unit_defs::AttemptKind;
 
 /// A handover was begun. Contracts see the attempt.
-#[derive(Debug, Drop)]
+#[derive(Drop)]
 pub struct Preparing {
     pub(crate) attempt: Attempt,
 }
@@ -146,7 +146,7 @@ impl Preparing {
 }
 
 /// The other gNB is ready, and the own CU-UP is being frozen. Contracts see the attempt.
-#[derive(Debug, Drop)]
+#[derive(Drop)]
 pub struct Prepared {
     pub(crate) attempt: Attempt,
 }
@@ -219,7 +219,7 @@ impl Prepared {
 }
 
 /// All is ready for the command. Contracts see the attempt.
-#[derive(Debug, Drop)]
+#[derive(Drop)]
 pub struct Frozen {
     pub(crate) attempt: Attempt,
 }

@@ -9,7 +9,7 @@ use std::marker::Model;
 const MOST: usize = 4;
 
 /// At most four messages. Contracts see the list.
-#[derive(Clone, Debug, Drop)]
+#[derive(Drop)]
 pub struct Steps {
     count: usize,
     sends: [Send; MOST],

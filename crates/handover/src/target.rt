@@ -14,7 +14,7 @@ use std::marker::Model;
 use unit_defs::AttemptKind;
 
 /// A handover was offered, and isn't ready. Contracts see the attempt.
-#[derive(Debug, Drop)]
+#[derive(Drop)]
 pub struct Offered {
     pub(crate) attempt: Attempt,
 }
@@ -113,7 +113,7 @@ fn release_of_both() -> Steps
 }
 
 /// All is ready, and the terminal is awaited. Contracts see the attempt.
-#[derive(Debug, Drop)]
+#[derive(Drop)]
 pub struct Ready {
     pub(crate) attempt: Attempt,
 }
@@ -175,7 +175,7 @@ impl Ready {
 }
 
 /// The terminal is here, and its bearers and its path are being switched. Contracts see the attempt.
-#[derive(Debug, Drop)]
+#[derive(Drop)]
 pub struct Arrived {
     pub(crate) attempt: Attempt,
 }

@@ -4,7 +4,7 @@
 #![tactic(auto)]
 
 /// Why no further line is read.
-#[derive(Clone, Copy, Debug, PartialEq, Eq)]
+#[derive(Clone, Copy, PartialEq, Eq)]
 pub enum InputEnd {
     /// A read failed, after so many bytes.
     ReadFault { taken: u64 },

@@ -7,7 +7,7 @@ use profile::Version;
 use script_words::reason::TextReason;
 
 /// The module that a header names.
-#[derive(Clone, Copy, Debug, PartialEq, Eq)]
+#[derive(Clone, Copy, PartialEq, Eq)]
 pub enum ModuleHeader {
     /// The one whose text follows: `module text`.
     Text,

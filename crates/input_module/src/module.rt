@@ -19,7 +19,7 @@ use script_words::reason::TextReason;
 use std::alloc::Global;
 
 /// The module that a header names.
-#[derive(Debug, Drop)]
+#[derive(Drop)]
 pub enum GivenModule {
     /// The one whose text follows the header.
     Text(Module),

@@ -10,7 +10,7 @@ use input_defs::InputEnd;
 use script_words::reason::TextReason;
 
 /// Why an input isn't a header and a module, or not these alone.
-#[derive(Clone, Copy, Debug, PartialEq, Eq)]
+#[derive(Clone, Copy, PartialEq, Eq)]
 pub enum ModuleStop {
     /// The text is no module: its first fault, with the line of the input.
     NoModule {

@@ -16,7 +16,7 @@ use script_words::reason::TextReason;
 use std::alloc::Global;
 
 /// The first line of an input: what it names, and how many octets it has without its LF.
-#[derive(Clone, Copy, Debug)]
+#[derive(Clone, Copy)]
 pub struct FirstLine {
     pub header: ModuleHeader,
     pub octets: usize,
@@ -24,7 +24,7 @@ pub struct FirstLine {
 
 /// The lines of a text, each with its LF, and the number of the last one; `header` is how many
 /// octets the header has.
-#[derive(Debug, Drop)]
+#[derive(Drop)]
 pub struct Gathered {
     pub header: usize,
     pub octets: Octets,
@@ -44,7 +44,7 @@ impl Gathered {
 }
 
 /// What a header names, with the lines that it asks for.
-#[derive(Debug, Drop)]
+#[derive(Drop)]
 pub enum Taken {
     Text(Gathered),
     Builtin(Version),

@@ -4,8 +4,8 @@ use Rattle.std.specs.List.{list_any}
 use Rattle.gnb_types.specs.declared.plans.SnStatus.{SnStatus}
 use Rattle.law_intervals.specs.Intervals.{segment, upto, HasNoGap, reach}
 use Rattle.law_intervals.proofs.Intervals.{upto-nil, upto-filter, reach-le}
-use Rattle.unit_defs.specs.UpRecords.{SourceHop, Downlink}
-use Rattle.unit_defs.specs.UpBearers.{made, owed, released, thawed, is_one_of}
+use Rattle.chain_defs.specs.unit_defs.UpRecords.{SourceHop, Downlink}
+use Rattle.chain_defs.specs.unit_defs.UpBearers.{made, owed, released, thawed, is_one_of}
 use Rattle.chain_defs.specs.Parts.{Member, Part, set, is_open, is_fed, new_member, no_member}
 use Rattle.chain_defs.specs.Orders.{makes, freezes, knows, switches, resumes, releases, closes, arrives, fails, forwards, frozen, known, on_downlink, after}
 use Rattle.chain_defs.specs.Guards.{IsUnfed, IsUntouched}

@@ -4,7 +4,7 @@ use Rattle.gnb_types.specs.declared.names.SnBits.TheVariants.{Len12}
 use Rattle.tables.specs.Tables.{find, put}
 use Rattle.pdcp_defs.specs.Senders.{numbered, has_room, first, may_restore, restored, confirmed_to, confirmed_by}
 use Rattle.pdcp_defs.specs.Receivers.{is_duplicate, stored, deliver}
-use Rattle.unit_defs.specs.UpBearers.{made}
+use Rattle.chain_defs.specs.unit_defs.UpBearers.{made}
 use Rattle.chain_defs.specs.Parts.{Member, start, is_open}
 use Rattle.chain_defs.specs.Orders.{Order, after, run}
 use Rattle.chain_defs.specs.Guards.{Feeds, IsUnfed, IsReady, IsOwed, AreKept}

@@ -3,7 +3,7 @@ use Rattle.std.specs.Prelude.{ℕ, true, false, List, [], ◌∷◌, None}
 use Rattle.gnb_types.specs.declared.names.Gnb.TheVariants.{A}
 use Rattle.gnb_types.specs.declared.names.NodeId.TheVariants.{CuUp, Du}
 use Rattle.gnb_types.specs.declared.plans.SnStatus.{SnStatus}
-use Rattle.unit_defs.specs.UpRecords.{Downlink, SourceHop}
+use Rattle.chain_defs.specs.unit_defs.UpRecords.{Downlink, SourceHop}
 use Rattle.chain_defs.specs.Parts.{fresh, end_marker}
 use Rattle.chain_defs.specs.Orders.{Order, offers, switches_path, makes, freezes, knows, switches, releases, closes, arrives, keeps_n3, keeps_fresh, passes_n3, passes_fresh, sends, ends_n3, ends_hop, numbers, confirms, reports, tells_loss, sends_again, resumes, fails, carries}
 

@@ -1,3 +1,4 @@
 pub mod Decided
 pub mod LinkReading
 pub mod Lawful
+mod InRange

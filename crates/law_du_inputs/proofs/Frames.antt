@@ -12,7 +12,7 @@ use Rattle.tables.specs.Tables.{find, put}
 use Rattle.tables.proofs.TableLaws.{find-put-same, find-put-other}
 use Rattle.unit_defs.specs.Ways.{Pdu, Taken, fresh_item, numbered_item, frame_item, uplink_item, status_item, end_item, Output, radio, Way, gives, with_outputs, ◌then◌, dropped, puts, drops}
 use Rattle.unit_defs.specs.Du.{Du, DuBearer, DuContext, DuTunnel, context_of, told, with_bearer, frame_came, taken_in, taken_of, taken_on, take}
-use Rattle.law_downlink_path.specs.Paths.{Frame, taken_by, gap_after as shown_gap}
+use Rattle.law_du_rows.specs.law_downlink_path.Paths.{Frame, taken_by, gap_after as shown_gap}
 use Rattle.law_du_inputs.specs.Changes.{DuPart, part_with, part_in, part_of, stays, takes, changed, of_frame, of_tunnel, Has}
 use Rattle.law_du_inputs.proofs.Contexts.{same_ue, same_bearer, stays_is, put_here, put_far}
 

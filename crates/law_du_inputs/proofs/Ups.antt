@@ -12,7 +12,7 @@ use Rattle.gnb_types.specs.Orders.{ue_cmp, bearer_cmp}
 use Rattle.tables.specs.Tables.{find}
 use Rattle.unit_defs.specs.Ways.{Pdu, uplink, status, Taken, fresh_item, numbered_item, frame_item, uplink_item, status_item, end_item, Output, packet, Way, Answer, ◌then◌, puts, drops}
 use Rattle.unit_defs.specs.Du.{Du, DuBearer, DuContext, DuTunnel, context_of, missing, is_missing, told, frame_came, taken_in, taken_of, taken_on, take, of_bearer, of_context, pass_up, confirmed, confirm}
-use Rattle.law_downlink_path.specs.Paths.{Frame, gap_after}
+use Rattle.law_du_rows.specs.law_downlink_path.Paths.{Frame, gap_after}
 use Rattle.law_du_inputs.specs.Changes.{DuPart, part_with, part_in, part_of, Change, stays, takes, of_frame, of_tunnel}
 use Rattle.law_du_inputs.specs.Puts.{OnTunnel, is_of, tunnels_put, radio_put, on_uplink, of_change, of_number, of_part, carried_if, carried_of, Puts}
 use Rattle.law_du_inputs.proofs.Contexts.{same_ue, same_bearer}

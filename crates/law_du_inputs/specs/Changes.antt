@@ -16,7 +16,7 @@ use Rattle.unit_defs.specs.Ways.{Message, f1, Pdu, Taken, frame_item, Input, con
 use Rattle.unit_defs.specs.Messages.{channel, is_same_gnb, bearers_of, are_first_bearers}
 use Rattle.unit_defs.specs.Transactions.{Kind, request, kind_of}
 use Rattle.unit_defs.specs.Du.{Du, DuBearer, DuContext, DuTunnel, context_of, context_with}
-use Rattle.law_downlink_path.specs.Paths.{Frame, taken_by}
+use Rattle.law_du_rows.specs.law_downlink_path.Paths.{Frame, taken_by}
 use Rattle.law_du_rows.specs.Shown.{renewed}
 
 -- one bearer at a DU: of its context the epoch and the length of numbers, and what the DU keeps of the bearer

@@ -8,7 +8,7 @@ use Rattle.gnb_types.specs.declared.names.Dir.TheVariants.{Dl}
 use Rattle.gnb_types.specs.Orders.{ue_cmp, bearer_cmp}
 use Rattle.unit_defs.specs.Ways.{Pdu, Load, status, end_marker, Output, packet, radio, Way, Answer, gives, spent}
 use Rattle.unit_defs.specs.Du.{missing, is_missing}
-use Rattle.law_downlink_path.specs.Paths.{gap_after}
+use Rattle.law_du_rows.specs.law_downlink_path.Paths.{gap_after}
 use Rattle.law_du_inputs.specs.Changes.{DuPart, Change, takes, ends}
 
 -- an item on a tunnel: at which node, with which TEID, and what

@@ -1,1 +1,2 @@
 pub mod Shown
+pub use Rattle.law_downlink_path.specs as law_downlink_path

@@ -19,11 +19,11 @@ use Rattle.run_defs.specs.Carried.{IsRadioData, IsRadioReport, IsOnRadio as IsLa
 use Rattle.run_defs.specs.Written.{Written}
 use Rattle.run_defs.specs.States.{new_state, World}
 use Rattle.run_defs.specs.Runs.{Reading, Happened, plain_world, Run, run}
-use Rattle.law_run_facts.specs.Facts.{Facts}
-use Rattle.law_run_facts.specs.UnitFacts.{said_item, HasOctets, HasPduOctets, written_facts}
-use Rattle.law_run_facts.specs.TellFacts.{TellsTunnel, TellsRadio, Tells, TellsBy, StepTells}
-use Rattle.law_run_facts.proofs.Plain.{plain_kept, first_holds}
-use Rattle.law_run_facts.proofs.Tells.{EventTells, run_tells}
+use Rattle.law_link_items.specs.law_run_facts.Facts.{Facts}
+use Rattle.law_link_items.specs.law_run_facts.UnitFacts.{said_item, HasOctets, HasPduOctets, written_facts}
+use Rattle.law_link_items.specs.law_run_facts.TellFacts.{TellsTunnel, TellsRadio, Tells, TellsBy, StepTells}
+use Rattle.law_link_items.proofs.law_run_facts.Plain.{plain_kept, first_holds}
+use Rattle.law_link_items.proofs.law_run_facts.Tells.{EventTells, run_tells}
 use Rattle.law_link_items.specs.Items.{count_of_pdu, count_of_load, MayPut, IsPutOnTunnel, IsPutOnRadio}
 use Rattle.law_link_items.proofs.Octets.{map_all, to_du_laid, pdu_laid}
 use Rattle.law_link_items.proofs.Names.{link_items}

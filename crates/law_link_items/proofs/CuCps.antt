@@ -17,7 +17,7 @@ use Rattle.unit_defs.specs.Transactions.{Kind, request, reply, transfer, kind_of
 use Rattle.unit_defs.specs.CpRecords.{CuCpRecord, terminal_of, with_terminal, with_transactions, waiting_of, after_asked, noted, Say, asks, cancels, replies, replies_late, sends, fails, ignores, refuses, forgets, say_one, say_all, Row, row, row_spent, carry_out}
 use Rattle.unit_defs.specs.CuCp.{at_of, Answered, answers_none, answers_with, answer, put_next, closed_at, answered_by, reply_came, with_unit, set_up, asked, token_came, transferred, control_by, control_came, due_one, due_each, command_on, command_each, ues_of, tick, cu_cp_acts}
 use Rattle.gnb_types.specs.declared.names.NodeId.TheVariants.{CuCp as cp_node}
-use Rattle.run_defs.specs.Runs.{plain_way}
+use Rattle.law_run_facts.specs.run_defs.Runs.{plain_way}
 use Rattle.law_run_facts.proofs.Fits.{FitsAny, fits_if, any_then, ask_fits, at_once_fits, advance_fits, replied_fits, late_fits, fits_request, fits_reply}
 use Rattle.law_link_items.proofs.Names.{link_items}
 

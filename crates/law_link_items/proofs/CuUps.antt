@@ -37,7 +37,7 @@ use Rattle.unit_defs.specs.UpBearers.{made, teids_of_bearer, with_uplink, switch
 use Rattle.unit_defs.specs.UpItems.{held_reason, took}
 use Rattle.unit_defs.specs.Static.{with_downlinks, up_context, up_placed}
 use Rattle.unit_defs.specs.CuUp.{bearers_from, bearers_made, entries_of, with_context, context_of, with_transactions, up_node, UpStep, steps, stops, step_with, each_bearer, answer_with, ended, ended_if_over, end_where_over, replies, new_context, opened_of, with_new, makes, fits, set_up_for, setup_response, setup_on, setup, modified, uplinks_from, teids_from, uplinks_given, add_uplinks, as_switched, switch, as_frozen, peer_node, statuses, freeze, as_known, status_each, take_status, as_resumed, resume, names, switch_if, freeze_if, status_if, resume_if, modify_on, as_released, released_on, release, asked, start, set_up, control_by, ue_in, is_own_cp, control_came, with_bearer, taken_by, taken_in, taken_of, taken_on, take, poll_bearer, poll_on, poll, due_output, tick, cu_up_acts}
-use Rattle.run_defs.specs.Runs.{plain_way}
+use Rattle.law_run_facts.specs.run_defs.Runs.{plain_way}
 use Rattle.law_receivers.proofs.CuUps.{found_in, all_put}
 use Rattle.law_run_facts.specs.Facts.{PutsFit}
 use Rattle.law_run_facts.specs.UnitFacts.{as_facts, InputFits, AnswerFits}

@@ -29,8 +29,8 @@ use Rattle.unit_defs.specs.Transactions.{Kind, request, reply, transfer, kind_of
 use Rattle.unit_defs.specs.Static.{uplinks_from, du_context, du_placed}
 use Rattle.unit_defs.specs.CuUp.{bearers_from}
 use Rattle.unit_defs.specs.Du.{DuBearer, DuContext, DuTunnel, Du, du_node, context_of, with_transactions, downlinks_of, downlink_list, bearers_made, bearers_anew, replies, closings, openings, old_downlinks, replaced, replaces, context_with, setup, context_anew, modify_on, modify, end_markers, released_on, release, relayed_down, relay_down, relayed_up, relay_up, token_ue, start, set_up, asked, transferred, of_cp, of_terminal, control_came, missing, is_missing, told, gap_after, carried, with_bearer, frame_came, taken_in, taken_of, taken_on, take, of_bearer, of_context, pass_up, confirmed, confirm, due_output, tick, du_acts}
-use Rattle.run_defs.specs.States.{entity}
-use Rattle.run_defs.specs.Runs.{plain_way, taken_of as taken_load}
+use Rattle.law_run_facts.specs.run_defs.States.{entity}
+use Rattle.law_run_facts.specs.run_defs.Runs.{plain_way, taken_of as taken_load}
 use Rattle.law_run_facts.specs.Facts.{PutsFit}
 use Rattle.law_run_facts.specs.UnitFacts.{as_facts, InputFits, AnswerFits}
 use Rattle.law_run_facts.proofs.Fits.{puts_both, fits_if, fits_then, any_then, ask_fits, advance_fits, replied_fits, fits_request, fits_reply, due_fits}

@@ -6,3 +6,4 @@ pub mod Terminals
 pub mod CuCps
 pub mod Octets
 pub mod Links
+pub use Rattle.law_run_facts.proofs as law_run_facts

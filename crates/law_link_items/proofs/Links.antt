@@ -16,10 +16,10 @@ use Rattle.unit_defs.specs.Messages.{channel}
 use Rattle.unit_defs.specs.Transactions.{Kind, request, reply, transfer, kind_of, replied}
 use Rattle.unit_defs.specs.Core.{CorePath, CoreRecord, end_of, old_ends, new_path, moved, switch_path, asked, came, core_acts}
 use Rattle.transport_defs.specs.declared.Item.{Item}
-use Rattle.run_defs.specs.Written.{Written}
-use Rattle.run_defs.specs.States.{State, new_state, radio_of}
-use Rattle.run_defs.specs.Runs.{Reading, plain_way, plain_world}
-use Rattle.law_steps.specs.Reached.{reached}
+use Rattle.law_run_facts.specs.run_defs.Written.{Written}
+use Rattle.law_run_facts.specs.run_defs.States.{State, new_state, radio_of}
+use Rattle.law_run_facts.specs.run_defs.Runs.{Reading, plain_way, plain_world}
+use Rattle.law_run_facts.specs.law_steps.Reached.{reached}
 use Rattle.law_run_facts.specs.Facts.{Hold, PutsFit}
 use Rattle.law_run_facts.specs.UnitFacts.{as_facts, said_item, HasOctets, HasPduOctets, written_facts, AnswerFits, UnitsKeep}
 use Rattle.law_run_facts.proofs.Fits.{any_then, replied_fits, fits_request}

@@ -16,7 +16,7 @@ use Rattle.unit_defs.specs.Ways.{Message, Pdu, packet_pdu, report_pdu, Load, fre
 use Rattle.unit_defs.specs.UpRecords.{Downlink, SourceHop, UpBearer, UpContext, CuUp}
 use Rattle.unit_defs.specs.Du.{DuBearer, DuContext, Du}
 use Rattle.unit_defs.specs.Core.{CorePath, CoreRecord}
-use Rattle.run_defs.specs.Runs.{taken_of}
+use Rattle.law_run_facts.specs.run_defs.Runs.{taken_of}
 use Rattle.law_run_facts.specs.UnitFacts.{UnitFacts}
 use Rattle.law_link_items.specs.Items.{count_of_pdu, count_of_load, GoesDown, GoesUp, GoesToDu, IsOfN3, IsForwardedDown, IsForwardedUp, IsStatus, IsOfUplink, MayPut, IsPutOnTunnel, IsPutOnRadio, MayStand, IsOnTunnel, IsOnRadio}
 

@@ -10,11 +10,11 @@ use Rattle.gnb_types.specs.declared.keys.TunnelEnd.{TunnelEnd}
 use Rattle.message_types.specs.declared.rrc.Token.{Token}
 use Rattle.link_defs.specs.Layouts.{f1u_downlink_packet, f1u_downlink_report, f1u_downlink_poll}
 use Rattle.unit_defs.specs.Ways.{Message, Pdu, packet_pdu, report_pdu, Load, fresh, numbered, frame, uplink, status, end_marker}
-use Rattle.unit_octet_defs.specs.Writing.{pdu_octets, load_octets, written_load}
+use Rattle.law_run_facts.specs.unit_octet_defs.Writing.{pdu_octets, load_octets, written_load}
 use Rattle.transport_defs.specs.declared.Item.{Item}
-use Rattle.run_defs.specs.Carried.{ForwardingDown, ForwardingUp, F1uDownlink, F1uUplink, IsDeliveryStatus, IsRadioData, IsRadioReport}
-use Rattle.run_defs.specs.Written.{Written}
-use Rattle.run_defs.specs.States.{State, radio_of}
+use Rattle.law_run_facts.specs.run_defs.Carried.{ForwardingDown, ForwardingUp, F1uDownlink, F1uUplink, IsDeliveryStatus, IsRadioData, IsRadioReport}
+use Rattle.law_run_facts.specs.run_defs.Written.{Written}
+use Rattle.law_run_facts.specs.run_defs.States.{State, radio_of}
 use Rattle.law_run_facts.specs.Facts.{Hold}
 use Rattle.law_run_facts.specs.UnitFacts.{said_item, HasOctets, HasPduOctets, written_facts}
 use Rattle.law_link_items.specs.Items.{count_of_pdu, count_of_load, GoesDown, GoesUp, GoesToDu, MayStand, IsOnTunnel, IsOnRadio}

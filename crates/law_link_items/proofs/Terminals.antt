@@ -22,8 +22,8 @@ use Rattle.unit_defs.specs.declared.UeState.TheVariants as states
 use Rattle.unit_defs.specs.declared.TokenKind.{TokenKind}
 use Rattle.unit_defs.specs.Ways.{Message, rrc, Pdu, packet_pdu, report_pdu, Content, packet_content, report_content, Output, deliver, Input, control_input, packet_input, radio_input, confirm_input, offer_input, tick_input, order_input, held, no, Answer, gives, spent, ◌then◌, nothing, puts, drops, counts_spent, epochs_spent}
 use Rattle.unit_defs.specs.Ue.{UeBearer, UeNode, last_epoch, largest_packet, is_connected, is_accessing, may_return, on_air, data_output, unconfirmed_outputs, number_each, number_waiting, connect_bearer, with_bearer, with_bearers, connect_each, connect, of_bearer, at_bearer, said, says_it, may_obey, obey, arrived, arrive, returned, return_to, come_back, accepted_in, accept, fail, used_uplink, offered, offer, handed, took_data, took, take, confirmed_if, confirmed, confirm, told, told_by, ue_acts}
-use Rattle.run_defs.specs.States.{entity}
-use Rattle.run_defs.specs.Runs.{plain_way}
+use Rattle.law_run_facts.specs.run_defs.States.{entity}
+use Rattle.law_run_facts.specs.run_defs.Runs.{plain_way}
 use Rattle.law_run_facts.specs.Facts.{PutFits, PutsFit}
 use Rattle.law_run_facts.specs.UnitFacts.{as_facts}
 use Rattle.law_run_facts.proofs.Fits.{FitsAny, fits_if, any_then}

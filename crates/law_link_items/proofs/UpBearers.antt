@@ -14,8 +14,8 @@ use Rattle.unit_defs.specs.Ways.{Message, Pdu, packet_pdu, report_pdu, Content, 
 use Rattle.unit_defs.specs.UpRecords.{Downlink, SourceHop, UpBearer, TunnelKind, n3, f1u_uplink, forwarding_down, forwarding_up, UpAt}
 use Rattle.unit_defs.specs.UpBearers.{last_frame, has_downlink, owed, thawed, no_uplink, bits_in, framed_on, framed, sent, sent_again, number_each, number_waiting, delivered, deliver_stored, put_down, forwarded_down, put_up, forwarded_up, begin_downlink, begin_where_known, switched, forward_numbered, forward_fresh, forward_late, frozen_to, with_status, resumed}
 use Rattle.unit_defs.specs.UpItems.{took_fresh, closed_n3, n3_ended, restored_at, took_numbered, stored_at, passed_up, took_uplink, took_report, took_content, confirmed_if, lost_frames, took_delivery_status, up_hop_ends_if, uplink_ended, up_ended, took}
-use Rattle.run_defs.specs.Steps.{count_beside}
-use Rattle.run_defs.specs.Runs.{plain_way}
+use Rattle.law_run_facts.specs.run_defs.Steps.{count_beside}
+use Rattle.law_run_facts.specs.run_defs.Runs.{plain_way}
 use Rattle.law_run_facts.specs.Facts.{PutsFit}
 use Rattle.law_run_facts.specs.UnitFacts.{as_facts, AnswerFits}
 use Rattle.law_run_facts.proofs.Fits.{fits_if, fits_then}

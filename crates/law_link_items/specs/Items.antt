@@ -12,8 +12,8 @@ use Rattle.message_types.specs.declared.rrc.Token.{Token}
 use Rattle.tables.specs.Tables.{find}
 use Rattle.unit_defs.specs.Ways.{Message, Pdu, packet_pdu, report_pdu, Load, fresh, numbered, frame, uplink, status, end_marker}
 use Rattle.transport_defs.specs.declared.Item.{Item}
-use Rattle.run_defs.specs.Written.{Written}
-use Rattle.run_defs.specs.States.{State, radio_of}
+use Rattle.law_run_facts.specs.run_defs.Written.{Written}
+use Rattle.law_run_facts.specs.run_defs.States.{State, radio_of}
 use Rattle.law_run_facts.specs.UnitFacts.{said_item}
 
 -- ---- the COUNT that is said: of the packet, and of what a delivery status confirms

@@ -13,9 +13,9 @@ use Rattle.message_types.specs.declared.rrc.Token.{Token}
 use Rattle.tables.specs.Tables.{find}
 use Rattle.unit_defs.specs.Ways.{Message, Pdu, Load}
 use Rattle.transport_defs.specs.declared.Item.{Item}
-use Rattle.run_defs.specs.Carried.{Layout, NoLayout, ForwardingDown, ForwardingUp, F1uDownlink, F1uUplink, IsDeliveryStatus, IsRadioData, IsRadioReport}
-use Rattle.run_defs.specs.Written.{Written}
-use Rattle.run_defs.specs.States.{State, radio_of}
+use Rattle.law_run_facts.specs.run_defs.Carried.{Layout, NoLayout, ForwardingDown, ForwardingUp, F1uDownlink, F1uUplink, IsDeliveryStatus, IsRadioData, IsRadioReport}
+use Rattle.law_run_facts.specs.run_defs.Written.{Written}
+use Rattle.law_run_facts.specs.run_defs.States.{State, radio_of}
 
 -- of all links that lead to the node in this direction (N3 has the layouts of forwarding down but for the numbered one)
 abbrev pub layout_to : NodeId → Dir → Layout

@@ -85,7 +85,7 @@ module _ (G H : EntityKey → List ℕ → Type 0) (more : (key : EntityKey) (p 
 abbrev pub Knowledge : Type 1
 Knowledge = NodeId → EntityKey → List ℕ → Type 0
 
-abbrev Records : Type 0
+abbrev pub Records : Type 0
 Records = Units (Message Token) Token
 
 abbrev up_knows : Knowledge → Gnb → ℕ → CuUp (Message Token) Token → Type 0
@@ -134,7 +134,7 @@ PutHas G (deliver ue bearer dir count p) = G (entity ue bearer dir) p
 PutHas G output = Unit {0}
 
 module _ (G : EntityKey → List ℕ → Type 0) where
-  load_taken : (key : EntityKey) (load : Load Pdu) → IfAny (G key) (packet_of_load load) → TakenHas (of_packets G) key (taken_of load)
+  pub load_taken : (key : EntityKey) (load : Load Pdu) → IfAny (G key) (packet_of_load load) → TakenHas (of_packets G) key (taken_of load)
   load_taken key (fresh p) h = h
   load_taken key (numbered sn count p) h = h
   load_taken key (frame poll restart number None) h = tt
@@ -144,7 +144,7 @@ module _ (G : EntityKey → List ℕ → Type 0) where
   load_taken key (status lost delivered) h = tt
   load_taken key end_marker h = tt
 
-  pdu_content : (key : EntityKey) (pdu : Pdu) → IfAny (G key) (packet_of_pdu pdu) → ContentHas (of_packets G) key (content_of pdu)
+  pub pdu_content : (key : EntityKey) (pdu : Pdu) → IfAny (G key) (packet_of_pdu pdu) → ContentHas (of_packets G) key (content_of pdu)
   pdu_content key (packet_pdu count p) h = h
   pdu_content key (report_pdu fmc bits) h = tt
 
@@ -203,11 +203,11 @@ module _ (G : EntityKey → List ℕ → Type 0) where
 module _ (K : Knowledge) (reading : Reading) where
   -- ---- what units answer
 
-  abbrev Answered : NodeId → PlainStepped → Type 0
+  abbrev pub Answered : NodeId → PlainStepped → Type 0
   Answered node (stepped outputs v) = Known K v × AllByRecursion (OutputHas (of_packets (K node))) outputs
   Answered node (step_spent counter) = Unit {0}
 
-  abbrev AnsweredWell : NodeId → WrittenStepped → Type 0
+  abbrev pub AnsweredWell : NodeId → WrittenStepped → Type 0
   AnsweredWell node (stepped outputs v) = Known K v × AllByRecursion (PutHas (K node)) outputs
   AnsweredWell node (step_spent counter) = Unit {0}
 
@@ -229,12 +229,12 @@ module _ (K : Knowledge) (reading : Reading) where
   by_du u gnb number (gives outputs r) p h = (with_du_holds (known K) u gnb number r p tt, h.1)
   by_du u gnb number (spent counter) p h = tt
 
-  by_ue : (u : Records) (ue : ℕ) (a : Plain UeNode) → Known K u → Has (Ue ue) (ue_knows K (record { 0 = ue })) a
+  pub by_ue : (u : Records) (ue : ℕ) (a : Plain UeNode) → Known K u → Has (Ue ue) (ue_knows K (record { 0 = ue })) a
       → Answered (Ue ue) (stepped_with reading (with_ue u (record { 0 = ue })) a)
   by_ue u ue (gives outputs x) p h = (with_ue_holds (known K) u (record { 0 = ue }) x p h.0, h.1)
   by_ue u ue (spent counter) p h = tt
 
-  abbrev InputHas : Records → NodeId → Input Token Pdu → Type 0
+  abbrev pub InputHas : Records → NodeId → Input Token Pdu → Type 0
   InputHas u (CuCp gnb) input = Unit {0}
   InputHas u (up_id gnb number) input = UpInputHas (of_packets (K (up_id gnb number))) (up_of u gnb number) input
   InputHas u (du_id gnb number) input = DuInputHas (of_packets (K (du_id gnb number))) (du_of u gnb number) input
@@ -257,7 +257,7 @@ module _ (K : Knowledge) (reading : Reading) where
           (terminal_has (of_packets (K (Ue ue))) (record { 0 = ue }) x input (p.3 (record { 0 = ue }) x is) brings)
   acted u Core input p brings = (p, tt)
 
-  abbrev Brings : Records → NodeId → Option (Input Token Pdu) → Type 0
+  abbrev pub Brings : Records → NodeId → Option (Input Token Pdu) → Type 0
   Brings u node None = Unit {0}
   Brings u node (Some input) = InputHas u node input
 
@@ -292,14 +292,14 @@ module _ (K : Knowledge) (reading : Reading) where
   offer_brings u Core ue bearer p h own = tt
 
   -- other inputs bring nothing
-  control_brings : (u : Records) (node from : NodeId) (message : Message Token) → InputHas u node (control_input from message)
+  pub control_brings : (u : Records) (node from : NodeId) (message : Message Token) → InputHas u node (control_input from message)
   control_brings u (CuCp gnb) from message = tt
   control_brings u (up_id gnb number) from message = tt
   control_brings u (du_id gnb number) from message = tt
   control_brings u (Ue ue) from message = tt
   control_brings u Core from message = tt
 
-  confirm_brings : (u : Records) (node : NodeId) (item : Item (Written Pdu))
+  pub confirm_brings : (u : Records) (node : NodeId) (item : Item (Written Pdu))
       → InputHas u node (confirm_input item.key.ue item.key.bearer item.key.dir item.content.says (content_of item.content.says))
   confirm_brings u (CuCp gnb) item = tt
   confirm_brings u (up_id gnb number) item = tt
@@ -307,14 +307,14 @@ module _ (K : Knowledge) (reading : Reading) where
   confirm_brings u (Ue ue) item = tt
   confirm_brings u Core item = tt
 
-  tick_brings : (u : Records) (node : NodeId) → InputHas u node tick_input
+  pub tick_brings : (u : Records) (node : NodeId) → InputHas u node tick_input
   tick_brings u (CuCp gnb) = tt
   tick_brings u (up_id gnb number) = tt
   tick_brings u (du_id gnb number) = tt
   tick_brings u (Ue ue) = tt
   tick_brings u Core = tt
 
-  order_brings : (u : Records) (node : NodeId) (order : Order) → InputHas u node (order_input order)
+  pub order_brings : (u : Records) (node : NodeId) (order : Order) → InputHas u node (order_input order)
   order_brings u (CuCp gnb) order = tt
   order_brings u (up_id gnb number) order = tt
   order_brings u (du_id gnb number) order = tt
@@ -332,11 +332,11 @@ module _ (K : Knowledge) (reading : Reading) where
   given_brings u node (octets_from from octets) h own = tt
   given_brings u node (octets_on teid octets) h own = tt
 
-  answered : (u : Records) (node : NodeId) (given : PlainGiven) (o : Option (Input Token Pdu)) → Known K u → Brings u node o → Answered node (plain_by reading u node given o)
+  pub answered : (u : Records) (node : NodeId) (given : PlainGiven) (o : Option (Input Token Pdu)) → Known K u → Brings u node o → Answered node (plain_by reading u node given o)
   answered u node given None p brings = (p, (tt, tt))
   answered u node given (Some input) p brings = acted u node input p brings
 
-  written : (lengths : Lengths) (node : NodeId) (x : PlainStepped) → Answered node x → AnsweredWell node (written_step lengths x)
+  pub written : (lengths : Lengths) (node : NodeId) (x : PlainStepped) → Answered node x → AnsweredWell node (written_step lengths x)
   written lengths node (stepped outputs v) p = (p.0, all_written (K node) lengths outputs p.1)
   written lengths node (step_spent counter) p = tt
 

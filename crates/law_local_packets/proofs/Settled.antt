@@ -21,8 +21,8 @@ use Rattle.law_run_facts.proofs.Within.{HoldsWith, same_links}
 use Rattle.law_run_facts.proofs.Later.{LaterAt, made_later}
 use Rattle.law_tunnel_names.specs.Names.{by_book}
 use Rattle.law_unit_tunnels.specs.Units.{NoneIsFree}
-use Rattle.law_tunnel_book.specs.Book.{book_of, Keeps}
-use Rattle.law_tunnel_book.proofs.Books.{books_keep, holds_own}
+use Rattle.law_run_tunnels.specs.law_tunnel_book.Book.{book_of, Keeps}
+use Rattle.law_run_tunnels.proofs.law_tunnel_book.Books.{books_keep, holds_own}
 use Rattle.law_run_tunnels.specs.Own.{TunnelsHoldTheirOwn}
 use Rattle.law_run_tunnels.proofs.Held.{Later}
 use Rattle.law_run_tunnels.proofs.Runs.{Named, kept, first, own_there}

@@ -16,7 +16,7 @@ use Rattle.unit_defs.specs.Ways.{Message, Pdu, Load, Put, control, packet, radio
 use Rattle.unit_defs.specs.Messages.{teid_of}
 use Rattle.transport_defs.specs.declared.Item.{Item}
 use Rattle.transport_defs.specs.Links.{letter, landed}
-use Rattle.run_defs.specs.Lines.{RunLine, put_item, got_message, delivers, lost_items, lost_message, held_at, tunnel_link, radio_link, shown}
+use Rattle.run_defs.specs.Lines.{RunLine, put_item, got_message, delivers, lost_items, lost_message, held_at, was_refused, tunnel_link, radio_link, shown}
 use Rattle.run_defs.specs.Local.{Act}
 use Rattle.run_defs.specs.Units.{Units}
 use Rattle.run_defs.specs.Written.{Written}
@@ -28,10 +28,14 @@ use Rattle.run_defs.specs.Runs.{Reading}
 use Rattle.law_steps.specs.Causes.{Cause, by_order, by_tick, by_octets, by_octets_on, by_attach, by_release, by_offer, by_item, by_air, by_ack, by_letter, node_of, given_of, count_of, first_of, Stands}
 use Rattle.law_steps.specs.Made.{Made, stays, ends, then_made, sets_up, starts, acts, holds_item, holds_pdu, offers, core_takes, core_reads, lands, loses_letter, loses_item, remarks}
 use Rattle.law_steps.proofs.Frames.{HasUnits, then_units, keep_checked, keep_put_on_tunnel, keep_put_all, units_by, act_units}
-use Rattle.law_run_facts.specs.Facts.{Facts, Hold, PutFits, PutsFit, AreKept}
-use Rattle.law_run_facts.proofs.Within.{HoldsWith, same_links}
-use Rattle.law_run_facts.proofs.Steps.{nth_has, found_has, taken_fits}
-use Rattle.law_run_facts.proofs.Runs.{made_holds}
+use Rattle.law_run_plans.specs.Plans.{Plans, PlansStay}
+use Rattle.law_run_plans.proofs.Frames.{plans_by}
+use Rattle.law_run_plans.proofs.Runs.{StaysFrom, made_stays}
+use Rattle.law_run_facts.specs.Facts.{Facts, Hold, PutFits, PutsFit}
+use Rattle.law_run_facts.proofs.Within.{same_links}
+use Rattle.law_run_facts.proofs.Steps.{nth_has, found_has}
+use Rattle.law_plan_facts.specs.Along.{Allowed, IsAllowed, AreKeptAlong, HoldsNow}
+use Rattle.law_plan_facts.proofs.Along.{answered, may_later, made_along}
 use Rattle.law_local_packets.specs.Says.{packet_of_pdu, packet_of_load, Saying, showing}
 use Rattle.law_local_packets.specs.Local.{OneOf, IfAny, IsOffered, IsGotWith, WasAt, IsLocalLine, IsLocalBy, LocalFrom}
 use Rattle.law_local_packets.proofs.Lines.{IsOther, lines_of, then_lines, checked_lines, tunnel_lines, PutShows, puts_lines, step_lines, first_has}
@@ -58,30 +62,33 @@ after_both : (event : Event) (refused : Bool) (past : List Told) (steps more : L
 after_both event refused past [] more = refl
 after_both event refused past (step ∷ steps) more = after_both event refused (act_of event refused step ∷ past) steps more
 
-module _ (reading : Reading) (show_item : Written (Load Pdu) → List ℕ) (show_pdu : Written Pdu → List ℕ) (Says : Saying) where
+module _ (reading : Reading) (show_item : Written (Load Pdu) → List ℕ) (show_pdu : Written Pdu → List ℕ) (Says : Saying) (Puts : NodeId → Saying) where
   abbrev pub TheWorld : World (Message Token) Token (Written (Load Pdu)) (Written Pdu)
   TheWorld = showing reading show_item show_pdu
 
   abbrev pub TheFacts : Type 1
   TheFacts = Facts (Message Token) Token (Written (Load Pdu)) (Written Pdu)
 
-  -- what stands on a link says its packet
-  abbrev pub Tells : TheFacts → Type 0
-  Tells facts =
-      ((end : TunnelEnd) (item : Item (Written (Load Pdu))) → facts.on_tunnel end item
-      → Says (tunnel_link end) (shown item.key item.count (show_item item.content)) (packet_of_load item.content.says))
-      × ((key on : EntityKey) (epoch : ℕ) (item : Item (Written Pdu)) → facts.on_radio key item
-      → Says (radio_link on epoch) (shown item.key item.count (show_pdu item.content)) (packet_of_pdu item.content.says))
+  -- what stands on a link says its packet; so does what is put there
+  pub record Tells (facts : TheFacts) : Type 0 where
+    pub tunnel : (end : TunnelEnd) (item : Item (Written (Load Pdu))) → facts.on_tunnel end item
+        → Says (tunnel_link end) (shown item.key item.count (show_item item.content)) (packet_of_load item.content.says)
+    pub radio : (key on : EntityKey) (epoch : ℕ) (item : Item (Written Pdu)) → facts.on_radio key item
+        → Says (radio_link on epoch) (shown item.key item.count (show_pdu item.content)) (packet_of_pdu item.content.says)
+    pub puts : (node : NodeId) (end : TunnelEnd) (item : Item (Written (Load Pdu))) → facts.puts_on node end item
+        → Puts node (tunnel_link end) (shown item.key item.count (show_item item.content)) (packet_of_load item.content.says)
+    pub airs : (node : NodeId) (key : EntityKey) (epoch : ℕ) (item : Item (Written Pdu)) → facts.puts_on_air node key item → item.key ≡ key
+        → Puts node (radio_link key epoch) (shown item.key item.count (show_pdu item.content)) (packet_of_pdu item.content.says)
 
   pub local_both : (event : Event) (refused : Bool) (past : List Told) (steps : List (RunStep (Message Token))) (seen : List Told)
-      → LocalFrom Says past (map (act_of event refused) steps) → LocalFrom Says (after event refused past steps) seen
-      → LocalFrom Says past (map (act_of event refused) steps ++ seen)
+      → LocalFrom Says Puts past (map (act_of event refused) steps) → LocalFrom Says Puts (after event refused past steps) seen
+      → LocalFrom Says Puts past (map (act_of event refused) steps ++ seen)
   local_both event refused past [] seen p q = q
   local_both event refused past (step ∷ steps) seen p q = (p.0, local_both event refused (act_of event refused step ∷ past) steps seen p.1 q)
 
   steps_both : (event : Event) (refused : Bool) (past : List Told) (steps more : List (RunStep (Message Token)))
-      → LocalFrom Says past (map (act_of event refused) steps) → LocalFrom Says (after event refused past steps) (map (act_of event refused) more)
-      → LocalFrom Says past (map (act_of event refused) (steps ++ more))
+      → LocalFrom Says Puts past (map (act_of event refused) steps) → LocalFrom Says Puts (after event refused past steps) (map (act_of event refused) more)
+      → LocalFrom Says Puts past (map (act_of event refused) (steps ++ more))
   steps_both event refused past [] more p q = q
   steps_both event refused past (step ∷ steps) more p q = (p.0, steps_both event refused (act_of event refused step ∷ past) steps more p.1 q)
 
@@ -94,21 +101,21 @@ module _ (reading : Reading) (show_item : Written (Load Pdu) → List ℕ) (show
   abbrev Happens : Type 0
   Happens = Outcome (Message Token) Token (Written (Load Pdu)) (Written Pdu)
 
-  abbrev Puts : Type 0
-  Puts = List (Put (Message Token) (Written (Load Pdu)) (Written Pdu))
+  abbrev Outputs : Type 0
+  Outputs = List (Put (Message Token) (Written (Load Pdu)) (Written Pdu))
 
   module _ (event : Event) (refused : Bool) where
     abbrev pub OutcomeLocal : List Told → Happens → Type 0
     OutcomeLocal past (goes steps t) =
-        LocalFrom Says past (map (act_of event refused) steps) × Known (WasAt Says (after event refused past steps)) t.units
-    OutcomeLocal past (stops steps why) = LocalFrom Says past (map (act_of event refused) steps)
+        LocalFrom Says Puts past (map (act_of event refused) steps) × Known (WasAt Says (after event refused past steps)) t.units
+    OutcomeLocal past (stops steps why) = LocalFrom Says Puts past (map (act_of event refused) steps)
 
     -- with the act of these lines
     abbrev With : NodeId → Inside → List Told → List Told
     With node w past = act_of event refused (step_of (Some node) (lines_of w)) ∷ past
 
     as_local : (past : List Told) (node : NodeId) (w : Inside) (u : Units (Message Token) Token)
-        → AllByRecursion (IsLocalLine Says (With node w past) node) (lines_of w) → HasUnits TheWorld u w → Known (WasAt Says (With node w past)) u
+        → AllByRecursion (IsLocalLine Says Puts (With node w past) node) (lines_of w) → HasUnits TheWorld u w → Known (WasAt Says (With node w past)) u
         → OutcomeLocal past (as_step (Some node) w)
     as_local past node (goes lines t) u all has p =
         ((all, tt), subst (λ (v : Units (Message Token) Token). Known (WasAt Says (With node (goes lines t) past)) v) (sym has) p)
@@ -118,42 +125,43 @@ module _ (reading : Reading) (show_item : Written (Load Pdu) → List ℕ) (show
     more_known past act u p = known_later (WasAt Says past) (WasAt Says (act ∷ past)) (λ node key x h. inr h) u p
 
     -- a step whose lines say nothing of packets
-    quiet : (past : List Told) (actor : Option NodeId) (lines : List Line) (t : Here) → IsLocalBy Says (act_of event refused (step_of actor lines) ∷ past) actor lines
+    pub quiet : (past : List Told) (actor : Option NodeId) (lines : List Line) (t : Here) → IsLocalBy Says Puts (act_of event refused (step_of actor lines) ∷ past) actor lines
         → Known (WasAt Says past) t.units → OutcomeLocal past (goes (step_of actor lines ∷ []) t)
     quiet past actor lines t all p = ((all, tt), more_known past (act_of event refused (step_of actor lines)) t.units p)
 
-    module _ (facts : TheFacts) (kept : AreKept TheWorld facts) (tells : Tells facts) where
+    module _ (facts : Plans → TheFacts) (allowed : Allowed) (kept : AreKeptAlong TheWorld facts allowed) (tells : (plans : Plans) → Tells (facts plans)) where
       -- ---- what is put says its packet, and its packet was there
 
-      other_local : (seen : List Told) (node : NodeId) (line : Line) → IsOther line → IsLocalLine Says seen node line
+      other_local : (seen : List Told) (node : NodeId) (line : Line) → IsOther line → IsLocalLine Says Puts seen node line
       other_local seen node (put_item link item) h = absurd h
       other_local seen node (delivers key count x) h = absurd h
+      other_local seen node (was_refused reason) h = tt
       other_local seen node line h = tt
 
-      put_local : (seen : List Told) (node : NodeId) (taken : Option ℕ) (output : Put (Message Token) (Written (Load Pdu)) (Written Pdu)) → PutFits facts node taken output
-          → PutHas (WasAt Says seen node) output → PutShows TheWorld (IsLocalLine Says seen node) (other_local seen node) taken output
-      put_local seen node taken (control to ue message) fits h = tt
-      put_local seen node taken (packet to teid ue bearer dir tag item) fits h =
+      put_local : (plans : Plans) (seen : List Told) (node : NodeId) (taken : Option ℕ) (output : Put (Message Token) (Written (Load Pdu)) (Written Pdu)) → PutFits (facts plans) node taken output
+          → PutHas (WasAt Says seen node) output → PutShows TheWorld (IsLocalLine Says Puts seen node) (other_local seen node) taken output
+      put_local plans seen node taken (control to ue message) fits h = tt
+      put_local plans seen node taken (packet to teid ue bearer dir tag item) fits h =
           let end : TunnelEnd = record { node = to; teid = teid } in
           let stood : Item (Written (Load Pdu)) = record { key = entity ue bearer dir; count = count_beside tag taken; content = item } in
-          (packet_of_load item.says, tells.0 end stood (facts.stands node end stood fits), h)
-      put_local seen node taken (radio ue bearer dir epoch tag pdu) fits h =
+          (packet_of_load item.says, (tells plans).puts node end stood fits, h)
+      put_local plans seen node taken (radio ue bearer dir epoch tag pdu) fits h =
           let key : EntityKey = entity ue bearer dir in
           let stood : Item (Written Pdu) = record { key = key; count = count_beside tag taken; content = pdu } in
-          (packet_of_pdu pdu.says, tells.1 key key epoch stood (facts.stands_on_air node key stood fits), h)
-      put_local seen node taken (deliver ue bearer dir count x) fits h = h
-      put_local seen node taken (dropped reason) fits h = tt
-      put_local seen node taken (held reason) fits h = tt
-      put_local seen node taken (opened teid) fits h = tt
-      put_local seen node taken (closed teid) fits h = tt
-      put_local seen node taken (failed ue cause) fits h = tt
-      put_local seen node taken (no reason) fits h = tt
+          (packet_of_pdu pdu.says, (tells plans).airs node key epoch stood fits refl, h)
+      put_local plans seen node taken (deliver ue bearer dir count x) fits h = h
+      put_local plans seen node taken (dropped reason) fits h = tt
+      put_local plans seen node taken (held reason) fits h = tt
+      put_local plans seen node taken (opened teid) fits h = tt
+      put_local plans seen node taken (closed teid) fits h = tt
+      put_local plans seen node taken (failed ue cause) fits h = tt
+      put_local plans seen node taken (no reason) fits h = tt
 
-      all_local : (seen : List Told) (node : NodeId) (taken : Option ℕ) (outputs : Puts) → PutsFit facts node taken outputs
+      all_local : (plans : Plans) (seen : List Told) (node : NodeId) (taken : Option ℕ) (outputs : Outputs) → PutsFit (facts plans) node taken outputs
           → AllByRecursion (PutHas (WasAt Says seen node)) outputs
-          → AllByRecursion (PutShows TheWorld (IsLocalLine Says seen node) (other_local seen node) taken) outputs
-      all_local seen node taken [] fits all = tt
-      all_local seen node taken (output ∷ outputs) fits all = (put_local seen node taken output fits.0 all.0, all_local seen node taken outputs fits.1 all.1)
+          → AllByRecursion (PutShows TheWorld (IsLocalLine Says Puts seen node) (other_local seen node) taken) outputs
+      all_local plans seen node taken [] fits all = tt
+      all_local plans seen node taken (output ∷ outputs) fits all = (put_local plans seen node taken output fits.0 all.0, all_local plans seen node taken outputs fits.1 all.1)
 
       -- ---- what a step takes is in its lines
 
@@ -161,18 +169,18 @@ module _ (reading : Reading) (show_item : Written (Load Pdu) → List ℕ) (show
       if_any G None each = tt
       if_any G (Some p) each = each p refl
 
-      module _ (past : List Told) (cause : Cause (Message Token) (Written (Load Pdu)) (Written Pdu)) (outputs : Puts) (u : Units (Message Token) Token) (s : Here) where
+      module _ (past : List Told) (cause : Cause (Message Token) (Written (Load Pdu)) (Written Pdu)) (outputs : Outputs) (u : Units (Message Token) Token) (s : Here) where
         abbrev Step : Inside
         Step = carried_out TheWorld (node_of cause) (count_of cause) (first_of TheWorld cause) outputs u s
 
-      got : (past : List Told) (cause : Cause (Message Token) (Written (Load Pdu)) (Written Pdu)) (outputs : Puts) (u : Units (Message Token) Token) (s : Here)
+      got : (past : List Told) (cause : Cause (Message Token) (Written (Load Pdu)) (Written Pdu)) (outputs : Outputs) (u : Units (Message Token) Token) (s : Here)
           (key : EntityKey) (p : List ℕ) → OneOf (IsGotWith Says key p) (lines_of (first_of TheWorld cause (record s { units = u })))
           → WasAt Says (With (node_of cause) (Step past cause outputs u s) past) (node_of cause) key p
       got past cause outputs u s key p is =
-          inl (inr (refl, first_has TheWorld (IsLocalLine Says [] Core) (other_local [] Core) (IsGotWith Says key p) cause outputs (record s { units = u }) is))
+          inl (inr (refl, first_has TheWorld (IsLocalLine Says Puts [] Core) (other_local [] Core) (IsGotWith Says key p) cause outputs (record s { units = u }) is))
 
-      given_there : (past : List Told) (cause : Cause (Message Token) (Written (Load Pdu)) (Written Pdu)) (outputs : Puts) (u : Units (Message Token) Token) (s : Here)
-          → Hold facts s → Stands event s cause → GivenHas (WasAt Says (With (node_of cause) (Step past cause outputs u s) past) (node_of cause)) (given_of cause)
+      given_there : (past : List Told) (cause : Cause (Message Token) (Written (Load Pdu)) (Written Pdu)) (outputs : Outputs) (u : Units (Message Token) Token) (s : Here)
+          → Hold (facts s.plans) s → Stands event s cause → GivenHas (WasAt Says (With (node_of cause) (Step past cause outputs u s) past) (node_of cause)) (given_of cause)
       given_there past (by_order node order) outputs u s h at = tt
       given_there past (by_tick node) outputs u s h at = tt
       given_there past (by_octets from to octets) outputs u s h at = tt
@@ -183,14 +191,14 @@ module _ (reading : Reading) (show_item : Written (Load Pdu) → List ℕ) (show
       given_there past (by_item end item rest) outputs u s h at =
           if_any _ (packet_of_load item.content.says)
           (λ p is. got past (by_item end item rest) outputs u s item.key p
-          (inl (refl, subst (Says (tunnel_link end) (shown item.key item.count (show_item item.content))) is (tells.0 end item (h.tunnels end (item ∷ rest) at).0))))
+          (inl (refl, subst (Says (tunnel_link end) (shown item.key item.count (show_item item.content))) is ((tells s.plans).tunnel end item (h.tunnels end (item ∷ rest) at).0))))
       given_there past (by_air key home item) outputs u s h at =
           if_any _ (packet_of_pdu item.content.says)
           (λ p is. got past (by_air key home item) outputs u s item.key p
           (inl (
             refl,
             subst (Says _ (shown item.key item.count (show_pdu item.content))) is
-                (tells.1 key key _ item (nth_has (facts.on_radio key) (radio_of s key).items (radio_of s key).carried item (h.radios key) at.1)),
+                ((tells s.plans).radio key key _ item (nth_has ((facts s.plans).on_radio key) (radio_of s key).items (radio_of s key).carried item (h.radios key) at.1)),
           )))
       given_there past (by_ack key home item rest) outputs u s h at = tt
       given_there past (by_letter number l to) outputs u s h at = tt
@@ -232,35 +240,37 @@ module _ (reading : Reading) (show_item : Written (Load Pdu) → List ℕ) (show
       units_known K (by_ack key home item rest) u p = p
       units_known K (by_letter number l to) u p = p
 
-      act_local : (past : List Told) (cause : Cause (Message Token) (Written (Load Pdu)) (Written Pdu)) (outputs : Puts) (u : Units (Message Token) Token) (s : Here)
-          → Hold facts s → Settled s → Stands event s cause → TheWorld.answer (sn_of s) s.units (node_of cause) (given_of cause) ≡ stepped outputs u
+      act_local : (past : List Told) (cause : Cause (Message Token) (Written (Load Pdu)) (Written Pdu)) (outputs : Outputs) (u : Units (Message Token) Token) (s : Here)
+          → Hold (facts s.plans) s → IsAllowed allowed event s.plans → Settled s → Stands event s cause
+          → TheWorld.answer (sn_of s) s.units (node_of cause) (given_of cause) ≡ stepped outputs u
           → Known (WasAt Says past) s.units → OutcomeLocal past (as_step (Some (node_of cause)) (Step past cause outputs u s))
-      act_local past cause outputs u s h o at is p =
+      act_local past cause outputs u s h may o at is p =
           let node : NodeId = node_of cause in
           let w : Inside = Step past cause outputs u s in
           let now : List Told = With node w past in
-          let fit = kept.answers (sn_of s) s.units u node (count_of cause) (given_of cause) outputs h.units (taken_fits TheWorld facts kept event cause s h at) is in
+          let plans : Plans = plans_by TheWorld cause s.plans in
+          let fit = answered TheWorld facts allowed kept event s outputs u h cause may at is in
           let answer = units_answer (WasAt Says now) reading (sn_of s) s.units u node (given_of cause) outputs
           (more_known past (act_of event refused (step_of (Some node) (lines_of w))) s.units p) (given_there past cause outputs u s h at) (given_own cause s o at) is in
           as_local past node w (units_by TheWorld cause u)
-          (step_lines TheWorld (IsLocalLine Says now node) (other_local now node) cause outputs (record s { units = u })
-          (all_local now node (count_of cause) outputs fit.1 answer.1))
+          (step_lines TheWorld (IsLocalLine Says Puts now node) (other_local now node) cause outputs (record s { units = u })
+          (all_local plans now node (count_of cause) outputs fit.0.1 answer.1))
           (act_units TheWorld cause outputs u s) (units_known (WasAt Says now) cause u answer.0)
 
       -- ---- the core
 
-      core_local : (past : List Told) (e : Inside) (outputs : Puts) (t : Here) → HasUnits TheWorld t.units e → PutsFit facts Core None outputs
-          → ((seen : List Told) → AllByRecursion (IsLocalLine Says seen Core) (lines_of e))
+      core_local : (past : List Told) (e : Inside) (outputs : Outputs) (t : Here) → HasUnits TheWorld t.units e → PutsFit (facts t.plans) Core None outputs
+          → ((seen : List Told) → AllByRecursion (IsLocalLine Says Puts seen Core) (lines_of e))
           → ((G : EntityKey → List ℕ → Type 0) → AllByRecursion (PutHas G) outputs) → Known (WasAt Says past) t.units
           → OutcomeLocal past (as_step (Some Core) (e next put_out_all TheWorld Core None outputs next check_spans))
       core_local past e outputs t has fits first all p =
           let w : Inside = e next put_out_all TheWorld Core None outputs next check_spans in
           let now : List Told = With Core w past in
-          let Q = IsLocalLine Says now Core in
+          let Q = IsLocalLine Says Puts now Core in
           as_local past Core w t.units
           (then_lines TheWorld Q (other_local now Core) (e next put_out_all TheWorld Core None outputs) check_spans
           (then_lines TheWorld Q (other_local now Core) e (put_out_all TheWorld Core None outputs) (first now)
-          (puts_lines TheWorld Q (other_local now Core) Core None outputs (all_local now Core None outputs fits (all (WasAt Says now Core)))))
+          (puts_lines TheWorld Q (other_local now Core) Core None outputs (all_local t.plans now Core None outputs fits (all (WasAt Says now Core)))))
           (checked_lines TheWorld Q (other_local now Core)))
           (then_units TheWorld t.units (e next put_out_all TheWorld Core None outputs) check_spans
           (then_units TheWorld t.units e (put_out_all TheWorld Core None outputs) has (keep_put_all TheWorld Core None outputs)) (keep_checked TheWorld))
@@ -268,10 +278,11 @@ module _ (reading : Reading) (show_item : Written (Load Pdu) → List ℕ) (show
 
       -- ---- an event
 
-      then_local : (past : List Told) (e : Happens) (more : Here → Happens) → OutcomeLocal past e → HoldsWith TheWorld facts 0 e
+      then_local : (past : List Told) (ps : Plans) (e : Happens) (more : Here → Happens) → OutcomeLocal past e → HoldsNow TheWorld facts e → StaysFrom TheWorld ps e
           → OutcomeSettled reading show_item show_pdu e
-          → ((seen : List Told) (t : Here) → Hold facts t → Settled t → Known (WasAt Says seen) t.units → OutcomeLocal seen (more t)) → OutcomeLocal past (e next more)
-      then_local past (goes steps t) more p h o q = by (more t) (q (after event refused past steps) t h o p.1)
+          → ((seen : List Told) (t : Here) → Hold (facts t.plans) t → PlansStay ps t.plans → Settled t → Known (WasAt Says seen) t.units → OutcomeLocal seen (more t))
+          → OutcomeLocal past (e next more)
+      then_local past ps (goes steps t) more p h stay o q = by (more t) (q (after event refused past steps) t h stay o p.1)
         where
           by : (e : Happens) → OutcomeLocal (after event refused past steps) e → OutcomeLocal past (told_before steps e)
           by (goes further s) r = (
@@ -279,59 +290,61 @@ module _ (reading : Reading) (show_item : Written (Load Pdu) → List ℕ) (show
             subst (λ (seen : List Told). Known (WasAt Says seen) s.units) (sym (after_both event refused past steps further)) r.1,
           )
           by (stops further why) r = steps_both event refused past steps further p.0 r
-      then_local past (stops steps why) more p h o q = p
+      then_local past ps (stops steps why) more p h stay o q = p
 
-      pub made_local : (past : List Told) (s : Here) (e : Happens) → Made TheWorld event s e → Hold facts s → Settled s → Known (WasAt Says past) s.units → OutcomeLocal past e
+      pub made_local : (past : List Told) (s : Here) (e : Happens) → Made TheWorld event s e → Hold (facts s.plans) s → IsAllowed allowed event s.plans → Settled s
+          → Known (WasAt Says past) s.units → OutcomeLocal past e
       unfolding letter
-      made_local past s e (stays t) h o p = (tt, p)
-      made_local past s e (ends t why) h o p = tt
-      made_local past s e (then_made t d more a b) h o p =
-          then_local past d more (made_local past t d a h o p) (made_holds TheWorld facts kept event t d a h) (made_settled reading show_item show_pdu event t d a o)
-          (λ seen x k l q. made_local seen x (more x) (b x) k l q)
-      made_local past s e (sets_up t plan is free room teids) h o p = (tt, placed_known (WasAt Says past) reading t.units plan p)
-      made_local past s e (starts t d a) h o p =
-          made_local past (record t { started = true }) d a (same_links TheWorld facts 0 t (record t { started = true }) h refl refl refl refl refl)
+      made_local past s e (stays t) h may o p = (tt, p)
+      made_local past s e (ends t why) h may o p = tt
+      made_local past s e (then_made t d more a b) h may o p =
+          then_local past t.plans d more (made_local past t d a h may o p) (made_along TheWorld facts allowed kept event t d a h may) (made_stays TheWorld event t d a)
+          (made_settled reading show_item show_pdu event t d a o)
+          (λ seen x k stay l q. made_local seen x (more x) (b x) k (may_later TheWorld facts allowed kept event t.plans x.plans stay may) l q)
+      made_local past s e (sets_up t plan is free room teids) h may o p = (tt, placed_known (WasAt Says past) reading t.units plan p)
+      made_local past s e (starts t d a) h may o p =
+          made_local past (record t { started = true }) d a (same_links TheWorld (facts t.plans) 0 t (record t { started = true }) h refl refl refl refl refl) may
           (settled_started reading show_item show_pdu t o) p
-      made_local past s e (acts t cause outputs units at is fine few) h o p = act_local past cause outputs units t h o at is p
-      made_local past s e (holds_item t end reason) h o p = quiet past (Some end.node) (held_at (tunnel_link end) reason ∷ []) t (tt, tt) p
-      made_local past s e (holds_pdu t key home reason) h o p = quiet past (Some (receiver_of key home)) (held_at (radio_link key (epoch_of t key.ue)) reason ∷ []) t (tt, tt) p
-      made_local past s e (offers t ue bearer x path is found) h o p =
+      made_local past s e (acts t cause outputs units at is fine few) h may o p = act_local past cause outputs units t h may o at is p
+      made_local past s e (holds_item t end reason) h may o p = quiet past (Some end.node) (held_at (tunnel_link end) reason ∷ []) t (tt, tt) p
+      made_local past s e (holds_pdu t key home reason) h may o p = quiet past (Some (receiver_of key home)) (held_at (radio_link key (epoch_of t key.ue)) reason ∷ []) t (tt, tt) p
+      made_local past s e (offers t ue bearer x path is found) h may o p =
           let end : TunnelEnd = record { node = path.up; teid = teid_of path.n3 bearer } in
           let item : Item (Written (Load Pdu)) = record { key = entity ue bearer Dl; count = None; content = TheWorld.lay_n3 (teid_of path.n3 bearer) x } in
           let w : Inside = put_on_tunnel TheWorld end item (offered TheWorld (entity ue bearer Dl) t) next check_spans in
           let now : List Told = With Core w past in
-          let Q = IsLocalLine Says now Core in
+          let Q = IsLocalLine Says Puts now Core in
           as_local past Core w t.units
           (then_lines TheWorld Q (other_local now Core) (put_on_tunnel TheWorld end item (offered TheWorld (entity ue bearer Dl) t)) check_spans
           (tunnel_lines TheWorld Q (other_local now Core) end item
-          (Some x, tells.0 end item (facts.stands Core end item (kept.lays t.core ue bearer x path h.core found)), inl (inl (refl, subst (IsOffered (entity ue bearer Dl) x) (sym is) (refl, refl))))
+          (Some x, (tells t.plans).puts Core end item (kept.lays t.plans t.core ue bearer x path (may.1 ue bearer Dl x is) h.core found), inl (inl (refl, subst (IsOffered (entity ue bearer Dl) x) (sym is) (refl, refl))))
           (offered TheWorld (entity ue bearer Dl) t)) (checked_lines TheWorld Q (other_local now Core)))
           (then_units TheWorld t.units (put_on_tunnel TheWorld end item (offered TheWorld (entity ue bearer Dl) t)) check_spans
           (keep_put_on_tunnel TheWorld end item (offered TheWorld (entity ue bearer Dl) t)) (keep_checked TheWorld))
           (more_known past (act_of event refused (step_of (Some Core) (lines_of w))) t.units p)
-      made_local past s e (core_takes t number l outputs core found at is few) h o p =
-          let answered = kept.core_answers (sn_of t) t.core core (letter_for l.from l.message) outputs h.core (
+      made_local past s e (core_takes t number l outputs core found at is few) h may o p =
+          let told = kept.core_answers t.plans t.core core (letter_for l.from l.message) outputs h.core (
             l.ue,
-            subst (λ (n : NodeId). facts.letter (record { from = l.from; to = n; ue = l.ue; message = l.message })) at
-                (found_has nat_cmp facts.letter t.bag.letters number l h.letters found),
+            subst (λ (n : NodeId). (facts t.plans).letter (record { from = l.from; to = n; ue = l.ue; message = l.message })) at
+                (found_has nat_cmp (facts t.plans).letter t.bag.letters number l h.letters found),
           ) is in
-          core_local past (landed_as TheWorld number l (record t { core = core })) outputs t refl answered.1 (λ seen. (tt, tt))
+          core_local past (landed_as TheWorld number l (record t { core = core })) outputs t refl told.1 (λ seen. (tt, tt))
           (λ G. the_core_answers G reading (sn_of t) t.core core (letter_for l.from l.message) outputs is) p
-      made_local past s e (core_reads t from octets outputs core is) h o p =
-          let answered = kept.core_answers (sn_of t) t.core core (octets_from from octets) outputs h.core tt is in
+      made_local past s e (core_reads t from octets outputs core is) h may o p =
+          let told = kept.core_answers t.plans t.core core (octets_from from octets) outputs h.core tt is in
           let w : Inside = put_out_all TheWorld Core None outputs (record t { core = core }) next check_spans in
           let now : List Told = With Core w past in
-          let Q = IsLocalLine Says now Core in
+          let Q = IsLocalLine Says Puts now Core in
           as_local past Core w t.units
           (then_lines TheWorld Q (other_local now Core) (put_out_all TheWorld Core None outputs (record t { core = core })) check_spans
           (puts_lines TheWorld Q (other_local now Core) Core None outputs
-          (all_local now Core None outputs answered.1 (the_core_answers (WasAt Says now Core) reading (sn_of t) t.core core (octets_from from octets) outputs is))
+          (all_local t.plans now Core None outputs told.1 (the_core_answers (WasAt Says now Core) reading (sn_of t) t.core core (octets_from from octets) outputs is))
           (record t { core = core })) (checked_lines TheWorld Q (other_local now Core)))
           (then_units TheWorld t.units (put_out_all TheWorld Core None outputs (record t { core = core })) check_spans
           (keep_put_all TheWorld Core None outputs (record t { core = core })) (keep_checked TheWorld))
           (more_known past (act_of event refused (step_of (Some Core) (lines_of w))) t.units p)
-      made_local past s e (lands t number l to found at) h o p = quiet past (Some to) (got_message number l ∷ []) (record t { bag = landed t.bag number }) (tt, tt) p
-      made_local past s e (loses_letter t number) h o p = quiet past None (lost_message number ∷ []) (record t { bag = landed t.bag number }) tt p
-      made_local past s e (loses_item t end item rest found) h o p =
+      made_local past s e (lands t number l to found at) h may o p = quiet past (Some to) (got_message number l ∷ []) (record t { bag = landed t.bag number }) (tt, tt) p
+      made_local past s e (loses_letter t number) h may o p = quiet past None (lost_message number ∷ []) (record t { bag = landed t.bag number }) tt p
+      made_local past s e (loses_item t end item rest found) h may o p =
           quiet past None (lost_items (tunnel_link end) 1 ∷ []) (record t { tunnels = put tunnel_cmp t.tunnels end rest }) tt p
-      made_local past s e (remarks t lines plain) h o p = quiet past None lines t tt p
+      made_local past s e (remarks t lines plain) h may o p = quiet past None lines t tt p

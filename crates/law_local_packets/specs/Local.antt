@@ -42,18 +42,20 @@ module _ (Says : Saying) where
   abbrev pub WasAt : {M : Type 0} → List (Act M) → NodeId → EntityKey → List ℕ → Type 0
   WasAt acts node key packet = OneOf (λ act. WasOffered node key packet act ⊎ WasGot node key packet act) acts
 
-  -- ---- what is put and delivered was there; a step without an acting node puts and delivers nothing (`law_laid_out`)
+  -- ---- what is put and delivered was there, where what a node puts says this; a step without an acting node puts and delivers nothing
+  -- (`law_laid_out`)
 
-  abbrev pub IsLocalLine : {M : Type 0} → List (Act M) → NodeId → RunLine M → Type 0
-  IsLocalLine acts actor (put_item link item) = (said : Option (List ℕ)) × Says link item said × IfAny (WasAt acts actor (item_key item)) said
-  IsLocalLine acts actor (delivers key count packet) = WasAt acts actor key packet
-  IsLocalLine acts actor line = Unit {0}
+  module _ (Puts : NodeId → Saying) where
+    abbrev pub IsLocalLine : {M : Type 0} → List (Act M) → NodeId → RunLine M → Type 0
+    IsLocalLine acts actor (put_item link item) = (said : Option (List ℕ)) × Puts actor link item said × IfAny (WasAt acts actor (item_key item)) said
+    IsLocalLine acts actor (delivers key count packet) = WasAt acts actor key packet
+    IsLocalLine acts actor line = Unit {0}
 
-  abbrev pub IsLocalBy : {M : Type 0} → List (Act M) → Option NodeId → List (RunLine M) → Type 0
-  IsLocalBy acts None lines = Unit {0}
-  IsLocalBy acts (Some actor) lines = AllByRecursion (IsLocalLine acts actor) lines
+    abbrev pub IsLocalBy : {M : Type 0} → List (Act M) → Option NodeId → List (RunLine M) → Type 0
+    IsLocalBy acts None lines = Unit {0}
+    IsLocalBy acts (Some actor) lines = AllByRecursion (IsLocalLine acts actor) lines
 
-  -- of steps one after another; those before, the last one first
-  abbrev pub LocalFrom : {M : Type 0} → List (Act M) → List (Act M) → Type 0
-  LocalFrom past [] = Unit {0}
-  LocalFrom past (act ∷ acts) = IsLocalBy (act ∷ past) act.step.actor act.step.lines × LocalFrom (act ∷ past) acts
+    -- of steps one after another; those before, the last one first
+    abbrev pub LocalFrom : {M : Type 0} → List (Act M) → List (Act M) → Type 0
+    LocalFrom past [] = Unit {0}
+    LocalFrom past (act ∷ acts) = IsLocalBy (act ∷ past) act.step.actor act.step.lines × LocalFrom (act ∷ past) acts

@@ -16,9 +16,9 @@ ghost use Rattle.std.specs.Prelude.{List, [], ◌∷◌, ◌≡◌};
 /// `packets`: the same where the run shows packets in place of octets.
 pub fn packets_are_local()
     ensures run { (reading : Reading) (events : List Event)
-        → LocalFrom SaysInOctets [] (acts_of (Run reading events).events) }
+        → LocalFrom SaysInOctets (λ node. SaysInOctets) [] (acts_of (Run reading events).events) }
     ensures packets { (reading : Reading) (events : List Event)
-        → LocalFrom SaysAlone [] (acts_of (run (showing_packets reading) events).events) }
+        → LocalFrom SaysAlone (λ node. SaysAlone) [] (acts_of (run (showing_packets reading) events).events) }
 {}
 
 /// A packet is delivered by a run, so the law speaks of something; and what a CU-UP never got it may not deliver, nor on one
@@ -26,6 +26,6 @@ pub fn packets_are_local()
 pub fn the_law_says_something()
     ensures delivers { (reading : Reading)
         → Delivered uplink (Run reading packet_up).events ≡ (69 ∷ []) ∷ [] }
-    ensures forbids { LocalFrom SaysAlone [] (from_nowhere ∷ []) → ⊥ }
-    ensures parts { LocalFrom SaysAlone [] (from_another ∷ []) → ⊥ }
+    ensures forbids { LocalFrom SaysAlone (λ node. SaysAlone) [] (from_nowhere ∷ []) → ⊥ }
+    ensures parts { LocalFrom SaysAlone (λ node. SaysAlone) [] (from_another ∷ []) → ⊥ }
 {}

@@ -6,3 +6,5 @@ pub mod Links
 pub mod Placed
 pub mod Runs
 pub mod UnitRuns
+pub use Rattle.law_teids.proofs as law_teids
+pub use Rattle.law_teids.proofs.law_steps as law_steps

@@ -6,8 +6,8 @@ use Rattle.std.specs.Cmp.{nat_cmp_total, tied_itself, Equal-is}
 use Rattle.std.proofs.lemmas.Map.Lookups.{exact_unsigned}
 use Rattle.tables.specs.Tables.{find, put, without}
 use Rattle.tables.proofs.TableLaws.{find-put, find-without}
-use Rattle.unit_defs.specs.Ways.{Put, Output, control, packet, radio, deliver, dropped, held, opened, closed, failed, no}
-use Rattle.unit_defs.specs.Teids.{without_each}
+use Rattle.law_teids.specs.unit_defs.Ways.{Put, Output, control, packet, radio, deliver, dropped, held, opened, closed, failed, no}
+use Rattle.law_teids.specs.unit_defs.Teids.{without_each}
 use Rattle.law_teids.specs.Given.{opened_by}
 use Rattle.law_teids.proofs.Bearers.{closed_by}
 use Rattle.law_open_tunnels.specs.Open.{open_after, is_open_in}

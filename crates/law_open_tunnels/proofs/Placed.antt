@@ -18,18 +18,18 @@ use Rattle.gnb_types.specs.Orders.{node_cmp, tunnel_cmp}
 use Rattle.gnb_types.proofs.OrderLemmas.{node_total, node_exact}
 use Rattle.tables.specs.Tables.{find, at}
 use Rattle.tables.proofs.TableLaws.{at-put}
-use Rattle.unit_defs.specs.CpRecords.{CuCpRecord}
-use Rattle.unit_defs.specs.UpRecords.{CuUp}
-use Rattle.unit_defs.specs.UpBearers.{made}
-use Rattle.unit_defs.specs.CuUp.{new_cu_up, bearers_from, bearers_made, entries_of}
-use Rattle.unit_defs.specs.Du.{Du, new_du, bearers_made as du_bearers}
-use Rattle.unit_defs.specs.Static.{with_downlinks, up_context, up_placed, cp_placed, uplinks_from, du_context, du_placed, up_set_up, du_set_up}
-use Rattle.unit_defs.specs.Ue.{new_ue, placed}
+use Rattle.law_teids.specs.unit_defs.CpRecords.{CuCpRecord}
+use Rattle.law_teids.specs.unit_defs.UpRecords.{CuUp}
+use Rattle.law_teids.specs.unit_defs.UpBearers.{made}
+use Rattle.law_teids.specs.unit_defs.CuUp.{new_cu_up, bearers_from, bearers_made, entries_of}
+use Rattle.law_teids.specs.unit_defs.Du.{Du, new_du, bearers_made as du_bearers}
+use Rattle.law_teids.specs.unit_defs.Static.{with_downlinks, up_context, up_placed, cp_placed, uplinks_from, du_context, du_placed, up_set_up, du_set_up}
+use Rattle.law_teids.specs.unit_defs.Ue.{new_ue, placed}
 use Rattle.transport_defs.specs.declared.Item.{Item}
-use Rattle.run_defs.specs.Units.{Units, cp_of, up_of, with_up, du_of, with_du, with_ue, with_cp}
-use Rattle.run_defs.specs.States.{State}
-use Rattle.run_defs.specs.Steps.{with_tunnel}
-use Rattle.run_defs.specs.Conditions.{tunnels_from, units_placed, all_set_up, statically}
+use Rattle.law_teids.specs.run_defs.Units.{Units, cp_of, up_of, with_up, du_of, with_du, with_ue, with_cp}
+use Rattle.law_teids.specs.run_defs.States.{State}
+use Rattle.law_teids.specs.run_defs.Steps.{with_tunnel}
+use Rattle.law_teids.specs.run_defs.Conditions.{tunnels_from, units_placed, all_set_up, statically}
 use Rattle.law_teids.specs.Given.{count_from}
 use Rattle.law_teids.proofs.CuUps.{how_many}
 use Rattle.law_teids.proofs.Dus.{made_counted}

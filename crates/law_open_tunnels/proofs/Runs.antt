@@ -11,24 +11,24 @@ use Rattle.std.specs.BTreeMap.{is_at}
 use Rattle.tables.specs.Tables.{find, at}
 use Rattle.message_types.specs.declared.rrc.Token.{Token}
 use Rattle.scenario_text.specs.declared.event.Event.{Event}
-use Rattle.unit_defs.specs.Ways.{Message, Pdu, Load, Put, control, packet, radio, deliver, dropped, held, opened, closed, failed, no, Input, gives, spent}
-use Rattle.unit_defs.specs.Ue.{UeNode, ue_acts}
-use Rattle.unit_defs.specs.UpRecords.{CuUp}
-use Rattle.unit_defs.specs.CuUp.{new_cu_up, cu_up_acts}
-use Rattle.unit_defs.specs.Du.{Du, new_du, du_acts}
-use Rattle.unit_defs.specs.CpRecords.{CuCpRecord}
-use Rattle.unit_defs.specs.CuCp.{cu_cp_acts}
-use Rattle.run_defs.specs.Units.{Units, new_units, cp_of, with_cp, up_of, with_up, du_of, with_du, ue_of, with_ue}
-use Rattle.run_defs.specs.Written.{Written, written_put, PlainStepped, WrittenStepped, written_step}
-use Rattle.run_defs.specs.States.{State, new_state, Lengths, Given, stepped, step_spent, World, sn_of, goes, stops, told_before, ◌next◌, Ending, Within, Outcome, as_step}
-use Rattle.run_defs.specs.Steps.{check_spans, put_out_all}
-use Rattle.run_defs.specs.Events.{landed_as}
-use Rattle.run_defs.specs.Runs.{Reading, PlainGiven, Plain, plain_way, input_of, fault_of, stepped_with, ue_stepped, acts_on, plain_by, plain_world, happens}
-use Rattle.law_steps.specs.Causes.{Cause, by_order, by_tick, by_octets, by_octets_on, by_attach, by_release, by_offer, by_item, by_air, by_ack, by_letter, node_of, given_of}
-use Rattle.law_steps.specs.Made.{Made, stays, ends, then_made, sets_up, starts, acts, holds_item, holds_pdu, offers, core_takes, core_reads, lands, loses_letter, loses_item, remarks}
-use Rattle.law_steps.specs.Reached.{reached_by, reached}
-use Rattle.law_steps.proofs.Runs.{made_of_steps}
-use Rattle.law_steps.proofs.Frames.{HasUnits, then_units, keep_checked, keep_put_on_tunnel, keep_put_all, units_by, act_units}
+use Rattle.law_teids.specs.unit_defs.Ways.{Message, Pdu, Load, Put, control, packet, radio, deliver, dropped, held, opened, closed, failed, no, Input, gives, spent}
+use Rattle.law_teids.specs.unit_defs.Ue.{UeNode, ue_acts}
+use Rattle.law_teids.specs.unit_defs.UpRecords.{CuUp}
+use Rattle.law_teids.specs.unit_defs.CuUp.{new_cu_up, cu_up_acts}
+use Rattle.law_teids.specs.unit_defs.Du.{Du, new_du, du_acts}
+use Rattle.law_teids.specs.unit_defs.CpRecords.{CuCpRecord}
+use Rattle.law_teids.specs.unit_defs.CuCp.{cu_cp_acts}
+use Rattle.law_teids.specs.run_defs.Units.{Units, new_units, cp_of, with_cp, up_of, with_up, du_of, with_du, ue_of, with_ue}
+use Rattle.law_teids.specs.run_defs.Written.{Written, written_put, PlainStepped, WrittenStepped, written_step}
+use Rattle.law_teids.specs.run_defs.States.{State, new_state, Lengths, Given, stepped, step_spent, World, sn_of, goes, stops, told_before, ◌next◌, Ending, Within, Outcome, RunStep, as_step}
+use Rattle.law_teids.specs.run_defs.Steps.{check_spans, put_out_all}
+use Rattle.law_teids.specs.run_defs.Events.{landed_as}
+use Rattle.law_teids.specs.run_defs.Runs.{Reading, PlainGiven, Plain, plain_way, input_of, fault_of, stepped_with, ue_stepped, acts_on, plain_by, plain_world, happens}
+use Rattle.law_teids.specs.law_steps.Causes.{Cause, by_order, by_tick, by_octets, by_octets_on, by_attach, by_release, by_offer, by_item, by_air, by_ack, by_letter, node_of, given_of}
+use Rattle.law_teids.specs.law_steps.Made.{Made, stays, ends, then_made, sets_up, starts, acts, holds_item, holds_pdu, offers, core_takes, core_reads, lands, loses_letter, loses_item, remarks}
+use Rattle.law_teids.specs.law_steps.Reached.{reached_by, reached}
+use Rattle.law_teids.proofs.law_steps.Runs.{made_of_steps}
+use Rattle.law_teids.proofs.law_steps.Frames.{HasUnits, then_units, keep_checked, keep_put_on_tunnel, keep_put_all, units_by, act_units}
 use Rattle.law_open_tunnels.specs.Open.{open_after, is_open_in, stands, StandWhereOpen}
 use Rattle.law_open_tunnels.proofs.CuUps.{Fits as UpFits, cu_up_fits}
 use Rattle.law_open_tunnels.proofs.Dus.{Fits as DuFits, du_fits}
@@ -259,13 +259,19 @@ module _ (reading : Reading) where
   )
   written lengths u node (step_spent counter) p = tt
 
+  shown : (lengths : Lengths) (u v : PlainUnits) (node : NodeId) (given : PlainGiven) (outputs : List (Put (Message Token) (Written (Load Pdu)) (Written Pdu)))
+      → (plain_world reading).answer lengths u node given ≡ stepped outputs v → Show node outputs u v
+  shown lengths u v node given outputs e = subst (ShownWritten u node) e
+      (written lengths u node (plain_by reading u node given (input_of reading given)) (answered u node given (input_of reading given)))
+
+  -- so it goes on within an event
+  pub made_stands : (event : Event) (s t : State (Message Token) Token (Written (Load Pdu)) (Written Pdu)) (told : List (RunStep (Message Token)))
+      → Made (plain_world reading) event s (goes told t) → StandWhereOpen s → StandWhereOpen t
+  made_stands event s t told p k = made_holds (plain_world reading) shown event s (goes told t) p k
+
   pub stand_where_open : (events : List Event) (s t : State (Message Token) Token (Written (Load Pdu)) (Written Pdu)) → StandWhereOpen s
       → reached (plain_world reading) events s ≡ Some t → StandWhereOpen t
-  stand_where_open events s t k is =
-      reached_holds (plain_world reading)
-      (λ lengths u v node given outputs e. subst (ShownWritten u node) e
-      (written lengths u node (plain_by reading u node given (input_of reading given)) (answered u node given (input_of reading given))))
-      events s t k is
+  stand_where_open events s t k is = reached_holds (plain_world reading) shown events s t k is
 
 -- ---- the first state
 

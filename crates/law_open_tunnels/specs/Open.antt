@@ -6,9 +6,9 @@ use Rattle.gnb_types.specs.declared.names.NodeId.{NodeId}
 use Rattle.gnb_types.specs.declared.names.NodeId.TheVariants.{CuUp, Du}
 use Rattle.gnb_types.specs.Orders.{tunnel_cmp}
 use Rattle.tables.specs.Tables.{find}
-use Rattle.unit_defs.specs.Ways.{Put, opened, closed, Answer, gives, spent}
-use Rattle.run_defs.specs.Units.{up_of, du_of}
-use Rattle.run_defs.specs.States.{State}
+use Rattle.law_teids.specs.unit_defs.Ways.{Put, opened, closed, Answer, gives, spent}
+use Rattle.law_teids.specs.run_defs.Units.{up_of, du_of}
+use Rattle.law_teids.specs.run_defs.States.{State}
 
 -- a TEID is open after outputs, where it was before or not
 abbrev pub open_after : {M L P : Type 0} → ℕ → List (Put M L P) → Bool → Bool

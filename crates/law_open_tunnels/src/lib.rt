@@ -2,19 +2,19 @@
 #![tactic(auto)]
 
 ghost use Rattle.law_open_tunnels.specs.Open.{ShowsFrom, StandWhereOpen};
-ghost use Rattle.law_steps.specs.Reached.{reached};
+ghost use Rattle.law_teids.specs.law_steps.Reached.{reached};
 ghost use Rattle.message_types.specs.declared.rrc.Token.{Token};
-ghost use Rattle.run_defs.specs.Runs.{plain_world, Reading};
-ghost use Rattle.run_defs.specs.States.{new_state, State};
-ghost use Rattle.run_defs.specs.UnitRuns.{tables, unit_world};
-ghost use Rattle.run_defs.specs.Written.{Written};
+ghost use Rattle.law_teids.specs.run_defs.Runs.{plain_world, Reading};
+ghost use Rattle.law_teids.specs.run_defs.States.{new_state, State};
+ghost use Rattle.law_teids.specs.run_defs.UnitRuns.{tables, unit_world};
+ghost use Rattle.law_teids.specs.run_defs.Written.{Written};
 ghost use Rattle.scenario_text.specs.declared.event.Event.{Event};
 ghost use Rattle.std.specs.Prelude.{List, Some, ℕ, ◌≡◌};
-ghost use Rattle.unit_defs.specs.CuUp.{cu_up_acts};
-ghost use Rattle.unit_defs.specs.Du.{Du, du_acts};
-ghost use Rattle.unit_defs.specs.UpRecords.{CuUp};
-ghost use Rattle.unit_octet_defs.specs.Codec.{Codec};
-ghost use Rattle.unit_defs.specs.Ways.{Input, Load, Message, Pdu, Way};
+ghost use Rattle.law_teids.specs.unit_defs.CuUp.{cu_up_acts};
+ghost use Rattle.law_teids.specs.unit_defs.Du.{Du, du_acts};
+ghost use Rattle.law_teids.specs.unit_defs.UpRecords.{CuUp};
+ghost use Rattle.law_teids.specs.unit_octet_defs.Codec.{Codec};
+ghost use Rattle.law_teids.specs.unit_defs.Ways.{Input, Load, Message, Pdu, Way};
 
 /// On any input, in any state: the TEIDs that are open at a CU-UP afterwards are those that were open before, with those that
 /// it reports as opened and without those that it reports as closed, in their order.

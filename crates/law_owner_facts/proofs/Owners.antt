@@ -4,10 +4,10 @@ use Rattle.std.specs.Ordering.{nat_cmp, eq_by_cmp}
 use Rattle.std.specs.Cmp.{nat_cmp_total}
 use Rattle.tables.specs.Tables.{find, put, without}
 use Rattle.tables.proofs.TableLaws.{find-put-same, find-put-other, find-without}
-use Rattle.unit_defs.specs.Teids.{without_each}
-use Rattle.unit_defs.specs.UpBearers.{is_one_of}
-use Rattle.law_teids.specs.Given.{below, GrowsTo}
-use Rattle.law_teids.proofs.Grows.{put_or}
+use Rattle.law_open_tunnels.specs.unit_defs.Teids.{without_each}
+use Rattle.law_open_tunnels.specs.unit_defs.UpBearers.{is_one_of}
+use Rattle.law_open_tunnels.specs.law_teids.Given.{below, GrowsTo}
+use Rattle.law_open_tunnels.proofs.law_teids.Grows.{put_or}
 use Rattle.law_open_tunnels.proofs.Opened.{key_test}
 use Rattle.law_owner_facts.specs.Owned.{AreNamed, WereGiven}
 

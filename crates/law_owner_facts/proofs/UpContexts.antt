@@ -8,11 +8,11 @@ use Rattle.gnb_types.specs.Orders.{ue_cmp, bearer_cmp}
 use Rattle.gnb_types.proofs.OrderLemmas.{ue_total, ue_exact, bearer_total, bearer_exact}
 use Rattle.tables.specs.Tables.{find, put, without, IsSorted}
 use Rattle.tables.proofs.TableLaws.{find-put, find-without, sorted-put}
-use Rattle.unit_defs.specs.Teids.{without_each}
-use Rattle.unit_defs.specs.UpRecords.{UpBearer, UpContext, TunnelKind, n3, f1u_uplink, forwarding_down, forwarding_up, UpTunnel}
-use Rattle.unit_defs.specs.UpBearers.{is_one_of}
-use Rattle.law_teids.proofs.Bearers.{ends}
-use Rattle.law_teids.proofs.CuUps.{Entry}
+use Rattle.law_open_tunnels.specs.unit_defs.Teids.{without_each}
+use Rattle.law_open_tunnels.specs.unit_defs.UpRecords.{UpBearer, UpContext, TunnelKind, n3, f1u_uplink, forwarding_down, forwarding_up, UpTunnel}
+use Rattle.law_open_tunnels.specs.unit_defs.UpBearers.{is_one_of}
+use Rattle.law_open_tunnels.proofs.law_teids.Bearers.{ends}
+use Rattle.law_open_tunnels.proofs.law_teids.CuUps.{Entry}
 use Rattle.law_owner_facts.specs.Owned.{ends_of, has_end, up_context_names, up_names, AreNamed, UpInOrder}
 use Rattle.law_owner_facts.proofs.Owners.{and_true, second_of, both_of, and_apart, unless, holds_not, one_owner, named_without}
 use Rattle.law_owner_facts.proofs.UpEnds.{owner_of, ends_same, all_open, held_is_open, open_is_held}

@@ -10,10 +10,10 @@ use Rattle.gnb_types.specs.declared.names.UeId.{UeId}
 use Rattle.gnb_types.specs.declared.names.BearerId.{BearerId}
 use Rattle.gnb_types.specs.Orders.{bearer_cmp}
 use Rattle.tables.specs.Tables.{find, IsSorted}
-use Rattle.unit_defs.specs.UpRecords.{UpBearer, TunnelKind, n3, f1u_uplink, forwarding_down, forwarding_up, UpTunnel}
-use Rattle.unit_defs.specs.UpBearers.{made, teids_of_bearer, teid_in, is_one_of, open_teids}
-use Rattle.unit_defs.specs.CuUp.{entries, entries_of, bearers_from, bearers_made}
-use Rattle.law_teids.proofs.Bearers.{Ends, ends}
+use Rattle.law_open_tunnels.specs.unit_defs.UpRecords.{UpBearer, TunnelKind, n3, f1u_uplink, forwarding_down, forwarding_up, UpTunnel}
+use Rattle.law_open_tunnels.specs.unit_defs.UpBearers.{made, teids_of_bearer, teid_in, is_one_of, open_teids}
+use Rattle.law_open_tunnels.specs.unit_defs.CuUp.{entries, entries_of, bearers_from, bearers_made}
+use Rattle.law_open_tunnels.proofs.law_teids.Bearers.{Ends, ends}
 use Rattle.law_owner_facts.specs.Owned.{ends_of, has_end}
 use Rattle.law_owner_facts.proofs.Found.{has_later, has_first, has_either, less}
 use Rattle.law_owner_facts.proofs.Owners.{one_or, IsIn, in_left, in_right, in_either, AreFrom}

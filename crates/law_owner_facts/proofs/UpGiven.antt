@@ -10,14 +10,14 @@ use Rattle.std.specs.Map.{keys_of}
 use Rattle.std.specs.Ordering.{eq_by_cmp}
 use Rattle.std.proofs.lemmas.Map.Keys.{sorted_tail}
 use Rattle.gnb_types.specs.Orders.{ue_cmp}
-use Rattle.unit_defs.specs.UpRecords.{TunnelKind, n3, f1u_uplink, forwarding_down, forwarding_up}
-use Rattle.unit_defs.specs.UpBearers.{teid_in, is_one_of}
+use Rattle.law_open_tunnels.specs.unit_defs.UpRecords.{TunnelKind, n3, f1u_uplink, forwarding_down, forwarding_up}
+use Rattle.law_open_tunnels.specs.unit_defs.UpBearers.{teid_in, is_one_of}
 use Rattle.tables.specs.Tables.{find, put, IsSorted}
-use Rattle.unit_defs.specs.Ways.{Way}
-use Rattle.unit_defs.specs.UpRecords.{UpBearer, UpContext, TunnelKind, UpTunnel}
-use Rattle.unit_defs.specs.CuUp.{entries_of, with_entries, teids_from, uplink_entries}
-use Rattle.law_teids.proofs.Bearers.{Ends, ends}
-use Rattle.law_teids.proofs.CuUps.{Entry}
+use Rattle.law_open_tunnels.specs.unit_defs.Ways.{Way}
+use Rattle.law_open_tunnels.specs.unit_defs.UpRecords.{UpBearer, UpContext, TunnelKind, UpTunnel}
+use Rattle.law_open_tunnels.specs.unit_defs.CuUp.{entries_of, with_entries, teids_from, uplink_entries}
+use Rattle.law_open_tunnels.proofs.law_teids.Bearers.{Ends, ends}
+use Rattle.law_open_tunnels.proofs.law_teids.CuUps.{Entry}
 use Rattle.law_owner_facts.specs.Owned.{ends_of, has_end, up_context_names, up_names, AreNamed}
 use Rattle.law_owner_facts.proofs.Owners.{both_of, first_of, second_of, one_or, put_each, AreFrom, IsIn, named_given}
 use Rattle.law_owner_facts.proofs.UpEnds.{Bearers, or_left, or_right, owner_of, found_is_in, IsFound, in_is_found, has_it, append_one}

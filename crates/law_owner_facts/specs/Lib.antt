@@ -1,1 +1,4 @@
 pub mod Owned
+pub use Rattle.law_open_tunnels.specs.law_teids as law_teids
+pub use Rattle.law_open_tunnels.specs.law_steps as law_steps
+pub use Rattle.law_open_tunnels.specs.run_defs as run_defs

@@ -5,11 +5,11 @@ use Rattle.gnb_types.specs.declared.names.Gnb.{Gnb}
 use Rattle.gnb_types.specs.declared.names.UeId.{UeId}
 use Rattle.gnb_types.specs.Orders.{ue_cmp, bearer_cmp}
 use Rattle.tables.specs.Tables.{find, IsSorted}
-use Rattle.unit_defs.specs.UpRecords.{UpBearer, UpContext, TunnelKind, n3, f1u_uplink, forwarding_down, forwarding_up, UpTunnel, CuUp}
-use Rattle.unit_defs.specs.UpBearers.{teid_in, is_one_of}
-use Rattle.unit_defs.specs.Du.{DuBearer, DuContext, DuTunnel, Du}
-use Rattle.run_defs.specs.Units.{Units, up_of, du_of}
-use Rattle.law_teids.specs.Given.{below}
+use Rattle.law_open_tunnels.specs.unit_defs.UpRecords.{UpBearer, UpContext, TunnelKind, n3, f1u_uplink, forwarding_down, forwarding_up, UpTunnel, CuUp}
+use Rattle.law_open_tunnels.specs.unit_defs.UpBearers.{teid_in, is_one_of}
+use Rattle.law_open_tunnels.specs.unit_defs.Du.{DuBearer, DuContext, DuTunnel, Du}
+use Rattle.law_open_tunnels.specs.run_defs.Units.{Units, up_of, du_of}
+use Rattle.law_open_tunnels.specs.law_teids.Given.{below}
 
 -- ---- what a context names
 

@@ -4,12 +4,12 @@ use Rattle.gnb_types.specs.declared.names.Gnb.{Gnb}
 use Rattle.gnb_types.specs.declared.names.NodeId.{NodeId}
 use Rattle.gnb_types.specs.declared.names.UeId.{UeId}
 use Rattle.message_types.specs.declared.rrc.Token.{Token}
-use Rattle.unit_defs.specs.Ways.{Message, Pdu, Load, Put, control, packet, radio, deliver, dropped, held, opened, closed, failed, no, Answer, gives, spent}
-use Rattle.unit_defs.specs.UpRecords.{CuUp}
-use Rattle.unit_defs.specs.Du.{Du}
-use Rattle.unit_defs.specs.Ue.{UeNode}
-use Rattle.unit_defs.specs.CpRecords.{CuCpRecord}
-use Rattle.unit_defs.specs.Core.{CoreRecord}
+use Rattle.law_answers.specs.unit_defs.Ways.{Message, Pdu, Load, Put, control, packet, radio, deliver, dropped, held, opened, closed, failed, no, Answer, gives, spent}
+use Rattle.law_answers.specs.unit_defs.UpRecords.{CuUp}
+use Rattle.law_answers.specs.unit_defs.Du.{Du}
+use Rattle.law_answers.specs.unit_defs.Ue.{UeNode}
+use Rattle.law_answers.specs.unit_defs.CpRecords.{CuCpRecord}
+use Rattle.law_answers.specs.unit_defs.Core.{CoreRecord}
 use Rattle.law_answers.specs.After.{HoldsAfter}
 use Rattle.law_run_facts.specs.Facts.{PutFits, PutsFit}
 use Rattle.law_run_facts.specs.UnitFacts.{UnitFacts, as_facts, AnswerFits}

@@ -4,10 +4,10 @@ use Rattle.std.proofs.Common.{ℕ, List, [], ◌∷◌, Option, None}
 use Rattle.gnb_types.specs.declared.names.NodeId.{NodeId}
 use Rattle.gnb_types.specs.declared.names.NodeId.TheVariants.{Core}
 use Rattle.gnb_types.specs.declared.keys.TunnelEnd.{TunnelEnd}
-use Rattle.unit_defs.specs.Ways.{Put, control, packet, radio, deliver, dropped, held, opened, closed, failed, no}
+use Rattle.law_answers.specs.unit_defs.Ways.{Put, control, packet, radio, deliver, dropped, held, opened, closed, failed, no}
 use Rattle.transport_defs.specs.declared.Item.{Item}
-use Rattle.run_defs.specs.Units.{Units}
-use Rattle.run_defs.specs.States.{World, Given, letter_for, item_for, carried_for, confirmed_for, offer_for, tick_for, order_for, octets_from, octets_on}
+use Rattle.law_teids.specs.run_defs.Units.{Units}
+use Rattle.law_teids.specs.run_defs.States.{World, Given, letter_for, item_for, carried_for, confirmed_for, offer_for, tick_for, order_for, octets_from, octets_on}
 use Rattle.law_run_facts.specs.Facts.{Facts, PutFits, PutsFit, GivenFits, AreKept}
 use Rattle.law_run_facts.specs.Later.{AreKeptTo}
 
@@ -29,7 +29,7 @@ module _ {M C L P : Type 0} (one other : Facts M C L P) (on : TunnelEnd → Item
 
   -- ---- what is given and put has both facts
 
-  given_one : (node : NodeId) (taken : Option ℕ) (given : Given M L P) → GivenFits both node taken given → GivenFits one node taken given
+  pub given_one : (node : NodeId) (taken : Option ℕ) (given : Given M L P) → GivenFits both node taken given → GivenFits one node taken given
   given_one node taken (letter_for from message) p = (p.0, p.1.0)
   given_one node taken (item_for teid item) p = (p.0, p.1.0)
   given_one node taken (carried_for item) p = (p.0, (p.1.0, p.1.1.0))
@@ -40,7 +40,7 @@ module _ {M C L P : Type 0} (one other : Facts M C L P) (on : TunnelEnd → Item
   given_one node taken (octets_from from octets) p = tt
   given_one node taken (octets_on teid octets) p = tt
 
-  given_other : (node : NodeId) (taken : Option ℕ) (given : Given M L P) → GivenFits both node taken given → GivenFits other node taken given
+  pub given_other : (node : NodeId) (taken : Option ℕ) (given : Given M L P) → GivenFits both node taken given → GivenFits other node taken given
   given_other node taken (letter_for from message) p = (p.0, p.1.1)
   given_other node taken (item_for teid item) p = (p.0, p.1.1.0)
   given_other node taken (carried_for item) p = (p.0, (p.1.0, p.1.1.1))
@@ -63,7 +63,7 @@ module _ {M C L P : Type 0} (one other : Facts M C L P) (on : TunnelEnd → Item
   put_both node taken (failed ue cause) p q = tt
   put_both node taken (no reason) p q = tt
 
-  puts_both : (node : NodeId) (taken : Option ℕ) (outputs : List (Put M L P)) → PutsFit one node taken outputs → PutsFit other node taken outputs
+  pub puts_both : (node : NodeId) (taken : Option ℕ) (outputs : List (Put M L P)) → PutsFit one node taken outputs → PutsFit other node taken outputs
       → PutsFit both node taken outputs
   puts_both node taken [] p q = tt
   puts_both node taken (output ∷ outputs) p q = (put_both node taken output p.0 q.0, puts_both node taken outputs p.1 q.1)

@@ -9,10 +9,10 @@ use Rattle.gnb_types.specs.declared.reasons.DropReason.TheVariants.{Stale}
 use Rattle.message_types.specs.declared.rrc.Token.{Token}
 use Rattle.transaction_defs.specs.Callers.{is_open, is_awaited, close, Begin, begun, running, spent as begins_no_more, begin, Due}
 use Rattle.transaction_defs.specs.Callees.{Verdict, new, again, stale, verdict, taken as taken_in, kept_reply}
-use Rattle.unit_defs.specs.Ways.{Message, Pdu, Output, Answer, gives, spent, with_outputs, ◌then◌, nothing, drops}
-use Rattle.unit_defs.specs.Transactions.{Transactions, Waiting, Asked, is_empty, waits_at, with_waiting, begun_as, begin_request, ask, advance_with, advance, ask_at_once, replied, replied_late, answered_again, request_by, on_request, on_reply}
+use Rattle.law_answers.specs.unit_defs.Ways.{Message, Pdu, Output, Answer, gives, spent, with_outputs, ◌then◌, nothing, drops}
+use Rattle.law_answers.specs.unit_defs.Transactions.{Transactions, Waiting, Asked, is_empty, waits_at, with_waiting, begun_as, begin_request, ask, advance_with, advance, ask_at_once, replied, replied_late, answered_again, request_by, on_request, on_reply}
 use Rattle.transport_defs.specs.declared.Letter.{Letter}
-use Rattle.run_defs.specs.Runs.{plain_way}
+use Rattle.law_teids.specs.run_defs.Runs.{plain_way}
 use Rattle.law_run_facts.specs.Facts.{PutFits, PutsFit}
 use Rattle.law_run_facts.proofs.Within.{all_both}
 use Rattle.law_run_facts.specs.UnitFacts.{UnitFacts, as_facts, AnswerFits}

@@ -8,21 +8,21 @@ use Rattle.gnb_types.specs.declared.names.Dir.TheVariants.{Dl}
 use Rattle.gnb_types.specs.declared.keys.TunnelEnd.{TunnelEnd}
 use Rattle.gnb_types.specs.declared.plans.Plan.{Plan}
 use Rattle.scenario_text.specs.declared.event.Event.{Event}
-use Rattle.unit_defs.specs.Messages.{teid_of}
-use Rattle.unit_defs.specs.Static.{up_has_room, up_has_teids, du_has_teids}
+use Rattle.law_answers.specs.unit_defs.Messages.{teid_of}
+use Rattle.law_answers.specs.unit_defs.Static.{up_has_room, up_has_teids, du_has_teids}
 use Rattle.transport_defs.specs.declared.Item.{Item}
 use Rattle.transport_defs.specs.Links.{most_letters, letter, landed}
-use Rattle.run_defs.specs.Units.{Units, up_of, du_of}
-use Rattle.run_defs.specs.States.{State, World, letter_for, octets_from, goes, stops, told_before, ◌next◌, Ending, Within, Outcome, as_step, entity, sn_of, was_attached}
-use Rattle.run_defs.specs.Steps.{check_spans, put_on_tunnel, put_out_all, count_letters, carried_out}
-use Rattle.run_defs.specs.Conditions.{is_held_by_units, units_placed, all_set_up}
-use Rattle.run_defs.specs.Events.{landed_as, offered}
-use Rattle.run_defs.specs.Runs.{happens}
-use Rattle.law_steps.specs.Causes.{Cause, by_order, by_tick, by_octets, by_octets_on, by_attach, by_release, by_offer, by_item, by_air, by_ack, by_letter, node_of, given_of, count_of, first_of}
-use Rattle.law_steps.specs.Made.{Made, stays, ends, then_made, sets_up, starts, acts, holds_item, holds_pdu, offers, core_takes, core_reads, lands, loses_letter, loses_item, remarks}
-use Rattle.law_steps.specs.Reached.{reached_by, reached}
-use Rattle.law_steps.proofs.Frames.{HasUnits, units_by, act_units, Relates, made_relates, reached_relates}
-use Rattle.law_steps.proofs.Runs.{made_of_steps}
+use Rattle.law_teids.specs.run_defs.Units.{Units, up_of, du_of}
+use Rattle.law_teids.specs.run_defs.States.{State, World, letter_for, octets_from, goes, stops, told_before, ◌next◌, Ending, Within, Outcome, as_step, entity, sn_of, was_attached}
+use Rattle.law_teids.specs.run_defs.Steps.{check_spans, put_on_tunnel, put_out_all, count_letters, carried_out}
+use Rattle.law_teids.specs.run_defs.Conditions.{is_held_by_units, units_placed, all_set_up}
+use Rattle.law_teids.specs.run_defs.Events.{landed_as, offered}
+use Rattle.law_teids.specs.run_defs.Runs.{happens}
+use Rattle.law_teids.specs.law_steps.Causes.{Cause, by_order, by_tick, by_octets, by_octets_on, by_attach, by_release, by_offer, by_item, by_air, by_ack, by_letter, node_of, given_of, count_of, first_of}
+use Rattle.law_teids.specs.law_steps.Made.{Made, stays, ends, then_made, sets_up, starts, acts, holds_item, holds_pdu, offers, core_takes, core_reads, lands, loses_letter, loses_item, remarks}
+use Rattle.law_teids.specs.law_steps.Reached.{reached_by, reached}
+use Rattle.law_teids.proofs.law_steps.Frames.{HasUnits, units_by, act_units, Relates, made_relates, reached_relates}
+use Rattle.law_teids.proofs.law_steps.Runs.{made_of_steps}
 use Rattle.law_run_facts.specs.Facts.{Facts, HoldWith, Hold}
 use Rattle.law_run_facts.specs.Later.{MayPlace, AreKeptTo}
 use Rattle.law_run_facts.proofs.Within.{HoldsWith, then_holds, keep_checked, with_tunnels, keep_put_on_tunnel, keep_put_all, same_links}
@@ -98,9 +98,9 @@ module _ {M C L P : Type 0} (world : World M C L P) (facts : Facts M C L P) (lat
   made_later event s e (acts t cause outputs units at is fine few) h l =
       step_later (Some (node_of cause)) (units_by world cause units)
       (carried_out world (node_of cause) (count_of cause) (first_of world cause) outputs units t) (act_units world cause outputs units t)
-      (λ k. act_holds world facts kept.comes event cause outputs units t h at
-      (kept.answers (sn_of t) t.units units (node_of cause) (count_of cause) (given_of cause) outputs h.units (taken_has world facts event cause t h at) is
-      (before_terminal cause units k)) few) l
+      (λ k. let answered = kept.answers (sn_of t) t.units units (node_of cause) (count_of cause) (given_of cause) outputs h.units (taken_has world facts event cause t h at) is
+      (before_terminal cause units k) in
+      act_holds world facts event cause outputs units t (λ plan by. kept.comes units plan answered.0) h at answered few) l
   made_later event s e (holds_item t end reason) h l = h
   made_later event s e (holds_pdu t key home reason) h l = h
   made_later event s e (offers t ue bearer p path is found) h l =

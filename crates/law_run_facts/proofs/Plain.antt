@@ -8,21 +8,21 @@ use Rattle.gnb_types.specs.declared.keys.EntityKey.{EntityKey}
 use Rattle.message_types.specs.declared.rrc.Token.{Token}
 use Rattle.scenario_text.specs.declared.event.Event.{Event}
 use Rattle.tables.specs.Tables.{find, at}
-use Rattle.unit_defs.specs.Ways.{Message, Pdu, Load, Put, control, packet, radio, deliver, dropped, held, opened, closed, failed, no, Input, gives, spent}
-use Rattle.unit_defs.specs.Ue.{UeNode, new_ue, ue_acts}
-use Rattle.unit_defs.specs.UpRecords.{CuUp}
-use Rattle.unit_defs.specs.CuUp.{cu_up_acts}
-use Rattle.unit_defs.specs.Du.{Du, du_acts}
-use Rattle.unit_defs.specs.CpRecords.{CuCpRecord}
-use Rattle.unit_defs.specs.CuCp.{cu_cp_acts}
-use Rattle.unit_defs.specs.Core.{CoreRecord, core_acts}
+use Rattle.law_answers.specs.unit_defs.Ways.{Message, Pdu, Load, Put, control, packet, radio, deliver, dropped, held, opened, closed, failed, no, Input, gives, spent}
+use Rattle.law_answers.specs.unit_defs.Ue.{UeNode, new_ue, ue_acts}
+use Rattle.law_answers.specs.unit_defs.UpRecords.{CuUp}
+use Rattle.law_answers.specs.unit_defs.CuUp.{cu_up_acts}
+use Rattle.law_answers.specs.unit_defs.Du.{Du, du_acts}
+use Rattle.law_answers.specs.unit_defs.CpRecords.{CuCpRecord}
+use Rattle.law_answers.specs.unit_defs.CuCp.{cu_cp_acts}
+use Rattle.law_answers.specs.unit_defs.Core.{CoreRecord, core_acts}
 use Rattle.transport_defs.specs.declared.Item.{Item}
-use Rattle.run_defs.specs.Units.{Units, cp_of, with_cp, up_of, with_up, du_of, with_du, ue_of, with_ue}
-use Rattle.run_defs.specs.Written.{Written, written_put, PlainStepped, WrittenStepped, WrittenCoreStepped, written_step}
-use Rattle.run_defs.specs.States.{State, new_state, Lengths, letter_for, item_for, carried_for, confirmed_for, offer_for, tick_for, order_for, octets_from, octets_on, stepped, step_spent, core_stepped}
-use Rattle.run_defs.specs.Steps.{count_letters}
-use Rattle.run_defs.specs.Runs.{Reading, PlainGiven, Plain, plain_way, input_of, stepped_with, ue_stepped, acts_on, plain_by, core_done, plain_core, plain_world}
-use Rattle.law_steps.specs.Reached.{reached}
+use Rattle.law_teids.specs.run_defs.Units.{Units, cp_of, with_cp, up_of, with_up, du_of, with_du, ue_of, with_ue}
+use Rattle.law_teids.specs.run_defs.Written.{Written, written_put, PlainStepped, WrittenStepped, WrittenCoreStepped, written_step}
+use Rattle.law_teids.specs.run_defs.States.{State, new_state, Lengths, letter_for, item_for, carried_for, confirmed_for, offer_for, tick_for, order_for, octets_from, octets_on, stepped, step_spent, core_stepped}
+use Rattle.law_teids.specs.run_defs.Steps.{count_letters}
+use Rattle.law_teids.specs.run_defs.Runs.{Reading, PlainGiven, Plain, plain_way, input_of, stepped_with, ue_stepped, acts_on, plain_by, core_done, plain_core, plain_world}
+use Rattle.law_teids.specs.law_steps.Reached.{reached}
 use Rattle.law_run_facts.specs.Facts.{Hold, PutFits, PutsFit, GivenFits, AreKept}
 use Rattle.law_run_facts.specs.UnitFacts.{UnitFacts, OfUnits, as_facts, written_facts, InputFits, AnswerFits, UnitsKeep}
 use Rattle.law_run_facts.proofs.Runs.{facts_hold}

@@ -8,23 +8,23 @@ use Rattle.gnb_types.specs.declared.names.Dir.TheVariants.{Dl}
 use Rattle.gnb_types.specs.declared.plans.Plan.{Plan}
 use Rattle.tables.specs.Tables.{at}
 use Rattle.scenario_text.specs.declared.event.Event.{Event}
-use Rattle.unit_defs.specs.Ways.{Put}
-use Rattle.unit_defs.specs.Messages.{teid_of}
-use Rattle.unit_defs.specs.Core.{CoreRecord}
-use Rattle.unit_defs.specs.Static.{up_has_room, up_has_teids, du_has_teids}
+use Rattle.law_answers.specs.unit_defs.Ways.{Put}
+use Rattle.law_answers.specs.unit_defs.Messages.{teid_of}
+use Rattle.law_answers.specs.unit_defs.Core.{CoreRecord}
+use Rattle.law_answers.specs.unit_defs.Static.{up_has_room, up_has_teids, du_has_teids}
 use Rattle.transport_defs.specs.declared.Item.{Item}
 use Rattle.transport_defs.specs.Links.{most_letters, letter, landed}
-use Rattle.run_defs.specs.Units.{up_of, du_of}
-use Rattle.run_defs.specs.States.{State, World, letter_for, octets_from, goes, stops, told_before, ◌next◌, Within, Outcome, as_step, entity, sn_of, was_attached}
+use Rattle.law_teids.specs.run_defs.Units.{up_of, du_of}
+use Rattle.law_teids.specs.run_defs.States.{State, World, letter_for, octets_from, goes, stops, told_before, ◌next◌, Within, Outcome, as_step, entity, sn_of, was_attached}
 use Rattle.gnb_types.specs.declared.keys.TunnelEnd.{TunnelEnd}
-use Rattle.run_defs.specs.Steps.{check_spans, put_on_tunnel, put_out_all, count_letters, with_tunnel}
-use Rattle.run_defs.specs.Conditions.{is_held_by_units, tunnels_from, n3_from, statically}
-use Rattle.run_defs.specs.Events.{landed_as, offered}
-use Rattle.run_defs.specs.Runs.{happens}
-use Rattle.law_steps.specs.Causes.{node_of}
-use Rattle.law_steps.specs.Made.{Made, stays, ends, then_made, sets_up, starts, acts, holds_item, holds_pdu, offers, core_takes, core_reads, lands, loses_letter, loses_item, remarks}
-use Rattle.law_steps.specs.Reached.{reached_by, reached}
-use Rattle.law_steps.proofs.Runs.{made_of_steps}
+use Rattle.law_teids.specs.run_defs.Steps.{check_spans, put_on_tunnel, put_out_all, count_letters, with_tunnel}
+use Rattle.law_teids.specs.run_defs.Conditions.{is_held_by_units, tunnels_from, n3_from, statically}
+use Rattle.law_teids.specs.run_defs.Events.{landed_as, offered}
+use Rattle.law_teids.specs.run_defs.Runs.{happens}
+use Rattle.law_teids.specs.law_steps.Causes.{node_of}
+use Rattle.law_teids.specs.law_steps.Made.{Made, stays, ends, then_made, sets_up, starts, acts, holds_item, holds_pdu, offers, core_takes, core_reads, lands, loses_letter, loses_item, remarks}
+use Rattle.law_teids.specs.law_steps.Reached.{reached_by, reached}
+use Rattle.law_teids.proofs.law_steps.Runs.{made_of_steps}
 use Rattle.law_run_facts.specs.Facts.{Facts, HoldWith, Hold, PutsFit, AreKept}
 use Rattle.law_run_facts.proofs.Within.{HoldsWith, then_holds, keep_checked, with_tunnels, with_open, keep_put_on_tunnel, keep_put_all, same_links}
 use Rattle.law_run_facts.proofs.Steps.{few_after, found_has, act_keeps}

@@ -10,16 +10,16 @@ use Rattle.gnb_types.specs.declared.names.NodeId.{NodeId}
 use Rattle.gnb_types.specs.declared.names.UeId.{UeId}
 use Rattle.tables.specs.Tables.{find}
 use Rattle.scenario_text.specs.declared.event.Event.{Event}
-use Rattle.unit_defs.specs.Ways.{Put}
+use Rattle.law_answers.specs.unit_defs.Ways.{Put}
 use Rattle.transport_defs.specs.declared.Item.{Item}
 use Rattle.transport_defs.specs.Links.{most_letters, letter, landed, nth}
 use Rattle.gnb_types.specs.declared.plans.Plan.{Plan}
-use Rattle.unit_defs.specs.Ue.{new_ue}
-use Rattle.run_defs.specs.Units.{Units, with_ue}
-use Rattle.run_defs.specs.States.{State, World, ◌next◌, goes_on, stepped, radio_of, sn_of}
-use Rattle.run_defs.specs.Steps.{connect_in, lose_radios, check_spans, reconnect_node, put_out_all, count_letters, too_many_letters, carried_out}
-use Rattle.run_defs.specs.Events.{leaves}
-use Rattle.law_steps.specs.Causes.{Cause, by_order, by_tick, by_octets, by_octets_on, by_attach, by_release, by_offer, by_item, by_air, by_ack, by_letter, node_of, given_of, count_of, first_of, Stands}
+use Rattle.law_answers.specs.unit_defs.Ue.{new_ue}
+use Rattle.law_teids.specs.run_defs.Units.{Units, with_ue}
+use Rattle.law_teids.specs.run_defs.States.{State, World, ◌next◌, goes_on, stepped, radio_of, sn_of}
+use Rattle.law_teids.specs.run_defs.Steps.{connect_in, lose_radios, check_spans, reconnect_node, put_out_all, count_letters, too_many_letters, carried_out}
+use Rattle.law_teids.specs.run_defs.Events.{leaves}
+use Rattle.law_teids.specs.law_steps.Causes.{Cause, by_order, by_tick, by_octets, by_octets_on, by_attach, by_release, by_offer, by_item, by_air, by_ack, by_letter, node_of, given_of, count_of, first_of, Stands}
 use Rattle.law_run_facts.specs.Facts.{Facts, HoldWith, Hold, PutsFit, GivenFits, AreKept}
 use Rattle.law_run_facts.proofs.Within.{HoldsWith, then_holds, keep_checked, with_tunnels, with_radios, keep_lose, same_links, keep_reconnect_node, keep_put_all}
 
@@ -94,26 +94,27 @@ module _ {M C L P : Type 0} (world : World M C L P) (facts : Facts M C L P) wher
       then_holds world facts n n (lose_radios world ue s) (λ t. goes_on (record (connect_in world ue None t) { gone = t.gone ++ ue ∷ [] }))
       (keep_lose world facts ue n s h) (λ t k. same_links world facts n t (record (connect_in world ue None t) { gone = t.gone ++ ue ∷ [] }) k refl refl refl refl refl)
 
-  abbrev pub Comes : Type 0
-  Comes = (u : Units M C) (plan : Plan) → facts.units u → facts.units (with_ue u plan.ue (new_ue plan))
+  -- with the terminal that comes
+  abbrev pub Came : Cause M L P → Units M C → Type 0
+  Came cause u = (plan : Plan) → cause ≡ by_attach plan → facts.units (with_ue u plan.ue (new_ue plan))
 
-  first_keeps : Comes → (event : Event) (cause : Cause M L P) (s : State M C L P) (u : Units M C) (n : ℕ) → Hold facts s → Stands event s cause
+  first_keeps : (event : Event) (cause : Cause M L P) (s : State M C L P) (u : Units M C) → Came cause u → (n : ℕ) → Hold facts s → Stands event s cause
       → HoldWith facts n (record s { units = u }) → HoldsWith world facts n (first_of world cause (record s { units = u }))
   unfolding landed
-  first_keeps comes event (by_order node order) s u n h at k = k
-  first_keeps comes event (by_tick node) s u n h at k = k
-  first_keeps comes event (by_octets from to octets) s u n h at k = k
-  first_keeps comes event (by_octets_on end octets) s u n h at k = k
-  first_keeps comes event (by_attach plan) s u n h at k = record {
-    units = comes u plan k.units;
+  first_keeps event (by_order node order) s u came n h at k = k
+  first_keeps event (by_tick node) s u came n h at k = k
+  first_keeps event (by_octets from to octets) s u came n h at k = k
+  first_keeps event (by_octets_on end octets) s u came n h at k = k
+  first_keeps event (by_attach plan) s u came n h at k = record {
+    units = came plan refl;
     core = k.core;
     letters = k.letters;
     tunnels = k.tunnels;
     radios = k.radios;
     few = k.few;
   }
-  first_keeps comes event (by_release gnb ue) s u n h at k = keep_leaves ue n (record s { units = u }) k
-  first_keeps comes event (by_offer ue bearer p) s u n h at k = record {
+  first_keeps event (by_release gnb ue) s u came n h at k = keep_leaves ue n (record s { units = u }) k
+  first_keeps event (by_offer ue bearer p) s u came n h at k = record {
     units = k.units;
     core = k.core;
     letters = k.letters;
@@ -121,14 +122,14 @@ module _ {M C L P : Type 0} (world : World M C L P) (facts : Facts M C L P) wher
     radios = k.radios;
     few = k.few;
   }
-  first_keeps comes event (by_item end item rest) s u n h at k =
+  first_keeps event (by_item end item rest) s u came n h at k =
       with_tunnels world facts n (record s { units = u }) end rest k (h.tunnels end (item ∷ rest) at).1
-  first_keeps comes event (by_air key home item) s u n h at k =
+  first_keeps event (by_air key home item) s u came n h at k =
       with_radios world facts n (record s { units = u }) key (record (radio_of s key) { carried = (radio_of s key).carried + 1 }) k (h.radios key)
-  first_keeps comes event (by_ack key home item rest) s u n h at k =
+  first_keeps event (by_ack key home item rest) s u came n h at k =
       with_radios world facts n (record s { units = u }) key (record { items = rest; carried = (radio_of s key).carried - 1 }) k
       (subst (λ (xs : List (Item P)). AllByRecursion (facts.on_radio key) xs) at.1 (h.radios key)).1
-  first_keeps comes event (by_letter number l to) s u n h at k = record {
+  first_keeps event (by_letter number l to) s u came n h at k = record {
     units = k.units;
     core = k.core;
     letters = k.letters;
@@ -138,10 +139,10 @@ module _ {M C L P : Type 0} (world : World M C L P) (facts : Facts M C L P) wher
   }
 
   -- the step of a unit that answered so
-  pub act_holds : Comes → (event : Event) (cause : Cause M L P) (outputs : List (Put M L P)) (u : Units M C) (s : State M C L P) → Hold facts s
+  pub act_holds : (event : Event) (cause : Cause M L P) (outputs : List (Put M L P)) (u : Units M C) (s : State M C L P) → Came cause u → Hold facts s
       → Stands event s cause → facts.units u × PutsFit facts (node_of cause) (count_of cause) outputs → too_many_letters world outputs s ≡ false
       → HoldsWith world facts 0 (carried_out world (node_of cause) (count_of cause) (first_of world cause) outputs u s)
-  act_holds comes event cause outputs u s h at answered few =
+  act_holds event cause outputs u s came h at answered few =
       let n : ℕ = count_letters world outputs in
       let node : NodeId = node_of cause in
       let t : State M C L P = record s { units = u } in
@@ -149,7 +150,7 @@ module _ {M C L P : Type 0} (world : World M C L P) (facts : Facts M C L P) wher
       with_more n n t (with_units n s u (with_more 0 n s h (λ c. few_after (length s.bag.letters) n few)) answered.0) (λ c. few_after (length s.bag.letters) n few) in
       then_holds world facts 0 0 (first_of world cause t next reconnect_node world node next put_out_all world node (count_of cause) outputs) check_spans
       (then_holds world facts n 0 (first_of world cause t next reconnect_node world node) (put_out_all world node (count_of cause) outputs)
-      (then_holds world facts n n (first_of world cause t) (reconnect_node world node) (first_keeps comes event cause s u n h at room)
+      (then_holds world facts n n (first_of world cause t) (reconnect_node world node) (first_keeps event cause s u came n h at room)
       (λ x k. keep_reconnect_node world facts node n x k))
       (λ x k. keep_put_all world facts node (count_of cause) outputs answered.1 x k))
       (λ x k. keep_checked world facts 0 x k)
@@ -164,5 +165,5 @@ module _ {M C L P : Type 0} (world : World M C L P) (facts : Facts M C L P) (kep
       → too_many_letters world outputs s ≡ false
       → HoldsWith world facts 0 (carried_out world (node_of cause) (count_of cause) (first_of world cause) outputs u s)
   act_keeps event cause outputs u s h at is few =
-      act_holds world facts kept.comes event cause outputs u s h at
-      (kept.answers (sn_of s) s.units u (node_of cause) (count_of cause) (given_of cause) outputs h.units (taken_has world facts event cause s h at) is) few
+      let answered = kept.answers (sn_of s) s.units u (node_of cause) (count_of cause) (given_of cause) outputs h.units (taken_has world facts event cause s h at) is in
+      act_holds world facts event cause outputs u s (λ plan by. kept.comes u plan answered.0) h at answered few

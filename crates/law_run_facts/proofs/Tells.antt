@@ -11,24 +11,24 @@ use Rattle.gnb_types.specs.declared.keys.TunnelEnd.{TunnelEnd}
 use Rattle.gnb_types.specs.Orders.{ue_cmp, tunnel_cmp}
 use Rattle.tables.specs.Tables.{find, at}
 use Rattle.scenario_text.specs.declared.event.Event.{Event}
-use Rattle.unit_defs.specs.Ways.{Put, control, packet, radio, deliver, dropped, held, opened, closed, failed, no}
-use Rattle.unit_defs.specs.Messages.{teid_of}
+use Rattle.law_answers.specs.unit_defs.Ways.{Put, control, packet, radio, deliver, dropped, held, opened, closed, failed, no}
+use Rattle.law_answers.specs.unit_defs.Messages.{teid_of}
 use Rattle.transport_defs.specs.declared.Item.{Item}
 use Rattle.transport_defs.specs.Links.{is_epoch, emptied, letter}
-use Rattle.run_defs.specs.Lines.{RunLine, put_item, lost_items, is_quiet, is_busy, has_settled, has_not_settled, was_refused, tunnel_link, radio_link, shown}
-use Rattle.run_defs.specs.States.{State, World, Stop, goes, stops, told_before, ◌next◌, goes_on, Within, Outcome, as_step, entity, radio_of, with_radio, sn_of, stepped, letter_for, octets_from}
-use Rattle.run_defs.specs.Steps.{first_outstanding, entities_of, checked_by, check_spans, noted, count_beside, item_of, on_tunnel, put_on_tunnel, put_on_connected, put_on_radio, put_control, opens, closes, lost_if, radio_lost, lose_each, lose_radios_of, lose_radios, radios_of, same_epoch, epoch_now, connect_in, reconnect, reconnect_node, put_out, put_out_all, carried_out}
-use Rattle.run_defs.specs.Local.{puts_something}
-use Rattle.run_defs.specs.Events.{landed_as, offered}
-use Rattle.run_defs.specs.Runs.{Happened, happens, run_on, run_from}
-use Rattle.run_defs.specs.Units.{Units}
+use Rattle.law_teids.specs.run_defs.Lines.{RunLine, put_item, lost_items, is_quiet, is_busy, has_settled, has_not_settled, was_refused, tunnel_link, radio_link, shown}
+use Rattle.law_teids.specs.run_defs.States.{State, World, Stop, goes, stops, told_before, ◌next◌, goes_on, Within, Outcome, as_step, entity, radio_of, with_radio, sn_of, stepped, letter_for, octets_from}
+use Rattle.law_teids.specs.run_defs.Steps.{first_outstanding, entities_of, checked_by, check_spans, noted, count_beside, item_of, on_tunnel, put_on_tunnel, put_on_connected, put_on_radio, put_control, opens, closes, lost_if, radio_lost, lose_each, lose_radios_of, lose_radios, radios_of, same_epoch, epoch_now, connect_in, reconnect, reconnect_node, put_out, put_out_all, carried_out}
+use Rattle.law_teids.specs.run_defs.Local.{puts_something}
+use Rattle.law_teids.specs.run_defs.Events.{landed_as, offered}
+use Rattle.law_teids.specs.run_defs.Runs.{Happened, happens, run_on, run_from}
+use Rattle.law_teids.specs.run_defs.Units.{Units}
 use Rattle.std.specs.Ordering.{nat_cmp}
 use Rattle.law_run_facts.proofs.Within.{all_both, HoldsWith, same_links}
 use Rattle.law_run_facts.proofs.Steps.{found_has, taken_fits}
 use Rattle.law_run_facts.proofs.Runs.{made_holds}
-use Rattle.law_steps.specs.Causes.{Cause, by_order, by_tick, by_octets, by_octets_on, by_attach, by_release, by_offer, by_item, by_air, by_ack, by_letter, node_of, given_of, count_of, first_of, Stands}
-use Rattle.law_steps.specs.Made.{IsRemark, Made, stays, ends, then_made, sets_up, starts, acts, holds_item, holds_pdu, offers, core_takes, core_reads, lands, loses_letter, loses_item, remarks}
-use Rattle.law_steps.proofs.Runs.{made_of_steps}
+use Rattle.law_teids.specs.law_steps.Causes.{Cause, by_order, by_tick, by_octets, by_octets_on, by_attach, by_release, by_offer, by_item, by_air, by_ack, by_letter, node_of, given_of, count_of, first_of, Stands}
+use Rattle.law_teids.specs.law_steps.Made.{IsRemark, Made, stays, ends, then_made, sets_up, starts, acts, holds_item, holds_pdu, offers, core_takes, core_reads, lands, loses_letter, loses_item, remarks}
+use Rattle.law_teids.proofs.law_steps.Runs.{made_of_steps}
 use Rattle.law_run_facts.specs.Facts.{Facts, Hold, PutFits, PutsFit, AreKept}
 use Rattle.law_run_facts.specs.TellFacts.{Tells, StepTells}
 

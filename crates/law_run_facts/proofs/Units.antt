@@ -17,15 +17,15 @@ use Rattle.gnb_types.proofs.OrderLemmas.{node_total, node_exact, ue_total, ue_ex
 use Rattle.message_types.specs.declared.rrc.Token.{Token}
 use Rattle.tables.specs.Tables.{find, at}
 use Rattle.tables.proofs.TableLaws.{at-put, find-put}
-use Rattle.unit_defs.specs.Ways.{Message}
-use Rattle.unit_defs.specs.CpRecords.{CuCpRecord, new_cu_cp}
-use Rattle.unit_defs.specs.UpRecords.{CuUp}
-use Rattle.unit_defs.specs.CuUp.{new_cu_up}
-use Rattle.unit_defs.specs.Du.{Du, new_du}
-use Rattle.unit_defs.specs.Static.{up_has_room, up_has_teids, du_has_teids, up_placed, du_placed, cp_placed, up_set_up, du_set_up, cp_set_up}
-use Rattle.unit_defs.specs.Ue.{UeNode, new_ue, placed}
-use Rattle.run_defs.specs.Units.{Units, new_units, cp_of, with_cp, up_of, with_up, du_of, with_du, with_ue}
-use Rattle.run_defs.specs.Conditions.{units_placed, all_set_up}
+use Rattle.law_answers.specs.unit_defs.Ways.{Message}
+use Rattle.law_answers.specs.unit_defs.CpRecords.{CuCpRecord, new_cu_cp}
+use Rattle.law_answers.specs.unit_defs.UpRecords.{CuUp}
+use Rattle.law_answers.specs.unit_defs.CuUp.{new_cu_up}
+use Rattle.law_answers.specs.unit_defs.Du.{Du, new_du}
+use Rattle.law_answers.specs.unit_defs.Static.{up_has_room, up_has_teids, du_has_teids, up_placed, du_placed, cp_placed, up_set_up, du_set_up, cp_set_up}
+use Rattle.law_answers.specs.unit_defs.Ue.{UeNode, new_ue, placed}
+use Rattle.law_teids.specs.run_defs.Units.{Units, new_units, cp_of, with_cp, up_of, with_up, du_of, with_du, with_ue}
+use Rattle.law_teids.specs.run_defs.Conditions.{units_placed, all_set_up}
 use Rattle.law_teids.proofs.Placed.{find_mapped}
 use Rattle.law_run_facts.specs.UnitFacts.{UnitFacts, OfUnits, UnitsKeep}
 

@@ -15,13 +15,13 @@ use Rattle.gnb_types.specs.Orders.{ue_cmp, entity_cmp, tunnel_cmp}
 use Rattle.gnb_types.proofs.OrderLemmas.{entity_total, entity_exact, tunnel_total, tunnel_exact}
 use Rattle.tables.specs.Tables.{find, put, without, at}
 use Rattle.tables.proofs.TableLaws.{find-put, find-without, at-put, at-without}
-use Rattle.unit_defs.specs.Ways.{Put, control, packet, radio, deliver, dropped, held, opened, closed, failed, no}
+use Rattle.law_answers.specs.unit_defs.Ways.{Put, control, packet, radio, deliver, dropped, held, opened, closed, failed, no}
 use Rattle.transport_defs.specs.declared.Item.{Item}
 use Rattle.transport_defs.specs.declared.Letter.{Letter}
 use Rattle.transport_defs.specs.Links.{Bag, Radio, is_epoch, emptied, most_letters, put_letter}
-use Rattle.run_defs.specs.Lines.{RunLine, put_item, lost_items, tunnel_link, radio_link, shown}
-use Rattle.run_defs.specs.States.{State, World, Stop, goes, stops, told_before, ◌next◌, goes_on, Ending, Within, entity, radio_of, with_radio}
-use Rattle.run_defs.specs.Steps.{first_outstanding, entities_of, checked_by, check_spans, noted, count_beside, item_of, letter_of, with_tunnel, on_tunnel, put_on_tunnel, put_on_connected, put_on_radio, put_control, opens, closes, radio_lost, lose_each, lose_radios_of, lose_radios, radios_of, same_epoch, epoch_now, connect_in, reconnect, reconnect_node, delivered, put_out, put_out_all, count_letters}
+use Rattle.law_teids.specs.run_defs.Lines.{RunLine, put_item, lost_items, tunnel_link, radio_link, shown}
+use Rattle.law_teids.specs.run_defs.States.{State, World, Stop, goes, stops, told_before, ◌next◌, goes_on, Ending, Within, entity, radio_of, with_radio}
+use Rattle.law_teids.specs.run_defs.Steps.{first_outstanding, entities_of, checked_by, check_spans, noted, count_beside, item_of, letter_of, with_tunnel, on_tunnel, put_on_tunnel, put_on_connected, put_on_radio, put_control, opens, closes, radio_lost, lose_each, lose_radios_of, lose_radios, radios_of, same_epoch, epoch_now, connect_in, reconnect, reconnect_node, delivered, put_out, put_out_all, count_letters}
 use Rattle.law_run_facts.specs.Facts.{Facts, HoldWith, PutFits, PutsFit}
 
 pub all_and : {X : Type 0} (Q : X → Type 0) (xs : List X) (x : X) → AllByRecursion Q xs → Q x → AllByRecursion Q (xs ++ x ∷ [])

@@ -13,18 +13,18 @@ use Rattle.gnb_types.specs.declared.plans.Plan.{Plan}
 use Rattle.gnb_types.specs.declared.plans.Tunnel.{Tunnel}
 use Rattle.gnb_types.specs.Orders.{ue_cmp, tunnel_cmp}
 use Rattle.tables.specs.Tables.{find, put}
-use Rattle.unit_defs.specs.Ways.{Put, control, packet, radio}
-use Rattle.unit_defs.specs.Messages.{teid_of}
-use Rattle.unit_defs.specs.Core.{CorePath, CoreRecord}
-use Rattle.unit_defs.specs.Static.{up_has_room, up_has_teids, du_has_teids}
-use Rattle.unit_defs.specs.Ue.{new_ue}
+use Rattle.law_answers.specs.unit_defs.Ways.{Put, control, packet, radio}
+use Rattle.law_answers.specs.unit_defs.Messages.{teid_of}
+use Rattle.law_answers.specs.unit_defs.Core.{CorePath, CoreRecord}
+use Rattle.law_answers.specs.unit_defs.Static.{up_has_room, up_has_teids, du_has_teids}
+use Rattle.law_answers.specs.unit_defs.Ue.{new_ue}
 use Rattle.transport_defs.specs.declared.Item.{Item}
 use Rattle.transport_defs.specs.declared.Letter.{Letter}
 use Rattle.transport_defs.specs.Links.{most_letters}
-use Rattle.run_defs.specs.Units.{Units, up_of, du_of, with_ue}
-use Rattle.run_defs.specs.States.{State, Given, letter_for, item_for, carried_for, confirmed_for, octets_from, Lengths, stepped, core_stepped, World, entity, radio_of}
-use Rattle.run_defs.specs.Steps.{count_beside, count_letters}
-use Rattle.run_defs.specs.Conditions.{is_held_by_units, units_placed, all_set_up}
+use Rattle.law_teids.specs.run_defs.Units.{Units, up_of, du_of, with_ue}
+use Rattle.law_teids.specs.run_defs.States.{State, Given, letter_for, item_for, carried_for, confirmed_for, octets_from, Lengths, stepped, core_stepped, World, entity, radio_of}
+use Rattle.law_teids.specs.run_defs.Steps.{count_beside, count_letters}
+use Rattle.law_teids.specs.run_defs.Conditions.{is_held_by_units, units_placed, all_set_up}
 
 pub record Facts (M C L P : Type 0) : Type 1 where
   pub units : Units M C → Type 0

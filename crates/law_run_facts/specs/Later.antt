@@ -9,15 +9,15 @@ use Rattle.gnb_types.specs.declared.names.Dir.TheVariants.{Dl}
 use Rattle.gnb_types.specs.declared.plans.Plan.{Plan}
 use Rattle.gnb_types.specs.Orders.{ue_cmp}
 use Rattle.tables.specs.Tables.{find, put}
-use Rattle.unit_defs.specs.Ways.{Put}
-use Rattle.unit_defs.specs.Messages.{teid_of}
-use Rattle.unit_defs.specs.Core.{CorePath, CoreRecord}
-use Rattle.unit_defs.specs.Static.{up_has_room, up_has_teids, du_has_teids}
-use Rattle.unit_defs.specs.Ue.{new_ue}
-use Rattle.run_defs.specs.Units.{Units, up_of, du_of, with_ue}
-use Rattle.run_defs.specs.States.{Given, octets_from, Lengths, stepped, core_stepped, World, entity}
-use Rattle.run_defs.specs.Steps.{count_letters}
-use Rattle.run_defs.specs.Conditions.{is_held_by_units, units_placed, all_set_up, n3_from}
+use Rattle.law_answers.specs.unit_defs.Ways.{Put}
+use Rattle.law_answers.specs.unit_defs.Messages.{teid_of}
+use Rattle.law_answers.specs.unit_defs.Core.{CorePath, CoreRecord}
+use Rattle.law_answers.specs.unit_defs.Static.{up_has_room, up_has_teids, du_has_teids}
+use Rattle.law_answers.specs.unit_defs.Ue.{new_ue}
+use Rattle.law_teids.specs.run_defs.Units.{Units, up_of, du_of, with_ue}
+use Rattle.law_teids.specs.run_defs.States.{Given, octets_from, Lengths, stepped, core_stepped, World, entity}
+use Rattle.law_teids.specs.run_defs.Steps.{count_letters}
+use Rattle.law_teids.specs.run_defs.Conditions.{is_held_by_units, units_placed, all_set_up, n3_from}
 use Rattle.law_run_facts.specs.Facts.{Facts, PutsFit, GivenFits}
 
 module _ {M C L P : Type 0} (world : World M C L P) (facts : Facts M C L P) (later : Units M C → Type 0) where

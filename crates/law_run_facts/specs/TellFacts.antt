@@ -6,9 +6,9 @@ use Rattle.gnb_types.specs.declared.keys.TunnelEnd.{TunnelEnd}
 use Rattle.transport_defs.specs.declared.Item.{Item}
 use Rattle.scenario_text.specs.declared.line.Link.{Link}
 use Rattle.scenario_text.specs.declared.line.Item.{Item as ShownItem}
-use Rattle.run_defs.specs.Lines.{RunLine, put_item, put_message, tunnel_link, radio_link, shown}
-use Rattle.run_defs.specs.States.{World, RunStep}
-use Rattle.run_defs.specs.Local.{puts_something}
+use Rattle.law_teids.specs.run_defs.Lines.{RunLine, put_item, put_message, tunnel_link, radio_link, shown}
+use Rattle.law_teids.specs.run_defs.States.{World, RunStep}
+use Rattle.law_teids.specs.run_defs.Local.{puts_something}
 use Rattle.law_run_facts.specs.Facts.{Facts}
 
 module _ {M C L P : Type 0} (world : World M C L P) (facts : Facts M C L P) where

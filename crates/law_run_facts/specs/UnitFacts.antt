@@ -14,23 +14,23 @@ use Rattle.gnb_types.specs.declared.plans.Tunnel.{Tunnel}
 use Rattle.gnb_types.specs.Orders.{ue_cmp}
 use Rattle.message_types.specs.declared.rrc.Token.{Token}
 use Rattle.tables.specs.Tables.{find, put}
-use Rattle.unit_defs.specs.Ways.{Message, Pdu, Load, fresh, Input, control_input, packet_input, radio_input, confirm_input, Answer, gives, spent}
-use Rattle.unit_defs.specs.Messages.{teid_of}
-use Rattle.unit_defs.specs.UpRecords.{CuUp}
-use Rattle.unit_defs.specs.CuUp.{new_cu_up, cu_up_acts}
-use Rattle.unit_defs.specs.Du.{Du, new_du, du_acts}
-use Rattle.unit_defs.specs.Ue.{UeNode, new_ue, placed, ue_acts}
-use Rattle.unit_defs.specs.CpRecords.{CuCpRecord, new_cu_cp}
-use Rattle.unit_defs.specs.CuCp.{cu_cp_acts}
-use Rattle.unit_defs.specs.Core.{CorePath, CoreRecord, new_core, core_acts}
-use Rattle.unit_defs.specs.Static.{up_has_room, up_has_teids, du_has_teids, up_placed, du_placed, cp_placed, up_set_up, du_set_up, cp_set_up}
-use Rattle.unit_octet_defs.specs.Writing.{pdu_octets, load_octets, written_load}
+use Rattle.law_answers.specs.unit_defs.Ways.{Message, Pdu, Load, fresh, Input, control_input, packet_input, radio_input, confirm_input, Answer, gives, spent}
+use Rattle.law_answers.specs.unit_defs.Messages.{teid_of}
+use Rattle.law_answers.specs.unit_defs.UpRecords.{CuUp}
+use Rattle.law_answers.specs.unit_defs.CuUp.{new_cu_up, cu_up_acts}
+use Rattle.law_answers.specs.unit_defs.Du.{Du, new_du, du_acts}
+use Rattle.law_answers.specs.unit_defs.Ue.{UeNode, new_ue, placed, ue_acts}
+use Rattle.law_answers.specs.unit_defs.CpRecords.{CuCpRecord, new_cu_cp}
+use Rattle.law_answers.specs.unit_defs.CuCp.{cu_cp_acts}
+use Rattle.law_answers.specs.unit_defs.Core.{CorePath, CoreRecord, new_core, core_acts}
+use Rattle.law_answers.specs.unit_defs.Static.{up_has_room, up_has_teids, du_has_teids, up_placed, du_placed, cp_placed, up_set_up, du_set_up, cp_set_up}
+use Rattle.law_teids.specs.unit_octet_defs.Writing.{pdu_octets, load_octets, written_load}
 use Rattle.transport_defs.specs.declared.Item.{Item}
 use Rattle.transport_defs.specs.declared.Letter.{Letter}
-use Rattle.run_defs.specs.Units.{Units, cp_of, up_of, du_of, ue_of}
-use Rattle.run_defs.specs.States.{entity}
-use Rattle.run_defs.specs.Written.{Written}
-use Rattle.run_defs.specs.Runs.{plain_way, taken_of, content_of}
+use Rattle.law_teids.specs.run_defs.Units.{Units, cp_of, up_of, du_of, ue_of}
+use Rattle.law_teids.specs.run_defs.States.{entity}
+use Rattle.law_teids.specs.run_defs.Written.{Written}
+use Rattle.law_teids.specs.run_defs.Runs.{plain_way, taken_of, content_of}
 use Rattle.law_run_facts.specs.Facts.{Facts, PutsFit}
 
 -- the unit is named by its gNB and its number

@@ -24,13 +24,13 @@ use Rattle.unit_defs.specs.CuUp.{cu_up_acts}
 use Rattle.unit_defs.specs.Du.{du_acts}
 use Rattle.unit_defs.specs.UpRecords.{CuUp}
 use Rattle.unit_defs.specs.Du.{Du}
-use Rattle.run_defs.specs.Units.{Units, cp_of, with_cp, up_of, with_up, du_of, with_du, ue_of, with_ue}
-use Rattle.run_defs.specs.Written.{Written, PlainStepped, WrittenStepped, written_step}
-use Rattle.run_defs.specs.States.{State, new_state, World, Lengths, Given, stepped, step_spent, goes, stops, told_before, ◌next◌, Ending, Outcome, as_step, was_attached, sn_of}
-use Rattle.run_defs.specs.Steps.{put_out_all, check_spans}
-use Rattle.run_defs.specs.Events.{landed_as}
-use Rattle.run_defs.specs.Conditions.{units_placed, all_set_up}
-use Rattle.run_defs.specs.Runs.{Reading, PlainGiven, Plain, plain_way, input_of, stepped_with, ue_stepped, acts_on, plain_by, plain_world, happens}
+use Rattle.law_steps.specs.run_defs.Units.{Units, cp_of, with_cp, up_of, with_up, du_of, with_du, ue_of, with_ue}
+use Rattle.law_steps.specs.run_defs.Written.{Written, PlainStepped, WrittenStepped, written_step}
+use Rattle.law_steps.specs.run_defs.States.{State, new_state, World, Lengths, Given, stepped, step_spent, goes, stops, told_before, ◌next◌, Ending, Outcome, as_step, was_attached, sn_of}
+use Rattle.law_steps.specs.run_defs.Steps.{put_out_all, check_spans}
+use Rattle.law_steps.specs.run_defs.Events.{landed_as}
+use Rattle.law_steps.specs.run_defs.Conditions.{units_placed, all_set_up}
+use Rattle.law_steps.specs.run_defs.Runs.{Reading, PlainGiven, Plain, plain_way, input_of, stepped_with, ue_stepped, acts_on, plain_by, plain_world, happens}
 use Rattle.law_steps.specs.Causes.{Cause, by_order, by_tick, by_octets, by_octets_on, by_attach, by_release, by_offer, by_item, by_air, by_ack, by_letter, node_of, given_of, Stands}
 use Rattle.law_steps.specs.Made.{Made, stays, ends, then_made, sets_up, starts, acts, holds_item, holds_pdu, offers, core_takes, core_reads, lands, loses_letter, loses_item, remarks}
 use Rattle.law_steps.specs.Reached.{reached_by, reached}
@@ -42,7 +42,7 @@ use Rattle.law_run_plans.proofs.Terminals.{terminal_stays}
 use Rattle.law_run_plans.proofs.Frames.{HasPlans, then_plans, keep_checked, keep_put_on_tunnel, keep_put_all, plans_by, act_plans, as_step_plans}
 
 -- a new terminal's plan leaves the others
-stay_put : (ps : Plans) (plan : Plan) → is_some (find ue_cmp ps plan.ue) ≡ false → PlansStay ps (put ue_cmp ps plan.ue plan)
+pub stay_put : (ps : Plans) (plan : Plan) → is_some (find ue_cmp ps plan.ue) ≡ false → PlansStay ps (put ue_cmp ps plan.ue plan)
 stay_put ps plan free ue q e = find-put ue_total ps plan.ue plan ue ∙ by (eq_by_cmp ue_cmp ue plan.ue) refl
   where
     by : (t : Bool) → eq_by_cmp ue_cmp ue plan.ue ≡ t → cond t (Some plan) (find ue_cmp ps ue) ≡ Some q
@@ -71,18 +71,18 @@ cp_ues u B r = refl
 module _ {M C L P : Type 0} (world : World M C L P) where
   -- ---- plans stay
 
-  abbrev StaysFrom : {X : Type 0} → Plans → Ending X (State M C L P) → Type 0
+  abbrev pub StaysFrom : {X : Type 0} → Plans → Ending X (State M C L P) → Type 0
   StaysFrom ps (goes told t) = PlansStay ps t.plans
   StaysFrom ps (stops told why) = Unit {0}
 
-  joined : (p q r : Plans) → PlansStay p q → PlansStay q r → PlansStay p r
+  pub joined : (p q r : Plans) → PlansStay p q → PlansStay q r → PlansStay p r
   joined p q r f g ue plan e = g ue plan (f ue plan e)
 
   by_plans : {X : Type 0} (ps qs : Plans) (e : Ending X (State M C L P)) → PlansStay ps qs → HasPlans world qs e → StaysFrom ps e
   by_plans ps qs (goes told t) f has = subst (λ (x : Plans). PlansStay ps x) (sym has) f
   by_plans ps qs (stops told why) f has = tt
 
-  same : (ps : Plans) → PlansStay ps ps
+  pub same : (ps : Plans) → PlansStay ps ps
   same ps ue plan e = e
 
   then_stays : (ps : Plans) (d : Outcome M C L P) (more : State M C L P → Outcome M C L P) → StaysFrom ps d
@@ -94,7 +94,7 @@ module _ {M C L P : Type 0} (world : World M C L P) where
       by (stops further why) h = tt
   then_stays ps (stops told why) more p q = tt
 
-  cause_stays : (event : Event) (s : State M C L P) (cause : Cause M L P) → Stands event s cause → PlansStay s.plans (plans_by world cause s.plans)
+  pub cause_stays : (event : Event) (s : State M C L P) (cause : Cause M L P) → Stands event s cause → PlansStay s.plans (plans_by world cause s.plans)
   cause_stays event s (by_attach plan) at = stay_put s.plans plan at.1
   cause_stays event s (by_order node order) at = same s.plans
   cause_stays event s (by_tick node) at = same s.plans
@@ -107,7 +107,7 @@ module _ {M C L P : Type 0} (world : World M C L P) where
   cause_stays event s (by_ack key home item rest) at = same s.plans
   cause_stays event s (by_letter number l to) at = same s.plans
 
-  made_stays : (event : Event) (s : State M C L P) (e : Outcome M C L P) → Made world event s e → StaysFrom s.plans e
+  pub made_stays : (event : Event) (s : State M C L P) (e : Outcome M C L P) → Made world event s e → StaysFrom s.plans e
   made_stays event s e (stays t) = same t.plans
   made_stays event s e (ends t why) = tt
   made_stays event s e (then_made t d more p q) = then_stays t.plans d more (made_stays event t d p) (λ x. made_stays event x (more x) (q x))

@@ -2,18 +2,23 @@
 //! of its bearers. Each function does nothing: its contract is the law.
 #![tactic(auto)]
 
-ghost use Rattle.std.specs.Prelude.{◌≡◌, List, Some};
+ghost use Rattle.std.specs.Prelude.{◌≡◌, ℕ, List, Some};
 ghost use Rattle.gnb_types.specs.declared.names.UeId.{UeId};
 ghost use Rattle.gnb_types.specs.declared.names.BearerId.{BearerId};
+ghost use Rattle.gnb_types.specs.declared.plans.Plan.{Plan};
+ghost use Rattle.gnb_types.specs.Orders.{bearer_cmp};
+ghost use Rattle.tables.specs.Tables.{find};
 ghost use Rattle.message_types.specs.declared.rrc.Token.{Token};
 ghost use Rattle.scenario_text.specs.declared.event.Event.{Event};
 ghost use Rattle.unit_defs.specs.Ways.{Message, Load, Pdu};
-ghost use Rattle.unit_defs.specs.Ue.{UeNode};
+ghost use Rattle.unit_defs.specs.Ue.{UeNode, UeBearer, new_ue, placed};
 ghost use Rattle.run_defs.specs.Units.{ue_of};
 ghost use Rattle.run_defs.specs.Written.{Written};
 ghost use Rattle.run_defs.specs.States.{State};
 ghost use Rattle.run_defs.specs.Runs.{plain_world, Reading};
 ghost use Rattle.law_steps.specs.Reached.{reached};
+ghost use Rattle.chain_defs.specs.Parts.{start as down_start};
+ghost use Rattle.uplink_defs.specs.Parts.{start};
 ghost use Rattle.law_terminal_inputs.specs.Inputs.{Parts, carried_out, IsShown};
 ghost use Rattle.law_run_terminals.specs.Over.{Happening, after_all, Led, after_inputs, orders_over};
 
@@ -30,4 +35,12 @@ pub fn terminals_take_inputs()
 pub fn inputs_are_lists_of_orders()
     ensures { (u : UeNode) (bearer : BearerId) (b : Parts) → IsShown u bearer b → (ls : List Led)
         → IsShown (after_inputs u ls) bearer (carried_out b (orders_over u bearer b ls)) }
+{}
+
+/// A terminal that is set up without messages shows, for each bearer that it has, the first part up and the first part down.
+pub fn set_up_terminals_show_first_parts()
+    ensures { (plan : Plan) (bearer : BearerId) (b : UeBearer) (first teid : ℕ)
+        → find bearer_cmp (placed (new_ue plan)).bearers bearer ≡ Some b
+        → IsShown (placed (new_ue plan)) bearer
+        (record { up = start first teid; down = down_start first teid }) }
 {}

@@ -17,9 +17,9 @@ use Rattle.run_defs.specs.Units.{Units, up_of, with_up, du_of, with_du}
 use Rattle.run_defs.specs.Runs.{plain_way}
 use Rattle.law_teids.specs.Given.{GiveOnce}
 use Rattle.law_owner_facts.specs.Owned.{UpOwns, DuOwns}
-use Rattle.law_run_facts.specs.UnitFacts.{UnitFacts}
-use Rattle.law_run_facts.proofs.Alone.{alone}
-use Rattle.law_link_items.proofs.Octets.{map_all}
+use Rattle.law_laid_out.specs.law_run_facts.UnitFacts.{UnitFacts}
+use Rattle.law_laid_out.proofs.law_run_facts.Alone.{alone}
+use Rattle.law_laid_out.proofs.law_link_items.Octets.{map_all}
 use Rattle.law_tunnel_names.specs.Names.{by_book, Property}
 use Rattle.law_tunnel_names.specs.CuCps.{CpNames}
 use Rattle.law_unit_tunnels.specs.Units.{BearerHolds, UpHolds, DownlinkHolds, DuHolds, UpNames, DuNames}

@@ -13,8 +13,8 @@ use Rattle.transport_defs.specs.declared.Item.{Item}
 use Rattle.run_defs.specs.Carried.{Layout, F1uDownlink}
 use Rattle.run_defs.specs.Written.{Written}
 use Rattle.run_defs.specs.Units.{Units}
-use Rattle.law_run_facts.specs.UnitFacts.{HasOctets}
-use Rattle.law_link_items.specs.Items.{count_of_load}
+use Rattle.law_laid_out.specs.law_run_facts.UnitFacts.{HasOctets}
+use Rattle.law_laid_out.specs.law_link_items.Items.{count_of_load}
 use Rattle.law_laid_out.proofs.Laid.{laid_between}
 use Rattle.law_run_tunnels.specs.Own.{IsOfKind, IsOwnAt, layout_of, IsLaidBy, IsLaidAt}
 

@@ -20,7 +20,7 @@ use Rattle.run_defs.specs.Runs.{plain_way}
 use Rattle.law_teids.specs.Given.{below}
 use Rattle.law_tunnel_names.specs.Names.{Book, by_book, Names, Property, PutOn}
 use Rattle.law_tunnel_book.specs.Book.{is_kind, is_up_owner, is_du_owner, all_such, may_be, book_of}
-use Rattle.law_link_items.specs.Items.{GoesToDu, MayPut}
+use Rattle.law_laid_out.specs.law_link_items.Items.{GoesToDu, MayPut}
 use Rattle.law_run_tunnels.specs.Own.{IsOfKind, IsOwnAt}
 
 -- in `Run` a message stands for itself

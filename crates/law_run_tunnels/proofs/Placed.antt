@@ -16,7 +16,7 @@ use Rattle.gnb_types.proofs.OrderLemmas.{node_total, ue_total, ue_exact}
 use Rattle.message_types.specs.declared.rrc.Token.{Token}
 use Rattle.tables.specs.Tables.{find, put, at}
 use Rattle.tables.proofs.TableLaws.{find-put, find-put-same}
-use Rattle.unit_defs.specs.Ways.{Message}
+use Rattle.unit_defs.specs.Ways.{Message, Pdu}
 use Rattle.unit_defs.specs.UpRecords.{n3, f1u_uplink, CuUp, UpContext}
 use Rattle.unit_defs.specs.UpBearers.{made}
 use Rattle.unit_defs.specs.CuUp.{new_cu_up, bearers_from, bearers_made as up_bearers}
@@ -27,12 +27,13 @@ use Rattle.unit_defs.specs.Static.{up_has_teids, du_has_teids, with_downlinks, u
 use Rattle.unit_defs.specs.Ue.{new_ue, placed}
 use Rattle.run_defs.specs.Units.{cp_of, with_cp, up_of, with_up, du_of, with_du, with_ue}
 use Rattle.run_defs.specs.Conditions.{units_placed, all_set_up, n3_from, is_held_by_units}
+use Rattle.run_defs.specs.Runs.{plain_way}
 use Rattle.law_teids.proofs.Placed.{find_mapped}
 use Rattle.law_owner_facts.specs.Owned.{UpOwns, DuOwns, AreOwned}
-use Rattle.law_tunnel_owners.proofs.Placed.{placed_owned}
-use Rattle.law_run_facts.specs.UnitFacts.{OfUnits}
-use Rattle.law_run_facts.proofs.Units.{units_set_up}
-use Rattle.law_tunnel_names.specs.Names.{Owners, UpList}
+use Rattle.law_tunnel_book.proofs.law_tunnel_owners.Placed.{placed_owned}
+use Rattle.law_laid_out.specs.law_run_facts.UnitFacts.{OfUnits}
+use Rattle.law_laid_out.proofs.law_run_facts.Units.{units_set_up}
+use Rattle.law_tunnel_names.specs.Names.{Owners, UpList, Property}
 use Rattle.law_tunnel_names.specs.CuCps.{TerminalNames, CpNames, PathNames, CoreNames}
 use Rattle.law_unit_tunnels.specs.Units.{Each, UplinkNames, DownlinkHolds, DuHolds, BearerNames, BearerHolds, UpHolds, UpNames, DuNames}
 use Rattle.law_unit_packets.proofs.Keyed.{keyed_put}
@@ -126,6 +127,62 @@ module _ (u : Records) (plan : Plan) where
       (ap (λ (es : List (NodeId × Du (Message Token) Token)). find node_cmp es id) (dus_stay with_units plan.gnb (cp_placed (cp_of u plan.gnb) plan))
       ∙ find-put-same node_total u.dus id new_node))
 
+  abbrev pub at_up : UpContext
+  at_up = up_context its_up plan its_du.next_teid
+
+  abbrev pub at_du : DuContext
+  at_du = du_context its_du plan (its_up.next_teid + 1)
+
+  abbrev its_path : CorePath
+  its_path = record { up = up_id plan.gnb plan.up; n3 = n3_from 1 its_up.next_teid plan.bearers }
+
+  -- where a book has the new contexts' own tunnels, and how long the terminal's numbers are
+  module _ (is : Property {M = Message Token} {C = Token} {P = Pdu} plain_way) (known : is.owners.length plan.ue plan.sn)
+      (ups : Each (BearerHolds is.owners plan.gnb plan.up plan.ue) at_up.bearers) (dus : Each (DownlinkHolds is.owners plan.gnb plan.du plan.ue) at_du.bearers) where
+    pub up_named : UpNames is plan.gnb plan.up its_up → UpNames is plan.gnb plan.up new_up
+    unfolding up_placed
+    up_named old = record {
+      own = old.own;
+      contexts =
+          keyed_put ue_cmp ue_exact (λ (ue : UeId) (c : UpContext). Each (BearerNames is.owners ue) c.bearers) its_up.contexts plan.ue at_up old.contexts
+          (subst (λ (g : Gnb). Each (BearerNames is.owners plan.ue)
+          (with_downlinks g plan.du its_du.next_teid (up_bearers false its_up.next_teid (bearers_from 1 plan.bearers)))) (sym old.own)
+          (downlinks_of is.owners plan.ue plan.gnb plan.du (up_id its_du.gnb plan.up) its_du.next_teid its_up.next_teid (its_up.next_teid + 1) 1 plan.bearers dus));
+      lengths = keyed_put ue_cmp ue_exact (λ (ue : UeId) (c : UpContext). is.owners.length ue c.sn) its_up.contexts plan.ue at_up old.lengths known;
+      kept = old.kept;
+    }
+
+    pub du_named : DuNames is plan.gnb plan.du its_du → DuNames is plan.gnb plan.du new_node
+    unfolding du_placed
+    du_named old = record {
+      own = old.own;
+      uplinks =
+          keyed_put ue_cmp ue_exact (λ (ue : UeId) (c : DuContext). Each (UplinkNames is.owners ue) c.bearers) its_du.contexts plan.ue at_du old.uplinks
+          (subst (λ (g : Gnb). Each (UplinkNames is.owners plan.ue)
+          (du_bearers (up_id g plan.up) its_du.next_teid (uplinks_from (its_up.next_teid + 1) (bearers_from 1 plan.bearers)))) (sym old.own)
+          (uplinks_of is.owners plan.ue plan.gnb plan.up its_up.gnb plan.du its_du.next_teid its_up.next_teid (its_up.next_teid + 1) its_du.next_teid 1 plan.bearers refl ups));
+      lengths = keyed_put ue_cmp ue_exact (λ (ue : UeId) (c : DuContext). is.owners.length ue c.sn) its_du.contexts plan.ue at_du old.lengths known;
+      kept = old.kept;
+    }
+
+    pub cp_named : CpNames is plan.gnb (cp_of u plan.gnb) → CpNames is plan.gnb (cp_placed (cp_of u plan.gnb) plan)
+    unfolding cp_placed
+    cp_named old = record {
+      own = old.own;
+      terminals =
+          found_put (λ (ue : UeId) (t : CpTerminal). TerminalNames is plan.gnb ue t.context) (cp_of u plan.gnb).terminals plan.ue
+          (record { context = Some (cp_context plan); taken = None }) old.terminals known;
+      kept = old.kept;
+    }
+
+    pub core_named : (r : CoreRecord (Message Token) Token) → CoreNames is r → CoreNames is (record r { paths = put ue_cmp r.paths plan.ue its_path })
+    core_named r q = record {
+      paths =
+          found_put (λ (ue : UeId) (path : CorePath). PathNames is ue path) r.paths plan.ue its_path q.paths
+          (paths_of is.owners plan.ue plan.gnb plan.up its_up.gnb plan.du its_du.next_teid its_up.next_teid 1 plan.bearers ups);
+      kept = q.kept;
+    }
+
   module _ (w : Records) (free : is_held_by_units plan u ≡ false)
       (teids : up_has_teids (up_of u plan.gnb plan.up) plan && du_has_teids (du_of u plan.gnb plan.du) plan ≡ true)
       (l : Later w units_then) (p : OfUnits (Parts w) u) where
@@ -135,78 +192,26 @@ module _ (u : Records) (plan : Plan) where
     owned : AreOwned units_then
     owned = placed_owned u plan free teids (λ g n. (p.0 g n).1, λ g n. (p.1 g n).1)
 
-    abbrev at_up : UpContext
-    at_up = up_context its_up plan its_du.next_teid
-
-    abbrev at_du : DuContext
-    at_du = du_context its_du plan (its_up.next_teid + 1)
-
     -- the new contexts' own tunnels are in the book
-    ups : Each (BearerHolds Its plan.gnb plan.up plan.ue) at_up.bearers
+    ups_are : Each (BearerHolds Its plan.gnb plan.up plan.ue) at_up.bearers
     unfolding up_placed
-    ups =
+    ups_are =
         (subst (λ (r : CuUp (Message Token) Token). UpHolds Its plan.gnb plan.up r) up_then
         (ups_held w units_then plan.gnb plan.up (owned.0 plan.gnb plan.up) l)) plan.ue at_up (find-put-same ue_total its_up.contexts plan.ue at_up)
 
-    dus : Each (DownlinkHolds Its plan.gnb plan.du plan.ue) at_du.bearers
+    dus_are : Each (DownlinkHolds Its plan.gnb plan.du plan.ue) at_du.bearers
     unfolding du_placed
-    dus =
+    dus_are =
         (subst (λ (r : Du (Message Token) Token). DuHolds Its plan.gnb plan.du r) du_then
         (dus_held w units_then plan.gnb plan.du (owned.1 plan.gnb plan.du) l)) plan.ue at_du (find-put-same ue_total its_du.contexts plan.ue at_du)
-
-    up_named : UpNames (Is w) plan.gnb plan.up new_up
-    unfolding up_placed
-    up_named =
-        let old = (p.0 plan.gnb plan.up).0 in record {
-          own = old.own;
-          contexts =
-              keyed_put ue_cmp ue_exact (λ (ue : UeId) (c : UpContext). Each (BearerNames Its ue) c.bearers) its_up.contexts plan.ue at_up old.contexts
-              (subst (λ (g : Gnb). Each (BearerNames Its plan.ue)
-              (with_downlinks g plan.du its_du.next_teid (up_bearers false its_up.next_teid (bearers_from 1 plan.bearers)))) (sym old.own)
-              (downlinks_of Its plan.ue plan.gnb plan.du (up_id its_du.gnb plan.up) its_du.next_teid its_up.next_teid (its_up.next_teid + 1) 1 plan.bearers dus));
-          lengths = keyed_put ue_cmp ue_exact (λ (ue : UeId) (c : UpContext). Its.length ue c.sn) its_up.contexts plan.ue at_up old.lengths refl;
-          kept = old.kept;
-        }
-
-    du_named : DuNames (Is w) plan.gnb plan.du new_node
-    unfolding du_placed
-    du_named =
-        let old = (p.1 plan.gnb plan.du).0 in record {
-          own = old.own;
-          uplinks =
-              keyed_put ue_cmp ue_exact (λ (ue : UeId) (c : DuContext). Each (UplinkNames Its ue) c.bearers) its_du.contexts plan.ue at_du old.uplinks
-              (subst (λ (g : Gnb). Each (UplinkNames Its plan.ue)
-              (du_bearers (up_id g plan.up) its_du.next_teid (uplinks_from (its_up.next_teid + 1) (bearers_from 1 plan.bearers)))) (sym old.own)
-              (uplinks_of Its plan.ue plan.gnb plan.up its_up.gnb plan.du its_du.next_teid its_up.next_teid (its_up.next_teid + 1) its_du.next_teid 1 plan.bearers refl ups));
-          lengths = keyed_put ue_cmp ue_exact (λ (ue : UeId) (c : DuContext). Its.length ue c.sn) its_du.contexts plan.ue at_du old.lengths refl;
-          kept = old.kept;
-        }
-
-    cp_named : CpNames (Is w) plan.gnb (cp_placed (cp_of u plan.gnb) plan)
-    unfolding cp_placed
-    cp_named =
-        let old = p.2 plan.gnb in record {
-          own = old.own;
-          terminals =
-              found_put (λ (ue : UeId) (t : CpTerminal). TerminalNames (Is w) plan.gnb ue t.context) (cp_of u plan.gnb).terminals plan.ue
-              (record { context = Some (cp_context plan); taken = None }) old.terminals refl;
-          kept = old.kept;
-        }
 
     pub placed_named : OfUnits (Parts w) units_then
     placed_named =
         units_set_up (Parts w) (λ g n r h. (record { own = h.0.own; contexts = h.0.contexts; lengths = h.0.lengths; kept = h.0.kept }, h.1))
         (λ g n r h. (record { own = h.0.own; uplinks = h.0.uplinks; lengths = h.0.lengths; kept = h.0.kept }, h.1)) (λ g r h. record { own = h.own; terminals = h.terminals; kept = h.kept })
-        u plan p tt (up_named, subst (λ (r : CuUp (Message Token) Token). UpOwns r) up_then (owned.0 plan.gnb plan.up))
-        (du_named, subst (λ (r : Du (Message Token) Token). DuOwns r) du_then (owned.1 plan.gnb plan.du)) cp_named
-
-    abbrev its_path : CorePath
-    its_path = record { up = up_id plan.gnb plan.up; n3 = n3_from 1 its_up.next_teid plan.bearers }
+        u plan p tt (up_named (Is w) refl ups_are dus_are (p.0 plan.gnb plan.up).0, subst (λ (r : CuUp (Message Token) Token). UpOwns r) up_then (owned.0 plan.gnb plan.up))
+        (du_named (Is w) refl ups_are dus_are (p.1 plan.gnb plan.du).0, subst (λ (r : Du (Message Token) Token). DuOwns r) du_then (owned.1 plan.gnb plan.du))
+        (cp_named (Is w) refl ups_are dus_are (p.2 plan.gnb))
 
     pub path_named : (r : CoreRecord (Message Token) Token) → CoreNames (Is w) r → CoreNames (Is w) (record r { paths = put ue_cmp r.paths plan.ue its_path })
-    path_named r q = record {
-      paths =
-          found_put (λ (ue : UeId) (path : CorePath). PathNames (Is w) ue path) r.paths plan.ue its_path q.paths
-          (paths_of Its plan.ue plan.gnb plan.up its_up.gnb plan.du its_du.next_teid its_up.next_teid 1 plan.bearers ups);
-      kept = q.kept;
-    }
+    path_named r q = core_named (Is w) refl ups_are dus_are r q

@@ -33,19 +33,19 @@ use Rattle.law_steps.specs.Reached.{reached}
 use Rattle.law_teids.proofs.Runs.{give_same, give_then, placed_gives, answer_gives}
 use Rattle.law_owner_facts.specs.Owned.{UpOwns, DuOwns}
 use Rattle.law_answers.specs.After.{HoldsAfter}
-use Rattle.law_tunnel_owners.proofs.CuUps.{cu_up_owns}
-use Rattle.law_tunnel_owners.proofs.Dus.{du_owns}
-use Rattle.law_tunnel_owners.proofs.Placed.{nothing_up, nothing_du}
-use Rattle.law_run_facts.specs.Facts.{Facts, Hold, PutFits, PutsFit, GivenFits}
-use Rattle.law_run_facts.specs.UnitFacts.{OfUnits, written_facts}
-use Rattle.law_run_facts.specs.Later.{AreKeptTo}
-use Rattle.law_run_facts.proofs.Units.{with_up_holds, with_du_holds, with_cp_holds, with_ue_holds, first_hold}
-use Rattle.law_run_facts.proofs.Plain.{plain_kept, first_holds}
-use Rattle.law_run_facts.proofs.Later.{facts_hold_to}
-use Rattle.law_run_facts.proofs.Both.{both, both_kept}
-use Rattle.law_link_items.proofs.Octets.{map_all}
-use Rattle.law_link_items.proofs.Names.{link_items}
-use Rattle.law_link_items.proofs.Links.{items_keep}
+use Rattle.law_tunnel_book.proofs.law_tunnel_owners.CuUps.{cu_up_owns}
+use Rattle.law_tunnel_book.proofs.law_tunnel_owners.Dus.{du_owns}
+use Rattle.law_tunnel_book.proofs.law_tunnel_owners.Placed.{nothing_up, nothing_du}
+use Rattle.law_laid_out.specs.law_run_facts.Facts.{Facts, Hold, PutFits, PutsFit, GivenFits}
+use Rattle.law_laid_out.specs.law_run_facts.UnitFacts.{OfUnits, written_facts}
+use Rattle.law_laid_out.specs.law_run_facts.Later.{AreKeptTo}
+use Rattle.law_laid_out.proofs.law_run_facts.Units.{with_up_holds, with_du_holds, with_cp_holds, with_ue_holds, first_hold}
+use Rattle.law_laid_out.proofs.law_run_facts.Plain.{plain_kept, first_holds}
+use Rattle.law_laid_out.proofs.law_run_facts.Later.{facts_hold_to}
+use Rattle.law_laid_out.proofs.law_run_facts.Both.{both, both_kept}
+use Rattle.law_laid_out.proofs.law_link_items.Octets.{map_all}
+use Rattle.law_laid_out.proofs.law_link_items.Names.{link_items}
+use Rattle.law_laid_out.proofs.law_link_items.Links.{items_keep}
 use Rattle.law_tunnel_names.specs.Names.{by_book, Names, Property, OwnUpList, PutOn, InputNames, OutputNames, OutputsName, AnswerNames}
 use Rattle.law_tunnel_names.specs.CuCps.{CpNames, CoreNames}
 use Rattle.law_tunnel_names.proofs.CuCps.{cu_cp_names}

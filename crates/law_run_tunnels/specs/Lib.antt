@@ -1,2 +1,3 @@
 pub mod Own
 pub mod Example
+pub use Rattle.law_tunnel_book.specs as law_tunnel_book

@@ -20,7 +20,7 @@ use Rattle.run_defs.specs.Units.{Units, up_of, du_of}
 use Rattle.run_defs.specs.Carried.{Layout, NoLayout, N3, ForwardingDown, ForwardingUp, F1uDownlink, F1uUplink, IsDeliveryStatus}
 use Rattle.run_defs.specs.Written.{Written}
 use Rattle.run_defs.specs.States.{State}
-use Rattle.law_link_items.specs.Items.{GoesToDu, IsOfN3, IsForwardedDown, IsForwardedUp, IsStatus, IsOfUplink}
+use Rattle.law_laid_out.specs.law_link_items.Items.{GoesToDu, IsOfN3, IsForwardedDown, IsForwardedUp, IsStatus, IsOfUplink}
 
 -- the direction and the load of a tunnel's kind; delivery statuses go down on an uplink of F1-U
 abbrev pub IsOfKind : TunnelKind → Dir → Load Pdu → Type 0

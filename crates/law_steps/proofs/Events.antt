@@ -17,16 +17,16 @@ use Rattle.gnb_types.specs.declared.reasons.RefuseReason.TheVariants.{Attached, 
 use Rattle.gnb_types.specs.declared.reasons.RefuseReason.TheVariants as reasons
 use Rattle.gnb_types.specs.Orders.{ue_cmp, tunnel_cmp}
 use Rattle.tables.specs.Tables.{find}
-use Rattle.scenario_text.specs.declared.event.Event.{Event}
-use Rattle.scenario_text.specs.declared.event.Event.TheVariants as events
-use Rattle.unit_defs.specs.Ways.{teids_spent}
-use Rattle.unit_defs.specs.Core.{CorePath}
-use Rattle.unit_defs.specs.Ue.{is_connected, is_accessing, may_return}
-use Rattle.unit_defs.specs.Accessors.{ue_home}
-use Rattle.unit_defs.specs.Static.{up_has_room, up_has_teids, du_has_teids}
-use Rattle.transport_defs.specs.declared.Item.{Item}
-use Rattle.transport_defs.specs.declared.Letter.{Letter}
-use Rattle.transport_defs.specs.Links.{letter, nth, is_in}
+use Rattle.run_defs.specs.scenario_text.declared.event.Event.{Event}
+use Rattle.run_defs.specs.scenario_text.declared.event.Event.TheVariants as events
+use Rattle.run_defs.specs.unit_defs.Ways.{teids_spent}
+use Rattle.run_defs.specs.unit_defs.Core.{CorePath}
+use Rattle.run_defs.specs.unit_defs.Ue.{is_connected, is_accessing, may_return}
+use Rattle.run_defs.specs.unit_defs.Accessors.{ue_home}
+use Rattle.run_defs.specs.unit_defs.Static.{up_has_room, up_has_teids, du_has_teids}
+use Rattle.run_defs.specs.transport_defs.declared.Item.{Item}
+use Rattle.run_defs.specs.transport_defs.declared.Letter.{Letter}
+use Rattle.run_defs.specs.transport_defs.Links.{letter, nth, is_in}
 use Rattle.run_defs.specs.Units.{starting_nodes, up_of, du_of, ue_of, is_source}
 use Rattle.run_defs.specs.Lines.{is_quiet, is_busy}
 use Rattle.run_defs.specs.States.{State, letter_for, offer_for, tick_for, order_for, octets_from, octets_on, prints, sn_of, World, goes_on, Outcome, as_step, entity, CoreStepped, core_stepped, was_attached, is_attached, has_bearer, radio_of, spent_counter}
@@ -61,7 +61,7 @@ module _ {M C L P : Type 0} (world : World M C L P) (event : Event) where
   unfolding start
   goes_start s =
       choose world event s s.started _ _ (λ h. goes_refused world event Busy s)
-      (λ h. starts s _ (goes_each (λ node. step world node (order_for orders.Start)) (λ node. goes_order world event node orders.Start) starting_nodes
+      (λ h. starts s _ (goes_each (λ node. step world node (order_for orders.Start)) (λ node. goes_order world event node orders.Start tt) starting_nodes
       (record s { started = true })))
 
   pub goes_attach : (plan : Plan) → event ≡ events.Attach plan → Keeps world event (attach world plan)
@@ -235,7 +235,7 @@ module _ {M C L P : Type 0} (world : World M C L P) (event : Event) where
   goes_poll_at : (ue : UeId) (bearer : BearerId) (gnb : Gnb) (o : Option (ℕ × ℕ)) → Keeps world event (λ s. poll_at world ue bearer gnb s o)
   goes_poll_at ue bearer gnb None s = goes_refused world event Empty s
   goes_poll_at ue bearer gnb (Some place) s =
-      choose world event s _ _ _ (λ h. goes_order world event (CuUp gnb place.0) (orders.Poll ue bearer) s) (λ h. goes_refused world event Empty s)
+      choose world event s _ _ _ (λ h. goes_order world event (CuUp gnb place.0) (orders.Poll ue bearer) tt s) (λ h. goes_refused world event Empty s)
 
   pub goes_poll : (ue : UeId) (bearer : BearerId) → Keeps world event (poll world ue bearer)
   unfolding poll
@@ -249,14 +249,14 @@ module _ {M C L P : Type 0} (world : World M C L P) (event : Event) where
   unfolding fail
   goes_fail ue s =
       choose world event s (not (is_attached s ue)) _ _ (λ h. goes_refused world event NoUe s)
-      (λ h. choose world event s (is_connected (state_at s ue)) _ _ (λ h. goes_order world event (Ue ue.0) (orders.Fail ue) s)
+      (λ h. choose world event s (is_connected (state_at s ue)) _ _ (λ h. goes_order world event (Ue ue.0) (orders.Fail ue) tt s)
       (λ h. goes_refused world event reasons.NoRadio s))
 
   pub goes_arrive : (ue : UeId) → Keeps world event (arrive world ue)
   unfolding arrive
   goes_arrive ue s =
       choose world event s (not (is_attached s ue)) _ _ (λ h. goes_refused world event NoUe s)
-      (λ h. choose world event s (is_accessing (state_at s ue)) _ _ (λ h. goes_order world event (Ue ue.0) (orders.Arrive ue) s)
+      (λ h. choose world event s (is_accessing (state_at s ue)) _ _ (λ h. goes_order world event (Ue ue.0) (orders.Arrive ue) tt s)
       (λ h. goes_refused world event reasons.NotAccessing s))
 
   pub goes_come_back : (ue : UeId) → Keeps world event (come_back world ue)
@@ -264,14 +264,14 @@ module _ {M C L P : Type 0} (world : World M C L P) (event : Event) where
   goes_come_back ue s =
       choose world event s (not (is_attached s ue)) _ _ (λ h. goes_refused world event NoUe s)
       (λ h. choose world event s (not (is_some (ue_home (ue_of s.units ue)))) _ _ (λ h. goes_refused world event NoHome s)
-      (λ h. choose world event s (may_return (state_at s ue)) _ _ (λ h. goes_order world event (Ue ue.0) (orders.Return ue) s)
+      (λ h. choose world event s (may_return (state_at s ue)) _ _ (λ h. goes_order world event (Ue ue.0) (orders.Return ue) tt s)
       (λ h. goes_refused world event Busy s)))
 
   -- ---- handover, cancel, release
 
   goes_handover_to : (gnb : Gnb) (o : Option Plan) → Keeps world event (λ s. handover_to world s gnb o)
   goes_handover_to gnb None s = goes_refused world event NoUe s
-  goes_handover_to gnb (Some goal) s = goes_order world event (CuCp gnb) (orders.Handover goal) s
+  goes_handover_to gnb (Some goal) s = goes_order world event (CuCp gnb) (orders.Handover goal) tt s
 
   pub goes_handover : (ue : UeId) (gnb : Gnb) (up du : ℕ) → Keeps world event (handover world ue gnb up du)
   unfolding handover
@@ -286,8 +286,8 @@ module _ {M C L P : Type 0} (world : World M C L P) (event : Event) where
   unfolding cancel
   goes_cancel ue s =
       choose world event s (not (is_attached s ue)) _ _ (λ h. goes_refused world event NoUe s)
-      (λ h. choose world event s (is_source s.units.cp_a ue) _ _ (λ h. goes_order world event (CuCp A) (orders.Cancel ue) s)
-      (λ h. choose world event s (is_source s.units.cp_b ue) _ _ (λ h. goes_order world event (CuCp B) (orders.Cancel ue) s)
+      (λ h. choose world event s (is_source s.units.cp_a ue) _ _ (λ h. goes_order world event (CuCp A) (orders.Cancel ue) tt s)
+      (λ h. choose world event s (is_source s.units.cp_b ue) _ _ (λ h. goes_order world event (CuCp B) (orders.Cancel ue) tt s)
       (λ h. goes_refused world event Empty s)))
 
   pub goes_release : (ue : UeId) → event ≡ events.Release ue → Keeps world event (release world ue)

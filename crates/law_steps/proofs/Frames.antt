@@ -14,12 +14,12 @@ use Rattle.gnb_types.specs.declared.outputs.Tag.{Tag}
 use Rattle.gnb_types.specs.declared.outputs.Tag.TheVariants.{Absent, Own, Same}
 use Rattle.gnb_types.specs.Orders.{ue_cmp, tunnel_cmp}
 use Rattle.tables.specs.Tables.{find, at}
-use Rattle.scenario_text.specs.declared.event.Event.{Event}
-use Rattle.unit_defs.specs.Ways.{Put, control, packet, radio, deliver, dropped, held, opened, closed, failed, no}
-use Rattle.unit_defs.specs.Static.{up_has_room, up_has_teids, du_has_teids}
-use Rattle.unit_defs.specs.Ue.{new_ue}
-use Rattle.transport_defs.specs.declared.Item.{Item}
-use Rattle.transport_defs.specs.Links.{is_epoch, emptied}
+use Rattle.run_defs.specs.scenario_text.declared.event.Event.{Event}
+use Rattle.run_defs.specs.unit_defs.Ways.{Put, control, packet, radio, deliver, dropped, held, opened, closed, failed, no}
+use Rattle.run_defs.specs.unit_defs.Static.{up_has_room, up_has_teids, du_has_teids}
+use Rattle.run_defs.specs.unit_defs.Ue.{new_ue}
+use Rattle.run_defs.specs.transport_defs.declared.Item.{Item}
+use Rattle.run_defs.specs.transport_defs.Links.{is_epoch, emptied}
 use Rattle.run_defs.specs.Lines.{RunLine, put_item, lost_items, tunnel_link, radio_link, shown}
 use Rattle.run_defs.specs.Units.{Units, up_of, du_of, with_ue}
 use Rattle.run_defs.specs.States.{State, Given, stepped, World, Lengths, Stop, sn_of, goes, stops, told_before, ◌next◌, goes_on, Ending, Within, Outcome, as_step, entity, was_attached, radio_of, with_radio}

@@ -1,7 +1,7 @@
 -- Every event is made of steps.
 use Rattle.std.proofs.Common.{refl}
-use Rattle.scenario_text.specs.declared.event.Event.{Event}
-use Rattle.scenario_text.specs.declared.event.Event.TheVariants as events
+use Rattle.run_defs.specs.scenario_text.declared.event.Event.{Event}
+use Rattle.run_defs.specs.scenario_text.declared.event.Event.TheVariants as events
 use Rattle.run_defs.specs.States.{State, World, entity}
 use Rattle.run_defs.specs.Runs.{happens, tunnel_end}
 use Rattle.law_steps.specs.Made.{Made}

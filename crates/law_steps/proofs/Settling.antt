@@ -13,20 +13,20 @@ use Rattle.gnb_types.specs.declared.inputs.Order.{Order}
 use Rattle.gnb_types.specs.declared.inputs.Order.TheVariants as orders
 use Rattle.gnb_types.specs.Orders.{tunnel_cmp}
 use Rattle.tables.specs.Tables.{find, at, entry_after, first_entry}
-use Rattle.scenario_text.specs.declared.event.Event.{Event}
-use Rattle.unit_defs.specs.declared.UeState.{UeState}
-use Rattle.unit_defs.specs.declared.UeState.TheVariants as ue_states
-use Rattle.unit_defs.specs.Accessors.{is_unconfirmed}
+use Rattle.run_defs.specs.scenario_text.declared.event.Event.{Event}
+use Rattle.run_defs.specs.unit_defs.declared.UeState.{UeState}
+use Rattle.run_defs.specs.unit_defs.declared.UeState.TheVariants as ue_states
+use Rattle.run_defs.specs.unit_defs.Accessors.{is_unconfirmed}
 use Rattle.run_defs.specs.Lines.{RunLine, held_at, is_quiet, is_busy, has_settled, has_not_settled, radio_link}
 use Rattle.run_defs.specs.Units.{up_of}
-use Rattle.transport_defs.specs.declared.Item.{Item}
-use Rattle.transport_defs.specs.Links.{nth}
+use Rattle.run_defs.specs.transport_defs.declared.Item.{Item}
+use Rattle.run_defs.specs.transport_defs.Links.{nth}
 use Rattle.run_defs.specs.States.{State, order_for, World, goes, goes_on, Outcome, as_step, prints, radio_of}
 use Rattle.run_defs.specs.Steps.{Done, is_done, is_held, is_refused, does}
 use Rattle.run_defs.specs.Conditions.{serving_gnb, serving_place, state_at, ready_home, epoch_of, receiver_of, rests, ask_line}
 use Rattle.run_defs.specs.Events.{get_done, carry_done, confirm_done, pump, tick}
 use Rattle.run_defs.specs.Settling.{attached_plans, attached_entities, attached_bearers, Turn, to_acks, to_airs, after_air, after_ack, quietly_by, quiet_order, move_by, move_each, got_in_turn, get_items, get_times, tunnel_turn, tunnels_from, most_tunnels, all_tunnels, aired_by, air_next, acked_by, turn_over, ack_next, turn_at, turn_step, turn_times, radio_turn, all_radios, poll_at, poll_each, round, ask_lines, all_quiet, rounds_from, round_limit, settle}
-use Rattle.law_steps.specs.Causes.{by_order, by_item, by_air, by_ack}
+use Rattle.law_steps.specs.Causes.{IsNoAttach, by_order, by_item, by_air, by_ack}
 use Rattle.law_steps.specs.Made.{IsRemark, Made, stays, then_made, holds_item, holds_pdu, remarks}
 use Rattle.law_steps.proofs.Steps.{Keeps, choose, DoneMade, goes_does}
 use Rattle.law_steps.proofs.Events.{goes_pump, goes_tick}
@@ -39,13 +39,13 @@ module _ {M C L P : Type 0} (world : World M C L P) (event : Event) where
   quietly s (is_held reason) p = stays s
   quietly s (is_refused reason) p = stays s
 
-  goes_quiet_order : (node : NodeId) (order : Order) → Keeps world event (quiet_order world node order)
-  goes_quiet_order node order s =
-      quietly s (does world node (order_for order) None goes_on s) (goes_does world event (by_order node order) s tt)
+  goes_quiet_order : (node : NodeId) (order : Order) → IsNoAttach order → Keeps world event (quiet_order world node order)
+  goes_quiet_order node order other s =
+      quietly s (does world node (order_for order) None goes_on s) (goes_does world event (by_order node order) s other)
 
   goes_move_by : (ue : UeId) (state : UeState) → Keeps world event (λ s. move_by world ue s state)
-  goes_move_by ue ue_states.Accessing s = goes_quiet_order (Ue ue.0) (orders.Arrive ue) s
-  goes_move_by ue ue_states.Lost s = goes_quiet_order (Ue ue.0) (orders.Return ue) s
+  goes_move_by ue ue_states.Accessing s = goes_quiet_order (Ue ue.0) (orders.Arrive ue) tt s
+  goes_move_by ue ue_states.Lost s = goes_quiet_order (Ue ue.0) (orders.Return ue) tt s
   goes_move_by ue state s = stays s
 
   goes_move_each : (es : List (UeId × Plan)) → Keeps world event (move_each world es)
@@ -162,7 +162,7 @@ module _ {M C L P : Type 0} (world : World M C L P) (event : Event) where
   goes_poll_at e None s = stays s
   goes_poll_at e (Some place) s =
       choose world event s (is_unconfirmed (up_of s.units (serving_gnb s e.0) place.0) e.0 e.1) _ _
-      (λ h. goes_quiet_order (CuUp (serving_gnb s e.0) place.0) (orders.Poll e.0 e.1) s) (λ h. stays s)
+      (λ h. goes_quiet_order (CuUp (serving_gnb s e.0) place.0) (orders.Poll e.0 e.1) tt s) (λ h. stays s)
 
   goes_poll_each : (es : List (UeId × BearerId)) → Keeps world event (poll_each world es)
   goes_poll_each [] s = stays s

@@ -4,13 +4,13 @@ use Rattle.std.specs.Prelude.{if◌then◌else◌}
 use Rattle.gnb_types.specs.declared.names.NodeId.{NodeId}
 use Rattle.gnb_types.specs.declared.inputs.Order.{Order}
 use Rattle.gnb_types.specs.declared.reasons.RefuseReason.{RefuseReason}
-use Rattle.scenario_text.specs.declared.event.Event.{Event}
-use Rattle.unit_defs.specs.Ways.{Put, held, no}
+use Rattle.run_defs.specs.scenario_text.declared.event.Event.{Event}
+use Rattle.run_defs.specs.unit_defs.Ways.{Put, held, no}
 use Rattle.run_defs.specs.Lines.{was_refused}
 use Rattle.run_defs.specs.Units.{Units}
 use Rattle.run_defs.specs.States.{State, Stepped, stepped, step_spent, World, sn_of, spent_counter, stops, goes_on, Outcome, as_step, refused, order_for}
 use Rattle.run_defs.specs.Steps.{letters_spent, too_many_letters, Done, is_done, is_held, is_refused, carried_out, done_with, does, ordered_by, step}
-use Rattle.law_steps.specs.Causes.{Cause, by_order, node_of, given_of, count_of, first_of, Stands}
+use Rattle.law_steps.specs.Causes.{Cause, by_order, node_of, given_of, count_of, first_of, IsNoAttach, Stands}
 use Rattle.law_steps.specs.Made.{IsDone, Made, stays, ends, acts, remarks}
 
 module _ {M C L P : Type 0} (world : World M C L P) (event : Event) where
@@ -56,6 +56,6 @@ module _ {M C L P : Type 0} (world : World M C L P) (event : Event) where
   goes_ordered s (is_held reason) p = stays s
   goes_ordered s (is_refused reason) p = goes_refused reason s
 
-  pub goes_order : (node : NodeId) (order : Order) → Keeps (step world node (order_for order))
+  pub goes_order : (node : NodeId) (order : Order) → IsNoAttach order → Keeps (step world node (order_for order))
   unfolding step
-  goes_order node order s = goes_ordered s (does world node (order_for order) None goes_on s) (goes_does (by_order node order) s tt)
+  goes_order node order other s = goes_ordered s (does world node (order_for order) None goes_on s) (goes_does (by_order node order) s other)

@@ -13,11 +13,11 @@ use Rattle.gnb_types.specs.declared.inputs.Order.{Order}
 use Rattle.gnb_types.specs.declared.inputs.Order.TheVariants as orders
 use Rattle.gnb_types.specs.Orders.{tunnel_cmp}
 use Rattle.tables.specs.Tables.{find}
-use Rattle.scenario_text.specs.declared.event.Event.{Event}
-use Rattle.scenario_text.specs.declared.event.Event.TheVariants as events
-use Rattle.transport_defs.specs.declared.Item.{Item}
-use Rattle.transport_defs.specs.declared.Letter.{Letter}
-use Rattle.transport_defs.specs.Links.{letter, nth}
+use Rattle.run_defs.specs.scenario_text.declared.event.Event.{Event}
+use Rattle.run_defs.specs.scenario_text.declared.event.Event.TheVariants as events
+use Rattle.run_defs.specs.transport_defs.declared.Item.{Item}
+use Rattle.run_defs.specs.transport_defs.declared.Letter.{Letter}
+use Rattle.run_defs.specs.transport_defs.Links.{letter, nth}
 use Rattle.run_defs.specs.States.{State, Given, letter_for, item_for, carried_for, confirmed_for, offer_for, tick_for, order_for, octets_from, octets_on, World, goes_on, Within, entity, was_attached, has_bearer, radio_of}
 use Rattle.run_defs.specs.Conditions.{serving_gnb, ready_home, receiver_of, sender_of, takes_letters}
 use Rattle.run_defs.specs.Events.{with_terminal, offered, taken_off, carried_off, confirmed_off, landed_as, leaves}
@@ -84,8 +84,14 @@ first_of world (by_ack key home item rest) s = confirmed_off world key rest s
 first_of world (by_letter number l to) s = landed_as world number l s
 first_of world cause s = goes_on s
 
+-- a terminal comes by its own cause alone
+abbrev pub IsNoAttach : Order → Type 0
+IsNoAttach (orders.Attach plan) = ⊥
+IsNoAttach order = Unit {0}
+
 -- what is taken stands there, and a terminal's events are those of the script
 abbrev pub Stands : {M C L P : Type 0} → Event → State M C L P → Cause M L P → Type 0
+Stands event s (by_order node order) = IsNoAttach order
 Stands event s (by_attach plan) = (event ≡ events.Attach plan) × (was_attached s plan.ue ≡ false)
 Stands event s (by_release gnb ue) = (event ≡ events.Release ue) × (gnb ≡ serving_gnb s ue)
 Stands event s (by_offer ue bearer packet) = (event ≡ events.Offer ue bearer Ul packet) × (has_bearer s ue bearer ≡ true)

@@ -1,3 +1,7 @@
 pub mod Causes
 pub mod Made
 pub mod Reached
+pub use Rattle.run_defs.specs as run_defs
+pub use Rattle.run_defs.specs.unit_octet_defs as unit_octet_defs
+pub use Rattle.run_defs.specs.unit_defs as unit_defs
+pub use Rattle.run_defs.specs.pdcp_defs as pdcp_defs

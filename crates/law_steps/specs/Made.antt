@@ -12,15 +12,15 @@ use Rattle.gnb_types.specs.declared.plans.Plan.{Plan}
 use Rattle.gnb_types.specs.declared.reasons.HeldReason.{HeldReason}
 use Rattle.gnb_types.specs.Orders.{ue_cmp, tunnel_cmp}
 use Rattle.tables.specs.Tables.{find, put}
-use Rattle.scenario_text.specs.declared.event.Event.{Event}
-use Rattle.scenario_text.specs.declared.event.Event.TheVariants as events
-use Rattle.unit_defs.specs.Ways.{Put, held, no}
-use Rattle.unit_defs.specs.Messages.{teid_of}
-use Rattle.unit_defs.specs.Core.{CoreRecord, CorePath}
-use Rattle.unit_defs.specs.Static.{up_has_room, up_has_teids, du_has_teids}
-use Rattle.transport_defs.specs.declared.Item.{Item}
-use Rattle.transport_defs.specs.declared.Letter.{Letter}
-use Rattle.transport_defs.specs.Links.{letter, landed}
+use Rattle.run_defs.specs.scenario_text.declared.event.Event.{Event}
+use Rattle.run_defs.specs.scenario_text.declared.event.Event.TheVariants as events
+use Rattle.run_defs.specs.unit_defs.Ways.{Put, held, no}
+use Rattle.run_defs.specs.unit_defs.Messages.{teid_of}
+use Rattle.run_defs.specs.unit_defs.Core.{CoreRecord, CorePath}
+use Rattle.run_defs.specs.unit_defs.Static.{up_has_room, up_has_teids, du_has_teids}
+use Rattle.run_defs.specs.transport_defs.declared.Item.{Item}
+use Rattle.run_defs.specs.transport_defs.declared.Letter.{Letter}
+use Rattle.run_defs.specs.transport_defs.Links.{letter, landed}
 use Rattle.run_defs.specs.Lines.{RunLine, lost_items, lost_message, held_at, is_quiet, is_busy, has_settled, has_not_settled, was_refused, tunnel_link, radio_link}
 use Rattle.run_defs.specs.Units.{Units, up_of, du_of}
 use Rattle.run_defs.specs.States.{State, letter_for, octets_from, stepped, core_stepped, World, Stop, goes, stops, ◌next◌, goes_on, Outcome, as_step, prints, entity, sn_of, was_attached}

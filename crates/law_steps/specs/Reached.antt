@@ -1,6 +1,6 @@
 -- The states of a run: after a list of events, from a state, where the run doesn't stop before.
 use Rattle.std.specs.Prelude.{List, [], ◌∷◌, Option, Some, None}
-use Rattle.scenario_text.specs.declared.event.Event.{Event}
+use Rattle.run_defs.specs.scenario_text.declared.event.Event.{Event}
 use Rattle.run_defs.specs.States.{State, World, goes, stops, Outcome}
 use Rattle.run_defs.specs.Runs.{happens}
 

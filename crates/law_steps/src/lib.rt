@@ -3,7 +3,7 @@
 
 ghost use Rattle.run_defs.specs.Runs.{happens};
 ghost use Rattle.run_defs.specs.States.{State, World};
-ghost use Rattle.scenario_text.specs.declared.event.Event.{Event};
+ghost use Rattle.run_defs.specs.scenario_text.declared.event.Event.{Event};
 ghost use Rattle.law_steps.specs.Made.{Made};
 
 /// Whatever units and the core do, and from every state, an event comes to steps, one after another, each of one of a few

@@ -23,11 +23,11 @@ use Rattle.transaction_defs.specs.Callers.{close, due}
 use Rattle.message_types.specs.declared.f1.F1.{F1}
 use Rattle.message_types.specs.declared.f1.F1.TheVariants as f1s
 use Rattle.message_types.specs.declared.rrc.Token.{Token}
-use Rattle.unit_defs.specs.Ways.{Message, f1, rrc, uplink, status, end_marker, Taken, frame_item, packet, opened, closed, Input, control_input, packet_input, radio_input, confirm_input, offer_input, tick_input, order_input, Way, Answer, gives, spent, ◌then◌, nothing, puts, drops, teids_spent}
-use Rattle.unit_defs.specs.Messages.{channel, is_same_gnb, bearers_of, are_first_bearers}
-use Rattle.unit_defs.specs.Teids.{teids_are_left, teid_after, without_each}
-use Rattle.unit_defs.specs.Transactions.{Kind, request, reply, transfer, kind_of, no_instance, ask, advance, replied}
-use Rattle.unit_defs.specs.Du.{DuBearer, DuContext, DuTunnel, Du, du_node, context_of, with_transactions, downlinks_of, downlink_list, with_entries, bearers_made, bearers_anew, replies, closings, openings, old_downlinks, replaced, replaces, context_with, setup, context_anew, modify_on, modify, end_markers, released_on, release, relayed_down, relay_down, relayed_up, relay_up, token_ue, start, set_up, asked, transferred, of_cp, of_terminal, control_came, missing, is_missing, told, gap_after, carried, with_bearer, frame_came, taken_in, taken_of, taken_on, take, of_bearer, of_context, pass_up, confirmed, confirm, due_output, tick, du_acts}
+use Rattle.law_steps.specs.unit_defs.Ways.{Message, f1, rrc, uplink, status, end_marker, Taken, frame_item, packet, opened, closed, Input, control_input, packet_input, radio_input, confirm_input, offer_input, tick_input, order_input, Way, Answer, gives, spent, ◌then◌, nothing, puts, drops, teids_spent}
+use Rattle.law_steps.specs.unit_defs.Messages.{channel, is_same_gnb, bearers_of, are_first_bearers}
+use Rattle.law_steps.specs.unit_defs.Teids.{teids_are_left, teid_after, without_each}
+use Rattle.law_steps.specs.unit_defs.Transactions.{Kind, request, reply, transfer, kind_of, no_instance, ask, advance, replied}
+use Rattle.law_steps.specs.unit_defs.Du.{DuBearer, DuContext, DuTunnel, Du, du_node, context_of, with_transactions, downlinks_of, downlink_list, with_entries, bearers_made, bearers_anew, replies, closings, openings, old_downlinks, replaced, replaces, context_with, setup, context_anew, modify_on, modify, end_markers, released_on, release, relayed_down, relay_down, relayed_up, relay_up, token_ue, start, set_up, asked, transferred, of_cp, of_terminal, control_came, missing, is_missing, told, gap_after, carried, with_bearer, frame_came, taken_in, taken_of, taken_on, take, of_bearer, of_context, pass_up, confirmed, confirm, due_output, tick, du_acts}
 use Rattle.law_teids.specs.Given.{opened_in, opened_by, count_from, below, GrowsTo}
 use Rattle.law_teids.proofs.Grows.{gives_counted, below_after, put_or, fewer_each, grows_less, grows_then}
 use Rattle.law_teids.proofs.Bearers.{both, first_none}

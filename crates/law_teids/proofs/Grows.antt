@@ -7,7 +7,7 @@ use Rattle.std.specs.List.{AllByRecursion}
 use Rattle.std.proofs.lemmas.Map.Lookups.{exact_unsigned}
 use Rattle.tables.specs.Tables.{find, put, without}
 use Rattle.tables.proofs.TableLaws.{find-put, find-without}
-use Rattle.unit_defs.specs.Teids.{last_teid, teids_are_left, teid_after, without_each}
+use Rattle.law_steps.specs.unit_defs.Teids.{last_teid, teids_are_left, teid_after, without_each}
 use Rattle.law_teids.specs.Given.{count_from, GivesNext, below, GrowsTo}
 
 -- ---- numbers

@@ -6,3 +6,4 @@ pub mod Dus
 pub mod Placed
 pub mod Runs
 pub mod UnitRuns
+pub use Rattle.law_steps.proofs as law_steps

@@ -13,11 +13,11 @@ use Rattle.gnb_types.specs.declared.names.NodeId.TheVariants.{CuUp as up_id}
 use Rattle.gnb_types.specs.declared.plans.Plan.{Plan}
 use Rattle.gnb_types.specs.declared.plans.Tunnel.{Tunnel}
 use Rattle.tables.specs.Tables.{find}
-use Rattle.unit_defs.specs.Teids.{teids_are_left, teid_after}
-use Rattle.unit_defs.specs.UpRecords.{UpBearer, CuUp}
-use Rattle.unit_defs.specs.CuUp.{bearers_from, bearers_made, entries_of}
-use Rattle.unit_defs.specs.Du.{Du, DuBearer, bearers_made as du_bearers}
-use Rattle.unit_defs.specs.Static.{with_downlinks, up_context, up_placed, up_has_teids, uplinks_from, du_context, du_placed, du_has_teids}
+use Rattle.law_steps.specs.unit_defs.Teids.{teids_are_left, teid_after}
+use Rattle.law_steps.specs.unit_defs.UpRecords.{UpBearer, CuUp}
+use Rattle.law_steps.specs.unit_defs.CuUp.{bearers_from, bearers_made, entries_of}
+use Rattle.law_steps.specs.unit_defs.Du.{Du, DuBearer, bearers_made as du_bearers}
+use Rattle.law_steps.specs.unit_defs.Static.{with_downlinks, up_context, up_placed, up_has_teids, uplinks_from, du_context, du_placed, du_has_teids}
 use Rattle.law_teids.specs.Given.{below, GrowsTo}
 use Rattle.law_teids.proofs.Grows.{AllWithin, below_left}
 use Rattle.law_teids.proofs.CuUps.{Entry, made_within, how_many, grows_entries}

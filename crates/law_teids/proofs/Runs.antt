@@ -15,19 +15,19 @@ use Rattle.tables.specs.Tables.{find, at}
 use Rattle.tables.proofs.TableLaws.{at-put}
 use Rattle.message_types.specs.declared.rrc.Token.{Token}
 use Rattle.scenario_text.specs.declared.event.Event.{Event}
-use Rattle.unit_defs.specs.Ways.{Message, Pdu, Load, Put, Input, gives, spent}
-use Rattle.unit_defs.specs.Static.{up_placed, du_placed, cp_placed, up_set_up, du_set_up, up_has_teids, du_has_teids}
-use Rattle.unit_defs.specs.Ue.{UeNode, ue_acts}
-use Rattle.unit_defs.specs.UpRecords.{CuUp}
-use Rattle.unit_defs.specs.CuUp.{new_cu_up, cu_up_acts}
-use Rattle.unit_defs.specs.Du.{Du, new_du, du_acts}
-use Rattle.unit_defs.specs.CpRecords.{CuCpRecord}
-use Rattle.unit_defs.specs.CuCp.{cu_cp_acts}
-use Rattle.run_defs.specs.Units.{Units, cp_of, with_cp, up_of, with_up, du_of, with_du, ue_of, with_ue}
-use Rattle.run_defs.specs.Written.{Written, PlainStepped, WrittenStepped, written_step}
-use Rattle.run_defs.specs.States.{State, Lengths, stepped, step_spent}
-use Rattle.run_defs.specs.Conditions.{units_placed, all_set_up}
-use Rattle.run_defs.specs.Runs.{Reading, PlainGiven, Plain, plain_way, input_of, stepped_with, ue_stepped, acts_on, plain_by, plain_answer, plain_world}
+use Rattle.law_steps.specs.unit_defs.Ways.{Message, Pdu, Load, Put, Input, gives, spent}
+use Rattle.law_steps.specs.unit_defs.Static.{up_placed, du_placed, cp_placed, up_set_up, du_set_up, up_has_teids, du_has_teids}
+use Rattle.law_steps.specs.unit_defs.Ue.{UeNode, ue_acts}
+use Rattle.law_steps.specs.unit_defs.UpRecords.{CuUp}
+use Rattle.law_steps.specs.unit_defs.CuUp.{new_cu_up, cu_up_acts}
+use Rattle.law_steps.specs.unit_defs.Du.{Du, new_du, du_acts}
+use Rattle.law_steps.specs.unit_defs.CpRecords.{CuCpRecord}
+use Rattle.law_steps.specs.unit_defs.CuCp.{cu_cp_acts}
+use Rattle.law_steps.specs.run_defs.Units.{Units, cp_of, with_cp, up_of, with_up, du_of, with_du, ue_of, with_ue}
+use Rattle.law_steps.specs.run_defs.Written.{Written, PlainStepped, WrittenStepped, written_step}
+use Rattle.law_steps.specs.run_defs.States.{State, Lengths, stepped, step_spent}
+use Rattle.law_steps.specs.run_defs.Conditions.{units_placed, all_set_up}
+use Rattle.law_steps.specs.run_defs.Runs.{Reading, PlainGiven, Plain, plain_way, input_of, stepped_with, ue_stepped, acts_on, plain_by, plain_answer, plain_world}
 use Rattle.law_steps.specs.Reached.{reached}
 use Rattle.law_steps.proofs.Frames.{reached_relates}
 use Rattle.law_teids.specs.Given.{GrowsTo, GiveOnce}

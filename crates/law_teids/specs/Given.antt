@@ -4,9 +4,9 @@ use Rattle.std.specs.List.{flat_map}
 use Rattle.std.specs.Ordering.{nat_cmp}
 use Rattle.gnb_types.specs.declared.names.Gnb.{Gnb}
 use Rattle.tables.specs.Tables.{find}
-use Rattle.unit_defs.specs.Ways.{Output, opened, Answer, gives, spent}
-use Rattle.unit_defs.specs.Teids.{last_teid, teids_are_left, teid_after}
-use Rattle.run_defs.specs.Units.{Units, up_of, du_of}
+use Rattle.law_steps.specs.unit_defs.Ways.{Output, opened, Answer, gives, spent}
+use Rattle.law_steps.specs.unit_defs.Teids.{last_teid, teids_are_left, teid_after}
+use Rattle.law_steps.specs.run_defs.Units.{Units, up_of, du_of}
 
 -- ---- a step: the TEIDs that it opens are the next ones, ascending, if so many are left; then those after them come next
 

@@ -4,17 +4,17 @@
 ghost use Rattle.law_steps.specs.Reached.{reached};
 ghost use Rattle.law_teids.specs.Given.{GivesTeids, GiveOnce};
 ghost use Rattle.message_types.specs.declared.rrc.Token.{Token};
-ghost use Rattle.run_defs.specs.Runs.{plain_world, Reading};
-ghost use Rattle.run_defs.specs.States.{State};
-ghost use Rattle.run_defs.specs.UnitRuns.{tables, unit_world};
-ghost use Rattle.run_defs.specs.Written.{Written};
+ghost use Rattle.law_steps.specs.run_defs.Runs.{plain_world, Reading};
+ghost use Rattle.law_steps.specs.run_defs.States.{State};
+ghost use Rattle.law_steps.specs.run_defs.UnitRuns.{tables, unit_world};
+ghost use Rattle.law_steps.specs.run_defs.Written.{Written};
 ghost use Rattle.scenario_text.specs.declared.event.Event.{Event};
 ghost use Rattle.std.specs.Prelude.{List, Some, ℕ, ◌≡◌};
-ghost use Rattle.unit_defs.specs.CuUp.{cu_up_acts};
-ghost use Rattle.unit_defs.specs.Du.{Du, du_acts};
-ghost use Rattle.unit_defs.specs.UpRecords.{CuUp};
-ghost use Rattle.unit_octet_defs.specs.Codec.{Codec};
-ghost use Rattle.unit_defs.specs.Ways.{Input, Load, Message, Pdu, Way};
+ghost use Rattle.law_steps.specs.unit_defs.CuUp.{cu_up_acts};
+ghost use Rattle.law_steps.specs.unit_defs.Du.{Du, du_acts};
+ghost use Rattle.law_steps.specs.unit_defs.UpRecords.{CuUp};
+ghost use Rattle.law_steps.specs.unit_octet_defs.Codec.{Codec};
+ghost use Rattle.law_steps.specs.unit_defs.Ways.{Input, Load, Message, Pdu, Way};
 
 /// What a CU-UP opens on any input, in any state, are its next TEIDs, ascending; the next ones are never lowered; and a
 /// TEID that is open afterwards was open before, as the same one's, or is one of those.

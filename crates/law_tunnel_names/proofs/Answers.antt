@@ -17,17 +17,17 @@ use Rattle.message_types.specs.declared.xn.XnMessage.TheVariants as xns
 use Rattle.message_types.specs.declared.xn.CoreMessage.TheVariants as cores
 use Rattle.message_types.specs.declared.rrc.Token.{Token}
 use Rattle.message_types.specs.declared.rrc.Token.TheVariants as tokens
-use Rattle.unit_defs.specs.declared.StateName.{StateName}
-use Rattle.unit_defs.specs.declared.StateName.TheVariants as states
-use Rattle.unit_defs.specs.declared.AttemptKind.{AttemptKind}
-use Rattle.unit_defs.specs.declared.AttemptKind.TheVariants as kinds
-use Rattle.unit_defs.specs.Ways.{Message, f1, e1, xn, core, Way}
-use Rattle.unit_defs.specs.Transactions.{kind_of}
-use Rattle.unit_defs.specs.Messages.{cause_name, are_bearers, statuses_of}
-use Rattle.unit_defs.specs.UpRecords.{TunnelKind, n3, f1u_uplink, forwarding_down, forwarding_up}
-use Rattle.unit_defs.specs.CpRecords.{Awaited, Attempt, CpContext, CpTerminal, same_node, bearers_in, Row, is_from, answered, is_instance, awaits_answer}
-use Rattle.unit_defs.specs.CpRows.{CpAt, own_du, name_bearers, is_between_dus, is_between_gnbs, attach_has_tunnels, attach_is_placed, attach_fails, move_has_uplinks, move_is_placed, handover_is_acknowledged, handover_is_declined, handover_is_frozen, handover_is_not_frozen, offer_has_tunnels, offer_is_declined, offer_is_placed, place_is_renewed}
-use Rattle.unit_defs.specs.CuCp.{listed, caused, only_closes, in_attaching, in_moving, in_preparing, in_prepared, in_offered, in_switching, in_releasing, in_state, Answered, answers_none, answers_with, answer_of, answer_on, answer, is_complete, is_reestablish, is_epoch, is_own_command, may_return, is_too_early, is_ready, token_in_ready, token_of_return, token_of_attempt, token_by_attempt, token_on, token_row, token_ue, no_context_first}
+use Rattle.law_unit_packets.specs.unit_defs.declared.StateName.{StateName}
+use Rattle.law_unit_packets.specs.unit_defs.declared.StateName.TheVariants as states
+use Rattle.law_unit_packets.specs.unit_defs.declared.AttemptKind.{AttemptKind}
+use Rattle.law_unit_packets.specs.unit_defs.declared.AttemptKind.TheVariants as kinds
+use Rattle.law_unit_packets.specs.unit_defs.Ways.{Message, f1, e1, xn, core, Way}
+use Rattle.law_unit_packets.specs.unit_defs.Transactions.{kind_of}
+use Rattle.law_unit_packets.specs.unit_defs.Messages.{cause_name, are_bearers, statuses_of}
+use Rattle.law_unit_packets.specs.unit_defs.UpRecords.{TunnelKind, n3, f1u_uplink, forwarding_down, forwarding_up}
+use Rattle.law_unit_packets.specs.unit_defs.CpRecords.{Awaited, Attempt, CpContext, CpTerminal, same_node, bearers_in, Row, is_from, answered, is_instance, awaits_answer}
+use Rattle.law_unit_packets.specs.unit_defs.CpRows.{CpAt, own_du, name_bearers, is_between_dus, is_between_gnbs, attach_has_tunnels, attach_is_placed, attach_fails, move_has_uplinks, move_is_placed, handover_is_acknowledged, handover_is_declined, handover_is_frozen, handover_is_not_frozen, offer_has_tunnels, offer_is_declined, offer_is_placed, place_is_renewed}
+use Rattle.law_unit_packets.specs.unit_defs.CuCp.{listed, caused, only_closes, in_attaching, in_moving, in_preparing, in_prepared, in_offered, in_switching, in_releasing, in_state, Answered, answers_none, answers_with, answer_of, answer_on, answer, is_complete, is_reestablish, is_epoch, is_own_command, may_return, is_too_early, is_ready, token_in_ready, token_of_return, token_of_attempt, token_by_attempt, token_on, token_row, token_ue, no_context_first}
 use Rattle.law_intervals.proofs.Intervals.{all_filter}
 use Rattle.law_tunnel_names.specs.Names.{Property, IfAny, UpList, DuList, OwnUpList, OwnDuList, NamesFor}
 use Rattle.law_tunnel_names.specs.CuCps.{asked_du, AwaitedOf, is_at_goal, AttemptNames, ContextNames, TerminalNames}

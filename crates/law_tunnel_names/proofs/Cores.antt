@@ -14,11 +14,11 @@ use Rattle.gnb_types.proofs.OrderLemmas.{ue_total, ue_exact}
 use Rattle.message_types.specs.declared.xn.CoreMessage.TheVariants as cores
 use Rattle.tables.specs.Tables.{find}
 use Rattle.tables.proofs.TableLaws.{find-put}
-use Rattle.unit_defs.specs.Ways.{Message, core, Way}
-use Rattle.unit_defs.specs.Messages.{channel}
-use Rattle.unit_defs.specs.Transactions.{Kind, request, reply, transfer, kind_of, replied}
-use Rattle.unit_defs.specs.UpRecords.{n3}
-use Rattle.unit_defs.specs.Core.{CorePath, CoreRecord, end_of, old_ends, new_path, moved, switch_path, asked, came, core_acts}
+use Rattle.law_unit_packets.specs.unit_defs.Ways.{Message, core, Way}
+use Rattle.law_unit_packets.specs.unit_defs.Messages.{channel}
+use Rattle.law_unit_packets.specs.unit_defs.Transactions.{Kind, request, reply, transfer, kind_of, replied}
+use Rattle.law_unit_packets.specs.unit_defs.UpRecords.{n3}
+use Rattle.law_unit_packets.specs.unit_defs.Core.{CorePath, CoreRecord, end_of, old_ends, new_path, moved, switch_path, asked, came, core_acts}
 use Rattle.law_tunnel_names.specs.Names.{Property, Names, PeerList, OwnUpList, PutOn, OutputsName, AnswerNames, KeptNames}
 use Rattle.law_tunnel_names.specs.CuCps.{PathNames, CoreNames}
 use Rattle.law_tunnel_names.proofs.Kept.{after, replied_names, on_request_names}

@@ -20,13 +20,13 @@ use Rattle.message_types.specs.declared.xn.XnMessage.TheVariants as xns
 use Rattle.tables.specs.Tables.{find, put}
 use Rattle.tables.proofs.TableLaws.{find-put}
 use Rattle.transaction_defs.specs.Callers.{due, Due, repeats, expires, after_tick, close}
-use Rattle.unit_defs.specs.declared.StateName.{StateName}
-use Rattle.unit_defs.specs.declared.StateName.TheVariants as states
-use Rattle.unit_defs.specs.Ways.{Message, f1, e1, xn, Input, control_input, packet_input, radio_input, confirm_input, offer_input, tick_input, order_input, Way, Answer, gives, spent, ◌then◌, nothing, drops}
-use Rattle.unit_defs.specs.Messages.{channel, shares_interface}
-use Rattle.unit_defs.specs.Transactions.{Kind, request, reply, transfer, kind_of, Waiting, Transactions, Asked, waits_at, with_waiting, ask, ask_at_once, advance, replied, replied_late}
-use Rattle.unit_defs.specs.CpRecords.{Awaited, Attempt, CpContext, CpTerminal, CuCpRecord, terminal_in, terminal_of, with_terminal, with_transactions, with_instance_of, is_from, awaiting, begun, on_attempt, on_context, with_attempt, waiting_of, after_begun, after_asked, noted, not_awaited, unawaited, forgotten, Say, asks, cancels, replies, replies_late, sends, fails, ignores, refuses, forgets, say_one, say_all, Row, row, row_spent, carry_out}
-use Rattle.unit_defs.specs.CuCp.{at_of, Answered, answers_none, answers_with, answer, is_up_release, without_release, is_setup_failure, after_failed_setup, put_next, closed_at, answered_by, reply_came, with_unit, set_up, asked, token_came, transferred, control_by, control_came, expired_on, due_one, due_each, command_by, command_on, command_each, ues_of, tick, ordered, cu_cp_acts}
+use Rattle.law_unit_packets.specs.unit_defs.declared.StateName.{StateName}
+use Rattle.law_unit_packets.specs.unit_defs.declared.StateName.TheVariants as states
+use Rattle.law_unit_packets.specs.unit_defs.Ways.{Message, f1, e1, xn, Input, control_input, packet_input, radio_input, confirm_input, offer_input, tick_input, order_input, Way, Answer, gives, spent, ◌then◌, nothing, drops}
+use Rattle.law_unit_packets.specs.unit_defs.Messages.{channel, shares_interface}
+use Rattle.law_unit_packets.specs.unit_defs.Transactions.{Kind, request, reply, transfer, kind_of, Waiting, Transactions, Asked, waits_at, with_waiting, ask, ask_at_once, advance, replied, replied_late}
+use Rattle.law_unit_packets.specs.unit_defs.CpRecords.{Awaited, Attempt, CpContext, CpTerminal, CuCpRecord, terminal_in, terminal_of, with_terminal, with_transactions, with_instance_of, is_from, awaiting, begun, on_attempt, on_context, with_attempt, waiting_of, after_begun, after_asked, noted, not_awaited, unawaited, forgotten, Say, asks, cancels, replies, replies_late, sends, fails, ignores, refuses, forgets, say_one, say_all, Row, row, row_spent, carry_out}
+use Rattle.law_unit_packets.specs.unit_defs.CuCp.{at_of, Answered, answers_none, answers_with, answer, is_up_release, without_release, is_setup_failure, after_failed_setup, put_next, closed_at, answered_by, reply_came, with_unit, set_up, asked, token_came, transferred, control_by, control_came, expired_on, due_one, due_each, command_by, command_on, command_each, ues_of, tick, ordered, cu_cp_acts}
 use Rattle.law_intervals.proofs.Intervals.{all_append}
 use Rattle.law_tunnel_names.specs.Names.{Property, Names, NamesFor, ue_of, OrderNames, InputNames, AnswerNames, KeptNames}
 use Rattle.law_tunnel_names.specs.CuCps.{asked_du, AwaitedOf, ContextNames, TerminalNames, CpNames}

@@ -3,3 +3,4 @@ pub mod Rows
 pub mod Answers
 pub mod CuCps
 pub mod Cores
+pub use Rattle.law_unit_packets.proofs as law_unit_packets

@@ -12,16 +12,16 @@ use Rattle.gnb_types.specs.declared.plans.Peer.{Peer}
 use Rattle.gnb_types.specs.declared.plans.Tunnel.{Tunnel}
 use Rattle.gnb_types.specs.declared.plans.SnStatus.{SnStatus}
 use Rattle.gnb_types.specs.declared.reasons.CauseName.{CauseName}
-use Rattle.unit_defs.specs.declared.StateName.{StateName}
-use Rattle.unit_defs.specs.declared.StateName.TheVariants as states
-use Rattle.unit_defs.specs.declared.AttemptKind.{AttemptKind}
-use Rattle.unit_defs.specs.declared.AttemptKind.TheVariants as kinds
-use Rattle.unit_defs.specs.Ways.{Way}
-use Rattle.unit_defs.specs.Transactions.{kind_of}
-use Rattle.unit_defs.specs.Messages.{is_same_gnb, statuses_of, are_bearers}
-use Rattle.unit_defs.specs.UpRecords.{n3, f1u_uplink, forwarding_down, forwarding_up}
-use Rattle.unit_defs.specs.CpRecords.{Awaited, Attempt, CpContext, CpTerminal, attempted, serving, has_unit, last_epoch, bearers_in, Say, asks, cancels, replies, replies_late, sends, Row, row, row_spent, keeps}
-use Rattle.unit_defs.specs.CpRows.{CpAt, new_attempt, own_up, own_du, is_between_gnbs, is_between_dus, attach_context, attach_on, attach, attach_has_tunnels, attach_is_placed, attach_fails, move_begins, move_has_uplinks, move_is_placed, handover_begins, epoch_of, is_serving, handover_on, handover, handover_is_acknowledged, handover_is_declined, handover_expires, handover_is_frozen, handover_is_not_frozen, command, cancel_attempt, cancel_of, cancel_on, cancel, release_on, release, handed_over, offer_context, offer_on, offer, offer_has_tunnels, offer_is_declined, offer_is_placed, takes_status, status_on, status, du_release_if, offer_cancelled, is_cancellable, xn_cancelled_of, xn_cancelled_on, xn_cancelled, xn_released_of, xn_released_on, xn_released, place_is_renewed, is_switched, let_source_go, path_is_switched, leave_old, completes, leave_old_again, completes_again, give_up_attempt, returns, arrives, arrives_again, up_release, xn_cancel, du_release, say_accepted}
+use Rattle.law_unit_packets.specs.unit_defs.declared.StateName.{StateName}
+use Rattle.law_unit_packets.specs.unit_defs.declared.StateName.TheVariants as states
+use Rattle.law_unit_packets.specs.unit_defs.declared.AttemptKind.{AttemptKind}
+use Rattle.law_unit_packets.specs.unit_defs.declared.AttemptKind.TheVariants as kinds
+use Rattle.law_unit_packets.specs.unit_defs.Ways.{Way}
+use Rattle.law_unit_packets.specs.unit_defs.Transactions.{kind_of}
+use Rattle.law_unit_packets.specs.unit_defs.Messages.{is_same_gnb, statuses_of, are_bearers}
+use Rattle.law_unit_packets.specs.unit_defs.UpRecords.{n3, f1u_uplink, forwarding_down, forwarding_up}
+use Rattle.law_unit_packets.specs.unit_defs.CpRecords.{Awaited, Attempt, CpContext, CpTerminal, attempted, serving, has_unit, last_epoch, bearers_in, Say, asks, cancels, replies, replies_late, sends, Row, row, row_spent, keeps}
+use Rattle.law_unit_packets.specs.unit_defs.CpRows.{CpAt, new_attempt, own_up, own_du, is_between_gnbs, is_between_dus, attach_context, attach_on, attach, attach_has_tunnels, attach_is_placed, attach_fails, move_begins, move_has_uplinks, move_is_placed, handover_begins, epoch_of, is_serving, handover_on, handover, handover_is_acknowledged, handover_is_declined, handover_expires, handover_is_frozen, handover_is_not_frozen, command, cancel_attempt, cancel_of, cancel_on, cancel, release_on, release, handed_over, offer_context, offer_on, offer, offer_has_tunnels, offer_is_declined, offer_is_placed, takes_status, status_on, status, du_release_if, offer_cancelled, is_cancellable, xn_cancelled_of, xn_cancelled_on, xn_cancelled, xn_released_of, xn_released_on, xn_released, place_is_renewed, is_switched, let_source_go, path_is_switched, leave_old, completes, leave_old_again, completes_again, give_up_attempt, returns, arrives, arrives_again, up_release, xn_cancel, du_release, say_accepted}
 use Rattle.law_tunnel_names.specs.Names.{Property, UpList, DuList, Names}
 use Rattle.law_tunnel_names.specs.CuCps.{asked_du, AwaitedOf, is_at_goal, AttemptNames, ContextNames, TerminalNames}
 

@@ -7,14 +7,14 @@ use Rattle.gnb_types.specs.declared.names.NodeId.TheVariants.{CuCp, CuUp, Du, Co
 use Rattle.gnb_types.specs.declared.names.UeId.{UeId}
 use Rattle.gnb_types.specs.Orders.{ue_cmp}
 use Rattle.tables.specs.Tables.{find}
-use Rattle.unit_defs.specs.declared.StateName.{StateName}
-use Rattle.unit_defs.specs.declared.StateName.TheVariants as states
-use Rattle.unit_defs.specs.declared.AttemptKind.{AttemptKind}
-use Rattle.unit_defs.specs.Ways.{Way}
-use Rattle.unit_defs.specs.UpRecords.{n3, forwarding_down, forwarding_up}
-use Rattle.unit_defs.specs.CpRecords.{Awaited, Attempt, CpContext, CpTerminal, CuCpRecord}
-use Rattle.unit_defs.specs.CpRows.{is_between_gnbs}
-use Rattle.unit_defs.specs.Core.{CorePath, CoreRecord}
+use Rattle.law_unit_packets.specs.unit_defs.declared.StateName.{StateName}
+use Rattle.law_unit_packets.specs.unit_defs.declared.StateName.TheVariants as states
+use Rattle.law_unit_packets.specs.unit_defs.declared.AttemptKind.{AttemptKind}
+use Rattle.law_unit_packets.specs.unit_defs.Ways.{Way}
+use Rattle.law_unit_packets.specs.unit_defs.UpRecords.{n3, forwarding_down, forwarding_up}
+use Rattle.law_unit_packets.specs.unit_defs.CpRecords.{Awaited, Attempt, CpContext, CpTerminal, CuCpRecord}
+use Rattle.law_unit_packets.specs.unit_defs.CpRows.{is_between_gnbs}
+use Rattle.law_unit_packets.specs.unit_defs.Core.{CorePath, CoreRecord}
 use Rattle.law_tunnel_names.specs.Names.{Property, UpList, DuList, OwnUpList, KeptNames}
 
 -- ---- whom an attempt awaits: its own CU-UP and one DU; at the source of a handover between gNBs that is the serving one

@@ -22,9 +22,9 @@ use Rattle.message_types.specs.declared.xn.XnMessage.TheVariants as xns
 use Rattle.message_types.specs.declared.xn.CoreMessage.TheVariants as cores
 use Rattle.transaction_defs.specs.Callers.{Opened}
 use Rattle.transaction_defs.specs.Callees.{Kept}
-use Rattle.unit_defs.specs.Ways.{Message, f1, e1, xn, core, Load, numbered, frame, uplink, Input, control_input, order_input, Output, control, packet, radio, Way, Answer, gives, spent}
-use Rattle.unit_defs.specs.Transactions.{Kind, request, reply, transfer, kind_of, Waiting, Transactions}
-use Rattle.unit_defs.specs.UpRecords.{TunnelKind, n3, f1u_uplink, forwarding_down, forwarding_up}
+use Rattle.law_unit_packets.specs.unit_defs.Ways.{Message, f1, e1, xn, core, Load, numbered, frame, uplink, status, Input, control_input, order_input, Output, control, packet, radio, Way, Answer, gives, spent}
+use Rattle.law_unit_packets.specs.unit_defs.Transactions.{Kind, request, reply, transfer, kind_of, Waiting, Transactions}
+use Rattle.law_unit_packets.specs.unit_defs.UpRecords.{TunnelKind, n3, f1u_uplink, forwarding_down, forwarding_up}
 
 -- ---- a TEID of a CU-UP may be named for a tunnel of this kind, of this terminal and bearer; one of a DU for its downlink; and the numbers
 -- of a terminal may have this length
@@ -102,7 +102,8 @@ module _ (owners : Owners) where
   abbrev pub Names : {C : Type 0} → NodeId → Message C → Type 0
   Names from message = NamesFor from (ue_of (kind_of message)) message
 
-  -- an order to attach says it too; so does a forwarded packet with a number; and PDUs are of terminals of which it is known
+  -- an order to attach says it too; so does a forwarded packet with a number; PDUs are of terminals of which it is known, and so is what a
+  -- delivery status confirms
   abbrev pub OrderNames : Order → Type 0
   OrderNames (orders.Attach plan) = owners.length plan.ue plan.sn
   OrderNames order = Unit {0}
@@ -114,6 +115,7 @@ module _ (owners : Owners) where
   LoadNames ue (numbered sn count p) = owners.length ue sn
   LoadNames ue (frame poll restart number pdu) = HasLength ue
   LoadNames ue (uplink pdu) = HasLength ue
+  LoadNames ue (status lost (Some count)) = HasLength ue
   LoadNames ue load = Unit {0}
 
 -- ---- the same of what stands for a message: it is so where its message is, and a container names no tunnel

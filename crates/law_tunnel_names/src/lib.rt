@@ -6,10 +6,10 @@ ghost use Rattle.gnb_types.specs.declared.names.NodeId.{NodeId};
 ghost use Rattle.gnb_types.specs.declared.names.NodeId.TheVariants.{Core, CuCp};
 ghost use Rattle.law_tunnel_names.specs.CuCps.{CoreNames, CpNames};
 ghost use Rattle.law_tunnel_names.specs.Names.{AnswerNames, by_test, InputNames, Names, Test};
-ghost use Rattle.unit_defs.specs.Core.{core_acts, CoreRecord};
-ghost use Rattle.unit_defs.specs.CpRecords.{CuCpRecord};
-ghost use Rattle.unit_defs.specs.CuCp.{cu_cp_acts};
-ghost use Rattle.unit_defs.specs.Ways.{Input, Message, Way};
+ghost use Rattle.law_unit_packets.specs.unit_defs.Core.{core_acts, CoreRecord};
+ghost use Rattle.law_unit_packets.specs.unit_defs.CpRecords.{CuCpRecord};
+ghost use Rattle.law_unit_packets.specs.unit_defs.CuCp.{cu_cp_acts};
+ghost use Rattle.law_unit_packets.specs.unit_defs.Ways.{Input, Message, Way};
 
 /// Whatever book says for which terminal, bearer and kind a TEID of a CU-UP or a DU may be named: where a message that comes
 /// names tunnels as the book has it, and all that a CU-CP keeps does, so do all messages that it puts then, and all that it

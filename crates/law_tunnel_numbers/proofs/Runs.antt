@@ -43,8 +43,8 @@ use Rattle.law_run_control.specs.Control.{control_of}
 use Rattle.law_run_control.proofs.Runs.{made_holds}
 use Rattle.law_downlink_names.specs.Places.{DownlinkTeid, Story, SwitchIs}
 use Rattle.law_downlink_grants.specs.Grants.{IsLeft}
-use Rattle.law_run_switches.proofs.Steps.{PlainLetter, LetterIs}
-use Rattle.law_run_switches.proofs.Runs.{IsGood, all_kept, good_placed, good_from_here, unnamed, first_good}
+use Rattle.law_number_facts.proofs.law_run_switches.Steps.{PlainLetter, LetterIs}
+use Rattle.law_number_facts.proofs.law_run_switches.Runs.{IsGood, all_kept, good_placed, good_from_here, unnamed, first_good}
 use Rattle.law_tunnel_numbers.specs.Tunnels.{AreNumbered, put_on, puts_by, puts_in, put_there}
 use Rattle.law_tunnel_numbers.proofs.Lines.{numbered_then, Tells, act_tells}
 use Rattle.law_number_facts.proofs.Units.{Records, Phase, seen_at, Ups}

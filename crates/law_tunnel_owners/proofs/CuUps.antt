@@ -35,9 +35,9 @@ use Rattle.unit_defs.specs.UpRecords.{UpBearer, UpContext, CuUp, TunnelKind, UpT
 use Rattle.unit_defs.specs.UpBearers.{teids_of_bearer, with_uplink, switched, frozen_to, with_status, resumed, is_over, has_downlink, framed}
 use Rattle.unit_defs.specs.UpItems.{held_reason, took}
 use Rattle.unit_defs.specs.CuUp.{bearers_from, with_context, context_of, with_transactions, up_node, UpStep, steps, stops, step_with, each_bearer, answer_with, ended, ended_if_over, end_where_over, replies, new_context, with_new, makes, fits, set_up_for, setup_response, setup_on, setup, modified, uplinks_from, teids_from, uplinks_given, add_uplinks, as_switched, switch, as_frozen, peer_node, statuses, freeze, as_known, status_each, take_status, as_resumed, resume, names, switch_if, freeze_if, status_if, resume_if, modify_on, as_released, released_on, release, asked, start, set_up, control_by, ue_in, is_own_cp, control_came, with_bearer, taken_by, taken_in, taken_of, taken_on, take, poll_bearer, poll_on, poll, tick, cu_up_acts}
-use Rattle.law_teids.proofs.Grows.{below_left}
-use Rattle.law_teids.proofs.Bearers.{Ends, Stays, Took, ends, closed_by, without_n3, without_uplink, poll_stays, switched_stays, frozen_stays, status_stays, resumed_stays, item_took}
-use Rattle.law_teids.proofs.CuUps.{Gives, cu_up_gives}
+use Rattle.law_owner_facts.proofs.law_teids.Grows.{below_left}
+use Rattle.law_owner_facts.proofs.law_teids.Bearers.{Ends, Stays, Took, ends, closed_by, without_n3, without_uplink, poll_stays, switched_stays, frozen_stays, status_stays, resumed_stays, item_took}
+use Rattle.law_owner_facts.proofs.law_teids.CuUps.{Gives, cu_up_gives}
 use Rattle.law_owner_facts.specs.Owned.{ends_of, has_end, WereGiven, UpOwns}
 use Rattle.law_answers.specs.After.{HoldsAfter}
 use Rattle.law_owner_facts.proofs.Owners.{given_then, second_of}

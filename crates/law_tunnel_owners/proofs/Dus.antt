@@ -38,9 +38,9 @@ use Rattle.gnb_types.proofs.OrderLemmas.{ue_total, bearer_total, bearer_exact}
 use Rattle.tables.specs.Tables.{without, IsSorted}
 use Rattle.tables.proofs.TableLaws.{find-put, find-without, sorted-put}
 use Rattle.unit_defs.specs.UpBearers.{is_one_of}
-use Rattle.law_teids.specs.Given.{count_from}
-use Rattle.law_teids.proofs.Grows.{below_left, fewer_each}
-use Rattle.law_teids.proofs.Dus.{Gives, du_gives, made_counted, anew_counted, AreCounted}
+use Rattle.law_owner_facts.specs.law_teids.Given.{count_from}
+use Rattle.law_owner_facts.proofs.law_teids.Grows.{below_left, fewer_each}
+use Rattle.law_owner_facts.proofs.law_teids.Dus.{Gives, du_gives, made_counted, anew_counted, AreCounted}
 use Rattle.law_owner_facts.specs.Owned.{is_downlink, du_context_names, du_names, AreNamed, WereGiven, DuInOrder, DuOwns}
 use Rattle.law_answers.specs.After.{HoldsAfter}
 use Rattle.law_owner_facts.proofs.Owners.{given_then, first_of, second_of, unless, holds_not, one_or, one_owner, same_names, named_without, put_each, AreFrom, IsIn, named_given}

@@ -24,12 +24,12 @@ use Rattle.unit_defs.specs.UpRecords.{CuUp, UpContext, UpTunnel}
 use Rattle.unit_defs.specs.CuUp.{new_cu_up, bearers_from, bearers_made}
 use Rattle.unit_defs.specs.Du.{Du, DuContext, DuTunnel, new_du}
 use Rattle.unit_defs.specs.Static.{with_downlinks, up_context, up_placed, up_has_teids, uplinks_from, du_context, du_placed, du_has_teids, cp_placed, up_set_up, du_set_up}
-use Rattle.run_defs.specs.Units.{Units, new_units, cp_of, with_cp, up_of, with_up, du_of, with_du, with_ue}
-use Rattle.run_defs.specs.Conditions.{is_held_by_units, units_placed, all_set_up}
-use Rattle.law_teids.proofs.Grows.{below_left}
-use Rattle.law_teids.proofs.CuUps.{Entry}
-use Rattle.law_teids.proofs.Dus.{made_counted}
-use Rattle.law_teids.proofs.Placed.{same_ends, up_grows, du_grows, find_mapped}
+use Rattle.law_owner_facts.specs.run_defs.Units.{Units, new_units, cp_of, with_cp, up_of, with_up, du_of, with_du, with_ue}
+use Rattle.law_owner_facts.specs.run_defs.Conditions.{is_held_by_units, units_placed, all_set_up}
+use Rattle.law_owner_facts.proofs.law_teids.Grows.{below_left}
+use Rattle.law_owner_facts.proofs.law_teids.CuUps.{Entry}
+use Rattle.law_owner_facts.proofs.law_teids.Dus.{made_counted}
+use Rattle.law_owner_facts.proofs.law_teids.Placed.{same_ends, up_grows, du_grows, find_mapped}
 use Rattle.law_owner_facts.specs.Owned.{up_names, du_names, AreNamed, WereGiven, UpInOrder, DuInOrder, UpOwns, DuOwns, AreOwned}
 use Rattle.law_owner_facts.proofs.Owners.{first_of, second_of, both_of, given_then, AreFrom}
 use Rattle.law_owner_facts.proofs.UpEnds.{Bearers, made_from, made_in_order}

@@ -5,19 +5,20 @@ use Rattle.gnb_types.specs.declared.names.NodeId.{NodeId}
 use Rattle.gnb_types.specs.declared.names.NodeId.TheVariants.{CuCp, CuUp as up_id, Du as du_id, Core, Ue}
 use Rattle.message_types.specs.declared.rrc.Token.{Token}
 use Rattle.scenario_text.specs.declared.event.Event.{Event}
-use Rattle.unit_defs.specs.Ways.{Message, Pdu, Load, Input, gives, spent}
+use Rattle.unit_defs.specs.Ways.{Message, Pdu, Load, Put, Input, gives, spent}
 use Rattle.unit_defs.specs.Ue.{UeNode, ue_acts}
 use Rattle.unit_defs.specs.UpRecords.{CuUp}
 use Rattle.unit_defs.specs.CuUp.{cu_up_acts}
 use Rattle.unit_defs.specs.Du.{Du, du_acts}
 use Rattle.unit_defs.specs.CpRecords.{CuCpRecord}
 use Rattle.unit_defs.specs.CuCp.{cu_cp_acts}
-use Rattle.run_defs.specs.Units.{Units, cp_of, with_cp, up_of, with_up, du_of, with_du, ue_of, with_ue}
-use Rattle.run_defs.specs.Written.{Written, PlainStepped, WrittenStepped, written_step}
-use Rattle.run_defs.specs.States.{State, Lengths, stepped, step_spent}
-use Rattle.run_defs.specs.Runs.{Reading, PlainGiven, Plain, plain_way, input_of, stepped_with, ue_stepped, acts_on, plain_by, plain_world}
-use Rattle.law_steps.specs.Reached.{reached}
-use Rattle.law_steps.proofs.Frames.{reached_relates}
+use Rattle.law_owner_facts.specs.run_defs.Units.{Units, cp_of, with_cp, up_of, with_up, du_of, with_du, ue_of, with_ue}
+use Rattle.law_owner_facts.specs.run_defs.Written.{Written, PlainStepped, WrittenStepped, written_step}
+use Rattle.law_owner_facts.specs.run_defs.States.{State, Lengths, stepped, step_spent, goes, RunStep}
+use Rattle.law_owner_facts.specs.run_defs.Runs.{Reading, PlainGiven, Plain, plain_way, input_of, stepped_with, ue_stepped, acts_on, plain_by, plain_world}
+use Rattle.law_owner_facts.specs.law_steps.Made.{Made}
+use Rattle.law_owner_facts.specs.law_steps.Reached.{reached}
+use Rattle.law_owner_facts.proofs.law_steps.Frames.{made_relates, reached_relates}
 use Rattle.law_owner_facts.specs.Owned.{UpOwns, DuOwns, AreOwned}
 use Rattle.law_answers.specs.After.{HoldsAfter}
 use Rattle.law_tunnel_owners.proofs.CuUps.{cu_up_owns}
@@ -79,10 +80,20 @@ module _ (reading : Reading) where
   written lengths u (stepped outputs v) p = p
   written lengths u (step_spent counter) p = tt
 
+  answers_own : (lengths : Lengths) (u v : PlainUnits) (node : NodeId) (given : PlainGiven) (outputs : List (Put (Message Token) (Written (Load Pdu)) (Written Pdu)))
+      → (plain_world reading).answer lengths u node given ≡ stepped outputs v → GoesOn u v
+  answers_own lengths u v node given outputs e = subst (AnsweredWell u) e
+      (written lengths u (plain_by reading u node given (input_of reading given)) (answered u node given (input_of reading given)))
+
+  -- within an event too
+  pub owned_made : (event : Event) (s t : State (Message Token) Token (Written (Load Pdu)) (Written Pdu)) (told : List (RunStep (Message Token)))
+      → Made (plain_world reading) event s (goes told t) → AreOwned s.units → AreOwned t.units
+  owned_made event s t told made =
+      made_relates (plain_world reading) GoesOn (λ u p. p) (λ u v w first second p. second (first p)) answers_own
+      (λ u plan p. p) (λ u plan free room teids p. placed_owned u plan free teids p) event s (goes told t) made
+
   pub owned_later : (events : List Event) (s t : State (Message Token) Token (Written (Load Pdu)) (Written Pdu))
       → reached (plain_world reading) events s ≡ Some t → AreOwned s.units → AreOwned t.units
   owned_later events s t is =
-      reached_relates (plain_world reading) GoesOn (λ u p. p) (λ u v w first second p. second (first p))
-      (λ lengths u v node given outputs e. subst (AnsweredWell u) e
-      (written lengths u (plain_by reading u node given (input_of reading given)) (answered u node given (input_of reading given))))
+      reached_relates (plain_world reading) GoesOn (λ u p. p) (λ u v w first second p. second (first p)) answers_own
       (λ u plan p. p) (λ u plan free room teids. placed_owned u plan free teids) events s t is

@@ -15,11 +15,11 @@ use Rattle.unit_defs.specs.CpRecords.{CuCpRecord}
 use Rattle.unit_octet_defs.specs.Codec.{Codec, octet_way}
 use Rattle.unit_octet_defs.specs.Reading.{ReadInput, read_at_cu_up, read_at_du}
 use Rattle.unit_octet_defs.specs.Units.{OctetAnswer, acts_on, cu_cp_steps, cu_up_steps, du_steps, ue_steps}
-use Rattle.run_defs.specs.Units.{cp_of, with_cp, up_of, with_up, du_of, with_du, ue_of, with_ue}
-use Rattle.run_defs.specs.States.{State, stepped, step_spent}
-use Rattle.run_defs.specs.UnitRuns.{Records, UnitAnswer, unit_gives, unit_spent, OctetStepped, stepped_by, unit_world, answered_with, ue_answers, input_of, tables}
-use Rattle.law_steps.specs.Reached.{reached}
-use Rattle.law_steps.proofs.Frames.{reached_relates}
+use Rattle.law_owner_facts.specs.run_defs.Units.{cp_of, with_cp, up_of, with_up, du_of, with_du, ue_of, with_ue}
+use Rattle.law_owner_facts.specs.run_defs.States.{State, stepped, step_spent}
+use Rattle.law_owner_facts.specs.run_defs.UnitRuns.{Records, UnitAnswer, unit_gives, unit_spent, OctetStepped, stepped_by, unit_world, answered_with, ue_answers, input_of, tables}
+use Rattle.law_owner_facts.specs.law_steps.Reached.{reached}
+use Rattle.law_owner_facts.proofs.law_steps.Frames.{reached_relates}
 use Rattle.law_owner_facts.specs.Owned.{UpOwns, DuOwns, AreOwned}
 use Rattle.law_answers.specs.After.{HoldsAfter}
 use Rattle.law_tunnel_owners.proofs.CuUps.{cu_up_owns}

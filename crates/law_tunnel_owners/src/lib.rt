@@ -1,14 +1,14 @@
 //! Laws of the owners of tunnels. Each function does nothing: its contract is the law.
 #![tactic(auto)]
 
-ghost use Rattle.law_steps.specs.Reached.{reached};
+ghost use Rattle.law_owner_facts.specs.law_steps.Reached.{reached};
 ghost use Rattle.law_owner_facts.specs.Owned.{up_names, du_names, UpOwns, DuOwns, AreOwned};
 ghost use Rattle.law_answers.specs.After.{HoldsAfter};
 ghost use Rattle.message_types.specs.declared.rrc.Token.{Token};
-ghost use Rattle.run_defs.specs.Runs.{plain_world, Reading};
-ghost use Rattle.run_defs.specs.States.{new_state, State};
-ghost use Rattle.run_defs.specs.UnitRuns.{tables, unit_world};
-ghost use Rattle.run_defs.specs.Written.{Written};
+ghost use Rattle.law_owner_facts.specs.run_defs.Runs.{plain_world, Reading};
+ghost use Rattle.law_owner_facts.specs.run_defs.States.{new_state, State};
+ghost use Rattle.law_owner_facts.specs.run_defs.UnitRuns.{tables, unit_world};
+ghost use Rattle.law_owner_facts.specs.run_defs.Written.{Written};
 ghost use Rattle.scenario_text.specs.declared.event.Event.{Event};
 ghost use Rattle.std.specs.Prelude.{List, Some, ℕ, ◌≡◌, true};
 ghost use Rattle.unit_defs.specs.CuUp.{cu_up_acts};

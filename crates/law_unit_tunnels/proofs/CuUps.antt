@@ -36,8 +36,8 @@ use Rattle.unit_defs.specs.UpBearers.{made, teids_of_bearer, teid_in, with_uplin
 use Rattle.unit_defs.specs.UpItems.{held_reason, took}
 use Rattle.unit_defs.specs.CuUp.{bearers_from, bearers_made, entries_of, with_context, context_of, with_transactions, up_node, UpStep, steps, stops, step_with, each_bearer, answer_with, ended, ended_if_over, end_where_over, replies, first_uplink, forward_list, new_context, opened_of, with_new, makes, fits, set_up_for, setup_response, setup_on, setup, modified, uplinks_from, teids_from, uplinks_given, add_uplinks, as_switched, switch, as_frozen, peer_node, statuses, freeze, as_known, status_each, take_status, as_resumed, resume, names, uplinks_if, switch_if, freeze_if, status_if, resume_if, modify_on, as_released, released_on, release, asked, start, set_up, control_by, ue_in, control_came, with_bearer, taken_by, taken_in, taken_of, taken_on, take, poll_bearer, poll_on, poll, due_output, tick, cu_up_acts}
 use Rattle.law_intervals.proofs.Intervals.{all_append, all_filter}
-use Rattle.law_unit_packets.proofs.Answers.{all_map, all_flat}
-use Rattle.law_unit_packets.proofs.Keyed.{keyed_found, keyed_put}
+use Rattle.law_tunnel_names.proofs.law_unit_packets.Answers.{all_map, all_flat}
+use Rattle.law_tunnel_names.proofs.law_unit_packets.Keyed.{keyed_found, keyed_put}
 use Rattle.law_tunnel_names.specs.Names.{Property, IfAny, UpList, OwnUpList, Names, SwitchNames, FreezeNames, InputNames, OutputNames, OutputsName, AnswerNames, KeptNames}
 use Rattle.law_tunnel_names.proofs.Kept.{either as either_way, after as after_one, closed_names, ask_names, advance_names, replied_names, on_request_with, on_reply_names, DueNames, due_names, ticked_names}
 use Rattle.law_unit_tunnels.specs.Units.{Each, BearerNames, BearerHolds, UpHolds, NoneIsFree, UpNames, AnswerIf}

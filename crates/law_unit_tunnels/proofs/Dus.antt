@@ -33,8 +33,8 @@ use Rattle.unit_defs.specs.Transactions.{Kind, request, reply, transfer, kind_of
 use Rattle.unit_defs.specs.UpRecords.{f1u_uplink}
 use Rattle.unit_defs.specs.Du.{DuBearer, DuContext, DuTunnel, Du, du_node, context_of, with_transactions, downlinks_of, downlink_list, bearers_made, bearers_anew, replies, closings, openings, old_downlinks, replaced, replaces, context_with, setup, context_anew, modify_on, modify, end_markers, released_on, release, relayed_down, relay_down, relayed_up, relay_up, token_ue, start, set_up, asked, transferred, of_cp, of_terminal, control_came, missing, is_missing, told, gap_after, carried, with_bearer, frame_came, taken_in, taken_of, taken_on, take, of_bearer, of_context, pass_up, confirmed, confirm, due_output, tick, du_acts}
 use Rattle.law_intervals.proofs.Intervals.{all_append, all_filter}
-use Rattle.law_unit_packets.proofs.Answers.{all_map}
-use Rattle.law_unit_packets.proofs.Keyed.{keyed_found, keyed_put}
+use Rattle.law_tunnel_names.proofs.law_unit_packets.Answers.{all_map}
+use Rattle.law_tunnel_names.proofs.law_unit_packets.Keyed.{keyed_found, keyed_put}
 use Rattle.law_tunnel_names.specs.Names.{Property, Names, PeerList, DuList, InputNames, PutOn, OutputNames, OutputsName, AnswerNames, KeptNames}
 use Rattle.law_tunnel_names.proofs.Kept.{either as either_way, after as after_one, closed_names, ask_names, advance_names, replied_names, on_request_with, on_reply_names, DueNames, due_names, ticked_names}
 use Rattle.law_unit_tunnels.specs.Units.{Each, UpTeid, UplinkNames, DownlinkHolds, DuHolds, DuNames, AnswerIf}
@@ -311,10 +311,10 @@ module _ {M C P : Type 0} {way : Way M C P} (is : Property way) (gnb : Gnb) (num
       by None e = (p, (tt, tt))
       by (Some b) e = each c b (found_length r ue c p there) (keyed_found bearer_cmp bearer_exact (UplinkNames is.owners ue) c.bearers bearer b (found_context r ue c p there) e)
 
-  confirmed_names : (ue : UeId) (bearer : BearerId) (r : Record) (b : DuBearer) (n : Option ℕ) → UplinkNames is.owners ue bearer b → Good r
-      → Fits (confirmed way ue bearer r b n)
-  confirmed_names ue bearer r b None names p = (p, tt)
-  confirmed_names ue bearer r b (Some n) names p = (p, ((put_up b.up ue bearer b.uplink Dl names, tt), tt))
+  confirmed_names : (ue : UeId) (bearer : BearerId) (r : Record) (c : DuContext) (b : DuBearer) (n : Option ℕ) → Long ue c → UplinkNames is.owners ue bearer b
+      → Good r → Fits (confirmed way ue bearer r b n)
+  confirmed_names ue bearer r c b None long names p = (p, tt)
+  confirmed_names ue bearer r c b (Some n) long names p = (p, ((put_up b.up ue bearer b.uplink Dl names, (c.sn, long)), tt))
 
   -- ---- F1 Setup, a tick, and the table
 
@@ -352,7 +352,7 @@ module _ {M C P : Type 0} {way : Way M C P} (is : Property way) (gnb : Gnb) (num
   du_names r (confirm_input ue bearer Dl pdu content) names p =
       simply (of_context way r (λ c b. confirmed way ue bearer r b (way.number c.sn pdu)) bearer (context_of r ue))
       (of_context_names r ue (λ c b. confirmed way ue bearer r b (way.number c.sn pdu)) bearer (context_of r ue) refl p
-      (λ d b long h. confirmed_names ue bearer r b (way.number d.sn pdu) h p))
+      (λ d b long h. confirmed_names ue bearer r d b (way.number d.sn pdu) long h p))
   du_names r tick_input names p = simply (tick way r) (tick_names r p)
   du_names r (order_input orders.Start) names p = simply (start way r) (start_names r p)
   du_names r input names p = λ h. (p, (tt, tt))

@@ -23,7 +23,7 @@ use Rattle.unit_defs.specs.declared.TokenKind.{TokenKind}
 use Rattle.unit_defs.specs.Transactions.{kind_of}
 use Rattle.unit_defs.specs.Ways.{Message, rrc, report_pdu, Content, packet_content, report_content, Output, deliver, held, no, Input, control_input, radio_input, confirm_input, offer_input, tick_input, order_input, Way, Answer, gives, spent, ◌then◌, nothing, puts, drops, counts_spent, epochs_spent}
 use Rattle.unit_defs.specs.Ue.{UeBearer, UeNode, last_epoch, largest_packet, is_connected, is_accessing, may_return, on_air, data_output, unconfirmed_outputs, number_each, number_waiting, connect_bearer, with_bearer, with_bearers, connect_each, connect, of_bearer, at_bearer, token_of, said, says_it, may_obey, obey, arrived, arrive, returned, return_to, come_back, accepted_in, accept, fail, used_uplink, offered, offer, handed, took_data, took, take, confirmed_if, confirmed, confirm, told, told_by, ue_acts}
-use Rattle.law_unit_packets.proofs.Answers.{all_map}
+use Rattle.law_tunnel_names.proofs.law_unit_packets.Answers.{all_map}
 use Rattle.law_tunnel_names.specs.Names.{Property, OutputNames, OutputsName, AnswerNames}
 use Rattle.law_tunnel_names.proofs.Kept.{either as either_way, after as after_one}
 use Rattle.law_unit_tunnels.specs.Units.{IsLong}

@@ -18,7 +18,7 @@ use Rattle.unit_defs.specs.Ways.{packet_pdu, report_pdu, Content, packet_content
 use Rattle.unit_defs.specs.UpRecords.{Downlink, SourceHop, UpBearer, TunnelKind, n3, f1u_uplink, forwarding_down, forwarding_up, UpAt}
 use Rattle.unit_defs.specs.UpBearers.{last_frame, has_downlink, owed, thawed, no_uplink, bits_in, framed_on, framed, sent, sent_again, number_each, number_waiting, deliver_stored, put_down, forwarded_down, put_up, forwarded_up, begin_downlink, begin_where_known, switched, forward_numbered, forward_fresh, forward_late, frozen_to, with_status, resumed}
 use Rattle.unit_defs.specs.UpItems.{took_fresh, closed_n3, n3_ended, restored_at, took_numbered, stored_at, passed_up, took_uplink, took_report, took_content, confirmed_if, lost_frames, took_delivery_status, up_hop_ends_if, uplink_ended, up_ended, took}
-use Rattle.law_unit_packets.proofs.Answers.{all_map}
+use Rattle.law_tunnel_names.proofs.law_unit_packets.Answers.{all_map}
 use Rattle.law_tunnel_names.specs.Names.{Property, LoadNames, PutOn, OutputNames, AnswerNames}
 use Rattle.law_tunnel_names.proofs.Kept.{either as either_way, after as after_one}
 use Rattle.law_unit_tunnels.specs.Units.{UpTeid, DuTeid, DownlinkNames, HopNames, BearerNames}

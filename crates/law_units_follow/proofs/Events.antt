@@ -48,20 +48,20 @@ holds_not : (b : Bool) → not b ≡ false → b ≡ true
 holds_not true e = refl
 holds_not false e = absurd cc
 
-module _ {M C L P : Type 0} (two : Two M C L P) (there : SameThere two) (event : Event) where
+module _ {M C L P : Type 0} (two : Two M C L P) (there : SameThere two) (event : Event) (scripted : IsScripted two.input two.packet two.plan event) where
   -- ---- static, start and attach
 
-  pub both_static : (plan : Plan) → BothKeep two (static (first two) plan) (static (second two) plan)
+  pub both_static : (plan : Plan) → event ≡ events.Static plan → BothKeep two (static (first two) plan) (static (second two) plan)
   unfolding static
-  both_static plan s h =
+  both_static plan is s h =
       both_choose two (was_attached s plan.ue || is_held_by_units plan s.units) _ _ _ _ (λ a. (refl, h))
       (λ free. both_choose two (not (up_has_room (up_of s.units plan.gnb plan.up) plan)) _ _ _ _ (λ a. (refl, h))
       (λ room. both_choose two (up_has_teids (up_of s.units plan.gnb plan.up) plan && du_has_teids (du_of s.units plan.gnb plan.du) plan) _ _ _ _
-      (λ teids. (
+      (λ teids. let planned : two.plan plan = subst (IsScripted two.input two.packet two.plan) is scripted in (
         refl,
         statically_holds (first two) two.facts plan s h
-            (there.placed s.units plan (or_parts (was_attached s plan.ue) _ free).1 (holds_not _ room) teids h.units)
-            (there.core_placed s.core plan (n3_from 1 (up_of s.units plan.gnb plan.up).next_teid plan.bearers) h.core),
+            (there.placed s.units plan planned (or_parts (was_attached s plan.ue) _ free).1 (holds_not _ room) teids h.units)
+            (there.core_placed s.core plan planned (n3_from 1 (up_of s.units plan.gnb plan.up).next_teid plan.bearers) h.core),
       )) (λ a. (refl, tt))))
 
   pub both_each : (f g : NodeId → State M C L P → Outcome M C L P) → ((node : NodeId) → BothKeep two (f node) (g node)) → (nodes : List NodeId)
@@ -75,7 +75,7 @@ module _ {M C L P : Type 0} (two : Two M C L P) (there : SameThere two) (event :
   both_start s h =
       both_choose two s.started _ _ _ _ (λ a. (refl, h))
       (λ a. both_each (λ node. step (first two) node (order_for orders.Start)) (λ node. step (second two) node (order_for orders.Start))
-      (λ node. both_order two there event node orders.Start) starting_nodes (record s { started = true })
+      (λ node. both_order two there event scripted node orders.Start tt) starting_nodes (record s { started = true })
       (same_links (first two) two.facts 0 s (record s { started = true }) h refl refl refl refl refl))
 
   pub both_attach : (plan : Plan) → event ≡ events.Attach plan → BothKeep two (attach (first two) plan) (attach (second two) plan)
@@ -85,7 +85,7 @@ module _ {M C L P : Type 0} (two : Two M C L P) (there : SameThere two) (event :
       (λ fresh. both_choose two (not (has_started plan s)) _ _ _ _ (λ a. (refl, h))
       (λ a. both_ordered two s h (does (first two) (CuCp plan.gnb) (order_for (orders.Attach plan)) None (with_terminal (first two) plan) s)
       (does (second two) (CuCp plan.gnb) (order_for (orders.Attach plan)) None (with_terminal (second two) plan) s)
-      (both_does two there event (by_attach plan) s h (is, fresh) tt)))
+      (both_does two there event scripted (by_attach plan) s h (is, fresh) tt)))
 
   -- ---- offer
 
@@ -112,16 +112,16 @@ module _ {M C L P : Type 0} (two : Two M C L P) (there : SameThere two) (event :
       t = offered (first two) (entity ue bearer Dl) s
 
   both_offer_by : (dir : Dir) (ue : UeId) (bearer : BearerId) (p : List ℕ) → event ≡ events.Offer ue bearer dir p
-      → IsScripted two.input two.packet (events.Offer ue bearer dir p) → (s : State M C L P) → Hold two.facts s → has_bearer s ue bearer ≡ true
+      → IsScripted two.input two.packet two.plan (events.Offer ue bearer dir p) → (s : State M C L P) → Hold two.facts s → has_bearer s ue bearer ≡ true
       → Both two (offer_by (first two) dir ue bearer p s) (offer_by (second two) dir ue bearer p s)
   both_offer_by Dl ue bearer p is fits s h has = both_on_path ue bearer p fits s h (find ue_cmp s.core.paths ue) refl
   both_offer_by Ul ue bearer p is fits s h has =
       both_ordered two s h (does (first two) (Ue ue.0) (offer_for ue bearer p) None (λ t. goes_on (offered (first two) (entity ue bearer Ul) t)) s)
       (does (second two) (Ue ue.0) (offer_for ue bearer p) None (λ t. goes_on (offered (second two) (entity ue bearer Ul) t)) s)
-      (both_does two there event (by_offer ue bearer p) s h (is, has) fits)
+      (both_does two there event scripted (by_offer ue bearer p) s h (is, has) fits)
 
   pub both_offer : (ue : UeId) (bearer : BearerId) (dir : Dir) (p : List ℕ) → event ≡ events.Offer ue bearer dir p
-      → IsScripted two.input two.packet (events.Offer ue bearer dir p)
+      → IsScripted two.input two.packet two.plan (events.Offer ue bearer dir p)
       → BothKeep two (offer (first two) ue bearer dir p) (offer (second two) ue bearer dir p)
   unfolding offer
   both_offer ue bearer dir p is fits s h =
@@ -141,7 +141,7 @@ module _ {M C L P : Type 0} (two : Two M C L P) (there : SameThere two) (event :
   both_get_on end s h (Some []) found = (refl, h)
   both_get_on end s h (Some (item ∷ rest)) found =
       both_by two (get_done (first two) end item rest s) (get_done (second two) end item rest s) (got_by (first two) end s) (got_by (second two) end s)
-      (both_does two there event (by_item end item rest) s h found tt) (both_got end s h)
+      (both_does two there event scripted (by_item end item rest) s h found tt) (both_got end s h)
 
   pub both_get : (end : TunnelEnd) → BothKeep two (get (first two) end) (get (second two) end)
   unfolding get
@@ -160,7 +160,7 @@ module _ {M C L P : Type 0} (two : Two M C L P) (there : SameThere two) (event :
   both_air_item key home s h ready None found = (refl, h)
   both_air_item key home s h ready (Some item) found =
       both_by two (carry_done (first two) key home item s) (carry_done (second two) key home item s) (carried_by (first two) key home s)
-      (carried_by (second two) key home s) (both_does two there event (by_air key home item) s h (ready, found) tt) (both_carried key home s h)
+      (carried_by (second two) key home s) (both_does two there event scripted (by_air key home item) s h (ready, found) tt) (both_carried key home s h)
 
   both_air_at : (key : EntityKey) (s : State M C L P) → Hold two.facts s → (o : Option NodeId) → ready_home s key.ue ≡ o
       → Both two (air_at (first two) key s o) (air_at (second two) key s o)
@@ -178,7 +178,7 @@ module _ {M C L P : Type 0} (two : Two M C L P) (there : SameThere two) (event :
   both_ack_items key home s h ready (item ∷ rest) are =
       both_choose two ((radio_of s key).carried == 0) _ _ _ _ (λ a. (refl, h))
       (λ some. both_ordered two s h (confirm_done (first two) key home item rest s) (confirm_done (second two) key home item rest s)
-      (both_does two there event (by_ack key home item rest) s h (ready, are, some) tt))
+      (both_does two there event scripted (by_ack key home item rest) s h (ready, are, some) tt))
 
   both_ack_at : (key : EntityKey) (s : State M C L P) → Hold two.facts s → (o : Option NodeId) → ready_home s key.ue ≡ o
       → Both two (ack_at (first two) key s o) (ack_at (second two) key s o)
@@ -255,7 +255,7 @@ module _ {M C L P : Type 0} (two : Two M C L P) (there : SameThere two) (event :
       both_choose two (takes_letters s node) _ _ _ _
       (λ takes. both_ordered two s h (does (first two) node (letter_for l.from l.message) None (landed_as (first two) number l) s)
       (does (second two) node (letter_for l.from l.message) None (landed_as (second two) number l) s)
-      (both_does two there event (by_letter number l node) s h (found, at, takes) tt))
+      (both_does two there event scripted (by_letter number l node) s h (found, at, takes) tt))
       (λ a. (refl, both_land number l s h))
 
   both_to : (number : ℕ) (l : Letter M) (node : NodeId) (s : State M C L P) → Hold two.facts s → letter s.bag number ≡ Some l → l.to ≡ node
@@ -341,7 +341,7 @@ module _ {M C L P : Type 0} (two : Two M C L P) (there : SameThere two) (event :
   unfolding step
   both_tick_of node s h =
       both_ordered two s h (does (first two) node tick_for None goes_on s) (does (second two) node tick_for None goes_on s)
-      (both_does two there event (by_tick node) s h tt tt)
+      (both_does two there event scripted (by_tick node) s h tt tt)
 
   pub both_tick : BothKeep two (tick (first two)) (tick (second two))
   unfolding tick
@@ -353,7 +353,7 @@ module _ {M C L P : Type 0} (two : Two M C L P) (there : SameThere two) (event :
   both_poll_at ue bearer gnb None s h = (refl, h)
   both_poll_at ue bearer gnb (Some place) s h =
       both_choose two (is_unconfirmed (up_of s.units gnb place.0) ue bearer) _ _ _ _
-      (λ a. both_order two there event (CuUp gnb place.0) (orders.Poll ue bearer) s h) (λ a. (refl, h))
+      (λ a. both_order two there event scripted (CuUp gnb place.0) (orders.Poll ue bearer) tt s h) (λ a. (refl, h))
 
   pub both_poll : (ue : UeId) (bearer : BearerId) → BothKeep two (poll (first two) ue bearer) (poll (second two) ue bearer)
   unfolding poll
@@ -366,26 +366,26 @@ module _ {M C L P : Type 0} (two : Two M C L P) (there : SameThere two) (event :
   unfolding fail
   both_fail ue s h =
       both_choose two (not (is_attached s ue)) _ _ _ _ (λ a. (refl, h))
-      (λ a. both_choose two (is_connected (state_at s ue)) _ _ _ _ (λ b. both_order two there event (Ue ue.0) (orders.Fail ue) s h) (λ b. (refl, h)))
+      (λ a. both_choose two (is_connected (state_at s ue)) _ _ _ _ (λ b. both_order two there event scripted (Ue ue.0) (orders.Fail ue) tt s h) (λ b. (refl, h)))
 
   pub both_arrive : (ue : UeId) → BothKeep two (arrive (first two) ue) (arrive (second two) ue)
   unfolding arrive
   both_arrive ue s h =
       both_choose two (not (is_attached s ue)) _ _ _ _ (λ a. (refl, h))
-      (λ a. both_choose two (is_accessing (state_at s ue)) _ _ _ _ (λ b. both_order two there event (Ue ue.0) (orders.Arrive ue) s h) (λ b. (refl, h)))
+      (λ a. both_choose two (is_accessing (state_at s ue)) _ _ _ _ (λ b. both_order two there event scripted (Ue ue.0) (orders.Arrive ue) tt s h) (λ b. (refl, h)))
 
   pub both_come_back : (ue : UeId) → BothKeep two (come_back (first two) ue) (come_back (second two) ue)
   unfolding come_back
   both_come_back ue s h =
       both_choose two (not (is_attached s ue)) _ _ _ _ (λ a. (refl, h))
       (λ a. both_choose two (not (is_some (ue_home (ue_of s.units ue)))) _ _ _ _ (λ b. (refl, h))
-      (λ b. both_choose two (may_return (state_at s ue)) _ _ _ _ (λ c. both_order two there event (Ue ue.0) (orders.Return ue) s h) (λ c. (refl, h))))
+      (λ b. both_choose two (may_return (state_at s ue)) _ _ _ _ (λ c. both_order two there event scripted (Ue ue.0) (orders.Return ue) tt s h) (λ c. (refl, h))))
 
   -- ---- handover, cancel, release
 
   both_handover_to : (gnb : Gnb) (o : Option Plan) → BothKeep two (λ s. handover_to (first two) s gnb o) (λ s. handover_to (second two) s gnb o)
   both_handover_to gnb None s h = (refl, h)
-  both_handover_to gnb (Some goal) s h = both_order two there event (CuCp gnb) (orders.Handover goal) s h
+  both_handover_to gnb (Some goal) s h = both_order two there event scripted (CuCp gnb) (orders.Handover goal) tt s h
 
   pub both_handover : (ue : UeId) (gnb : Gnb) (up du : ℕ) → BothKeep two (handover (first two) ue gnb up du) (handover (second two) ue gnb up du)
   unfolding handover
@@ -400,8 +400,8 @@ module _ {M C L P : Type 0} (two : Two M C L P) (there : SameThere two) (event :
   unfolding cancel
   both_cancel ue s h =
       both_choose two (not (is_attached s ue)) _ _ _ _ (λ a. (refl, h))
-      (λ a. both_choose two (is_source s.units.cp_a ue) _ _ _ _ (λ b. both_order two there event (CuCp A) (orders.Cancel ue) s h)
-      (λ b. both_choose two (is_source s.units.cp_b ue) _ _ _ _ (λ c. both_order two there event (CuCp B) (orders.Cancel ue) s h) (λ c. (refl, h))))
+      (λ a. both_choose two (is_source s.units.cp_a ue) _ _ _ _ (λ b. both_order two there event scripted (CuCp A) (orders.Cancel ue) tt s h)
+      (λ b. both_choose two (is_source s.units.cp_b ue) _ _ _ _ (λ c. both_order two there event scripted (CuCp B) (orders.Cancel ue) tt s h) (λ c. (refl, h))))
 
   pub both_release : (ue : UeId) → event ≡ events.Release ue → BothKeep two (release (first two) ue) (release (second two) ue)
   unfolding release
@@ -410,7 +410,7 @@ module _ {M C L P : Type 0} (two : Two M C L P) (there : SameThere two) (event :
       (λ a. both_choose two (is_busy_with s ue) _ _ _ _ (λ b. (refl, h))
       (λ b. both_ordered two s h (does (first two) (CuCp (serving_gnb s ue)) (order_for (orders.Release ue)) None (leaves (first two) ue) s)
       (does (second two) (CuCp (serving_gnb s ue)) (order_for (orders.Release ue)) None (leaves (second two) ue) s)
-      (both_does two there event (by_release (serving_gnb s ue) ue) s h (is, refl) tt)))
+      (both_does two there event scripted (by_release (serving_gnb s ue) ue) s h (is, refl) tt)))
 
   -- ---- ask, inject
 
@@ -436,7 +436,7 @@ module _ {M C L P : Type 0} (two : Two M C L P) (there : SameThere two) (event :
   unfolding step
   both_octets from to octets fits s h =
       both_ordered two s h (does (first two) to (octets_from from octets) None goes_on s) (does (second two) to (octets_from from octets) None goes_on s)
-      (both_does two there event (by_octets from to octets) s h tt fits)
+      (both_does two there event scripted (by_octets from to octets) s h tt fits)
 
   both_inject_to : (from to : NodeId) (octets : List ℕ) → two.input to (ins.Control from octets)
       → BothKeep two (inject_to (first two) from to octets) (inject_to (second two) from to octets)
@@ -459,7 +459,7 @@ module _ {M C L P : Type 0} (two : Two M C L P) (there : SameThere two) (event :
   unfolding step
   both_octets_on end octets fits s h =
       both_ordered two s h (does (first two) end.node (octets_on end.teid octets) None goes_on s)
-      (does (second two) end.node (octets_on end.teid octets) None goes_on s) (both_does two there event (by_octets_on end octets) s h tt fits)
+      (does (second two) end.node (octets_on end.teid octets) None goes_on s) (both_does two there event scripted (by_octets_on end octets) s h tt fits)
 
   pub both_inject_item : (end : TunnelEnd) (octets : List ℕ) → two.input end.node (ins.Packet end.teid octets)
       → BothKeep two (inject_item (first two) end octets) (inject_item (second two) end octets)

@@ -3,4 +3,4 @@ mod Steps
 mod Events
 mod Settling
 mod Runs
-mod Units
+pub mod Units

@@ -25,18 +25,19 @@ use Rattle.run_defs.specs.Steps.{Done, is_done, is_held, is_refused, does}
 use Rattle.run_defs.specs.Conditions.{serving_gnb, serving_place, state_at, ready_home, epoch_of, receiver_of}
 use Rattle.run_defs.specs.Events.{get_done, carry_done, confirm_done, pump, tick}
 use Rattle.run_defs.specs.Settling.{attached_plans, attached_entities, attached_bearers, Turn, to_acks, to_airs, after_air, after_ack, quietly_by, quiet_order, move_by, move_each, got_in_turn, get_items, get_times, tunnel_turn, tunnels_from, most_tunnels, all_tunnels, aired_by, air_next, acked_by, turn_over, ack_next, turn_at, turn_step, turn_times, radio_turn, all_radios, poll_at, poll_each, round, all_quiet, rounds_from, round_limit, settle}
-use Rattle.law_steps.specs.Causes.{by_order, by_item, by_air, by_ack}
+use Rattle.law_steps.specs.Causes.{IsNoAttach, by_order, by_item, by_air, by_ack}
 use Rattle.law_run_facts.specs.Facts.{Hold}
+use Rattle.law_units_follow.specs.Ranges.{IsScripted}
 use Rattle.law_units_follow.proofs.Steps.{Two, SameThere, first, second, Both, BothKeep, both_choose, both_then, DoneHolds, both_by, both_does}
 use Rattle.law_units_follow.proofs.Events.{both_pump, both_tick}
 
-module _ {M C L P : Type 0} (two : Two M C L P) (there : SameThere two) (event : Event) where
+module _ {M C L P : Type 0} (two : Two M C L P) (there : SameThere two) (event : Event) (scripted : IsScripted two.input two.packet two.plan event) where
   -- ---- 1. terminals arrive or return
 
-  both_quiet_order : (node : NodeId) (order : Order) → BothKeep two (quiet_order (first two) node order) (quiet_order (second two) node order)
-  both_quiet_order node order s h =
+  both_quiet_order : (node : NodeId) (order : Order) → IsNoAttach order → BothKeep two (quiet_order (first two) node order) (quiet_order (second two) node order)
+  both_quiet_order node order other s h =
       both_by two (does (first two) node (order_for order) None goes_on s) (does (second two) node (order_for order) None goes_on s)
-      (quietly_by (first two) s) (quietly_by (second two) s) (both_does two there event (by_order node order) s h tt tt) by
+      (quietly_by (first two) s) (quietly_by (second two) s) (both_does two there event scripted (by_order node order) s h other tt) by
     where
       by : (d : Done M C L P) → DoneHolds two d → Both two (quietly_by (first two) s d) (quietly_by (second two) s d)
       by (is_done outcome) k = (refl, k)
@@ -44,8 +45,8 @@ module _ {M C L P : Type 0} (two : Two M C L P) (there : SameThere two) (event :
       by (is_refused reason) k = (refl, h)
 
   both_move_by : (ue : UeId) (state : UeState) → BothKeep two (λ s. move_by (first two) ue s state) (λ s. move_by (second two) ue s state)
-  both_move_by ue ue_states.Accessing s h = both_quiet_order (Ue ue.0) (orders.Arrive ue) s h
-  both_move_by ue ue_states.Lost s h = both_quiet_order (Ue ue.0) (orders.Return ue) s h
+  both_move_by ue ue_states.Accessing s h = both_quiet_order (Ue ue.0) (orders.Arrive ue) tt s h
+  both_move_by ue ue_states.Lost s h = both_quiet_order (Ue ue.0) (orders.Return ue) tt s h
   both_move_by ue ue_states.Idle s h = (refl, h)
   both_move_by ue ue_states.Connected s h = (refl, h)
   both_move_by ue ue_states.Returning s h = (refl, h)
@@ -80,7 +81,7 @@ module _ {M C L P : Type 0} (two : Two M C L P) (there : SameThere two) (event :
     both_get_items s h [] are = (refl, h)
     both_get_items s h (item ∷ rest) are =
         both_by two (get_done (first two) end item rest s) (get_done (second two) end item rest s) (got_in_turn (first two) end f s)
-        (got_in_turn (second two) end g s) (both_does two there event (by_item end item rest) s h (heads s.tunnels end item rest are) tt)
+        (got_in_turn (second two) end g s) (both_does two there event scripted (by_item end item rest) s h (heads s.tunnels end item rest are) tt)
         (both_got_in_turn s h)
 
   both_get_times : (end : TunnelEnd) (times : ℕ) → BothKeep two (get_times (first two) end times) (get_times (second two) end times)
@@ -122,7 +123,7 @@ module _ {M C L P : Type 0} (two : Two M C L P) (there : SameThere two) (event :
     both_air_next turn home s h ready (Some item) found =
         both_choose two (turn.airs == 0) _ _ _ _ (λ a. k (to_acks turn) s h)
         (λ a. both_by two (carry_done (first two) turn.key home item s) (carry_done (second two) turn.key home item s) (aired_by (first two) f turn home s)
-        (aired_by (second two) g turn home s) (both_does two there event (by_air turn.key home item) s h (ready, found) tt) (both_aired turn home s h))
+        (aired_by (second two) g turn home s) (both_does two there event scripted (by_air turn.key home item) s h (ready, found) tt) (both_aired turn home s h))
 
     both_acked : (turn : Turn) (s : State M C L P) → Hold two.facts s → (d : Done M C L P) → DoneHolds two d
         → Both two (acked_by (first two) f turn s d) (acked_by (second two) g turn s d)
@@ -146,7 +147,7 @@ module _ {M C L P : Type 0} (two : Two M C L P) (there : SameThere two) (event :
         (λ a. both_turn_over turn s h)
         (λ some. both_by two (confirm_done (first two) turn.key home item rest s) (confirm_done (second two) turn.key home item rest s)
         (acked_by (first two) f turn s) (acked_by (second two) g turn s)
-        (both_does two there event (by_ack turn.key home item rest) s h (ready, are, neither_of _ (turn.acks == 0) some) tt) (both_acked turn s h))
+        (both_does two there event scripted (by_ack turn.key home item rest) s h (ready, are, neither_of _ (turn.acks == 0) some) tt) (both_acked turn s h))
 
     both_turn_at : (turn : Turn) (s : State M C L P) → Hold two.facts s → (o : Option NodeId) → ready_home s turn.key.ue ≡ o
         → Both two (turn_at (first two) f turn s o) (turn_at (second two) g turn s o)
@@ -179,7 +180,7 @@ module _ {M C L P : Type 0} (two : Two M C L P) (there : SameThere two) (event :
   both_poll_at e None s h = (refl, h)
   both_poll_at e (Some place) s h =
       both_choose two (is_unconfirmed (up_of s.units (serving_gnb s e.0) place.0) e.0 e.1) _ _ _ _
-      (λ a. both_quiet_order (CuUp (serving_gnb s e.0) place.0) (orders.Poll e.0 e.1) s h) (λ a. (refl, h))
+      (λ a. both_quiet_order (CuUp (serving_gnb s e.0) place.0) (orders.Poll e.0 e.1) tt s h) (λ a. (refl, h))
 
   both_poll_each : (es : List (UeId × BearerId)) → BothKeep two (poll_each (first two) es) (poll_each (second two) es)
   both_poll_each [] s h = (refl, h)
@@ -198,12 +199,12 @@ module _ {M C L P : Type 0} (two : Two M C L P) (there : SameThere two) (event :
       (both_then two _ _ (λ t. all_radios (first two) (attached_entities t) t) (λ t. all_radios (second two) (attached_entities t) t)
       (both_then two _ _ (all_tunnels (first two)) (all_tunnels (second two))
       (both_then two (move_each (first two) (attached_plans s) s) (move_each (second two) (attached_plans s) s) (pump (first two)) (pump (second two))
-      (both_move_each (attached_plans s) s h) (both_pump two there event))
+      (both_move_each (attached_plans s) s h) (both_pump two there event scripted))
       both_all_tunnels)
       (λ t k. both_all_radios (attached_entities t) t k))
       (λ t k. both_poll_each (attached_bearers t) t k))
-      (both_pump two there event))
-      (both_tick two there event)
+      (both_pump two there event scripted))
+      (both_tick two there event scripted)
 
   both_rounds_from : (rounds left : ℕ) → BothKeep two (rounds_from (first two) rounds left) (rounds_from (second two) rounds left)
   both_rounds_from rounds zero s h = both_choose two (all_quiet (first two) s) _ _ _ _ (λ a. (refl, h)) (λ a. (refl, h))

@@ -15,6 +15,7 @@ use Rattle.gnb_types.specs.declared.plans.Tunnel.{Tunnel}
 use Rattle.gnb_types.specs.Orders.{ue_cmp}
 use Rattle.tables.specs.Tables.{find, put}
 use Rattle.scenario_text.specs.declared.event.Event.{Event}
+use Rattle.scenario_text.specs.declared.event.Event.TheVariants as events
 use Rattle.unit_defs.specs.Ways.{Put, held, no}
 use Rattle.unit_defs.specs.Messages.{teid_of}
 use Rattle.unit_defs.specs.Core.{CorePath, CoreRecord}
@@ -24,11 +25,12 @@ use Rattle.run_defs.specs.Units.{Units, up_of, du_of, with_ue}
 use Rattle.run_defs.specs.States.{State, Given, offer_for, order_for, octets_from, octets_on, Stepped, stepped, step_spent, core_stepped, World, Lengths, spent_counter, goes, stops, told_before, ◌next◌, goes_on, Outcome, as_step, entity, sn_of}
 use Rattle.run_defs.specs.Steps.{letters_spent, too_many_letters, Done, is_done, is_held, is_refused, carried_out, done_with, does, ordered_by, step}
 use Rattle.run_defs.specs.Conditions.{is_held_by_units, units_placed, all_set_up}
-use Rattle.law_steps.specs.Causes.{Cause, by_order, node_of, given_of, count_of, first_of, Stands}
+use Rattle.law_steps.specs.Causes.{Cause, IsNoAttach, by_order, by_attach, node_of, given_of, count_of, first_of, Stands}
 use Rattle.law_run_facts.specs.Facts.{Facts, Hold, PutsFit, GivenFits}
 use Rattle.law_run_facts.proofs.Within.{HoldsWith}
 use Rattle.law_run_facts.proofs.Steps.{taken_has, act_holds}
 use Rattle.law_run_facts.proofs.Runs.{step_holds}
+use Rattle.law_units_follow.specs.Ranges.{IsScripted}
 use Rattle.law_units_follow.proofs.Sames.{answered_by, same_many, same_carried}
 
 -- what a script hands over by itself is in range
@@ -45,6 +47,7 @@ pub record Two (M C L P : Type 0) : Type 1 where
   pub facts : Facts M C L P
   pub input : NodeId → Input → Type 0
   pub packet : List ℕ → Type 0
+  pub plan : Plan → Type 0
 
 -- they answer alike where the facts hold, and the facts go on to hold
 pub record SameThere {M C L P : Type 0} (two : Two M C L P) : Type 0 where
@@ -53,14 +56,14 @@ pub record SameThere {M C L P : Type 0} (two : Two M C L P) : Type 0 where
   pub keeps : (lengths : Lengths) (u v : Units M C) (node : NodeId) (taken : Option ℕ) (given : Given M L P) (outputs : List (Put M L P))
       → two.facts.units u → GivenFits two.facts node taken given → FromScript two.input node given
       → two.world.answer lengths u node given ≡ stepped outputs v → two.facts.units v × PutsFit two.facts node taken outputs
-  pub comes : (u : Units M C) (plan : Plan) → two.facts.units u → two.facts.units (with_ue u plan.ue (new_ue plan))
-  pub placed : (u : Units M C) (plan : Plan) → is_held_by_units plan u ≡ false → up_has_room (up_of u plan.gnb plan.up) plan ≡ true
+  pub comes : (u : Units M C) (plan : Plan) → two.plan plan → two.facts.units u → two.facts.units (with_ue u plan.ue (new_ue plan))
+  pub placed : (u : Units M C) (plan : Plan) → two.plan plan → is_held_by_units plan u ≡ false → up_has_room (up_of u plan.gnb plan.up) plan ≡ true
       → up_has_teids (up_of u plan.gnb plan.up) plan && du_has_teids (du_of u plan.gnb plan.du) plan ≡ true
       → two.facts.units u → two.facts.units (all_set_up (units_placed plan u))
   pub core_answers : (lengths : Lengths) (r q : CoreRecord M C) (given : Given M L P) (outputs : List (Put M L P)) → two.facts.core r
       → GivenFits two.facts Core None given → FromScript two.input Core given → two.world.core_answer lengths r given ≡ core_stepped outputs q
       → two.facts.core q × PutsFit two.facts Core None outputs
-  pub core_placed : (r : CoreRecord M C) (plan : Plan) (n3 : List Tunnel) → two.facts.core r
+  pub core_placed : (r : CoreRecord M C) (plan : Plan) → two.plan plan → (n3 : List Tunnel) → two.facts.core r
       → two.facts.core (record r { paths = put ue_cmp r.paths plan.ue (record { up = CuUp plan.gnb plan.up; n3 = n3 }) })
   pub lays : (r : CoreRecord M C) (ue : UeId) (bearer : BearerId) (p : List ℕ) (path : CorePath) → two.facts.core r → two.packet p
       → find ue_cmp r.paths ue ≡ Some path
@@ -120,19 +123,24 @@ module _ {M C L P : Type 0} (two : Two M C L P) where
       by (is_held reason) k = (refl, h)
       by (is_refused reason) k = (refl, h)
 
-  module _ (there : SameThere two) (event : Event) where
+  module _ (there : SameThere two) (event : Event) (known : IsScripted two.input two.packet two.plan event) where
     module _ (cause : Cause M L P) (s : State M C L P) (h : Hold two.facts s) (stands : Stands event s cause)
         (scripted : FromScript two.input (node_of cause) (given_of cause)) where
+      -- a terminal that comes is that of the script
+      of_script : (plan : Plan) → cause ≡ by_attach plan → two.plan plan
+      of_script plan is =
+          let attaches : event ≡ events.Attach plan = (subst (Stands event s) is stands).0 in subst (IsScripted two.input two.packet two.plan) attaches known
+
       if_few : (outputs : List (Put M L P)) (units : Units M C) → first.answer (sn_of s) s.units (node_of cause) (given_of cause) ≡ stepped outputs units
           → (t : Bool) → too_many_letters first outputs s ≡ t
           → DoneHolds (if t then is_done (stops [] (spent_counter letters_spent))
           else is_done (as_step (Some (node_of cause)) (carried_out first (node_of cause) (count_of cause) (first_of first cause) outputs units s)))
       if_few outputs units is true many = tt
       if_few outputs units is false few =
+          let kept = there.keeps (sn_of s) s.units units (node_of cause) (count_of cause) (given_of cause) outputs h.units (taken_has first two.facts event cause s h stands)
+          scripted is in
           step_holds first two.facts (Some (node_of cause)) _
-          (act_holds first two.facts there.comes event cause outputs units s h stands
-          (there.keeps (sn_of s) s.units units (node_of cause) (count_of cause) (given_of cause) outputs h.units (taken_has first two.facts event cause s h stands) scripted is)
-          few)
+          (act_holds first two.facts event cause outputs units s (λ plan by. there.comes units plan (of_script plan by) kept.0) h stands kept few)
 
       done_holds : (a : Stepped M C L P) → first.answer (sn_of s) s.units (node_of cause) (given_of cause) ≡ a
           → DoneHolds (done_with first (node_of cause) (count_of cause) (first_of first cause) s a)
@@ -160,8 +168,8 @@ module _ {M C L P : Type 0} (two : Two M C L P) where
         done_holds (first.answer (sn_of s) s.units (node_of cause) (given_of cause)) refl,
       )
 
-    pub both_order : (node : NodeId) (order : Order) → BothKeep (step first node (order_for order)) (step second node (order_for order))
+    pub both_order : (node : NodeId) (order : Order) → IsNoAttach order → BothKeep (step first node (order_for order)) (step second node (order_for order))
     unfolding step
-    both_order node order s h =
+    both_order node order other s h =
         both_ordered s h (does first node (order_for order) None goes_on s) (does second node (order_for order) None goes_on s)
-        (both_does (by_order node order) s h tt tt)
+        (both_does (by_order node order) s h other tt)

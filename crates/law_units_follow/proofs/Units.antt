@@ -55,6 +55,7 @@ module _ (codec : Codec) (answer : Meaning) (range : Range) (stays : StaysInRang
     facts = in_range;
     input = range.input;
     packet = range.packet;
+    plan = range.plan;
   }
 
   -- ---- an input, and outputs

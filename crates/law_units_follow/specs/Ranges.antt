@@ -30,27 +30,30 @@ use Rattle.run_defs.specs.Units.{new_units, up_of, du_of, with_ue}
 use Rattle.run_defs.specs.Conditions.{is_held_by_units, units_placed, all_set_up}
 use Rattle.run_defs.specs.UnitRuns.{Meaning, Records, unit_gives, tables}
 
--- any ranges: of the records of units and of the core, of what a node is given, and of the packets that are offered at the core
+-- any ranges: of the records of units and of the core, of what a node is given, of the packets that are offered at the core, and of plans
 pub record Range : Type 1 where
   pub records : Records → Type 0
   pub core : CoreRecord (List ℕ) (List ℕ) → Type 0
   pub input : NodeId → Input → Type 0
   pub packet : List ℕ → Type 0
+  pub plan : Plan → Type 0
 
-abbrev pub within : (Records → Type 0) → (CoreRecord (List ℕ) (List ℕ) → Type 0) → (NodeId → Input → Type 0) → (List ℕ → Type 0) → Range
-within records core input packet = record { records = records; core = core; input = input; packet = packet }
+abbrev pub within : (Records → Type 0) → (CoreRecord (List ℕ) (List ℕ) → Type 0) → (NodeId → Input → Type 0) → (List ℕ → Type 0) → (Plan → Type 0) → Range
+within records core input packet plan = record { records = records; core = core; input = input; packet = packet; plan = plan }
 
 -- what an event of a script hands over by itself
-abbrev pub IsScripted : (NodeId → Input → Type 0) → (List ℕ → Type 0) → Event → Type 0
-IsScripted input packet (events.Offer ue bearer Dl p) = packet p
-IsScripted input packet (events.Offer ue bearer Ul p) = input (Ue ue.0) (ins.Offer ue bearer p)
-IsScripted input packet (events.InjectMessage from to octets) = input to (ins.Control from octets)
-IsScripted input packet (events.InjectItem end teid octets) = input end (ins.Packet teid octets)
-IsScripted input packet event = Unit {0}
+abbrev pub IsScripted : (NodeId → Input → Type 0) → (List ℕ → Type 0) → (Plan → Type 0) → Event → Type 0
+IsScripted input packet planned (events.Static plan) = planned plan
+IsScripted input packet planned (events.Attach plan) = planned plan
+IsScripted input packet planned (events.Offer ue bearer Dl p) = packet p
+IsScripted input packet planned (events.Offer ue bearer Ul p) = input (Ue ue.0) (ins.Offer ue bearer p)
+IsScripted input packet planned (events.InjectMessage from to octets) = input to (ins.Control from octets)
+IsScripted input packet planned (events.InjectItem end teid octets) = input end (ins.Packet teid octets)
+IsScripted input packet planned event = Unit {0}
 
 module _ (range : Range) where
   abbrev pub IsInRange : Event → Type 0
-  IsInRange event = IsScripted range.input range.packet event
+  IsInRange event = IsScripted range.input range.packet range.plan event
 
   -- what a node puts, others are given: its receiver, and on a radio whoever is at it
   abbrev pub Hands : NodeId → Output → Type 0
@@ -66,14 +69,14 @@ pub record StaysInRange (codec : Codec) (answer : Meaning) (range : Range) : Typ
   pub orders : (node : NodeId) (order : Order) → range.input node (ins.Order order)
   pub ticks : (node : NodeId) → range.input node ins.Tick
   pub begins : range.records new_units
-  pub comes : (r : Records) (plan : Plan) → range.records r → range.records (with_ue r plan.ue (new_ue plan))
-  pub places : (r : Records) (plan : Plan) → is_held_by_units plan r ≡ false → up_has_room (up_of r plan.gnb plan.up) plan ≡ true
+  pub comes : (r : Records) (plan : Plan) → range.plan plan → range.records r → range.records (with_ue r plan.ue (new_ue plan))
+  pub places : (r : Records) (plan : Plan) → range.plan plan → is_held_by_units plan r ≡ false → up_has_room (up_of r plan.gnb plan.up) plan ≡ true
       → up_has_teids (up_of r plan.gnb plan.up) plan && du_has_teids (du_of r plan.gnb plan.du) plan ≡ true
       → range.records r → range.records (all_set_up (units_placed plan r))
   pub answers : (r after : Records) (node : NodeId) (input : Input) (outputs : List Output) → range.records r → range.input node input
       → answer r node input ≡ unit_gives outputs after → range.records after × AllByRecursion (Hands range node) outputs
   pub core_begins : range.core new_core
-  pub core_places : (r : CoreRecord (List ℕ) (List ℕ)) (plan : Plan) (n3 : List Tunnel) → range.core r
+  pub core_places : (r : CoreRecord (List ℕ) (List ℕ)) (plan : Plan) → range.plan plan → (n3 : List Tunnel) → range.core r
       → range.core (record r { paths = put ue_cmp r.paths plan.ue (record { up = CuUp plan.gnb plan.up; n3 = n3 }) })
   pub core_answers : (r after : CoreRecord (List ℕ) (List ℕ)) (from : NodeId) (octets : List ℕ) (puts : List (Put (List ℕ) (Load (List ℕ)) (List ℕ)))
       → range.core r → range.input Core (ins.Control from octets) → core_steps codec r from octets ≡ gives puts after

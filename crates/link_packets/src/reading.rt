@@ -14,14 +14,14 @@ use nr_user_plane::ranges::Ranges;
 use pdcp::pdu::Pdu;
 
 /// A packet of N3 downlink.
-#[derive(Clone, Copy, Debug, PartialEq, Eq)]
+#[derive(Clone, Copy, PartialEq, Eq)]
 pub enum N3<'a> {
     Packet(&'a [u8]),
     End,
 }
 
 /// A packet of F1-U downlink, after its NR-U number.
-#[derive(Clone, Copy, Debug, PartialEq, Eq)]
+#[derive(Clone, Copy, PartialEq, Eq)]
 pub enum F1uDownlink<'a> {
     /// A PDCP PDU and its octets.
     Pdu {
@@ -37,7 +37,7 @@ pub enum F1uDownlink<'a> {
 }
 
 /// A packet of F1-U uplink.
-#[derive(Debug, Drop, PartialEq, Eq)]
+#[derive(Drop, PartialEq, Eq)]
 pub enum F1uUplink<'a> {
     /// A PDCP PDU and its octets.
     Pdu {
@@ -54,7 +54,7 @@ pub enum F1uUplink<'a> {
 }
 
 /// A packet of a forwarding tunnel.
-#[derive(Clone, Copy, Debug, PartialEq, Eq)]
+#[derive(Clone, Copy, PartialEq, Eq)]
 pub enum Forwarded<'a> {
     /// A packet without a number.
     Fresh(&'a [u8]),

@@ -1,6 +1,6 @@
 -- The tallies, and the flags, stay those of the tunnels.
 use Rattle.std.proofs.Common.{◌≡◌, ◌<◌, ℕ, ◌+◌, Bool, true, false, cond, not, List, [], ◌∷◌, ◌++◌, length, Option, Some, None, refl, sym, ap, ◌∙◌, subst, arith, true≢false}
-use Rattle.std.specs.Prelude.{is_some}
+use Rattle.std.specs.Prelude.{is_some, unwrap_or}
 use Rattle.std.specs.Option.{option_map}
 use Rattle.std.specs.declared.cmp.Ordering.{Ordering}
 use Rattle.std.specs.declared.cmp.Ordering.TheVariants.{Less, Equal, Greater}
@@ -17,37 +17,40 @@ use Rattle.gnb_types.specs.declared.names.NodeId.TheVariants.{Core}
 use Rattle.gnb_types.specs.declared.keys.TunnelEnd.{TunnelEnd}
 use Rattle.gnb_types.specs.Orders.{tunnel_cmp}
 use Rattle.gnb_types.proofs.OrderLemmas.{tunnel_total}
-use Rattle.tables.specs.Tables.{find, put, without, entry_after, first_entry, IsSorted, map_values}
+use Rattle.tables.specs.Tables.{find, put, without, at, entry_after, first_entry, IsSorted, map_values}
 use Rattle.tables.proofs.TableLaws.{sorted-put, sorted-without, put-mapped, without-mapped, find-mapped}
 use Rattle.transport_defs.specs.declared.Item.{Item}
 use Rattle.link_tallies.specs.Tallies.{Tallies, entered, left, all_left}
 use Rattle.link_tallies.specs.Tied.{AreTallies}
 use Rattle.link_tallies.proofs.TiedLemmas.{StandThere, stand_found, stand_none, tallies-put, tallies-take, tallies-same, tallies-emptied, tallies-without, tallies-none, tallies-undone}
 use Rattle.links_bag.proofs.Entries.{sorted_none, without-put}
-use Rattle.links.specs.Tunnels.{place_in}
+use Rattle.links.specs.Tunnels.{OpenTunnels, opened, place_in}
 use Rattle.links.specs.inside.Kept.{keys, TunnelsAreKept}
 
 -- ---- tables
 
--- to put a key that stands there changes nothing
-keys-again : (es : List (TunnelEnd × Unit {0})) (k : TunnelEnd) → IsSorted tunnel_cmp es → find tunnel_cmp es k ≡ Some tt
-    → put tunnel_cmp es k tt ≡ es
+-- to put back what stands there changes nothing
+put-again : {X : Type 0} (es : List (TunnelEnd × X)) (k : TunnelEnd) (v : X) → IsSorted tunnel_cmp es → find tunnel_cmp es k ≡ Some v
+    → put tunnel_cmp es k v ≡ es
 unfolding find put
-keys-again [] k sorted found = absurd cc
-keys-again (e ∷ es) k sorted found =
-    by (tunnel_cmp k e.0) refl found (keys-again es k (sorted_tail tunnel_cmp e.0 (keys_of es) sorted))
+put-again [] k v sorted found = absurd cc
+put-again {X = X} (e ∷ es) k v sorted found =
+    by (tunnel_cmp k e.0) refl found (put-again es k v (sorted_tail tunnel_cmp e.0 (keys_of es) sorted))
   where
-    by : (r : Ordering) → tunnel_cmp k e.0 ≡ r → lookup (is_at (tunnel_cmp k)) (e ∷ es) ≡ Some tt
-        → (lookup (is_at (tunnel_cmp k)) es ≡ Some tt → insert_entry tunnel_cmp es k tt ≡ es)
-        → match_ordering r ((k, tt {0}) ∷ e ∷ es) ((e.0, tt {0}) ∷ es) (e ∷ insert_entry tunnel_cmp es k tt) ≡ e ∷ es
+    by : (r : Ordering) → tunnel_cmp k e.0 ≡ r → lookup (is_at (tunnel_cmp k)) (e ∷ es) ≡ Some v
+        → (lookup (is_at (tunnel_cmp k)) es ≡ Some v → insert_entry tunnel_cmp es k v ≡ es)
+        → match_ordering r ((k, v) ∷ e ∷ es) ((e.0, v) ∷ es) (e ∷ insert_entry tunnel_cmp es k v) ≡ e ∷ es
     by Less is found rest =
         let none = lookup-none (is_at (tunnel_cmp k)) (e ∷ es) (none_below_head tunnel_total k e es sorted is) in
         absurd (true≢false (sym (ap is_some found) ∙ ap is_some none))
-    by Equal is found rest = refl
+    by Equal is found rest =
+        let here : Some e.1 ≡ Some v = sym (ap (λ (r : Ordering). cond (is_eq r) (Some e.1) (lookup (is_at (tunnel_cmp k)) es)) is) ∙ found in
+        let same : e.1 ≡ v = cc in
+        ap (λ (x : X). (e.0, x) ∷ es) (sym same)
     by Greater is found rest =
-        let later : lookup (is_at (tunnel_cmp k)) es ≡ Some tt =
+        let later : lookup (is_at (tunnel_cmp k)) es ≡ Some v =
         sym (ap (λ (r : Ordering). cond (is_eq r) (Some e.1) (lookup (is_at (tunnel_cmp k)) es)) is) ∙ found in
-        ap (λ (m : List (TunnelEnd × Unit {0})). e ∷ m) (rest later)
+        ap (λ (m : List (TunnelEnd × X)). e ∷ m) (rest later)
 
 module _ {X : Type 0} where
   keys-put : (m : List (TunnelEnd × X)) (k : TunnelEnd) (v : X) → keys (put tunnel_cmp m k v) ≡ put tunnel_cmp (keys m) k tt
@@ -69,7 +72,7 @@ module _ {X : Type 0} where
       → keys (put tunnel_cmp m k w) ≡ keys m
   keys-changed m k v w sorted found =
       keys-put m k w
-      ∙ keys-again (keys m) k (subst (IsStrictlySortedBy tunnel_cmp) (sym (keys_of_keys m)) sorted)
+      ∙ put-again (keys m) k tt (subst (IsStrictlySortedBy tunnel_cmp) (sym (keys_of_keys m)) sorted)
       (find-keys m k ∙ ap (λ (r : Option X). option_map (λ x. tt {0}) r) found)
 
 -- where the keys are the same, so are those at which nothing stands
@@ -236,6 +239,23 @@ module _ {L : Type 0} {queues : List (TunnelEnd × List (Item L))} {lossy : List
   pub flag-undone : (flag : Bool) (lossy2 : List (TunnelEnd × Bool)) → find tunnel_cmp queues end ≡ None
       → lossy2 ≡ without tunnel_cmp (put tunnel_cmp lossy end flag) end → lossy2 ≡ lossy
   flag-undone flag lossy2 none is = is ∙ without-put tunnel_cmp tunnel_total lossy end flag (absent_too queues lossy end kept.same_keys none)
+
+-- a tunnel that is open stays as it is
+pub open-again : {L : Type 0} {queues : List (TunnelEnd × List (Item L))} {lossy : List (TunnelEnd × Bool)} {t : Tallies}
+    (kept : TunnelsAreKept queues lossy t) (end : TunnelEnd) (flag : Bool) → is_some (find tunnel_cmp queues end) ≡ true
+    → ◌≡◌ {A = OpenTunnels L} (record { tunnels = queues; lossy = lossy }) (opened (record { tunnels = queues; lossy = lossy }) end flag)
+unfolding opened at
+open-again {L = L} {queues = queues} {lossy = lossy} kept end flag there = by (find tunnel_cmp queues end) refl there
+  where
+    both : List (TunnelEnd × List (Item L)) → List (TunnelEnd × Bool) → OpenTunnels L
+    both q l = record { tunnels = q; lossy = l }
+
+    by : (o : Option (List (Item L))) → find tunnel_cmp queues end ≡ o → is_some o ≡ true
+        → both queues lossy ≡ opened (both queues lossy) end flag
+    by None is there = absurd cc
+    by (Some items) is there =
+        sym (ap (λ (o : Option (List (Item L))). both (put tunnel_cmp queues end (unwrap_or o [])) (cond (is_some o) lossy (put tunnel_cmp lossy end flag))) is
+        ∙ ap (λ (q : List (TunnelEnd × List (Item L))). both q lossy) (put-again queues end items kept.sorted is))
 
 pub kept-none : {L : Type 0} (queues : List (TunnelEnd × List (Item L))) (lossy : List (TunnelEnd × Bool)) (t : Tallies)
     → queues ≡ [] → lossy ≡ [] → t ≡ [] → TunnelsAreKept queues lossy t

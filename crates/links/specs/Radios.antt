@@ -33,6 +33,14 @@ module _ {P : Type 0} where
   abbrev pub uncarried : Radio P → Option (Item P)
   uncarried radio = nth radio.items radio.carried
 
+  -- the oldest item that is carried
+  abbrev pub oldest_of : List (Item P) → ℕ → Option (Item P)
+  oldest_of [] carried = None
+  oldest_of (item ∷ items) carried = if carried == 0 then None else Some item
+
+  abbrev pub oldest_carried : Radio P → Option (Item P)
+  oldest_carried radio = oldest_of radio.items radio.carried
+
   abbrev pub carried_on : Radio P → Option (Item P) → Radio P
   carried_on radio None = radio
   carried_on radio (Some item) = record radio { carried = radio.carried + 1 }
@@ -79,3 +87,8 @@ module _ {P : Type 0} where
   -- a radio fails: all that stands on it is lost
   abbrev pub failed : RadioLinks P → EntityKey → RadioLinks P
   failed r key = record r { radios = emptied r.radios key }
+
+  -- the first radio of a terminal
+  abbrev pub first_of : UeId → List (EntityKey × Radio P) → Option EntityKey
+  first_of ue [] = None
+  first_of ue (e ∷ es) = if e.0.ue.0 == ue.0 then Some e.0 else first_of ue es

@@ -1,5 +1,5 @@
 -- The open tunnels (TS 29.281), with what stands on each, the oldest first, and what their calls give. A tunnel is named by its end.
-use Rattle.std.specs.Prelude.{ℕ, Bool, true, false, if◌then◌else◌, List, [], ◌∷◌, ◌++◌, Option, Some, None}
+use Rattle.std.specs.Prelude.{ℕ, Bool, true, false, if◌then◌else◌, List, [], ◌∷◌, ◌++◌, Option, Some, None, is_some}
 use Rattle.gnb_types.specs.declared.names.NodeId.{NodeId}
 use Rattle.gnb_types.specs.declared.names.UeId.{UeId}
 use Rattle.gnb_types.specs.declared.names.BearerId.{BearerId}
@@ -62,6 +62,13 @@ module _ {L : Type 0} where
   -- a tunnel is made, without items, and closed, with what stands on it
   abbrev pub made : OpenTunnels L → TunnelEnd → Bool → OpenTunnels L
   made t end lossy = record { tunnels = put tunnel_cmp t.tunnels end []; lossy = put tunnel_cmp t.lossy end lossy }
+
+  -- a tunnel that is open stays as it is
+  unfoldable pub opened : OpenTunnels L → TunnelEnd → Bool → OpenTunnels L
+  opened t end lossy = record {
+    tunnels = put tunnel_cmp t.tunnels end (at tunnel_cmp [] t.tunnels end);
+    lossy = if is_some (find tunnel_cmp t.tunnels end) then t.lossy else put tunnel_cmp t.lossy end lossy;
+  }
 
   abbrev pub closed : OpenTunnels L → TunnelEnd → OpenTunnels L
   closed t end = record { tunnels = without tunnel_cmp t.tunnels end; lossy = without tunnel_cmp t.lossy end }

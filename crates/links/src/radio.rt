@@ -2,7 +2,7 @@
 
 ghost use Rattle.std.specs.Prelude.{◌≡◌, IfOk, OnOk, OnErr, option_copied, slice_get};
 ghost use Rattle.transport_defs.specs.Links.{silent};
-ghost use Rattle.links.specs.Radios.{with_item, uncarried, carried_on, Confirms};
+ghost use Rattle.links.specs.Radios.{with_item, uncarried, carried_on, oldest_carried, Confirms};
 
 use crate::items::{Item, copy_item};
 use gnb_types::items::Memory;
@@ -58,6 +58,16 @@ impl RadioQueue {
         ensures { option_copied result ≡ uncarried self.now }
     {
         item_at(&self.items, self.carried)
+    }
+
+    /// The oldest carried item.
+    pub fn oldest_carried(&self) -> Option<&Item>
+        ensures { option_copied result ≡ oldest_carried self.now }
+    {
+        if self.carried == 0 {
+            return None;
+        }
+        item_at(&self.items, 0)
     }
 
     /// Carries it, and gives a copy: the item stays until it is confirmed.

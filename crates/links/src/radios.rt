@@ -1,12 +1,12 @@
 //! The radios of bearers: one for each bearer and direction of a terminal, for as long as the terminal is connected.
 
-ghost use Rattle.std.specs.Prelude.{◌≡◌, length, IfOk, OnOk, OnErr, if◌then◌else◌};
+ghost use Rattle.std.specs.Prelude.{◌≡◌, length, IfOk, OnOk, OnErr, if◌then◌else◌, option_copied};
 ghost use Rattle.gnb_types.specs.Orders.{ue_cmp, entity_cmp};
-ghost use Rattle.tables.specs.Tables.{find, put, at};
+ghost use Rattle.tables.specs.Tables.{find, put, at, IsSorted};
 ghost use Rattle.transport_defs.specs.Links.{silent, is_epoch, radio_items, radio_counts, least_of};
 ghost use Rattle.links_bag.specs.Answers.{Answers, AnswersSurely, Shows};
 ghost use Rattle.links.specs.Tunnels.{entity};
-ghost use Rattle.links.specs.Radios.{no_radios, radio_of, with_item, put_item, head, carry, confirm, connected_in, failed};
+ghost use Rattle.links.specs.Radios.{no_radios, radio_of, with_item, put_item, head, carry, confirm, connected_in, failed, oldest_carried, first_of};
 
 use crate::epochs::Epochs;
 use crate::items::Item;
@@ -152,6 +152,35 @@ impl Radios {
         ensures { self.new ≡ connected_in self.old ue epoch }
     {
         self.connected.connect(ue, epoch);
+    }
+
+    /// The oldest carried item, which the next confirmation is of.
+    #[tactic(auto, unfolding(tables::specs::Tables::at))]
+    pub fn carried(&self, ue: UeId, bearer: BearerId, dir: Dir) -> Option<&Item>
+        ensures { option_copied result ≡ oldest_carried (radio_of self.now (entity ue bearer dir)) }
+    {
+        let radio = self.radios.get(&EntityKey { ue, bearer, dir })?;
+        radio.oldest_carried()
+    }
+
+    /// The epoch in which the radios of a terminal are connected, if they are.
+    pub fn epoch(&self, ue: UeId) -> Option<u32>
+        ensures { result ≡ find ue_cmp self.now.connected ue }
+    {
+        self.connected.of(ue)
+    }
+
+    /// The first radio of a terminal, among those on which something was put since it was last lost.
+    pub fn first_of(&self, ue: UeId) -> Option<EntityKey>
+        ensures first { result ≡ first_of ue self.now.radios }
+        ensures ordered { IsSorted entity_cmp self.now.radios }
+    {
+        for (key, _) in self.radios.iter() {
+            if key.ue == ue {
+                return Some(*key);
+            }
+        }
+        None
     }
 
     /// All that stands on a radio is lost; the answer is how many items that were.

@@ -5,7 +5,7 @@ ghost use Rattle.gnb_types.specs.Orders.{tunnel_cmp};
 ghost use Rattle.tables.specs.Tables.{find, at, first_entry, entry_after};
 ghost use Rattle.transport_defs.specs.Links.{tunnel_items, tunnel_counts, least_of};
 ghost use Rattle.links_bag.specs.Answers.{Answers, AnswersSurely, Shows};
-ghost use Rattle.links.specs.Tunnels.{tunnel_end, entity, no_tunnels, put_item, head, get, lose, made, closed};
+ghost use Rattle.links.specs.Tunnels.{tunnel_end, entity, no_tunnels, put_item, head, get, lose, made, opened, closed};
 ghost use Rattle.links.specs.Tunnels.{next_entry, place_in};
 
 use crate::items::Item;
@@ -133,6 +133,18 @@ impl Tunnels {
             Some(true) => self.get(end, teid),
             _ => Err(LinkError::NotAllowed),
         }
+    }
+
+    /// Opens a tunnel, where it isn't open; one that is open stays as it is.
+    #[tactic(auto, unfolding(crate::specs::Tunnels::opened, tables::specs::Tables::at))]
+    pub fn open(&mut self, end: NodeId, teid: u32, lossy: bool) -> Result<(), Memory>
+        ensures ok { OnOk result (self.new ≡ opened self.old (tunnel_end end teid) lossy) }
+        ensures err { OnErr result (self.new ≡ self.old) }
+    {
+        if self.queues.has(&TunnelEnd { node: end, teid }) {
+            return Ok(());
+        }
+        self.make(end, teid, lossy)
     }
 
     /// Makes a tunnel, without items; what stood on it, if it was open, is gone.

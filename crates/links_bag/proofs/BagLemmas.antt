@@ -1,6 +1,6 @@
 -- The numbers of messages, and that what stands beside them stays theirs.
 use Rattle.std.proofs.Common.{◌≡◌, ◌<◌, ◌≤◌, ◌==◌, ℕ, zero, suc, ◌+◌, ◌-◌, ◌^◌, Bool, true, false, cond, not, ◌||◌, List, [], ◌∷◌, ◌++◌, length, Option, Some, None, refl, sym, ap, ◌∙◌, subst, arith, length-append, eq-eqb, eqb-true, add-zero}
-use Rattle.std.specs.Prelude.{unwrap_or, sum_by, count_by, is_some, nat_lt}
+use Rattle.std.specs.Prelude.{unwrap_or, sum_by, count_by, is_some, nat_lt, nat_le}
 use Rattle.std.specs.Option.{option_map}
 use Rattle.std.specs.declared.cmp.Ordering.{Ordering}
 use Rattle.std.specs.declared.cmp.Ordering.TheVariants.{Less, Equal, Greater}
@@ -87,6 +87,29 @@ module _ {X : Type 0} where
           → cond b (Some f.1) (lookup (is_at (nat_cmp n)) (fs ++ e ∷ [])) ≡ Some x
       by true found rest = found
       by false found rest = rest found
+
+-- ---- how many more may be put
+
+pub room_left : {M : Type 0} (xs : List (Letter M)) (flight : List ℕ) (bag : Bag M) (n more left : ℕ)
+    → ◌≡◌ {A = Bag M} (record { letters = numbered 1 xs; flight = flight }) bag → n ≡ length xs → length xs ≤ most_letters → left ≡ most_letters - n
+    → nat_le more left ≡ not (nat_lt most_letters (length bag.letters + more))
+room_left {M = M} xs flight bag n more left view is few room =
+    by (nat_le more left) (nat_lt most_letters (length bag.letters + more)) refl refl
+  where
+    seen : length bag.letters ≡ length xs
+    seen = ap (λ (b : Bag M). length b.letters) (sym view) ∙ numbered-length xs 1
+
+    by : (a b : Bool) → nat_le more left ≡ a → nat_lt most_letters (length bag.letters + more) ≡ b → a ≡ not b
+    by true false p q = refl
+    by false true p q = refl
+    by true true p q =
+        let low : more ≤ left = grind (arith, nat_tests) in
+        let high : most_letters < length bag.letters + more = grind (arith, nat_tests) in
+        absurd (omega (arith, seen, is, few, room))
+    by false false p q =
+        let high : left < more = grind (arith, nat_tests) in
+        let low : length bag.letters + more ≤ most_letters = grind (arith, nat_tests) in
+        absurd (omega (arith, seen, is, few, room))
 
 -- ---- a letter, by its number
 

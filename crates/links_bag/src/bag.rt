@@ -1,11 +1,11 @@
 //! The bag of control messages: each message that was ever put is kept, under its number.
 
-ghost use Rattle.std.specs.Prelude.{◌≡◌, ◌<◌, ◌^◌, ◌+◌, ◌-◌, IfOk, OnOk, OnErr, option_copied, slice_get, false};
+ghost use Rattle.std.specs.Prelude.{◌≡◌, ◌<◌, ◌^◌, ◌+◌, ◌-◌, IfOk, OnOk, OnErr, option_copied, slice_get, false, not, nat_lt, length};
 ghost use Rattle.std.specs.List.Sorted.{IsStrictlySortedBy};
 ghost use Rattle.std.specs.Ordering.{nat_cmp};
 ghost use Rattle.tables.specs.Queues.{first_item};
 ghost use Rattle.tables.specs.Tables.{find, put as put_at, at};
-ghost use Rattle.transport_defs.specs.Links.{no_letters, letter, landed, is_in, in_flight_of};
+ghost use Rattle.transport_defs.specs.Links.{no_letters, most_letters, letter, landed, is_in, in_flight_of};
 ghost use Rattle.links_bag.specs.Answers.{Answers, AnswersSurely};
 ghost use Rattle.links_bag.specs.Bags.{message, put, give, lose, in_flight};
 ghost use Rattle.links_bag.specs.inside.Messages.{fewer_of};
@@ -102,6 +102,13 @@ impl Bag {
         })
     }
 
+    /// Whether so many more may be put.
+    pub fn has_room(&self, more: usize) -> bool
+        ensures { result ≡ not (nat_lt most_letters (length self.now.letters + more)) }
+    {
+        more <= MOST_MESSAGES.saturating_sub(self.letters.len())
+    }
+
     /// Puts a message, and gives its number.
     pub fn put(&mut self, from: NodeId, to: NodeId, ue: u8, bytes: Octets) -> Result<u32, LinkError>
         ensures { Answers (put self.old (message from to ue bytes)) self.old self.new result }
@@ -133,7 +140,8 @@ impl Bag {
         Ok(number)
     }
 
-    fn letter(&self, number: u32) -> Option<&Message>
+    /// The message of this number, which stays where it is.
+    pub fn letter(&self, number: u32) -> Option<&Message>
         ensures { option_copied result ≡ letter self.now number }
     {
         match number.checked_sub(1) {

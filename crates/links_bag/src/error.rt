@@ -3,7 +3,7 @@
 use gnb_types::items::Memory as NoMemory;
 
 /// Why a call of a link changed nothing. Of several causes the first of this list is reported.
-#[derive(Clone, Copy, Debug, PartialEq, Eq)]
+#[derive(Clone, Copy, PartialEq, Eq)]
 pub enum LinkError {
     /// No message of this number was put, or the tunnel isn't open: it was never made, or was closed.
     NoSuch,

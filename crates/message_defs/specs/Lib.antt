@@ -7,3 +7,4 @@ pub mod E1
 pub mod Xn
 pub mod Core
 pub mod Tokens
+pub use Rattle.profile_defs.specs as profile_defs

@@ -7,9 +7,9 @@ use Rattle.aper_defs.specs.Fields.{Path}
 use Rattle.aper_defs.specs.Fields as fields
 use Rattle.aper_defs.specs.Membership.{Has, HasComponents, HasAdditions, HasRow, AreElements}
 use Rattle.aper_proof_answers.proofs.NumberFacts.{same}
-use Rattle.profile_defs.specs.Forms.{rows}
-use Rattle.profile_defs.specs.Elements.{Element}
-use Rattle.profile_defs.specs.Tables.{Use, Message, element_rows, is_at}
+use Rattle.message_defs.specs.profile_defs.Forms.{rows}
+use Rattle.message_defs.specs.profile_defs.Elements.{Element}
+use Rattle.message_defs.specs.profile_defs.Tables.{Use, Message, element_rows, is_at}
 use Rattle.message_defs.specs.Known.{known, known_components, known_additions, known_row, known_elements, if_some}
 use Rattle.message_defs.specs.Places.{Field, content_of, put_element, written_elements, element_of, or_empty, the, any, elements_in, additions_in}
 use Rattle.message_defs.specs.Heard.{unless_rejected}

@@ -8,9 +8,9 @@ use Rattle.aper_defs.specs.Fields.{Path}
 use Rattle.aper_defs.specs.Fields as fields
 use Rattle.aper_defs.specs.Membership.{Has, HasComponents, EachFrom, is_index_of}
 use Rattle.aper_proof_answers.proofs.NumberFacts.{below}
-use Rattle.profile_defs.specs.Forms.{Components, component, no_components, bit_string, sized, tree, parts}
-use Rattle.profile_defs.specs.BaseTypes as types
-use Rattle.profile_defs.specs.Compounds as compounds
+use Rattle.message_defs.specs.profile_defs.Forms.{Components, component, no_components, bit_string, sized, tree, parts}
+use Rattle.message_defs.specs.profile_defs.BaseTypes as types
+use Rattle.message_defs.specs.profile_defs.Compounds as compounds
 use Rattle.message_defs.specs.Known.{known, known_components, known_additions, each_value}
 use Rattle.message_defs.specs.Fields.{from_number, to_number, to_index, gnb_index, gnb_at, sn_index, sn_at, from_sn, to_sn, to_flag, to_octets, to_text, from_peer, to_peer, from_tunnel, to_tunnel, from_each, to_each, from_tunnels, to_tunnels, from_received, to_received, from_status, to_status, from_statuses, to_statuses}
 

@@ -7,7 +7,7 @@ use gnb_types::plans::{Peer, StatusList, TunnelList};
 /// A message of E1AP.
 ///
 /// `mode` and `cause` are the indices of the profile's enumerations; `run_defs` and the units name them.
-#[derive(Clone, Debug, PartialEq, Eq, Drop)]
+#[derive(Drop)]
 pub enum E1Message {
     /// E1 Setup (8.2.3)
     E1SetupRequest {

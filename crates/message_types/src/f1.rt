@@ -8,7 +8,7 @@ use gnb_types::plans::{Peer, TunnelList};
 pub type F1Message = F1<Octets>;
 
 /// A message of F1AP; `C` stands for a container.
-#[derive(Clone, Debug, PartialEq, Eq, Drop)]
+#[derive(Drop)]
 pub enum F1<C> {
     /// F1 Setup (8.2.3)
     F1SetupRequest {

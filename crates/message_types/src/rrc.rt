@@ -3,7 +3,7 @@
 use gnb_types::names::{Gnb, UeId};
 
 /// What a terminal and its CU-CP tell each other, by way of the DU.
-#[derive(Clone, Copy, Debug, PartialEq, Eq)]
+#[derive(Clone, Copy, PartialEq, Eq)]
 pub enum Token {
     /// To the terminal: access this DU, with this epoch (RRCReconfiguration with synchronisation).
     Command {

@@ -5,7 +5,7 @@ use gnb_types::octets::Octets;
 use gnb_types::plans::{Peer, StatusList, TunnelList};
 
 /// A message of XnAP. `TransportConfirm` is the profile's: it answers the three that have no response in the standard.
-#[derive(Clone, Debug, PartialEq, Eq, Drop)]
+#[derive(PartialEq, Drop)]
 pub enum XnMessage {
     /// Handover Preparation (8.2.1)
     HandoverRequest {
@@ -55,7 +55,7 @@ pub enum XnMessage {
 }
 
 /// A message of a CU-CP with the core, in place of the path switch of NGAP (TS 38.413, 8.4.4).
-#[derive(Clone, Debug, PartialEq, Eq, Drop)]
+#[derive(PartialEq, Drop)]
 pub enum CoreMessage {
     PathSwitchRequest {
         ue: UeId,

@@ -10,12 +10,12 @@ use Rattle.aper_defs.specs.Fields as fields
 use Rattle.aper_defs.specs.Membership.{Has, HasComponents, HasRow, HasBody, HasOutcome, EachFrom, AreElements, Either, FitsOpen, IsRaw, is_number_of}
 use Rattle.aper_defs.specs.Layouts.{layout}
 use Rattle.aper_proof_answers.proofs.NumberFacts.{at_most, second_of_both, same, by_cases}
-use Rattle.profile_defs.specs.Forms.{ProcedureRows, some_form, procedure, tree, parts, rows, procedures, outcome_tree}
-use Rattle.profile_defs.specs.BaseTypes as types
-use Rattle.profile_defs.specs.Compounds as compounds
-use Rattle.profile_defs.specs.Tables.{Use, Message, message_form, element_rows, procedure_rows, outcome_at, is_at, initiating, successful, unsuccessful, pdu_form}
-use Rattle.message_defs.specs.Fields.{to_number, to_peer, to_tunnel, to_tunnels, to_status, to_statuses, to_each}
-use Rattle.message_defs.specs.Places.{elements_in}
+use Rattle.message_proof_elements.specs.profile_defs.Forms.{ProcedureRows, some_form, procedure, tree, parts, rows, procedures, outcome_tree}
+use Rattle.message_proof_elements.specs.profile_defs.BaseTypes as types
+use Rattle.message_proof_elements.specs.profile_defs.Compounds as compounds
+use Rattle.message_proof_elements.specs.profile_defs.Tables.{Use, Message, message_form, element_rows, procedure_rows, outcome_at, is_at, initiating, successful, unsuccessful, pdu_form}
+use Rattle.message_proof_elements.specs.message_defs.Fields.{to_number, to_peer, to_tunnel, to_tunnels, to_status, to_statuses, to_each}
+use Rattle.message_proof_elements.specs.message_defs.Places.{elements_in}
 use Rattle.message_proof_elements.proofs.Matched.{are_its}
 use Rattle.message_values.specs.Fitting.{IsFitting, AreFitting, IsTunnel, IsStatus, limit_of}
 

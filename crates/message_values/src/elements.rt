@@ -1,7 +1,7 @@
 //! The information elements of the profile's messages, by name.
 
 /// An information element.
-#[derive(Clone, Copy, Debug)]
+#[derive(Clone, Copy)]
 pub enum ElementName {
     Ue,
     Instance,
@@ -59,7 +59,7 @@ impl ElementName {
 }
 
 /// How a message has an information element.
-#[derive(Clone, Copy, Debug)]
+#[derive(Clone, Copy)]
 pub enum Use {
     Mandatory(ElementName),
     Optional(ElementName),

@@ -25,7 +25,7 @@ pub const UNSUCCESSFUL: u32 = 2;
 pub const REJECT: u8 = 0;
 
 /// Where a message stands in its PDU: its procedure's code, and its outcome.
-#[derive(Clone, Copy, Debug)]
+#[derive(Clone, Copy)]
 pub struct Place {
     pub code: u8,
     pub outcome: u32,

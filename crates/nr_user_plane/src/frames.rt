@@ -15,7 +15,7 @@ use std::alloc::Global;
 use thiserror::Error;
 
 /// A frame: the content of one NR RAN Container.
-#[derive(Clone, Debug, Drop, PartialEq, Eq)]
+#[derive(Drop, PartialEq, Eq)]
 pub enum Frame {
     /// Downlink user data: whether a status is asked for, whether the numbers begin anew here, and the NR-U number.
     Data {

@@ -5,7 +5,7 @@ ghost use Rattle.std.specs.Prelude.{◌≡◌, ◌==◌, ◌<◌, ℕ, List, [],
 use std::marker::Model;
 
 /// At most seven ranges of NR-U numbers, each from its start to its end, both included. Contracts see the list of pairs.
-#[derive(Clone, Debug, Drop)]
+#[derive(Drop)]
 pub struct Ranges {
     count: u8,
     pairs: [(u32, u32); 7],

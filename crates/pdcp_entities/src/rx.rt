@@ -20,7 +20,7 @@ use std::marker::Model;
 use thiserror::Error;
 
 /// What became of a packet: the COUNT that its number stands for, if one is found, and whether it is stored.
-#[derive(Clone, Copy, Debug, PartialEq, Eq)]
+#[derive(Clone, Copy, PartialEq, Eq)]
 pub struct Taken {
     pub count: Option<u32>,
     pub stored: bool,

@@ -7,7 +7,7 @@ use crate::text::PROFILE_TEXT;
 use crate::text_2::PROFILE_TEXT_2;
 
 /// A version of the profile. The second one adds the name of the source to HandoverRequest.
-#[derive(Clone, Copy, Debug, PartialEq, Eq)]
+#[derive(Clone, Copy, PartialEq, Eq)]
 pub enum Version {
     One,
     Two,

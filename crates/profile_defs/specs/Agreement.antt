@@ -8,15 +8,15 @@ use Rattle.asn1_types.specs.declared.definition.Size.{Size}
 use Rattle.asn1_types.specs.declared.definition.Component.{Component}
 use Rattle.asn1_types.specs.declared.definition.Definition.{Definition}
 use Rattle.asn1_types.specs.declared.definition.Definition.TheVariants as types
-use Rattle.asn1_assignments.specs.declared.assignment.Criticality.{Criticality}
-use Rattle.asn1_assignments.specs.declared.assignment.Criticality.TheVariants.{Reject, Ignore, Notify}
-use Rattle.asn1_assignments.specs.declared.assignment.Presence.{Presence}
-use Rattle.asn1_assignments.specs.declared.assignment.Presence.TheVariants.{Mandatory, Optional}
-use Rattle.asn1_assignments.specs.declared.assignment.IeRow.{IeRow}
-use Rattle.asn1_assignments.specs.declared.assignment.ProcedureRow.{ProcedureRow}
-use Rattle.asn1_assignments.specs.declared.assignment.Assignment.{Assignment}
-use Rattle.asn1_assignments.specs.declared.assignment.Syntax.{Syntax}
-use Rattle.asn1_assignments.specs.Module.{is_type}
+use Rattle.asn1_module.specs.asn1_assignments.declared.assignment.Criticality.{Criticality}
+use Rattle.asn1_module.specs.asn1_assignments.declared.assignment.Criticality.TheVariants.{Reject, Ignore, Notify}
+use Rattle.asn1_module.specs.asn1_assignments.declared.assignment.Presence.{Presence}
+use Rattle.asn1_module.specs.asn1_assignments.declared.assignment.Presence.TheVariants.{Mandatory, Optional}
+use Rattle.asn1_module.specs.asn1_assignments.declared.assignment.IeRow.{IeRow}
+use Rattle.asn1_module.specs.asn1_assignments.declared.assignment.ProcedureRow.{ProcedureRow}
+use Rattle.asn1_module.specs.asn1_assignments.declared.assignment.Assignment.{Assignment}
+use Rattle.asn1_module.specs.asn1_assignments.declared.assignment.Syntax.{Syntax}
+use Rattle.asn1_module.specs.asn1_assignments.Module.{is_type}
 use Rattle.asn1_module.specs.Module.{find_type, ie_rows, procedure_rows}
 use Rattle.profile_defs.specs.Forms.{Form, Components, ElementRows, ProcedureRows, OutcomeForm, name_of, meaning_of}
 use Rattle.profile_defs.specs.Forms.{boolean, integer, enumerated, bit_string, octet_string, printable_string, sequence, choice, sequence_of, container, pdu, named, no_components, component, no_elements, element, no_procedures, procedure, no_form, some_form}

@@ -7,3 +7,5 @@ pub mod Tables
 pub mod Messages
 pub mod Profile
 pub mod Agreement
+pub use Rattle.asn1_module.specs as asn1_module
+pub use Rattle.asn1_module.specs.asn1_reading_laws as asn1_reading_laws

@@ -15,9 +15,9 @@ use Rattle.asn1_assignments.specs.declared.assignment.IeRow.{IeRow}
 use Rattle.asn1_assignments.specs.declared.assignment.ProcedureRow.{ProcedureRow}
 use Rattle.asn1_assignments.specs.declared.assignment.Syntax.{Syntax}
 use Rattle.asn1_module.specs.Module.{find_type, ie_rows, procedure_rows}
-use Rattle.profile_defs.specs.Forms.{Form, Components, ElementRows, ProcedureRows, OutcomeForm, name_of, meaning_of}
-use Rattle.profile_defs.specs.Forms.{boolean, integer, enumerated, bit_string, octet_string, printable_string, sequence, choice, sequence_of, container, pdu, named, no_components, component, no_elements, element, no_procedures, procedure, no_form, some_form}
-use Rattle.profile_defs.specs.Agreement.{is_same_bool, is_same_number, is_same_size, are_names, is_extended_bare, is_reject, is_mandatory, definition_at, is_form, are_components, are_additions, are_elements, are_procedures, is_outcome, is_found, has_type}
+use Rattle.profile_proof_text.specs.profile_defs.Forms.{Form, Components, ElementRows, ProcedureRows, OutcomeForm, name_of, meaning_of}
+use Rattle.profile_proof_text.specs.profile_defs.Forms.{boolean, integer, enumerated, bit_string, octet_string, printable_string, sequence, choice, sequence_of, container, pdu, named, no_components, component, no_elements, element, no_procedures, procedure, no_form, some_form}
+use Rattle.profile_proof_text.specs.profile_defs.Agreement.{is_same_bool, is_same_number, is_same_size, are_names, is_extended_bare, is_reject, is_mandatory, definition_at, is_form, are_components, are_additions, are_elements, are_procedures, is_outcome, is_found, has_type}
 use Rattle.profile_module.specs.inside.Same.{is_bare_alike, same_plain, same_elements, same_outcome, same_procedures, same_element_sets, same_procedure_sets, same_inner, same_parts, same_added, same_additions, same_type, same_found, has_same}
 
 -- ---- what is the same is one

@@ -4,15 +4,15 @@ use Rattle.asn1_types.specs.declared.fault.ModuleReason.{ModuleReason}
 use Rattle.asn1_assignments.specs.declared.assignment.Syntax.{Syntax}
 use Rattle.asn1_module.specs.Module.{Reads, WrongText, type_ids}
 use Rattle.asn1_module.specs.Judgement.{sound}
-use Rattle.asn1_reading_laws.proofs.Readings.{one_text}
+use Rattle.asn1_module.proofs.asn1_reading_laws.Readings.{one_text}
 use Rattle.asn1_module_laws.proofs.Faults.{never_both}
 use Rattle.profile.specs.declared.version.Version.{Version}
 use Rattle.profile.specs.declared.version.Version.TheVariants.{One, Two}
 use Rattle.profile.specs.declared.text.TheConstants.{PROFILE_TEXT}
 use Rattle.profile.specs.declared.text_2.TheConstants.{PROFILE_TEXT_2}
 use Rattle.profile.specs.Versions.{text_of}
-use Rattle.profile_defs.specs.Profile.{profile_types, module_name}
-use Rattle.profile_defs.specs.Agreement.{Agrees}
+use Rattle.profile_proof_text.specs.profile_defs.Profile.{profile_types, module_name}
+use Rattle.profile_proof_text.specs.profile_defs.Agreement.{Agrees}
 use Rattle.asn1_tokens.specs.Words.{is_text}
 use Rattle.profile_proof_text.specs.Texts.{IsProfileText}
 use Rattle.profile_module.specs.Profiles.{types_of, IsBuiltin}

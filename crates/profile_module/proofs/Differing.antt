@@ -11,8 +11,8 @@ use Rattle.asn1_assignments.specs.declared.assignment.Syntax.{Syntax}
 use Rattle.asn1_assignments.specs.Module.{is_type_body}
 use Rattle.asn1_module.specs.Module.{IsModule, type_of, put_type, type_ids, type_name, is_body_of}
 use Rattle.asn1_module.specs.Links.{AreParted}
-use Rattle.profile_defs.specs.Forms.{Form, name_of, meaning_of}
-use Rattle.profile_defs.specs.Agreement.{has_type, goes_before, placed, by_name, first_wrong, is_name_among, first_further, or_else, differs, Agrees}
+use Rattle.profile_proof_text.specs.profile_defs.Forms.{Form, name_of, meaning_of}
+use Rattle.profile_proof_text.specs.profile_defs.Agreement.{has_type, goes_before, placed, by_name, first_wrong, is_name_among, first_further, or_else, differs, Agrees}
 use Rattle.profile_module.specs.inside.Same.{first_other, is_among, first_new}
 use Rattle.profile_module.proofs.Alike.{is_shallow, has_alike}
 use Rattle.profile_module.proofs.Order.{Ascends, module_ascends, ids_from, later_names}

@@ -1,7 +1,7 @@
 -- The names that the comparison asks for are those of the profile's types, and its types are shallow enough for it.
 use Rattle.std.proofs.Common.{◌≡◌, true, refl}
-use Rattle.profile_defs.specs.Profile.{profile_types}
-use Rattle.profile_defs.specs.Agreement.{by_name}
+use Rattle.profile_proof_text.specs.profile_defs.Profile.{profile_types}
+use Rattle.profile_proof_text.specs.profile_defs.Agreement.{by_name}
 use Rattle.profile_module.specs.inside.Same.{own_names}
 use Rattle.profile_module.proofs.Differing.{names_of, are_shallow}
 

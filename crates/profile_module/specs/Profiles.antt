@@ -6,9 +6,9 @@ use Rattle.asn1_module.specs.Module.{Reads, type_ids}
 use Rattle.profile.specs.declared.version.Version.{Version}
 use Rattle.profile.specs.declared.version.Version.TheVariants.{One}
 use Rattle.profile.specs.Versions.{number_of, text_of}
-use Rattle.profile_defs.specs.Forms.{Form}
-use Rattle.profile_defs.specs.Profile.{profile_types, module_name}
-use Rattle.profile_defs.specs.Agreement.{differs, Agrees}
+use Rattle.profile_proof_text.specs.profile_defs.Forms.{Form}
+use Rattle.profile_proof_text.specs.profile_defs.Profile.{profile_types, module_name}
+use Rattle.profile_proof_text.specs.profile_defs.Agreement.{differs, Agrees}
 use Rattle.profile_module.specs.declared.agreement.AgreeError.{AgreeError}
 use Rattle.profile_module.specs.declared.agreement.AgreeError.TheVariants.{Differs, Memory}
 

@@ -1,8 +1,8 @@
 //! Which modules are the profile's.
 
 ghost use Rattle.std.specs.Prelude.{◌≡◌, option_map};
-ghost use Rattle.profile_defs.specs.Profile.{profile_types};
-ghost use Rattle.profile_defs.specs.Agreement.{Agrees, differs};
+ghost use Rattle.profile_proof_text.specs.profile_defs.Profile.{profile_types};
+ghost use Rattle.profile_proof_text.specs.profile_defs.Agreement.{Agrees, differs};
 ghost use Rattle.profile_module.specs.Profiles.{IsAgreementOf};
 ghost use Rattle.profile_module.specs.declared.agreement.AgreeError.TheVariants.{Memory};
 

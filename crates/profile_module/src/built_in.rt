@@ -3,7 +3,7 @@
 ghost use Rattle.std.specs.Prelude.{◌≡◌, IfOk};
 ghost use Rattle.profile.specs.declared.version.Version.TheVariants.{One, Two};
 ghost use Rattle.profile.specs.Versions.{number_of};
-ghost use Rattle.profile_defs.specs.Agreement.{Agrees};
+ghost use Rattle.profile_proof_text.specs.profile_defs.Agreement.{Agrees};
 ghost use Rattle.profile_module.specs.Profiles.{types_of, IsBuiltin};
 
 use asn1_module::{Module, ModuleError, read_module};
@@ -14,14 +14,14 @@ use std::alloc::Global;
 use std::marker::Model;
 
 /// A module that has exactly the types of a version of the profile. Contracts see the module as it was written, and the version.
-#[derive(Debug, Drop)]
+#[derive(Drop)]
 pub struct Profile {
     module: Module,
     version: Version,
 }
 
 impl Model for Profile {
-    ghost use Rattle.profile_defs.specs.Agreement.{Agrees};
+    ghost use Rattle.profile_proof_text.specs.profile_defs.Agreement.{Agrees};
     ghost use Rattle.profile_module.specs.Profiles.{ProfileAt, types_of};
 
     ghost Value = { ProfileAt };

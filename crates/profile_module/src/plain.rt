@@ -1,7 +1,7 @@
 //! Types without another one inside: whether two are written alike.
 
 ghost use Rattle.std.specs.Prelude.{◌≡◌, Some, length};
-ghost use Rattle.profile_defs.specs.Agreement.{is_same_size, are_names};
+ghost use Rattle.profile_proof_text.specs.profile_defs.Agreement.{is_same_size, are_names};
 ghost use Rattle.profile_module.specs.inside.Same.{is_bare_alike, same_plain, same_names};
 
 use asn1_module::{Definition, Extensible, Items, Size};

@@ -7,8 +7,8 @@ use Rattle.asn1_assignments.specs.declared.assignment.Syntax.{Syntax}
 use Rattle.asn1_graph.specs.declared.graph.Edge.{Edge}
 use Rattle.asn1_graph.specs.Graph.{vertex_count, edges_of}
 use Rattle.asn1_graph.specs.Paths.{IsAmong, IsStep, Leads, Nests, IsFirst, first, further, alone, around}
-use Rattle.asn1_module.specs.Names.{first_unknown}
-use Rattle.asn1_module.specs.Judgement.{weights_of, IsSound}
+use Rattle.profile_defs.specs.asn1_module.Names.{first_unknown}
+use Rattle.profile_defs.specs.asn1_module.Judgement.{weights_of, IsSound}
 
 -- ---- numbers for vertices, found in so many rounds
 unfoldable pub raise : List ℕ → ℕ → ℕ → List ℕ

@@ -1,1 +1,2 @@
 pub mod Texts
+pub use Rattle.profile_defs.specs as profile_defs

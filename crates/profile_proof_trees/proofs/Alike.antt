@@ -21,9 +21,9 @@ use Rattle.asn1_assignments.specs.declared.assignment.Syntax.{Syntax}
 use Rattle.asn1_module.specs.Module.{find_type, ie_rows, procedure_rows, IsModule}
 use Rattle.asn1_module.specs.Targets.{definition_of, all_of}
 use Rattle.asn1_module.proofs.Facts.{type_below}
-use Rattle.asn1_rank_laws.specs.Leading.{EachPart, OfOption, EachIe, EachProcedure, EachOf, Lesser}
-use Rattle.asn1_rank_laws.proofs.Ranks.{rank}
-use Rattle.asn1_rank_laws.proofs.Inside.{each_more, ranks_fall}
+use Rattle.aper_types.specs.asn1_rank_laws.Leading.{EachPart, OfOption, EachIe, EachProcedure, EachOf, Lesser}
+use Rattle.aper_types.proofs.asn1_rank_laws.Ranks.{rank}
+use Rattle.aper_types.proofs.asn1_rank_laws.Inside.{each_more, ranks_fall}
 use Rattle.aper_defs.specs.Trees as trees
 use Rattle.aper_types.specs.Types as modules
 use Rattle.aper_types.specs.Types.{parts_of, rows_of, outcome_of, procedures_of, named_tree, definition_tree}

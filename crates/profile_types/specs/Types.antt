@@ -3,7 +3,7 @@ use Rattle.std.specs.Prelude.{◌≡◌, ◌<◌, length}
 use Rattle.asn1_types.specs.declared.definition.TypeId.{TypeId}
 use Rattle.asn1_assignments.specs.declared.assignment.Syntax.{Syntax}
 use Rattle.aper_defs.specs.Trees.{Tree}
-use Rattle.aper_types.specs.Types.{tree}
+use Rattle.profile_proof_trees.specs.aper_types.Types.{tree}
 
 -- the number of a type of the module, with this tree
 pub record IsTypeOf (m : Syntax) (t : Tree) (id : TypeId) : Type 0 where

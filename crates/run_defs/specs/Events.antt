@@ -16,12 +16,12 @@ use Rattle.gnb_types.specs.declared.inputs.Order.TheVariants as orders
 use Rattle.gnb_types.specs.declared.reasons.RefuseReason.TheVariants.{Attached, NotStarted, NoBearer, NoPath, Size, Quota, NoSuch, Empty, NoRadio, NotAllowed, NoUe, NotAccessing, NoHome, Busy, Same, NoLink, Decodable}
 use Rattle.gnb_types.specs.Orders.{ue_cmp, tunnel_cmp}
 use Rattle.tables.specs.Tables.{find, put}
-use Rattle.unit_defs.specs.Ways.{teids_spent}
-use Rattle.unit_defs.specs.Messages.{teid_of}
-use Rattle.unit_defs.specs.Core.{CorePath}
-use Rattle.unit_defs.specs.Ue.{new_ue, is_connected, is_accessing, may_return, largest_packet}
-use Rattle.unit_defs.specs.Accessors.{is_unconfirmed, ue_home}
-use Rattle.unit_defs.specs.Static.{up_has_room, up_has_teids, du_has_teids}
+use Rattle.unit_octet_defs.specs.unit_defs.Ways.{teids_spent}
+use Rattle.unit_octet_defs.specs.unit_defs.Messages.{teid_of}
+use Rattle.unit_octet_defs.specs.unit_defs.Core.{CorePath}
+use Rattle.unit_octet_defs.specs.unit_defs.Ue.{new_ue, is_connected, is_accessing, may_return, largest_packet}
+use Rattle.unit_octet_defs.specs.unit_defs.Accessors.{is_unconfirmed, ue_home}
+use Rattle.unit_octet_defs.specs.unit_defs.Static.{up_has_room, up_has_teids, du_has_teids}
 use Rattle.run_defs.specs.Lines.{Letter, got_item, got_message, lost_items, lost_message, held_at, tunnel_link, radio_link, shown}
 use Rattle.run_defs.specs.Units.{starting_nodes, up_of, du_of, ue_of, with_ue, is_source}
 use Rattle.transport_defs.specs.declared.Item.{Item}

@@ -11,16 +11,16 @@ use Rattle.gnb_types.specs.declared.keys.EntityKey.{EntityKey}
 use Rattle.gnb_types.specs.declared.plans.Plan.{Plan}
 use Rattle.gnb_types.specs.Orders.{ue_cmp, bearer_cmp}
 use Rattle.tables.specs.Tables.{find}
-use Rattle.transaction_defs.specs.Callers.{is_open}
-use Rattle.pdcp_defs.specs.Senders.{window}
-use Rattle.unit_defs.specs.declared.AttemptKind.{AttemptKind}
-use Rattle.unit_defs.specs.declared.AttemptKind.TheVariants as kinds
-use Rattle.unit_defs.specs.Messages.{channel}
-use Rattle.unit_defs.specs.Transactions.{waits_at}
-use Rattle.unit_defs.specs.UpRecords.{UpBearer, UpContext}
-use Rattle.unit_defs.specs.UpBearers.{hop_is_done}
-use Rattle.unit_defs.specs.Ue.{UeBearer, UeNode}
-use Rattle.unit_defs.specs.CpRecords.{Attempt, CpContext, CuCpRecord, terminal_of}
+use Rattle.unit_octet_defs.specs.transaction_defs.Callers.{is_open}
+use Rattle.unit_octet_defs.specs.pdcp_defs.Senders.{window}
+use Rattle.unit_octet_defs.specs.unit_defs.declared.AttemptKind.{AttemptKind}
+use Rattle.unit_octet_defs.specs.unit_defs.declared.AttemptKind.TheVariants as kinds
+use Rattle.unit_octet_defs.specs.unit_defs.Messages.{channel}
+use Rattle.unit_octet_defs.specs.unit_defs.Transactions.{waits_at}
+use Rattle.unit_octet_defs.specs.unit_defs.UpRecords.{UpBearer, UpContext}
+use Rattle.unit_octet_defs.specs.unit_defs.UpBearers.{hop_is_done}
+use Rattle.unit_octet_defs.specs.unit_defs.Ue.{UeBearer, UeNode}
+use Rattle.unit_octet_defs.specs.unit_defs.CpRecords.{Attempt, CpContext, CuCpRecord, terminal_of}
 use Rattle.run_defs.specs.Lines.{Letter}
 use Rattle.run_defs.specs.Units.{ue_of}
 use Rattle.transport_defs.specs.Links.{Bag, letter, tunnel_counts, radio_counts, least}

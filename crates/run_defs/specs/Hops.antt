@@ -12,9 +12,9 @@ use Rattle.gnb_types.specs.declared.plans.Tunnel.{Tunnel}
 use Rattle.gnb_types.specs.Orders.{node_cmp}
 use Rattle.message_types.specs.declared.e1.E1Message.TheVariants as e1s
 use Rattle.message_types.specs.declared.rrc.Token.{Token}
-use Rattle.link_defs.specs.Layouts.{end_marker}
-use Rattle.unit_defs.specs.Ways.{Message, e1}
-use Rattle.unit_defs.specs.Messages.{mode_freeze, teid_of}
+use Rattle.unit_octet_defs.specs.link_defs.Layouts.{end_marker}
+use Rattle.unit_octet_defs.specs.unit_defs.Ways.{Message, e1}
+use Rattle.unit_octet_defs.specs.unit_defs.Messages.{mode_freeze, teid_of}
 use Rattle.scenario_text.specs.declared.line.Link.{Link}
 use Rattle.scenario_text.specs.declared.line.Link.TheVariants.{Tunnel as tunnel}
 use Rattle.scenario_text.specs.declared.line.Item.{Item}

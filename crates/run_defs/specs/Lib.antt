@@ -14,3 +14,8 @@ pub mod Home
 pub mod Carried
 pub mod Local
 pub mod Hops
+pub use Rattle.unit_octet_defs.specs.unit_defs as unit_defs
+pub use Rattle.transport_defs.specs as transport_defs
+pub use Rattle.scenario_text.specs as scenario_text
+pub use Rattle.unit_octet_defs.specs as unit_octet_defs
+pub use Rattle.unit_octet_defs.specs.pdcp_defs as pdcp_defs

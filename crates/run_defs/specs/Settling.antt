@@ -13,9 +13,9 @@ use Rattle.gnb_types.specs.declared.inputs.Order.{Order}
 use Rattle.gnb_types.specs.declared.inputs.Order.TheVariants as orders
 use Rattle.gnb_types.specs.Orders.{tunnel_cmp}
 use Rattle.tables.specs.Tables.{at, entry_after, first_entry}
-use Rattle.unit_defs.specs.declared.UeState.{UeState}
-use Rattle.unit_defs.specs.declared.UeState.TheVariants as ue_states
-use Rattle.unit_defs.specs.Accessors.{is_unconfirmed}
+use Rattle.unit_octet_defs.specs.unit_defs.declared.UeState.{UeState}
+use Rattle.unit_octet_defs.specs.unit_defs.declared.UeState.TheVariants as ue_states
+use Rattle.unit_octet_defs.specs.unit_defs.Accessors.{is_unconfirmed}
 use Rattle.run_defs.specs.Lines.{RunLine, held_at, has_settled, has_not_settled, tunnel_link, radio_link}
 use Rattle.run_defs.specs.Units.{up_of}
 use Rattle.transport_defs.specs.declared.Item.{Item}

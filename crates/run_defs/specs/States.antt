@@ -14,8 +14,8 @@ use Rattle.gnb_types.specs.declared.inputs.Order.{Order}
 use Rattle.gnb_types.specs.declared.reasons.RefuseReason.{RefuseReason}
 use Rattle.gnb_types.specs.Orders.{ue_cmp, entity_cmp}
 use Rattle.tables.specs.Tables.{find, put, at}
-use Rattle.unit_defs.specs.Ways.{Put}
-use Rattle.unit_defs.specs.Core.{CoreRecord, new_core}
+use Rattle.unit_octet_defs.specs.unit_defs.Ways.{Put}
+use Rattle.unit_octet_defs.specs.unit_defs.Core.{CoreRecord, new_core}
 use Rattle.run_defs.specs.Lines.{RunLine, was_refused}
 use Rattle.run_defs.specs.Units.{Units, new_units}
 use Rattle.transport_defs.specs.declared.Item.{Item}

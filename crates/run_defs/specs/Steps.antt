@@ -18,10 +18,10 @@ use Rattle.gnb_types.specs.declared.reasons.RefuseReason.{RefuseReason}
 use Rattle.gnb_types.specs.Orders.{ue_cmp, tunnel_cmp}
 use Rattle.tables.specs.Tables.{find, put, without, at}
 use Rattle.pdcp.specs.Numbers.{half}
-use Rattle.unit_defs.specs.declared.UeState.{UeState}
-use Rattle.unit_defs.specs.declared.UeState.TheVariants as ue_states
-use Rattle.unit_defs.specs.Ways.{Put, control, packet, radio, deliver, dropped, held, opened, closed, failed, no}
-use Rattle.unit_defs.specs.Ue.{UeNode}
+use Rattle.unit_octet_defs.specs.unit_defs.declared.UeState.{UeState}
+use Rattle.unit_octet_defs.specs.unit_defs.declared.UeState.TheVariants as ue_states
+use Rattle.unit_octet_defs.specs.unit_defs.Ways.{Put, control, packet, radio, deliver, dropped, held, opened, closed, failed, no}
+use Rattle.unit_octet_defs.specs.unit_defs.Ue.{UeNode}
 use Rattle.run_defs.specs.Lines.{Letter, RunLine, put_item, put_message, delivers, lost_items, drops_input, procedure_failed, tunnel_link, radio_link, shown}
 use Rattle.run_defs.specs.Units.{Units, ue_of}
 use Rattle.transport_defs.specs.declared.Item.{Item}

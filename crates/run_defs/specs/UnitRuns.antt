@@ -9,10 +9,10 @@ use Rattle.gnb_types.specs.declared.outputs.Output.{Output}
 use Rattle.gnb_types.specs.declared.outputs.Output.TheVariants as outs
 use Rattle.gnb_types.specs.declared.reasons.DropReason.{DropReason}
 use Rattle.gnb_types.specs.declared.reasons.DropReason.TheVariants.{Unexpected}
-use Rattle.link_defs.specs.Layouts.{forwarded_fresh}
-use Rattle.unit_defs.specs.Ways.{Message, Put, control, packet, radio, deliver, dropped, held, opened, closed, failed, no, gives, spent}
-use Rattle.unit_defs.specs.Ue.{UeNode}
-use Rattle.unit_defs.specs.Core.{CoreRecord}
+use Rattle.unit_octet_defs.specs.link_defs.Layouts.{forwarded_fresh}
+use Rattle.unit_octet_defs.specs.unit_defs.Ways.{Message, Put, control, packet, radio, deliver, dropped, held, opened, closed, failed, no, gives, spent}
+use Rattle.unit_octet_defs.specs.unit_defs.Ue.{UeNode}
+use Rattle.unit_octet_defs.specs.unit_defs.Core.{CoreRecord}
 use Rattle.unit_octet_defs.specs.Codec.{Codec}
 use Rattle.unit_octet_defs.specs.Writing.{outputs_of}
 use Rattle.unit_octet_defs.specs.Units.{OctetAnswer, cu_cp_steps, cu_up_steps, du_steps, ue_steps, core_steps}

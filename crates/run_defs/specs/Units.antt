@@ -9,14 +9,14 @@ use Rattle.gnb_types.specs.declared.names.UeId.{UeId}
 use Rattle.gnb_types.specs.declared.names.BearerId.{BearerId}
 use Rattle.gnb_types.specs.Orders.{ue_cmp, node_cmp}
 use Rattle.tables.specs.Tables.{find, put, at}
-use Rattle.unit_defs.specs.declared.StateName.{StateName}
-use Rattle.unit_defs.specs.declared.StateName.TheVariants as states
-use Rattle.unit_defs.specs.UpRecords.{CuUp}
-use Rattle.unit_defs.specs.CuUp.{new_cu_up}
-use Rattle.unit_defs.specs.Du.{Du, new_du}
-use Rattle.unit_defs.specs.Ue.{UeNode}
-use Rattle.unit_defs.specs.CpRecords.{CuCpRecord, new_cu_cp}
-use Rattle.unit_defs.specs.Accessors.{state_of, cp_rests, up_rests, du_epoch}
+use Rattle.unit_octet_defs.specs.unit_defs.declared.StateName.{StateName}
+use Rattle.unit_octet_defs.specs.unit_defs.declared.StateName.TheVariants as states
+use Rattle.unit_octet_defs.specs.unit_defs.UpRecords.{CuUp}
+use Rattle.unit_octet_defs.specs.unit_defs.CuUp.{new_cu_up}
+use Rattle.unit_octet_defs.specs.unit_defs.Du.{Du, new_du}
+use Rattle.unit_octet_defs.specs.unit_defs.Ue.{UeNode}
+use Rattle.unit_octet_defs.specs.unit_defs.CpRecords.{CuCpRecord, new_cu_cp}
+use Rattle.unit_octet_defs.specs.unit_defs.Accessors.{state_of, cp_rests, up_rests, du_epoch}
 
 pub record Units (M C : Type 0) : Type 0 where
   pub cp_a : CuCpRecord M C

@@ -2,7 +2,7 @@
 use Rattle.std.specs.Prelude.{ℕ, List, map}
 use Rattle.gnb_types.specs.declared.names.SnBits.{SnBits}
 use Rattle.message_types.specs.declared.rrc.Token.{Token}
-use Rattle.unit_defs.specs.Ways.{Message, Pdu, Load, Put, control, packet, radio, deliver, dropped, held, opened, closed, failed, no}
+use Rattle.unit_octet_defs.specs.unit_defs.Ways.{Message, Pdu, Load, Put, control, packet, radio, deliver, dropped, held, opened, closed, failed, no}
 use Rattle.unit_octet_defs.specs.Writing.{pdu_octets, load_octets, written_load}
 use Rattle.run_defs.specs.States.{Lengths, Stepped, stepped, step_spent, CoreStepped}
 

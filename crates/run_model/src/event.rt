@@ -13,7 +13,7 @@ use script_words::reason::{TextError, TextReason};
 use std::alloc::Global;
 
 /// An event that runs today.
-#[derive(Clone, Debug, PartialEq, Eq, Drop)]
+#[derive(Drop)]
 pub enum StaticEvent {
     /// Terminal `u1` is set up with the one static downlink bearer of 12-bit numbers: `static u1 A 1 1 12 1 Q`.
     Static {

@@ -37,7 +37,7 @@ const LEAST_QUOTA: u32 = 4;
 const MOST_QUOTA: u32 = 4096;
 
 /// The forms of the program.
-#[derive(Clone, Copy, Debug, PartialEq, Eq)]
+#[derive(Clone, Copy, PartialEq, Eq)]
 pub enum Form {
     /// A script is run.
     Run,

@@ -21,7 +21,7 @@ pub enum Link {
 }
 
 /// What a line shows of an item: its bearer and direction, the COUNT that the runner keeps beside it, and its bytes.
-#[derive(Clone, Debug, Drop)]
+#[derive(Clone, Drop)]
 pub struct Item {
     pub ue: UeId,
     pub bearer: BearerId,

@@ -22,7 +22,7 @@ pub const PACKET_LIMIT: usize = 2048;
 const WINDOW: usize = 2047;
 
 /// What the CU-UP keeps of its downlink bearer.
-#[derive(Debug, Drop)]
+#[derive(Drop)]
 pub struct CuUp {
     /// How many packets it keeps at most.
     quota: u16,
@@ -47,7 +47,7 @@ impl Model for CuUp {
 }
 
 /// What the CU-UP does with a packet from N3.
-#[derive(Debug, Drop)]
+#[derive(Drop)]
 pub enum FromN3 {
     /// The octets aren't a packet of N3.
     Ignored,

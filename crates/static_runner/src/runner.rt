@@ -52,7 +52,7 @@ const RADIO: Link = Link::Radio {
 };
 
 /// The units of the one static bearer, and the links between them, with the oldest item first.
-#[derive(Debug, Drop)]
+#[derive(Drop)]
 struct Site {
     cu_up: CuUp,
     ue: Ue,
@@ -62,7 +62,7 @@ struct Site {
 }
 
 /// What runs a script: nothing stands before `static`.
-#[derive(Debug, Drop)]
+#[derive(Drop)]
 pub struct Runner {
     site: Option<Site>,
 }
@@ -151,15 +151,27 @@ impl Site {
         let taken = self
             .cu_up
             .take(alloc, DOWNLINK_TEID, oldest.bytes.as_slice())?;
-        let got = OutLine::Got {
-            link: N3,
-            item: oldest,
-        };
         match taken {
-            FromN3::Ignored => Lines::one(alloc, got),
-            FromN3::Waits => Lines::one(alloc, got),
+            FromN3::Ignored => Lines::one(
+                alloc,
+                OutLine::Got {
+                    link: N3,
+                    item: oldest,
+                },
+            ),
+            FromN3::Waits => Lines::one(
+                alloc,
+                OutLine::Got {
+                    link: N3,
+                    item: oldest,
+                },
+            ),
             FromN3::Numbered { count, bytes } => {
                 let line = put(&mut self.downlink, DOWNLINK, item(Some(count), bytes))?;
+                let got = OutLine::Got {
+                    link: N3,
+                    item: oldest,
+                };
                 two(alloc, got, line)
             }
         }
@@ -183,11 +195,11 @@ impl Site {
                 },
             ),
         };
+        let line = put(&mut self.radio, RADIO, item(count, pdu))?;
         let got = OutLine::Got {
             link: DOWNLINK,
             item: oldest,
         };
-        let line = put(&mut self.radio, RADIO, item(count, pdu))?;
         two(alloc, got, line)
     }
 
@@ -249,16 +261,16 @@ impl Site {
                 },
             ),
         };
-        let got = OutLine::Got {
-            link: RADIO,
-            item: oldest,
-        };
         let delivered = OutLine::Deliver {
             ue: UE,
             bearer: BEARER,
             dir: Dir::Dl,
             count,
             packet,
+        };
+        let got = OutLine::Got {
+            link: RADIO,
+            item: oldest,
         };
         two(alloc, got, delivered)
     }

@@ -13,14 +13,14 @@ use gnb_types::names::SnBits;
 use pdcp::Pdu;
 
 /// What the terminal keeps of its downlink bearer.
-#[derive(Debug, Drop)]
+#[derive(Drop)]
 pub struct Ue {
     /// The next COUNT to deliver (RX_DELIV).
     deliv: u32,
 }
 
 /// A packet that is delivered.
-#[derive(Debug, Drop)]
+#[derive(Drop)]
 pub struct Delivery<'a> {
     pub count: u32,
     pub packet: &'a [u8],

@@ -12,7 +12,7 @@ use std::collections::vec_deque::Iter;
 use std::marker::Model;
 
 /// Items in the order in which they came. Contracts see the list, the oldest first.
-#[derive(Debug, Drop)]
+#[derive(Drop)]
 pub struct Queue<T> {
     items: VecDeque<T>,
 }

@@ -3,7 +3,8 @@
 ghost use Rattle.std.specs.Prelude.{◌<◌, ◌^◌, length};
 
 use crate::vectors::{MESSAGES, NUMBERS, Row, STRINGS, STRUCTURES, TYPES, WORKED};
-use aper::{Value, decode, encode, is_value, spelled_length};
+use aper::{decode, encode, is_value, spelled_length};
+use aper_values::value::Value;
 use asn1_module::{Module, TypeId, read_module};
 use gnb_types::hex::hex_bytes;
 use gnb_types::octets::Octets;

@@ -2,12 +2,10 @@
 
 use gnb_types::bits::Bits;
 use gnb_types::hex::{HexError, hex_bytes, hex_text};
-use gnb_types::inputs::{Input, Order};
 use gnb_types::items::Items;
-use gnb_types::names::{BearerId, Dir, Gnb, NodeId, SnBits, UeId};
+use gnb_types::names::{BearerId, Dir, Gnb, NodeId, UeId};
 use gnb_types::octets::{Memory, Octets};
-use gnb_types::outputs::{Output, Outputs, Tag};
-use gnb_types::plans::{Peer, Plan, SnStatus, StatusList, Tunnel, TunnelList};
+use gnb_types::plans::{SnStatus, StatusList, Tunnel, TunnelList};
 use gnb_types::reasons::{CauseName, DropReason, HeldReason, RefuseReason};
 use std::alloc::Global;
 use std::test::Fail;
@@ -165,67 +163,33 @@ fn printed_reasons(rt: HostRuntime) -> Result<(), Fail> {
     Ok(())
 }
 
-const PLAN: Plan = Plan {
-    ue: UeId(1),
-    gnb: Gnb::A,
-    up: 1,
-    du: 2,
-    sn: SnBits::Len12,
-    bearers: 1,
-    quota: 64,
-};
-
-/// What units take is copied, compared and told apart.
-#[test]
-fn inputs(rt: HostRuntime) -> Result<(), Fail> {
-    let input = Input::Packet {
-        teid: 1,
-        bytes: Octets::one(rt.alloc(), 9)?,
-    };
-    assert!(rt; input.clone()? == input);
-    assert!(rt; Input::Order(Order::Attach(PLAN)) != Input::Tick);
-    Ok(())
-}
-
-/// What units give is copied and compared.
-#[test]
-fn outputs(rt: HostRuntime) -> Result<(), Fail> {
-    let put = Output::Packet {
-        to: NodeId::CuUp(Gnb::A, 1),
-        teid: 1,
-        ue: UeId(1),
-        bearer: BearerId(1),
-        dir: Dir::Dl,
-        count: Tag::Own(0),
-        bytes: Octets::one(rt.alloc(), 9)?,
-    };
-    let mut outputs = Outputs::one(rt.alloc(), put)?;
-    outputs.push(Output::Opened(2))?;
-    assert!(rt; outputs.clone()? == outputs);
-    Ok(())
-}
-
-#[test]
-fn statuses(rt: HostRuntime) -> Result<(), Fail> {
-    let status = SnStatus {
+/// A status with one COUNT that was received after the first that is missing.
+fn status(alloc: Global) -> Result<SnStatus, Memory> {
+    let received = Bits::one(alloc, true)?;
+    Ok(SnStatus {
         bearer: BearerId(1),
         dl_next: 5,
         ul_first: 3,
-        ul_received: Some(Bits::one(rt.alloc(), true)?),
-    };
-    let statuses = StatusList::one(rt.alloc(), status)?;
-    assert!(rt; statuses.clone()? == statuses);
+        ul_received: Some(received),
+    })
+}
+
+/// Statuses are compared.
+#[test]
+fn statuses(rt: HostRuntime) -> Result<(), Fail> {
+    let statuses = StatusList::one(rt.alloc(), status(rt.alloc())?)?;
+    let others = StatusList::one(rt.alloc(), status(rt.alloc())?)?;
+    assert!(rt; statuses == others);
     Ok(())
 }
 
 #[test]
-fn tunnels_and_peers(rt: HostRuntime) -> Result<(), Fail> {
+fn tunnels(rt: HostRuntime) -> Result<(), Fail> {
     let tunnel = Tunnel {
         bearer: BearerId(1),
         teid: 7,
     };
     let tunnels = TunnelList::from_slice(rt.alloc(), &[tunnel])?;
-    assert_eq!(rt; tunnels.get(0), Some(&tunnel));
-    assert!(rt; Peer { gnb: Gnb::A, up: 2 } < Peer { gnb: Gnb::B, up: 1 });
+    assert!(rt; tunnels.get(0) == Some(&tunnel));
     Ok(())
 }

@@ -44,7 +44,7 @@ pub const THERE: Plan = Plan {
 };
 
 /// What the CU-CP is given, or how it is left. Octets are hexadecimal digits.
-#[derive(Drop)]
+#[derive(Clone, Copy)]
 pub enum Call {
     /// All units count as set up, and terminal 1 as served here.
     Place,
@@ -61,7 +61,7 @@ pub enum Call {
 }
 
 /// What it puts out.
-#[derive(Drop)]
+#[derive(Clone, Copy)]
 pub enum Put {
     /// A message of this terminal, 0 for none.
     Say(NodeId, u8, &'static str),
@@ -139,7 +139,7 @@ fn input_of(alloc: Global, given: &Call) -> Result<Input, Fail> {
 }
 
 /// How a step went, or a run.
-#[derive(Clone, Copy, Debug, PartialEq, Eq)]
+#[derive(Clone, Copy, PartialEq, Eq)]
 enum Outcome {
     /// It put out what it should.
     AsTold,
@@ -220,7 +220,11 @@ fn outcome_of(
 
 fn run(alloc: Global, steps: &[(Call, &[Put])]) -> Result<Outcome, Fail> {
     match CuControl::new(alloc, Gnb::A) {
-        Ok(mut unit) => outcome_of(alloc, &mut unit, steps),
+        Ok(mut unit) => {
+            let outcome = outcome_of(alloc, &mut unit, steps);
+            drop(unit);
+            outcome
+        }
         Err(_) => Ok(Outcome::OutOfMemory),
     }
 }

@@ -176,12 +176,21 @@ fn puts_what_it_should(
     }
 }
 
+fn puts_all(alloc: Global, contexts: &mut DuContexts) -> Result<bool, Fail> {
+    for (given, puts) in &CALLS {
+        if !puts_what_it_should(alloc, contexts, given, puts)? {
+            return Ok(false);
+        }
+    }
+    Ok(true)
+}
+
 #[test]
 fn packets_of_a_terminal(rt: HostRuntime) -> Result<(), Fail> {
     let alloc = rt.alloc();
     let mut contexts = DuContexts::new(alloc);
-    for (given, puts) in &CALLS {
-        assert!(rt; puts_what_it_should(alloc, &mut contexts, given, puts)?);
-    }
+    let put = puts_all(alloc, &mut contexts);
+    drop(contexts);
+    assert!(rt; put?);
     Ok(())
 }

@@ -22,7 +22,7 @@ pub const UP: NodeId = NodeId::CuUp(Gnb::A, 1);
 
 pub const U1: NodeId = NodeId::Ue(1);
 /// What the DU is given. Octets are hexadecimal digits.
-#[derive(Drop)]
+#[derive(Clone, Copy)]
 pub enum Call {
     Give(NodeId, &'static str),
     /// An item of a downlink tunnel.
@@ -36,7 +36,7 @@ pub enum Call {
 }
 
 /// What it puts out.
-#[derive(Drop)]
+#[derive(Clone, Copy)]
 pub enum Put {
     /// A message of this terminal, 0 for none.
     Say(NodeId, u8, &'static str),
@@ -167,7 +167,7 @@ fn input_of(alloc: Global, given: &Call) -> Result<Input, Fail> {
 }
 
 /// How a step went, or a run.
-#[derive(Clone, Copy, Debug, PartialEq, Eq)]
+#[derive(Clone, Copy, PartialEq, Eq)]
 enum Outcome {
     /// It put out what it should.
     AsTold,
@@ -195,7 +195,9 @@ fn step_outcome(
     puts: &[Put],
 ) -> Result<Outcome, Fail> {
     let input = input_of(alloc, given)?;
-    match node.step(alloc, &FewMessages, &input) {
+    let stepped = node.step(alloc, &FewMessages, &input);
+    drop(input);
+    match stepped {
         Ok(outputs) => Ok(outcome_if(are_puts(alloc, &outputs, puts)?, Outcome::AsTold)),
         Err(StepError::Memory) => Ok(outcome_if(stays_failed(alloc, node), Outcome::OutOfMemory)),
         Err(StepError::Spent { .. }) => Ok(Outcome::Differs),
@@ -215,7 +217,9 @@ fn outcome_of(alloc: Global, node: &mut DuNode, steps: &[(Call, &[Put])]) -> Res
 
 fn run(alloc: Global, steps: &[(Call, &[Put])]) -> Result<Outcome, Fail> {
     let mut node = DuNode::new(alloc, Gnb::A, 1);
-    outcome_of(alloc, &mut node, steps)
+    let outcome = outcome_of(alloc, &mut node, steps);
+    drop(node);
+    outcome
 }
 
 /// Whether a new DU 1 of gNB A puts out what it should in these steps. Where memory runs out they are made again with another one.

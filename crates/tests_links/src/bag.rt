@@ -81,7 +81,7 @@ fn a_bag_from_end_to_end(rt: HostRuntime) -> Result<(), Fail> {
             Ok(answered) => answered,
             Err(Memory) => answer(&mut bag, alloc, *call)?,
         };
-        assert_eq!(rt; answered, *wanted);
+        assert!(rt; answered == *wanted);
     }
     Ok(())
 }

@@ -20,7 +20,7 @@ pub const KEY: EntityKey = EntityKey {
 };
 
 /// What a call answers.
-#[derive(Clone, Copy, Debug, PartialEq, Eq)]
+#[derive(Clone, Copy, PartialEq, Eq)]
 pub enum Answer {
     Done,
     Is(bool),

@@ -91,7 +91,7 @@ fn tunnels_from_end_to_end(rt: HostRuntime) -> Result<(), Fail> {
             Ok(answered) => answered,
             Err(Memory) => answer(&mut tunnels, alloc, *call)?,
         };
-        assert_eq!(rt; answered, *wanted);
+        assert!(rt; answered == *wanted);
     }
     Ok(())
 }

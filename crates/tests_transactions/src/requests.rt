@@ -71,55 +71,110 @@ const TICKS: [&[(u8, NodeId, Option<u8>)]; 5] = [
     &[(0, CORE, Some(40))],
 ];
 
-#[test]
-fn requests_are_put_again_until_they_expire(rt: HostRuntime) -> Result<(), Fail> {
-    let alloc = rt.alloc();
-    let mut caller = Caller::new(alloc);
-    // Terminal, peer, ticks, and the octet that is kept.
-    let requests = [
-        (2u8, DU, Some(4u16), Some(20u8)),
-        (1, CORE, Some(3), None),
-        (1, DU, Some(2), Some(10)),
-        (0, CORE, None, Some(40)),
-    ];
-    for (ue, peer, deadline, octet) in requests {
+/// Requests that are made: terminal, peer, ticks, and the octet that is kept.
+const BEGUN: [(u8, NodeId, Option<u16>, Option<u8>); 4] = [
+    (2, DU, Some(4), Some(20)),
+    (1, CORE, Some(3), None),
+    (1, DU, Some(2), Some(10)),
+    (0, CORE, None, Some(40)),
+];
+
+/// Whether a request is begun once, as the first of its channel.
+fn begins(caller: &mut Caller, channel: Channel, deadline: Option<u16>) -> bool {
+    let is_begun = begin(caller, channel, deadline) == Ok(1);
+    is_begun && begin(caller, channel, deadline) == Err(BeginError::Running)
+}
+
+fn begins_all(caller: &mut Caller, alloc: Global) -> Result<bool, Memory> {
+    for (ue, peer, deadline, octet) in BEGUN {
         let channel = Channel { ue, peer };
-        assert!(rt; begin(&mut caller, channel, deadline) == Ok(1));
-        assert!(rt; begin(&mut caller, channel, deadline) == Err(BeginError::Running));
+        if !begins(caller, channel, deadline) {
+            return Ok(false);
+        }
         if let Some(octet) = octet {
             caller.keep_request(&channel, one(alloc, octet)?);
         }
     }
-    for rows in TICKS {
-        let due = tick(&mut caller, alloc)?;
-        assert_eq!(rt; due.len(), rows.len());
-        for (due, row) in due.as_slice().iter().zip(rows) {
-            assert!(rt; is_due(due, row));
+    Ok(true)
+}
+
+fn are_due(due: &[Due], rows: &[(u8, NodeId, Option<u8>)]) -> bool {
+    for (due, row) in due.iter().zip(rows) {
+        if !is_due(due, row) {
+            return false;
         }
     }
+    due.len() == rows.len()
+}
+
+/// Whether at each tick what should be is due.
+fn ticks(caller: &mut Caller, alloc: Global) -> Result<bool, Memory> {
+    for rows in TICKS {
+        let due = tick(caller, alloc)?;
+        if !are_due(due.as_slice(), rows) {
+            return Ok(false);
+        }
+    }
+    Ok(true)
+}
+
+#[test]
+fn requests_are_put_again_until_they_expire(rt: HostRuntime) -> Result<(), Fail> {
+    let alloc = rt.alloc();
+    let mut caller = Caller::new(alloc);
+    let begun = begins_all(&mut caller, alloc);
+    let ticked = ticks(&mut caller, alloc);
+    drop(caller);
+    assert!(rt; begun? && ticked?);
     Ok(())
+}
+
+/// The channel of the requests, and another one of the same terminal.
+const ASKED: Channel = Channel { ue: 3, peer: DU };
+
+const OTHER: Channel = Channel { ue: 3, peer: CORE };
+
+/// Whether a request with this instance is begun, and open on its channel alone.
+fn opens(caller: &mut Caller, instance: u32) -> bool {
+    let was_closed = caller.rests(3) && !caller.is_open(&ASKED);
+    let was_stale = caller.reply(&ASKED, instance) == Reply::Stale;
+    let is_begun = begin(caller, ASKED, None) == Ok(instance);
+    let is_alone = caller.is_open(&ASKED) && !caller.is_open(&OTHER);
+    was_closed && was_stale && is_begun && is_alone && !caller.rests(3) && caller.rests(2)
+}
+
+/// Whether the reply with this instance alone is taken.
+fn takes_one(caller: &Caller, instance: u32) -> bool {
+    let is_next = caller.reply(&ASKED, instance.wrapping_add(1)) == Reply::Taken;
+    let is_last = caller.reply(&ASKED, instance.wrapping_sub(1)) == Reply::Taken;
+    let is_other = caller.reply(&OTHER, instance) == Reply::Taken;
+    let is_taken = caller.reply(&ASKED, instance) == Reply::Taken;
+    is_taken && !(is_next || is_last || is_other)
+}
+
+/// Whether closing another channel leaves it open, and it is closed then.
+fn closes(caller: &mut Caller) -> bool {
+    caller.close(&OTHER);
+    let stays = caller.is_open(&ASKED);
+    caller.close(&ASKED);
+    stays && !caller.is_open(&ASKED)
+}
+
+fn takes_each(caller: &mut Caller) -> bool {
+    for instance in 1..4u32 {
+        if !(opens(caller, instance) && takes_one(caller, instance) && closes(caller)) {
+            return false;
+        }
+    }
+    true
 }
 
 #[test]
 fn one_reply_of_each_request_is_taken(rt: HostRuntime) -> Result<(), Fail> {
-    let alloc = rt.alloc();
-    let mut caller = Caller::new(alloc);
-    let channel = Channel { ue: 3, peer: DU };
-    let other = Channel { ue: 3, peer: CORE };
-    for instance in 1..4u32 {
-        assert!(rt; caller.rests(3) && !caller.is_open(&channel));
-        assert!(rt; caller.reply(&channel, instance) == Reply::Stale);
-        assert!(rt; begin(&mut caller, channel, None) == Ok(instance));
-        assert!(rt; caller.is_open(&channel) && !caller.is_open(&other));
-        assert!(rt; !caller.rests(3) && caller.rests(2));
-        assert!(rt; caller.reply(&channel, instance + 1) == Reply::Stale);
-        assert!(rt; caller.reply(&channel, instance - 1) == Reply::Stale);
-        assert!(rt; caller.reply(&other, instance) == Reply::Stale);
-        assert!(rt; caller.reply(&channel, instance) == Reply::Taken);
-        caller.close(&other);
-        assert!(rt; caller.is_open(&channel));
-        caller.close(&channel);
-    }
+    let mut caller = Caller::new(rt.alloc());
+    let is_taken = takes_each(&mut caller);
+    drop(caller);
+    assert!(rt; is_taken);
     Ok(())
 }
 
@@ -137,22 +192,45 @@ const REQUESTS: [(u8, NodeId, u32, Verdict, Option<u8>); 10] = [
     (1, CORE, 1, Verdict::Again, Some(4)),
 ];
 
-#[test]
-fn replies_are_kept_for_the_newest_request(rt: HostRuntime) -> Result<(), Fail> {
-    let alloc = rt.alloc();
-    let mut callee = Callee::new(alloc);
+/// Keeps the reply to a new request, and one to an earlier request, which isn't kept.
+fn keep(
+    callee: &mut Callee,
+    alloc: Global,
+    channel: Channel,
+    instance: u32,
+    octet: u8,
+) -> Result<(), Memory> {
+    callee.keep(&channel, one(alloc, 99)?);
+    callee.keep_for(&channel, instance, one(alloc, octet)?);
+    callee.keep_for(&channel, instance.wrapping_sub(1), one(alloc, 98)?);
+    Ok(())
+}
+
+fn answers_all(callee: &mut Callee, alloc: Global) -> Result<bool, Memory> {
     let mut octet = 0u8;
     for (ue, peer, instance, verdict, kept) in REQUESTS {
         octet = octet.wrapping_add(1);
         let channel = Channel { ue, peer };
-        assert!(rt; kept_octet(&callee, &channel) == kept);
-        assert!(rt; accept(&mut callee, channel, instance) == Ok(verdict));
+        let was_kept = kept_octet(callee, &channel) == kept;
+        if !was_kept || accept(callee, channel, instance) != Ok(verdict) {
+            return Ok(false);
+        }
         if verdict == Verdict::New {
-            assert!(rt; callee.kept(&channel).is_none());
-            callee.keep(&channel, one(alloc, 99)?);
-            callee.keep_for(&channel, instance, one(alloc, octet)?);
-            callee.keep_for(&channel, instance.wrapping_sub(1), one(alloc, 98)?);
+            if callee.kept(&channel).is_some() {
+                return Ok(false);
+            }
+            keep(callee, alloc, channel, instance, octet)?;
         }
     }
+    Ok(true)
+}
+
+#[test]
+fn replies_are_kept_for_the_newest_request(rt: HostRuntime) -> Result<(), Fail> {
+    let alloc = rt.alloc();
+    let mut callee = Callee::new(alloc);
+    let answered = answers_all(&mut callee, alloc);
+    drop(callee);
+    assert!(rt; answered?);
     Ok(())
 }

@@ -32,17 +32,24 @@ fn numbers(alloc: Global, uplink: &mut Uplink, count: u32, pdu: &[u8]) -> Result
     }
 }
 
+/// Whether the packet that waits is the only one that is numbered, and is then held unconfirmed.
+fn numbers_one(alloc: Global, uplink: &mut Uplink) -> Result<bool, StepError> {
+    let was_used = uplink.used() == 1;
+    let is_numbered = numbers(alloc, uplink, 0, &[0x80, 0, 7])?;
+    let is_alone = !numbers(alloc, uplink, 1, &[])?;
+    let is_held = uplink.unconfirmed(0).map(|held| held.0) == Some(0);
+    Ok(was_used && is_numbered && is_alone && is_held && !uplink.rests())
+}
+
 #[test]
 fn packets_go_up(rt: HostRuntime) -> Result<(), Fail> {
     let alloc = rt.alloc();
     let mut uplink = uplink_with_one(alloc)?;
-    assert_eq!(rt; uplink.used(), 1);
-    assert!(rt; numbers(alloc, &mut uplink, 0, &[0x80, 0, 7])?);
-    assert!(rt; !numbers(alloc, &mut uplink, 1, &[])?);
-    assert_eq!(rt; uplink.unconfirmed(0).map(|held| held.0), Some(0));
-    assert!(rt; !uplink.rests());
+    let numbered = numbers_one(alloc, &mut uplink);
     uplink.confirm_to(0);
-    assert!(rt; uplink.rests());
+    let rests = uplink.rests();
+    drop(uplink);
+    assert!(rt; numbered? && rests);
     Ok(())
 }
 
@@ -50,9 +57,11 @@ fn packets_go_up(rt: HostRuntime) -> Result<(), Fail> {
 fn a_report_confirms(rt: HostRuntime) -> Result<(), Fail> {
     let alloc = rt.alloc();
     let mut uplink = uplink_with_one(alloc)?;
-    assert!(rt; numbers(alloc, &mut uplink, 0, &[0x80, 0, 7])?);
+    let numbered = numbers(alloc, &mut uplink, 0, &[0x80, 0, 7]);
     uplink.confirm_report(1, &[]);
-    assert!(rt; uplink.rests());
+    let rests = uplink.rests();
+    drop(uplink);
+    assert!(rt; numbered? && rests);
     Ok(())
 }
 
@@ -77,17 +86,33 @@ fn reports(
     Ok(fmc == first && bits.as_slice() == received)
 }
 
+/// Whether what comes ahead is stored once, and what is past the quota isn't.
+fn takes_ahead(downlink: &mut Downlink) -> bool {
+    let is_stored = downlink.take(1, &[8]) == Reception::Stored;
+    let is_again = downlink.take(1, &[8]) == Reception::Duplicate;
+    is_stored && is_again && downlink.take(4, &[9]) == Reception::Ahead
+}
+
+/// Whether what came is delivered in order, once what was missing is there.
+fn delivers_both(alloc: Global, downlink: &mut Downlink) -> Result<bool, Memory> {
+    let is_stored = downlink.take(0, &[7]) == Reception::Stored;
+    let is_first = delivers(alloc, downlink, 0, 7)?;
+    let is_next = delivers(alloc, downlink, 1, 8)?;
+    Ok(is_stored && is_first && is_next && !delivers(alloc, downlink, 2, 9)?)
+}
+
+fn comes_down(alloc: Global, downlink: &mut Downlink) -> Result<bool, Memory> {
+    let is_ahead = takes_ahead(downlink);
+    let is_reported = reports(alloc, downlink, 0, &[true])?;
+    Ok(is_ahead && is_reported && delivers_both(alloc, downlink)?)
+}
+
 #[test]
 fn packets_come_down(rt: HostRuntime) -> Result<(), Fail> {
     let alloc = rt.alloc();
     let mut downlink = Downlink::new(alloc, key(Dir::Dl), SnBits::Len12, 4)?;
-    assert_eq!(rt; downlink.take(1, &[8]), Reception::Stored);
-    assert_eq!(rt; downlink.take(1, &[8]), Reception::Duplicate);
-    assert_eq!(rt; downlink.take(4, &[9]), Reception::Ahead);
-    assert!(rt; reports(alloc, &downlink, 0, &[true])?);
-    assert_eq!(rt; downlink.take(0, &[7]), Reception::Stored);
-    assert!(rt; delivers(alloc, &mut downlink, 0, 7)?);
-    assert!(rt; delivers(alloc, &mut downlink, 1, 8)?);
-    assert!(rt; !delivers(alloc, &mut downlink, 2, 9)?);
+    let came = comes_down(alloc, &mut downlink);
+    drop(downlink);
+    assert!(rt; came?);
     Ok(())
 }

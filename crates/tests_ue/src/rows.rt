@@ -13,6 +13,7 @@ use gnb_types::outputs::{Outputs, Tag};
 use gnb_types::reasons::{DropReason, HeldReason, RefuseReason};
 use std::alloc::Global;
 use std::test::Fail;
+use ue_node::UeNode;
 use ue_rows::UeRecord;
 use unit_defs::UeState;
 use unit_steps::StepError;
@@ -325,17 +326,25 @@ fn drops_pdus(rt: HostRuntime) -> Result<(), Fail> {
     Ok(())
 }
 
+/// Whether a terminal is in this state and epoch, with this home, and with nothing that waits.
+fn is_at(node: &UeNode, state: UeState, epoch: u32, home: Option<NodeId>) -> bool {
+    let rests = node.rests(BearerId(1));
+    node.state() == state && node.epoch() == epoch && node.home() == home && rests
+}
+
+/// Whether a new terminal reports that it is idle, and then that it is placed.
+fn reports(node: &mut UeNode) -> Result<bool, StepError> {
+    let is_idle = is_at(node, UeState::Idle, 0, None);
+    node.place_static()?;
+    Ok(is_idle && is_at(node, UeState::Connected, 1, Some(DU_1)))
+}
+
 #[test]
 fn what_it_reports(rt: HostRuntime) -> Result<(), Fail> {
     let mut node = new_node(rt.alloc())?;
-    assert_eq!(rt; node.state(), UeState::Idle);
-    assert_eq!(rt; node.epoch(), 0);
-    assert!(rt; node.home().is_none());
-    node.place_static()?;
-    assert_eq!(rt; node.state(), UeState::Connected);
-    assert_eq!(rt; node.epoch(), 1);
-    assert!(rt; node.home() == Some(DU_1));
-    assert!(rt; node.rests(BearerId(1)));
+    let reported = reports(&mut node);
+    drop(node);
+    assert!(rt; reported?);
     Ok(())
 }
 
@@ -353,15 +362,33 @@ fn in_last_epoch(alloc: Global) -> Result<UeRecord, Memory>
     Ok(record)
 }
 
+fn is_spent(stepped: Result<(), StepError>) -> bool {
+    match stepped {
+        Err(StepError::Spent { counter }) => counter == 5,
+        Ok(()) | Err(StepError::Memory) => false,
+    }
+}
+
+fn spends_at_its_arrival(alloc: Global, out: &mut Outputs) -> Result<bool, Memory> {
+    let mut record = in_last_epoch(alloc)?;
+    let stepped = record.arrive(alloc, &Tokens, out);
+    drop(record);
+    Ok(is_spent(stepped))
+}
+
+fn spends_at_its_return(alloc: Global, out: &mut Outputs) -> Result<bool, Memory> {
+    let mut record = in_last_epoch(alloc)?;
+    let stepped = record.come_back(alloc, &Tokens, out);
+    drop(record);
+    Ok(is_spent(stepped))
+}
+
 /// In the last epoch it neither arrives nor returns.
 #[test]
 fn epochs_are_spent(rt: HostRuntime) -> Result<(), Fail> {
     let alloc = rt.alloc();
     let mut out = Outputs::new(alloc);
-    let spent = Err(StepError::Spent { counter: 5 });
-    let mut arriving = in_last_epoch(alloc)?;
-    assert_eq!(rt; arriving.arrive(alloc, &Tokens, &mut out), spent);
-    let mut returning = in_last_epoch(alloc)?;
-    assert_eq!(rt; returning.come_back(alloc, &Tokens, &mut out), spent);
+    assert!(rt; spends_at_its_arrival(alloc, &mut out)?);
+    assert!(rt; spends_at_its_return(alloc, &mut out)?);
     Ok(())
 }

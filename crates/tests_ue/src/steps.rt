@@ -35,7 +35,7 @@ pub const PLAN: Plan = Plan {
 };
 
 /// What the terminal is given.
-#[derive(Drop)]
+#[derive(Clone, Copy)]
 pub enum Call {
     /// It is set up without messages.
     Static,
@@ -58,7 +58,7 @@ pub const RETURN: Call = Call::Order(Order::Return(UE));
 pub const FAIL: Call = Call::Order(Order::Fail(UE));
 
 /// What it puts out.
-#[derive(Drop)]
+#[derive(Clone, Copy)]
 pub enum Put {
     Say(NodeId, &'static str),
     /// On the radio of this epoch.
@@ -180,8 +180,8 @@ fn input_of(alloc: Global, given: &Call) -> Result<Option<Input>, Fail> {
 }
 
 /// How a step went, or a run.
-#[derive(Clone, Copy, Debug, PartialEq, Eq)]
-pub enum Outcome {
+#[derive(Clone, Copy, PartialEq, Eq)]
+enum Outcome {
     /// It put out what it should.
     AsTold,
     Differs,
@@ -229,6 +229,7 @@ fn step_outcome(
     if let Input::Offer { packet, .. } = &input
         && packet.is_empty()
     {
+        drop(input);
         return Ok(Outcome::Differs);
     }
     match node.step(alloc, &Tokens, input) {
@@ -238,15 +239,22 @@ fn step_outcome(
     }
 }
 
-fn run(alloc: Global, steps: &[(Call, &[Put])]) -> Result<Outcome, Fail> {
-    let mut node = new_node(alloc)?;
+/// Whether a terminal puts out what it should in these steps.
+fn outcome_of(alloc: Global, node: &mut UeNode, steps: &[(Call, &[Put])]) -> Result<Outcome, Fail> {
     for (given, puts) in steps {
-        let outcome = step_outcome(alloc, &mut node, given, puts)?;
+        let outcome = step_outcome(alloc, node, given, puts)?;
         if outcome != Outcome::AsTold {
             return Ok(outcome);
         }
     }
     Ok(Outcome::AsTold)
+}
+
+fn run(alloc: Global, steps: &[(Call, &[Put])]) -> Result<Outcome, Fail> {
+    let mut node = new_node(alloc)?;
+    let outcome = outcome_of(alloc, &mut node, steps);
+    drop(node);
+    outcome
 }
 
 /// A new terminal. Where memory runs out it is made again.

@@ -12,7 +12,7 @@ use std::marker::Model;
 use tables::shelf::Shelf;
 
 /// What a request is to its responder.
-#[derive(Clone, Copy, Debug, PartialEq, Eq)]
+#[derive(Clone, Copy, PartialEq, Eq)]
 pub enum Verdict {
     /// Its instance is above all earlier ones of its channel: it is acted on.
     New,

@@ -37,7 +37,7 @@ impl From<Memory> for BeginError {
 }
 
 /// What a reply is to the side that asked.
-#[derive(Clone, Copy, Debug, PartialEq, Eq)]
+#[derive(Clone, Copy, PartialEq, Eq)]
 pub enum Reply {
     /// It answers the open request.
     Taken,
@@ -46,7 +46,7 @@ pub enum Reply {
 }
 
 /// What is due of an open request at a tick.
-#[derive(Debug, PartialEq, Drop)]
+#[derive(Drop)]
 pub enum Due {
     /// It is put again.
     Repeat { channel: Channel, bytes: Octets },

@@ -5,7 +5,7 @@ use gnb_types::keys::EntityKey;
 use gnb_types::names::NodeId;
 
 /// A control message that was put: its ends, its terminal (0: none), and what stands for it.
-#[derive(Debug, PartialEq, Eq, Drop)]
+#[derive(Drop)]
 pub struct Letter<M> {
     pub from: NodeId,
     pub to: NodeId,
@@ -14,7 +14,7 @@ pub struct Letter<M> {
 }
 
 /// An item of a tunnel or radio: its bearer and direction, the COUNT that stands beside it, if it shows one, and what stands for it.
-#[derive(Debug, PartialEq, Eq, Drop)]
+#[derive(Drop)]
 pub struct Item<X> {
     pub key: EntityKey,
     pub count: Option<u32>,

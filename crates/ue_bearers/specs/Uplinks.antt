@@ -7,7 +7,7 @@ use Rattle.pdcp.specs.Pdus.{radio_data}
 use Rattle.pdcp_defs.specs.Senders.{Sender, new_sender, has_room, numbered, restored}
 use Rattle.pdcp_entities.specs.declared.tx.NumberError.{NumberError}
 use Rattle.pdcp_entities.specs.declared.tx.NumberError.TheVariants as refusals
-use Rattle.unit_defs.specs.Ways.{counts_spent}
+use Rattle.unit_steps.specs.unit_defs.Ways.{counts_spent}
 use Rattle.unit_steps.specs.declared.StepError.{StepError}
 use Rattle.unit_steps.specs.declared.StepError.TheVariants as errors
 use Rattle.ue_bearers.specs.declared.uplink.Counted.{Counted}

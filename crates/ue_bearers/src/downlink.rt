@@ -17,7 +17,7 @@ use std::alloc::Global;
 use std::marker::Model;
 
 /// What became of a packet.
-#[derive(Clone, Copy, Debug, PartialEq, Eq)]
+#[derive(Clone, Copy, PartialEq, Eq)]
 pub enum Reception {
     /// It came before, or its number stands for no COUNT.
     Duplicate,
@@ -27,7 +27,7 @@ pub enum Reception {
 }
 
 /// A packet that is delivered.
-#[derive(Debug, Drop)]
+#[derive(Drop)]
 pub struct Delivered {
     pub count: u32,
     pub packet: Octets,

@@ -24,14 +24,14 @@ use unit_steps::StepError;
 const COUNTS: u8 = 4;
 
 /// A packet that got a COUNT.
-#[derive(Debug, Drop)]
+#[derive(Drop)]
 pub struct Counted {
     pub count: u32,
     pub packet: Octets,
 }
 
 /// A packet that got a COUNT, and its PDU.
-#[derive(Debug, Drop)]
+#[derive(Drop)]
 pub struct Numbered {
     pub count: u32,
     pub pdu: Octets,

@@ -53,8 +53,14 @@ fn read_token<C: MessageCodec>(
         Err(reason) => return Ok(Err(reason)),
     };
     match token_in(&message) {
-        Some(token) => Ok(Ok(token)),
-        None => Ok(Err(DropReason::Unexpected)),
+        Some(token) => {
+            drop(message);
+            Ok(Ok(token))
+        }
+        None => {
+            drop(message);
+            Ok(Err(DropReason::Unexpected))
+        }
     }
 }
 

@@ -25,6 +25,7 @@ use gnb_types::outputs::{Output, Outputs, Tag};
 use gnb_types::plans::Plan;
 use gnb_types::reasons::{DropReason, HeldReason, RefuseReason};
 use pdcp::{PACKET_LIMIT, write_pdu, write_report};
+use results::beside;
 use std::alloc::Global;
 use ue_bearers::{Delivered, Downlink, Numbered, Reception, Uplink};
 use unit_steps::StepError;
@@ -69,10 +70,10 @@ impl Bearer {
             bearer,
             dir: Dir::Dl,
         };
-        Ok(Bearer {
-            uplink: Uplink::new(alloc, up, plan.sn, plan.quota)?,
-            downlink: Downlink::new(alloc, down, plan.sn, plan.quota)?,
-        })
+        let uplink = Uplink::new(alloc, up, plan.sn, plan.quota)?;
+        let downlink = Downlink::new(alloc, down, plan.sn, plan.quota);
+        let (downlink, uplink) = beside(downlink, uplink)?;
+        Ok(Bearer { uplink, downlink })
     }
 
     /// While the terminal is connected, packets that wait get COUNTs and are sent, as long as the window has room.

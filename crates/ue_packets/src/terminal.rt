@@ -7,7 +7,7 @@ use gnb_types::plans::Plan;
 use unit_defs::UeState;
 
 /// What the packet rules read of a terminal.
-#[derive(Clone, Copy, Debug, PartialEq, Eq)]
+#[derive(Clone, Copy)]
 pub struct Terminal {
     pub plan: Plan,
     pub state: UeState,

@@ -3,7 +3,7 @@
 use gnb_types::octets::Octets;
 
 /// An event. Messages are numbered from 1 on, in the order in which they were put.
-#[derive(Debug, PartialEq, Eq, Drop)]
+#[derive(Drop)]
 pub enum UmEvent {
     /// A packet is numbered, and put on the link.
     Offer { packet: Octets },

@@ -4,7 +4,7 @@ use gnb_types::octets::Octets;
 use gnb_types::reasons::RefuseReason;
 
 /// A line after an event.
-#[derive(Debug, PartialEq, Eq, Drop)]
+#[derive(Drop)]
 pub enum UmLine {
     /// A message with the PDU of a COUNT.
     Put {

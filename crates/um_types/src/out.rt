@@ -4,7 +4,7 @@ use gnb_types::items::Items;
 use gnb_types::octets::Octets;
 
 /// A packet with its COUNT.
-#[derive(Debug, PartialEq, Eq, Drop)]
+#[derive(Drop)]
 pub struct Out {
     pub count: u32,
     pub packet: Octets,

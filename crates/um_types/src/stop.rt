@@ -26,7 +26,7 @@ impl From<Memory> for UmFault {
 }
 
 /// Why a run has ended.
-#[derive(Clone, Copy, Debug, PartialEq, Eq)]
+#[derive(Clone, Copy, PartialEq, Eq)]
 pub enum UmEnd {
     /// So many COUNTs are outstanding, more than may be.
     Outstanding { span: u32, window: u32 },
@@ -35,7 +35,7 @@ pub enum UmEnd {
 }
 
 /// Why an event isn't done, or is the last: with its lines, where the run ends in it, and with none from then on.
-#[derive(Debug, PartialEq, Eq, Drop)]
+#[derive(Drop)]
 pub enum UmStop {
     Outstanding {
         span: u32,

@@ -8,7 +8,7 @@ use crate::message::Message;
 use message_types::{CoreMessage, E1Message, F1, F1Message, XnMessage};
 
 /// A request or a reply, with its terminal (0: none) and its instance; or neither.
-#[derive(Clone, Copy, Debug, PartialEq, Eq)]
+#[derive(Clone, Copy)]
 pub enum Kind {
     Request { ue: u8, instance: u32 },
     Reply { ue: u8, instance: u32 },

@@ -8,7 +8,7 @@ use crate::kind::{Kind, kind_of_core, kind_of_e1, kind_of_f1, kind_of_xn};
 use message_types::{CoreMessage, E1Message, F1, F1Message, Token, XnMessage};
 
 /// A message of F1AP, E1AP or XnAP, one with the core, or a token of RRC. Containers are octets.
-#[derive(Debug, Drop)]
+#[derive(Drop)]
 pub enum Message {
     F1(F1Message),
     E1(E1Message),

@@ -1,10 +1,10 @@
 -- How octets are read and spelled: what the definitions of units over octets take as given. A container is the octets of a token.
 use Rattle.std.specs.Prelude.{ℕ, List, Option, Some, None, Result}
-use Rattle.gnb_types.specs.declared.names.NodeId.{NodeId}
-use Rattle.gnb_types.specs.declared.names.SnBits.{SnBits}
-use Rattle.gnb_types.specs.declared.reasons.DropReason.{DropReason}
-use Rattle.message_types.specs.declared.rrc.Token.{Token}
-use Rattle.pdcp.specs.Pdus.{Content, data_pdu, status_report}
+use Rattle.unit_defs.specs.gnb_types.declared.names.NodeId.{NodeId}
+use Rattle.unit_defs.specs.gnb_types.declared.names.SnBits.{SnBits}
+use Rattle.unit_defs.specs.gnb_types.declared.reasons.DropReason.{DropReason}
+use Rattle.unit_defs.specs.message_types.declared.rrc.Token.{Token}
+use Rattle.unit_defs.specs.pdcp.Pdus.{Content, data_pdu, status_report}
 use Rattle.link_defs.specs.Decoding.{Link, Item}
 use Rattle.unit_defs.specs.Ways.{Message, rrc, Way}
 use Rattle.unit_octet_defs.specs.Writing.{pdu_octets}

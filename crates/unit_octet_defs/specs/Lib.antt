@@ -3,3 +3,7 @@ pub mod Writing
 pub mod Reading
 pub mod Units
 pub mod Spelling
+pub use Rattle.unit_defs.specs as unit_defs
+pub use Rattle.link_defs.specs as link_defs
+pub use Rattle.unit_defs.specs.pdcp_defs as pdcp_defs
+pub use Rattle.unit_defs.specs.transaction_defs as transaction_defs

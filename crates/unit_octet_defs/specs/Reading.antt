@@ -10,19 +10,19 @@
 use Rattle.std.specs.Prelude.{◌==◌, ℕ, ◌/◌, ◌%◌, ◌^◌, Bool, true, false, List, [], ◌∷◌, map, Option, Some, None, Result, Ok, Err, if◌then◌else◌}
 use Rattle.std.specs.List.{flat_map}
 use Rattle.std.specs.Ordering.{nat_cmp}
-use Rattle.gnb_types.specs.declared.names.NodeId.{NodeId}
-use Rattle.gnb_types.specs.declared.names.NodeId.TheVariants.{CuCp, Ue}
-use Rattle.gnb_types.specs.declared.names.BearerId.{BearerId}
-use Rattle.gnb_types.specs.declared.names.Dir.TheVariants.{Dl, Ul}
-use Rattle.gnb_types.specs.declared.names.SnBits.{SnBits}
-use Rattle.gnb_types.specs.declared.inputs.Input.{Input as OctetInput}
-use Rattle.gnb_types.specs.declared.inputs.Input.TheVariants as ins
-use Rattle.gnb_types.specs.declared.reasons.DropReason.{DropReason}
-use Rattle.gnb_types.specs.declared.reasons.DropReason.TheVariants.{Undecodable, NoContext, NoTunnel, Unexpected}
-use Rattle.gnb_types.specs.Orders.{bearer_cmp}
-use Rattle.tables.specs.Tables.{find}
-use Rattle.pdcp.specs.Pdus.{Content as PduContent, data_pdu, status_report}
-use Rattle.pdcp_defs.specs.Counts.{near_count, count_below}
+use Rattle.unit_defs.specs.gnb_types.declared.names.NodeId.{NodeId}
+use Rattle.unit_defs.specs.gnb_types.declared.names.NodeId.TheVariants.{CuCp, Ue}
+use Rattle.unit_defs.specs.gnb_types.declared.names.BearerId.{BearerId}
+use Rattle.unit_defs.specs.gnb_types.declared.names.Dir.TheVariants.{Dl, Ul}
+use Rattle.unit_defs.specs.gnb_types.declared.names.SnBits.{SnBits}
+use Rattle.unit_defs.specs.gnb_types.declared.inputs.Input.{Input as OctetInput}
+use Rattle.unit_defs.specs.gnb_types.declared.inputs.Input.TheVariants as ins
+use Rattle.unit_defs.specs.gnb_types.declared.reasons.DropReason.{DropReason}
+use Rattle.unit_defs.specs.gnb_types.declared.reasons.DropReason.TheVariants.{Undecodable, NoContext, NoTunnel, Unexpected}
+use Rattle.unit_defs.specs.gnb_types.Orders.{bearer_cmp}
+use Rattle.unit_defs.specs.tables.Tables.{find}
+use Rattle.unit_defs.specs.pdcp.Pdus.{Content as PduContent, data_pdu, status_report}
+use Rattle.unit_defs.specs.pdcp_defs.Counts.{near_count, count_below}
 use Rattle.link_defs.specs.Decoding.{Link, n3 as on_n3, f1u_downlink as on_f1u_downlink, f1u_uplink as on_f1u_uplink, forwarding_down as on_forwarding_down, forwarding_up as on_forwarding_up, Item, fresh, numbered, pdu, framed, poll, status, end_of_tunnel}
 use Rattle.unit_defs.specs.Ways.{Message, Content, packet_content, report_content, Taken, fresh_item, numbered_item, frame_item, uplink_item, status_item, end_item, Input, control_input, packet_input, radio_input, confirm_input, offer_input, tick_input, order_input}
 use Rattle.unit_defs.specs.Messages.{shares_interface}

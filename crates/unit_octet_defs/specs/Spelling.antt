@@ -1,8 +1,8 @@
 -- Messages whose containers are tokens, as octets: a container is spelled first, and then the message around it.
 use Rattle.std.specs.Prelude.{ℕ, List}
-use Rattle.message_types.specs.declared.f1.F1.{F1}
-use Rattle.message_types.specs.declared.f1.F1.TheVariants as f1s
-use Rattle.message_types.specs.declared.rrc.Token.{Token}
+use Rattle.unit_defs.specs.message_types.declared.f1.F1.{F1}
+use Rattle.unit_defs.specs.message_types.declared.f1.F1.TheVariants as f1s
+use Rattle.unit_defs.specs.message_types.declared.rrc.Token.{Token}
 use Rattle.unit_defs.specs.Ways.{Message, f1, e1, xn, core, rrc}
 use Rattle.unit_octet_defs.specs.Codec.{Codec}
 

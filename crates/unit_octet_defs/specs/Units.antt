@@ -1,9 +1,9 @@
 -- The units over octets: each reads its input and acts on it; what it can't read it drops, and its record is as before.
 use Rattle.std.specs.Prelude.{ℕ, List, Ok, Err}
-use Rattle.gnb_types.specs.declared.names.NodeId.{NodeId}
-use Rattle.gnb_types.specs.declared.names.NodeId.TheVariants.{Core}
-use Rattle.gnb_types.specs.declared.inputs.Input.{Input as OctetInput}
-use Rattle.gnb_types.specs.declared.reasons.DropReason.TheVariants.{Unexpected}
+use Rattle.unit_defs.specs.gnb_types.declared.names.NodeId.{NodeId}
+use Rattle.unit_defs.specs.gnb_types.declared.names.NodeId.TheVariants.{Core}
+use Rattle.unit_defs.specs.gnb_types.declared.inputs.Input.{Input as OctetInput}
+use Rattle.unit_defs.specs.gnb_types.declared.reasons.DropReason.TheVariants.{Unexpected}
 use Rattle.unit_defs.specs.Ways.{Input, control_input, Answer, drops}
 use Rattle.unit_defs.specs.CpRecords.{CuCpRecord}
 use Rattle.unit_defs.specs.CuCp.{cu_cp_acts}

@@ -1,12 +1,12 @@
 -- The octets of what a unit puts out: PDUs, the items of tunnels, and its outputs.
 use Rattle.std.specs.Prelude.{ℕ, Bool, List, [], map, Option, Some, None}
-use Rattle.gnb_types.specs.declared.names.SnBits.{SnBits}
-use Rattle.gnb_types.specs.declared.outputs.Output.{Output}
-use Rattle.gnb_types.specs.declared.outputs.Output.TheVariants as outs
+use Rattle.unit_defs.specs.gnb_types.declared.names.SnBits.{SnBits}
+use Rattle.unit_defs.specs.gnb_types.declared.outputs.Output.{Output}
+use Rattle.unit_defs.specs.gnb_types.declared.outputs.Output.TheVariants as outs
 use Rattle.nr_user_plane.specs.declared.frames.Frame.TheVariants.{Data}
 use Rattle.gtpu.specs.Packets.{gtpu_octets}
-use Rattle.pdcp.specs.Pdus.{radio_data, report_octets}
-use Rattle.pdcp_defs.specs.Counts.{number_of}
+use Rattle.unit_defs.specs.pdcp.Pdus.{radio_data, report_octets}
+use Rattle.unit_defs.specs.pdcp_defs.Counts.{number_of}
 use Rattle.link_defs.specs.GPdus.{pdu_with}
 use Rattle.link_defs.specs.Layouts.{f1u_uplink_pdu, delivery_status, forwarded_numbered, forwarded_fresh, end_marker as end_octets, frame_header}
 use Rattle.unit_defs.specs.Ways.{Pdu, packet_pdu, report_pdu, Load, fresh, numbered, frame, uplink, status, end_marker, Put, control, packet, radio, deliver, dropped, held, opened, closed, failed, no}

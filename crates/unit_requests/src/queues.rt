@@ -52,7 +52,7 @@ impl Requests {
         if !queue.is_empty() {
             return Some(waiting);
         }
-        self.waiting.take(channel);
+        drop(self.waiting.take(channel));
         Some(waiting)
     }
 }

@@ -4,7 +4,7 @@ use std::marker::Model;
 use unit_messages::Message;
 
 /// A request without its instance, its deadline in ticks from when it is put, and whether an attempt awaits its answer.
-#[derive(Debug, Drop)]
+#[derive(Drop)]
 pub struct Waiting {
     pub message: Message,
     pub deadline: Option<u16>,

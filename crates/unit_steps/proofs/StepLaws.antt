@@ -1,7 +1,7 @@
 -- One answer after another, as steps.
 use Rattle.std.proofs.Common.{◌≡◌, ℕ, List, [], ◌∷◌, ◌++◌, map, refl, sym, ap, ◌∙◌, append_assoc}
 use Rattle.gnb_types.specs.declared.outputs.Output.{Output}
-use Rattle.unit_defs.specs.Ways.{Put, Load, gives, spent, with_outputs, ◌then◌, puts}
+use Rattle.unit_octet_defs.specs.unit_defs.Ways.{Put, Load, gives, spent, with_outputs, ◌then◌, puts}
 use Rattle.unit_octet_defs.specs.Units.{OctetAnswer}
 use Rattle.unit_octet_defs.specs.Writing.{output_of, outputs_of}
 use Rattle.unit_steps.specs.Steps.{Step, stepped, stopped, step_after}

@@ -1,7 +1,7 @@
 //! What a CU-UP keeps of a bearer.
 
-ghost use Rattle.std.specs.Prelude.{◌≡◌, ◌+◌, ◌≤◌, None, Some, if◌then◌else◌, IfOk};
-ghost use Rattle.unit_defs.specs.UpBearers.{made};
+ghost use Rattle.std.specs.Prelude.{◌≡◌, ◌+◌, ◌≤◌, true, None, Some, if◌then◌else◌, IfOk};
+ghost use Rattle.unit_defs.specs.UpBearers.{made, teids_of_bearer};
 ghost use Rattle.up_bearers.specs.Bearers.{kept, IsOf};
 
 use gnb_types::items::{Items, Memory};
@@ -34,11 +34,12 @@ pub struct Bearer {
     pub taken_while_frozen: Items<u32>,
 }
 
-/// The TEID of a forwarding tunnel, which only a target has.
-fn forwarding_teid(target: bool, teid: u32) -> Option<u32>
-    ensures { result ≡ (if target then Some teid else None) }
+/// The TEID of a forwarding tunnel, so many after the first one: only a target has it.
+fn forwarding_teid(target: bool, first: u32, after: u32) -> Option<u32>
+    requires { target ≡ true → first + after ≤ 4294967295 }
+    ensures { result ≡ (if target then Some (first + after) else None) }
 {
-    if target { Some(teid) } else { None }
+    if target { Some(first + after) } else { None }
 }
 
 impl Bearer {
@@ -47,7 +48,7 @@ impl Bearer {
     pub fn new(alloc: Global, at: &At, target: bool, first: u32) -> Result<Bearer, Memory>
         requires least { 4 ≤ at.now.quota }
         requires most { at.now.quota ≤ 4096 }
-        requires teids { first + 3 ≤ 4294967295 }
+        requires teids { first + teids_of_bearer target ≤ 4294967296 }
         ensures made { IfOk result (λ b. kept b ≡ made target first) }
         ensures of { IfOk result (λ b. IsOf at.now b) }
     {
@@ -71,8 +72,8 @@ impl Bearer {
         Ok(Bearer {
             n3: Some(first),
             uplinks,
-            forward_down: forwarding_teid(target, first + 2),
-            forward_up: forwarding_teid(target, first + 3),
+            forward_down: forwarding_teid(target, first, 2),
+            forward_up: forwarding_teid(target, first, 3),
             down: DownSide { sending, frames },
             receiving,
             dl_next: 0,

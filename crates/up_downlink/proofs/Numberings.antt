@@ -11,8 +11,8 @@ use Rattle.pdcp_defs.specs.Senders.{Sender, has_room, numbered}
 use Rattle.unit_defs.specs.Ways.{spent, ◌then◌, nothing, counts_spent}
 use Rattle.unit_defs.specs.UpRecords.{UpBearer}
 use Rattle.unit_defs.specs.UpBearers.{number_each, number_waiting, has_downlink, sent}
-use Rattle.unit_octet_defs.specs.Codec.{Codec, octet_way}
-use Rattle.unit_octet_defs.specs.Units.{OctetAnswer}
+use Rattle.unit_steps.specs.unit_octet_defs.Codec.{Codec, octet_way}
+use Rattle.unit_steps.specs.unit_octet_defs.Units.{OctetAnswer}
 use Rattle.unit_steps.specs.declared.StepError.{StepError}
 use Rattle.unit_steps.specs.declared.StepError.TheVariants as errors
 use Rattle.unit_steps.specs.Steps.{Step, IsStep, stopped}

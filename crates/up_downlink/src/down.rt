@@ -3,7 +3,7 @@
 ghost use Rattle.std.specs.Prelude.{◌≡◌, OnOk};
 ghost use Rattle.unit_defs.specs.UpRecords.{UpBearer};
 ghost use Rattle.unit_defs.specs.UpBearers.{number_each, number_waiting, sent_again};
-ghost use Rattle.unit_octet_defs.specs.Codec.{Codec, octet_way};
+ghost use Rattle.unit_steps.specs.unit_octet_defs.Codec.{Codec, octet_way};
 ghost use Rattle.unit_steps.specs.Steps.{IsStep, step_after};
 ghost use Rattle.up_tunnels.specs.Tunnels.{at_as};
 ghost use Rattle.up_downlink.specs.Downlinks.{with_down, taken_of, IsDown};

@@ -1,13 +1,13 @@
 -- The tests of holding, one list after another, and what an item that isn't held has.
-use Rattle.std.proofs.Common.{◌≡◌, ℕ, ◌+◌, ◌<◌, ◌≤◌, Bool, true, false, cond, nat_le, List, [], ◌∷◌, ◌++◌, length, Option, Some, None, refl, sym, ap, ◌∙◌, arith}
+use Rattle.std.proofs.Common.{◌≡◌, ℕ, ◌+◌, ◌<◌, ◌≤◌, Bool, true, false, cond, not, ◌&&◌, nat_le, List, [], ◌∷◌, ◌++◌, length, Option, Some, None, refl, sym, ap, ◌∙◌, arith}
 use Rattle.std.proofs.lemmas.Bool.Decides.{nat_tests}
 use Rattle.gnb_types.specs.declared.reasons.HeldReason.{HeldReason}
-use Rattle.gnb_types.specs.declared.reasons.HeldReason.TheVariants.{Quota, Ahead}
+use Rattle.gnb_types.specs.declared.reasons.HeldReason.TheVariants.{NoStatus, NotArrived, Early, Quota, Ahead}
 use Rattle.pdcp_defs.specs.Receivers.{is_ahead}
 use Rattle.unit_defs.specs.Ways.{Taken}
 use Rattle.unit_defs.specs.UpRecords.{UpBearer, UpAt, TunnelKind}
 use Rattle.unit_defs.specs.UpBearers.{used_downlink}
-use Rattle.unit_defs.specs.UpItems.{first_held, held_as_target, held_downlink, held_uplink, held_item, held_by_room, held_reason, is_ahead_if}
+use Rattle.unit_defs.specs.UpItems.{first_held, held_as_target, held_downlink, held_uplink, held_item, held_by_room, held_reason, is_n3, is_ahead_if}
 
 abbrev pub Tests : Type 0
 Tests = List (Bool × HeldReason)
@@ -85,3 +85,16 @@ module _ {P : Type 0} (a : UpAt) (b : UpBearer) (kind : TunnelKind) (item : Take
 
   pub room_up : (count : Option ℕ) → held_item a b kind item ≡ held_uplink a b count → is_ahead_if a b count ≡ false
   room_up count is = near_of a b count (ap first_held (sym is) ∙ has_room)
+
+-- before the SN status each item is held
+pub held_unknown : {P : Type 0} (a : UpAt) (b : UpBearer) (kind : TunnelKind) (t : Taken P) → a.flags.has_status ≡ false
+    → held_reason a b kind t ≡ None → ⊥
+unfolding held_reason
+held_unknown a b kind t unknown none = by a.flags.has_status unknown none
+  where
+    rest : Option HeldReason
+    rest = first_held ((not a.flags.arrived, NotArrived) ∷ (is_n3 kind && a.flags.target && not b.down_ended, Early) ∷ held_by_room a b kind t)
+
+    by : (known : Bool) → known ≡ false → by_test (not known) NoStatus rest ≡ None → ⊥
+    by true unknown none = cc
+    by false unknown none = cc

@@ -5,7 +5,7 @@ ghost use Rattle.unit_octet_defs.specs.Codec.{Codec};
 ghost use Rattle.up_bearers.specs.Bearers.{kept, IsOf};
 ghost use Rattle.up_items.specs.Items.{item_as, IsSizedItem};
 ghost use Rattle.up_items.specs.Coming.{came, came_as, IsCame};
-ghost use Rattle.std.specs.Prelude.{OnOk};
+ghost use Rattle.std.specs.Prelude.{◌≡◌, false, OnOk};
 
 use crate::holding::held_reason;
 use crate::items::{Kind, UpItem, read_item};
@@ -17,7 +17,7 @@ use unit_steps::StepError;
 use up_bearers::Bearer;
 use up_tunnels::At;
 
-/// An item comes: it is held, or taken. Says whether it was taken.
+/// An item comes: it is held, or taken. Says whether it was taken. Before the SN status each is held.
 fn come_as(
     bearer: &mut Bearer,
     alloc: Global,
@@ -32,6 +32,7 @@ fn come_as(
     ensures came { (codec : Codec) → IsCame (came_as codec at.now kind teid item.now (kept bearer.old))
         out.old out.new (kept bearer.old) (kept bearer.new) result }
     ensures of { OnOk result (IsOf at.now bearer.new) }
+    ensures idle { at.now.flags.has_status ≡ false → bearer.new ≡ bearer.old }
 {
     if let Some(reason) = held_reason(bearer, at, kind, item) {
         out.push(Output::Held(reason))?;
@@ -55,6 +56,7 @@ pub fn come(
     ensures came { (codec : Codec) → ReadsItems codec → IsCame (came codec at.now kind teid octets.now (kept bearer.old))
         out.old out.new (kept bearer.old) (kept bearer.new) result }
     ensures of { OnOk result (IsOf at.now bearer.new) }
+    ensures idle { at.now.flags.has_status ≡ false → bearer.new ≡ bearer.old }
 {
     let Some(item) = read_item(kind, at.sn, octets) else {
         out.push(Output::Drop(DropReason::Undecodable))?;

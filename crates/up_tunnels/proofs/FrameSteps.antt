@@ -10,12 +10,12 @@ use Rattle.gnb_types.specs.declared.outputs.Tag.{Tag}
 use Rattle.gnb_types.specs.declared.names.SnBits.{SnBits}
 use Rattle.pdcp.specs.Pdus.{radio_data, report_octets}
 use Rattle.link_defs.specs.Layouts.{f1u_downlink_packet, f1u_downlink_report, f1u_downlink_poll}
-use Rattle.unit_defs.specs.UpRecords.{UpBearer}
-use Rattle.unit_defs.specs.UpBearers.{framed, framed_on, last_frame}
-use Rattle.unit_defs.specs.Ways.{frames_spent, spent, puts, packet, frame}
-use Rattle.unit_octet_defs.specs.Codec.{Codec, octet_way}
-use Rattle.unit_octet_defs.specs.Units.{OctetAnswer}
-use Rattle.unit_octet_defs.specs.Writing.{frame_octets}
+use Rattle.unit_steps.specs.unit_defs.UpRecords.{UpBearer}
+use Rattle.unit_steps.specs.unit_defs.UpBearers.{framed, framed_on, last_frame}
+use Rattle.unit_steps.specs.unit_defs.Ways.{frames_spent, spent, puts, packet, frame}
+use Rattle.unit_steps.specs.unit_octet_defs.Codec.{Codec, octet_way}
+use Rattle.unit_steps.specs.unit_octet_defs.Units.{OctetAnswer}
+use Rattle.unit_steps.specs.unit_octet_defs.Writing.{frame_octets}
 use Rattle.unit_steps.specs.declared.StepError.{StepError}
 use Rattle.unit_steps.specs.declared.StepError.TheVariants as errors
 use Rattle.unit_steps.specs.Steps.{Step, IsStep, stepped, stopped, step_after}

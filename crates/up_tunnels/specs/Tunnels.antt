@@ -5,9 +5,9 @@ use Rattle.gnb_types.specs.declared.names.Dir.TheVariants.{Dl, Ul}
 use Rattle.gnb_types.specs.declared.outputs.Output.{Output}
 use Rattle.gnb_types.specs.declared.outputs.Output.TheVariants as outs
 use Rattle.gnb_types.specs.declared.outputs.Tag.{Tag}
-use Rattle.unit_defs.specs.Ways.{frames_spent}
-use Rattle.unit_defs.specs.UpRecords.{Downlink as DownlinkRecord, SourceHop, UpBearer, UpFlags, UpAt}
-use Rattle.unit_defs.specs.UpBearers.{last_frame}
+use Rattle.unit_steps.specs.unit_defs.Ways.{frames_spent}
+use Rattle.unit_steps.specs.unit_defs.UpRecords.{Downlink as DownlinkRecord, SourceHop, UpBearer, UpFlags, UpAt}
+use Rattle.unit_steps.specs.unit_defs.UpBearers.{last_frame}
 use Rattle.unit_steps.specs.declared.StepError.{StepError}
 use Rattle.unit_steps.specs.declared.StepError.TheVariants as errors
 use Rattle.up_tunnels.specs.declared.at.At.{At}

@@ -5,10 +5,10 @@ ghost use Rattle.gnb_types.specs.declared.outputs.Output.TheVariants as outs;
 ghost use Rattle.gnb_types.specs.declared.outputs.Tag.TheVariants.{Absent};
 ghost use Rattle.gnb_types.specs.declared.names.Dir.TheVariants.{Dl};
 ghost use Rattle.link_defs.specs.Decoding.{IsSized};
-ghost use Rattle.unit_defs.specs.UpRecords.{UpBearer};
-ghost use Rattle.unit_defs.specs.UpBearers.{sent, framed};
-ghost use Rattle.unit_defs.specs.Ways.{report_pdu};
-ghost use Rattle.unit_octet_defs.specs.Codec.{Codec, octet_way};
+ghost use Rattle.unit_steps.specs.unit_defs.UpRecords.{UpBearer};
+ghost use Rattle.unit_steps.specs.unit_defs.UpBearers.{sent, framed};
+ghost use Rattle.unit_steps.specs.unit_defs.Ways.{report_pdu};
+ghost use Rattle.unit_steps.specs.unit_octet_defs.Codec.{Codec, octet_way};
 ghost use Rattle.unit_steps.specs.Steps.{IsStep, step_after};
 ghost use Rattle.up_tunnels.specs.Tunnels.{at_as, with_frames, frame_output, IsNumber, IsPut};
 

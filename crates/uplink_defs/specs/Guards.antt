@@ -2,9 +2,9 @@
 -- owes, and what is known of the messages that confirm.
 use Rattle.std.specs.Prelude.{◌≡◌, ◌≢◌, ℕ, ◌<◌, true, false, List, [], ◌∷◌, None, ⊤}
 use Rattle.pdcp_defs.specs.Senders.{is_reported}
-use Rattle.unit_defs.specs.UpRecords.{TunnelKind, f1u_uplink, forwarding_up}
-use Rattle.unit_defs.specs.UpBearers.{is_one_of, no_uplink}
-use Rattle.unit_defs.specs.UpItems.{first_held, held_as_target}
+use Rattle.chain_defs.specs.unit_defs.UpRecords.{TunnelKind, f1u_uplink, forwarding_up}
+use Rattle.chain_defs.specs.unit_defs.UpBearers.{is_one_of, no_uplink}
+use Rattle.chain_defs.specs.unit_defs.UpItems.{first_held, held_as_target}
 use Rattle.uplink_defs.specs.Parts.{Item, numbered, end_marker, Source, uplink_tunnel, forwarding, Member, Part, items_at}
 use Rattle.uplink_defs.specs.Orders.{Order, numbers, arrives, carries, acknowledges, reports, makes, adds, freezes, knows, switches, resumes, releases, closes, discards, takes, ends_uplink, ends_hop, is_hop_up_done, after}
 

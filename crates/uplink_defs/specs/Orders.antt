@@ -3,8 +3,8 @@ use Rattle.std.specs.Prelude.{◌==◌, ℕ, ◌+◌, max, Bool, true, false, no
 use Rattle.gnb_types.specs.declared.plans.SnStatus.{SnStatus}
 use Rattle.pdcp_defs.specs.Senders.{numbered as with_next, confirmed_to, confirmed_by}
 use Rattle.pdcp_defs.specs.Receivers.{Delivery, is_duplicate, stored, deliver}
-use Rattle.unit_defs.specs.UpRecords.{SourceHop, UpBearer, UpFlags}
-use Rattle.unit_defs.specs.UpBearers.{released, thawed, no_uplink}
+use Rattle.chain_defs.specs.unit_defs.UpRecords.{SourceHop, UpBearer, UpFlags}
+use Rattle.chain_defs.specs.unit_defs.UpBearers.{released, thawed, no_uplink}
 use Rattle.chain_defs.specs.Parts.{set}
 use Rattle.chain_defs.specs.Orders.{frozen, known}
 use Rattle.uplink_defs.specs.Parts.{Item, numbered, end_marker, Source, uplink_tunnel, forwarding, Member, Part, new_member, no_member, with_rest}

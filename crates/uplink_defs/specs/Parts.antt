@@ -1,10 +1,10 @@
 -- The uplink of one bearer in a run: its part of the terminal and its radio, its part of each context, and the tunnels up that end
 -- there (TS 38.300, 9.2.3.2; TS 38.323, 5.2). Contexts are numbered, each once in a run.
 use Rattle.std.specs.Prelude.{ℕ, Bool, true, false, List, []}
-use Rattle.unit_defs.specs.UpRecords.{UpBearer, UpFlags}
-use Rattle.unit_defs.specs.UpBearers.{made}
-use Rattle.unit_defs.specs.CuUp.{new_flags_of}
-use Rattle.unit_defs.specs.Ue.{UeBearer, new_bearer}
+use Rattle.chain_defs.specs.unit_defs.UpRecords.{UpBearer, UpFlags}
+use Rattle.chain_defs.specs.unit_defs.UpBearers.{made}
+use Rattle.chain_defs.specs.unit_defs.CuUp.{new_flags_of}
+use Rattle.chain_defs.specs.unit_defs.Ue.{UeBearer, new_bearer}
 use Rattle.chain_defs.specs.Parts.{set}
 
 -- What stands on an uplink tunnel or on one of forwarding up: a packet with its COUNT, or an End Marker. Reports and delivery

@@ -52,7 +52,7 @@ fn take_release(queue: &mut Queue<Waiting>)
     if !is_release(first) {
         return;
     }
-    queue.take();
+    drop(queue.take());
 }
 
 /// The release of a CU-UP that waits first on this channel, if one does, is given up.
@@ -67,5 +67,5 @@ pub fn give_up_release(requests: &mut Requests, channel: &Channel)
     if !queue.is_empty() {
         return;
     }
-    requests.waiting.take(channel);
+    drop(requests.waiting.take(channel));
 }

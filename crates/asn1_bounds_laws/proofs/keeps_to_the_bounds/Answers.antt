@@ -1,4 +1,4 @@
-use Rattle.asn1_reading_laws.proofs.Readings.{read_of}
+use Rattle.asn1_module.proofs.asn1_reading_laws.Readings.{read_of}
 use Rattle.asn1_bounds_laws.proofs.ModuleBounds.{proper}
 use Rattle.asn1_bounds_laws.proofs.keeps_to_the_bounds.Goals as goal
 

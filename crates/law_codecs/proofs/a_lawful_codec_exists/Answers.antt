@@ -1,5 +1,5 @@
-use Rattle.law_codecs.proofs.Lawful.{lawful, reads_items, reads_pdus}
+use Rattle.law_codecs.proofs.Lawful.{silent, lawful, reads_items, reads_pdus}
 use Rattle.law_codecs.proofs.a_lawful_codec_exists.Goals as goal
 
 pub returns : goal.returns
-returns c = (lawful, reads_items, reads_pdus)
+returns c = (lawful silent, reads_items silent, reads_pdus silent)

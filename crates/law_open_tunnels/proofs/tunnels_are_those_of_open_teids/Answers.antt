@@ -1,8 +1,8 @@
 use Rattle.std.proofs.Common.{ℕ, List}
 use Rattle.message_types.specs.declared.rrc.Token.{Token}
-use Rattle.unit_defs.specs.Ways.{Message, Load, Pdu}
-use Rattle.run_defs.specs.Written.{Written}
-use Rattle.run_defs.specs.States.{new_state}
+use Rattle.law_teids.specs.unit_defs.Ways.{Message, Load, Pdu}
+use Rattle.law_teids.specs.run_defs.Written.{Written}
+use Rattle.law_teids.specs.run_defs.States.{new_state}
 use Rattle.law_open_tunnels.proofs.UnitRuns.{stand_where_open_by_units}
 use Rattle.law_open_tunnels.proofs.Runs.{stand_where_open, first_stands}
 use Rattle.law_open_tunnels.proofs.tunnels_are_those_of_open_teids.Goals as goal

@@ -1,7 +1,7 @@
 use Rattle.std.specs.Prelude.{ℕ, List}
 use Rattle.message_types.specs.declared.rrc.Token.{Token}
 use Rattle.unit_defs.specs.Ways.{Message}
-use Rattle.run_defs.specs.States.{new_state}
+use Rattle.law_owner_facts.specs.run_defs.States.{new_state}
 use Rattle.law_tunnel_owners.proofs.Placed.{first_owned}
 use Rattle.law_tunnel_owners.proofs.Runs.{owned_later}
 use Rattle.law_tunnel_owners.proofs.UnitRuns.{owned_later_by_units}

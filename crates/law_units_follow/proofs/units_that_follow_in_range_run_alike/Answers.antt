@@ -5,4 +5,4 @@ use Rattle.law_units_follow.proofs.units_that_follow_in_range_run_alike.Goals as
 pub returns : goal.returns
 returns g c =
     λ codec answer stays follows events fits.
-    runs_alike codec answer (within g.R.Ranges.records g.R.Ranges.core g.R.Ranges.input g.R.Ranges.packet) stays follows events fits
+    runs_alike codec answer (within g.R.Ranges.records g.R.Ranges.core g.R.Ranges.input g.R.Ranges.packet g.R.Ranges.plan) stays follows events fits

@@ -1,5 +1,5 @@
-use Rattle.aper_types.specs.Types.{tree}
-use Rattle.aper_types.proofs.Bounded.{tree_bounded}
+use Rattle.aper_value_checks.specs.aper_types.Types.{tree}
+use Rattle.aper_value_checks.proofs.aper_types.Bounded.{tree_bounded}
 use Rattle.aper_values.specs.Views.{view}
 use Rattle.aper_proof_values.proofs.FoundWhole.{decoded_spells}
 use Rattle.aper.proofs.Answered.{refused_so}

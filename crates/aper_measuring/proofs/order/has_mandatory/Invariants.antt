@@ -1,6 +1,6 @@
 use Rattle.std.proofs.Common.{◌≡◌, ℕ, drop}
 use Rattle.aper_defs.specs.Trees.{Tree, slots, mandatory_count}
-use Rattle.aper_types.specs.Types.{rows_of}
+use Rattle.aper_members.specs.aper_types.Types.{rows_of}
 use Rattle.aper_measuring.proofs.order.has_mandatory.Given as goal
 
 abbrev pub invariant-loop-row : goal.invariant-loop-row

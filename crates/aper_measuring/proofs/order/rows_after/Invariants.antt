@@ -1,6 +1,6 @@
 use Rattle.std.proofs.Common.{ℕ, drop, Option, List}
 use Rattle.aper_defs.specs.Trees.{Tree, Slot, slots}
-use Rattle.aper_types.specs.Types.{rows_of}
+use Rattle.aper_members.specs.aper_types.Types.{rows_of}
 use Rattle.aper_measuring.specs.Order.{LeavesKnown}
 use Rattle.aper_measuring.proofs.order.rows_after.Given as goal
 

@@ -1,6 +1,6 @@
 use Rattle.std.proofs.Common.{sym, subst}
-use Rattle.profile_defs.specs.Profile.{profile_types}
-use Rattle.profile_defs.specs.Agreement.{Agrees}
+use Rattle.profile_proof_text.specs.profile_defs.Profile.{profile_types}
+use Rattle.profile_proof_text.specs.profile_defs.Agreement.{Agrees}
 use Rattle.profile_module.proofs.agreement.agrees.Goals as goal
 
 pub differing-requires : goal.differing-requires

@@ -1,8 +1,8 @@
 use Rattle.std.proofs.Common.{ℕ, List, Option, Bor, sym, ap, ◌∙◌}
 use Rattle.std.specs.Prelude.{option_map}
 use Rattle.asn1_module.specs.Module.{type_ids}
-use Rattle.profile_defs.specs.Profile.{profile_types}
-use Rattle.profile_defs.specs.Agreement.{or_else}
+use Rattle.profile_proof_text.specs.profile_defs.Profile.{profile_types}
+use Rattle.profile_proof_text.specs.profile_defs.Agreement.{or_else}
 use Rattle.profile_module.specs.inside.Same.{own_names, first_other, first_new}
 use Rattle.profile_module.proofs.Differing.{differs_so}
 use Rattle.profile_module.proofs.TypeNames.{type_names, shallow}

@@ -14,7 +14,7 @@ returns-in-Some g c =
     token_heard g.C.MessageCodec.codec (record_of c.args.record.now) c.args.octets.now c.in-Du.field-0 c.in-Du.field-1 c.args.from c.in-Du.is c.in-Ok.message
     c.in-Some.token (ap answer_as (sym c.in-Ok.is) ∙ c.in_ok-message.ensures) (sym c.in-Some.ensures)
 
-pub returns : goal.returns
-returns g c =
+pub returns-in-None : goal.returns-in-None
+returns-in-None g c =
     other_heard g.C.MessageCodec.codec (record_of c.args.record.now) c.args.octets.now c.in-Du.field-0 c.in-Du.field-1 c.args.from c.in-Du.is c.in-Ok.message
     (ap answer_as (sym c.in-Ok.is) ∙ c.in_ok-message.ensures) (sym c.in-None.ensures)

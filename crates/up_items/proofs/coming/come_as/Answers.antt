@@ -1,7 +1,10 @@
 use Rattle.std.proofs.Common.{Ok, true, false, refl, sym, ◌∙◌}
 use Rattle.gnb_types.specs.declared.outputs.Output.TheVariants as outs
 use Rattle.up_bearers.specs.Bearers.{kept}
-use Rattle.up_items.specs.Coming.{stays, takes}
+use Rattle.up_tunnels.specs.Tunnels.{at_as}
+use Rattle.up_items.specs.Items.{kind_as}
+use Rattle.up_items.specs.Coming.{stays, takes, said}
+use Rattle.up_items.proofs.HeldTests.{held_unknown}
 use Rattle.up_items.proofs.Comings.{came_waits, came_free, as_came, came_fails, taking}
 use Rattle.up_items.proofs.coming.come_as.Goals as goal
 
@@ -28,3 +31,11 @@ returns-clause-came c = λ codec.
     let answer = taking codec c.args.at.now c.args.kind c.args.teid c.args.item.now b in
     as_came c.args.out.now c.take.new.out b (kept c.take.new.bearer) _ (takes answer) (Ok true)
     (came_free codec c.args.at.now c.args.kind c.args.teid c.args.item.now b free) (c.in_ok-take.ensures.step codec)
+
+pub returns-in_err-take-clause-idle : goal.returns-in_err-take-clause-idle
+returns-in_err-take-clause-idle c = λ unknown. absurd (held_unknown (at_as c.args.at.now) (kept c.args.bearer.now) (kind_as c.args.kind)
+    (said c.args.at.now (kept c.args.bearer.now) c.args.kind c.args.item.now) unknown (sym c.held_reason.ensures ∙ c.in_default.is))
+
+pub returns-clause-idle : goal.returns-clause-idle
+returns-clause-idle c = λ unknown. absurd (held_unknown (at_as c.args.at.now) (kept c.args.bearer.now) (kind_as c.args.kind)
+    (said c.args.at.now (kept c.args.bearer.now) c.args.kind c.args.item.now) unknown (sym c.held_reason.ensures ∙ c.in_default.is))

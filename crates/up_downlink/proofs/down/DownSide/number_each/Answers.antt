@@ -2,8 +2,8 @@ use Rattle.std.proofs.Common.{◌≡◌, ℕ, List, sym, ap, ◌∙◌}
 use Rattle.gnb_types.specs.declared.outputs.Tag.TheVariants.{Own}
 use Rattle.unit_defs.specs.UpRecords.{UpBearer}
 use Rattle.unit_defs.specs.UpBearers.{sent, number_each}
-use Rattle.unit_octet_defs.specs.Codec.{octet_way}
-use Rattle.unit_octet_defs.specs.Units.{OctetAnswer}
+use Rattle.unit_steps.specs.unit_octet_defs.Codec.{octet_way}
+use Rattle.unit_steps.specs.unit_octet_defs.Units.{OctetAnswer}
 use Rattle.unit_steps.specs.Steps.{step_after, stepped}
 use Rattle.unit_steps.proofs.StepLaws.{step_then}
 use Rattle.ue_bearers.specs.Uplinks.{UplinkState, numbers, stays, ends, numbering}

@@ -1,6 +1,6 @@
 use Rattle.std.proofs.Common.{ap, ◌∙◌}
 use Rattle.unit_defs.specs.UpRecords.{UpBearer}
-use Rattle.unit_octet_defs.specs.Units.{OctetAnswer}
+use Rattle.unit_steps.specs.unit_octet_defs.Units.{OctetAnswer}
 use Rattle.unit_steps.specs.Steps.{step_after}
 use Rattle.up_downlink.specs.Downlinks.{with_down}
 use Rattle.up_downlink.proofs.Sequels.{nothing_more, step_as}

@@ -3,8 +3,8 @@ use Rattle.gnb_types.specs.declared.outputs.Output.{Output}
 use Rattle.gnb_types.specs.declared.outputs.Tag.TheVariants.{Own}
 use Rattle.unit_defs.specs.UpRecords.{UpBearer}
 use Rattle.unit_defs.specs.UpBearers.{sent, sent_again}
-use Rattle.unit_octet_defs.specs.Codec.{octet_way}
-use Rattle.unit_octet_defs.specs.Units.{OctetAnswer}
+use Rattle.unit_steps.specs.unit_octet_defs.Codec.{octet_way}
+use Rattle.unit_steps.specs.unit_octet_defs.Units.{OctetAnswer}
 use Rattle.unit_steps.specs.Steps.{step_after}
 use Rattle.unit_steps.proofs.StepLaws.{step_then}
 use Rattle.ue_bearers.specs.Uplinks.{from_on}

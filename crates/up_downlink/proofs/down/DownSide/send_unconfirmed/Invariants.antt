@@ -1,6 +1,6 @@
 use Rattle.std.proofs.Common.{◌≡◌, length}
 use Rattle.unit_defs.specs.UpRecords.{UpBearer}
-use Rattle.unit_octet_defs.specs.Codec.{Codec}
+use Rattle.unit_steps.specs.unit_octet_defs.Codec.{Codec}
 use Rattle.unit_steps.specs.Steps.{step_after}
 use Rattle.ue_bearers.specs.Uplinks.{from_on}
 use Rattle.up_downlink.specs.Downlinks.{with_down}

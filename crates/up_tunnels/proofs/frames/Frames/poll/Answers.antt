@@ -1,6 +1,6 @@
 use Rattle.std.proofs.Common.{◌≡◌, true, false, None, Some, ◌∙◌, refl}
 use Rattle.gnb_types.specs.declared.outputs.Tag.TheVariants.{Absent}
-use Rattle.unit_octet_defs.specs.Codec.{Codec, octet_way}
+use Rattle.unit_steps.specs.unit_octet_defs.Codec.{Codec, octet_way}
 use Rattle.up_tunnels.specs.Tunnels.{at_as, with_frames}
 use Rattle.up_tunnels.proofs.FrameSteps.{frames_nothing, frames_spend, frames_put, frames_fail, mark_stays, poll_is}
 use Rattle.up_tunnels.proofs.frames.Frames.poll.Goals as goal

@@ -1,0 +1,1 @@
+pub use Rattle.bits_core.proofs as bits_core

@@ -1,0 +1,4 @@
+pub mod Forms
+pub mod Loose
+pub mod Wrong
+pub mod Sets

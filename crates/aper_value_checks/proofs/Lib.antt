@@ -1,0 +1,1 @@
+pub use Rattle.aper_types.proofs as aper_types

@@ -1,0 +1,46 @@
+use Rattle.std.proofs.Common.{◌+◌, List, ◌∷◌, sym, subst}
+use Rattle.gnb_types.specs.declared.plans.SnStatus.{SnStatus}
+use Rattle.unit_defs.specs.UpBearers.{with_status}
+use Rattle.unit_defs.specs.CuUp.{status_each}
+use Rattle.unit_octet_defs.specs.Codec.{octet_way}
+use Rattle.unit_steps.specs.Steps.{IsStep}
+use Rattle.up_tunnels.specs.Tunnels.{at_as}
+use Rattle.up_bearers.specs.Bearers.{kept}
+use Rattle.up_bearers.specs.declared.bearer.Bearer.{Bearer}
+use Rattle.bearer_context.specs.Bearers.{numbered}
+use Rattle.bearer_context.specs.Orders.{bearers_after, holder}
+use Rattle.bearer_context.proofs.Steps.{goes_on, ends_with}
+use Rattle.bearer_context.proofs.orders.+go_on_each.Goals as goal
+
+pub returns-in_err-take_status-clause-step : goal.returns-in_err-take_status-clause-step
+returns-in_err-take_status-clause-step t c = λ codec instance others.
+    let a = c.args.at in
+    let way = octet_way codec in
+    let first = c.in-Some-split_first_mut.first.now in
+    let rest = c.in-Some-split_first_mut.rest.now in
+    let s = c.in-Some.status.now in
+    let ss = c.in-Some.others.now in
+    subst (λ (xs : List SnStatus). IsStep (bearers_after codec c.args.out.now (status_each way a.ue (holder instance a others) xs (numbered a.bearer.0 c.args.bearers.now))) c.take_status.new.out (numbered a.bearer.0 (c.take_status.new.bearer ∷ rest)) c.from_residual.result)
+    (sym c.in-Some.ensures.cases.0)
+    (subst (λ (bs : List Bearer). IsStep (bearers_after codec c.args.out.now (status_each way a.ue (holder instance a others) (s ∷ ss) (numbered a.bearer.0 bs))) c.take_status.new.out (numbered a.bearer.0 (c.take_status.new.bearer ∷ rest)) c.from_residual.result)
+    (sym c.in-Some-split_first_mut.ensures.cases.0)
+    (ends_with codec c.args.out.now c.take_status.new.out (record { 0 = a.bearer.0 }) (with_status way (at_as a) s (kept first))
+    (status_each way a.ue (holder instance a others) ss (numbered (a.bearer.0 + 1) rest))
+    (Unit {0}) (Unit {0}) c.take_status.new.out (kept c.take_status.new.bearer) c.in_err-take_status.field-0.0 (c.in_err-take_status.ensures.step codec) c.take_status.new.out (numbered a.bearer.0 (c.take_status.new.bearer ∷ rest)) c.from_residual.result c.from_residual.ensures.1))
+
+pub returns-clause-step : goal.returns-clause-step
+returns-clause-step t c = λ codec instance others.
+    let a = c.args.at in
+    let way = octet_way codec in
+    let first = c.in-Some-split_first_mut.first.now in
+    let rest = c.in-Some-split_first_mut.rest.now in
+    let s = c.in-Some.status.now in
+    let ss = c.in-Some.others.now in
+    subst (λ (xs : List SnStatus). IsStep (bearers_after codec c.args.out.now (status_each way a.ue (holder instance a others) xs (numbered a.bearer.0 c.args.bearers.now))) c.go_on_each.new.out (numbered a.bearer.0 (c.take_status.new.bearer ∷ c.go_on_each.new.bearers)) c.go_on_each.result)
+    (sym c.in-Some.ensures.cases.0)
+    (subst (λ (bs : List Bearer). IsStep (bearers_after codec c.args.out.now (status_each way a.ue (holder instance a others) (s ∷ ss) (numbered a.bearer.0 bs))) c.go_on_each.new.out (numbered a.bearer.0 (c.take_status.new.bearer ∷ c.go_on_each.new.bearers)) c.go_on_each.result)
+    (sym c.in-Some-split_first_mut.ensures.cases.0)
+    (goes_on codec c.args.out.now c.take_status.new.out (record { 0 = a.bearer.0 }) (with_status way (at_as a) s (kept first))
+    (status_each way a.ue (holder instance a others) ss (numbered (a.bearer.0 + 1) rest))
+    (kept c.take_status.new.bearer) (c.in_ok-take_status.ensures.step codec) c.go_on_each.new.out (numbered (a.bearer.0 + 1) c.go_on_each.new.bearers) c.go_on_each.result
+    (c.go_on_each.ensures.step codec instance others)))

@@ -1,0 +1,4 @@
+pub mod Holding
+pub mod Words
+pub mod Simple
+pub mod Sequences

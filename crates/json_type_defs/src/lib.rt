@@ -1,0 +1,2 @@
+//! Definitions alone: the types of a module with the names that JSON shows.
+#![tactic(auto)]

@@ -1,0 +1,5 @@
+pub mod Lists
+pub mod Containers
+pub mod Messages
+pub mod Pdus
+pub mod Law

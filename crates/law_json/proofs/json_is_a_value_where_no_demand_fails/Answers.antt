@@ -1,0 +1,5 @@
+use Rattle.law_json.proofs.Law.{exact}
+use Rattle.law_json.proofs.json_is_a_value_where_no_demand_fails.Goals as goal
+
+pub returns : goal.returns
+returns c = exact

@@ -1,0 +1,6 @@
+pub mod Attach
+pub mod Comes
+pub mod Tells
+pub mod Runs
+pub use Rattle.law_local_packets.proofs as law_local_packets
+pub use Rattle.law_run_lengths.proofs as law_run_lengths

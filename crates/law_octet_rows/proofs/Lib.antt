@@ -1,0 +1,6 @@
+pub mod Answers
+pub mod Ups
+pub mod UpItems
+pub mod UpReads
+pub mod Dus
+pub mod Ues

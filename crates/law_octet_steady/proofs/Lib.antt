@@ -1,0 +1,4 @@
+pub mod Gets
+pub mod Airs
+pub mod Acks
+pub mod Runs

@@ -1,0 +1,4 @@
+mod Turns
+mod Units
+mod Terminals
+pub mod Runs

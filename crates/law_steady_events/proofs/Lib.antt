@@ -1,0 +1,5 @@
+pub mod Airs
+pub mod Acks
+pub mod Offers
+pub mod Gets
+pub use Rattle.law_steady_steps.proofs.law_steady_facts as law_steady_facts

@@ -1,0 +1,4 @@
+pub mod Ups
+pub mod Takes
+pub mod Dus
+pub mod Ues

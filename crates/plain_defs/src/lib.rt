@@ -1,0 +1,2 @@
+//! Definitions alone: what is asked of the units of a run, and when they are plain.
+#![tactic(auto)]

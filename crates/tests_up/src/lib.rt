@@ -1,0 +1,11 @@
+//! Tests of the steps of a CU-UP, by public calls alone.
+#![tactic(auto)]
+
+#[cfg(test)]
+mod few_messages;
+#[cfg(test)]
+mod reasons;
+#[cfg(test)]
+mod rows;
+#[cfg(test)]
+mod steps;

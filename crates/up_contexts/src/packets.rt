@@ -1,0 +1,118 @@
+//! Items of tunnels, and polls.
+
+ghost use Rattle.std.specs.Prelude.{◌≡◌, drop};
+ghost use Rattle.std.specs.Ordering.{nat_cmp};
+ghost use Rattle.gnb_types.specs.declared.inputs.Input.TheVariants as ins;
+ghost use Rattle.tables.specs.Tables.{find};
+ghost use Rattle.unit_defs.specs.CuUp.{poll};
+ghost use Rattle.codec_defs.specs.Reading.{ReadsItems};
+ghost use Rattle.unit_octet_defs.specs.Codec.{Codec, octet_way};
+ghost use Rattle.unit_octet_defs.specs.Units.{cu_up_steps};
+ghost use Rattle.unit_steps.specs.Steps.{IsStep, step_after};
+ghost use Rattle.up_contexts.specs.Tables.{OctetUp, with_tables};
+ghost use Rattle.up_contexts.specs.Comings.{IsPlaceOf, HasCome};
+
+use crate::contexts::Contexts;
+use crate::tunnels::close_shown;
+use gnb_types::names::{BearerId, UeId};
+use gnb_types::outputs::{Output, Outputs};
+use gnb_types::reasons::{DropReason, RefuseReason};
+use std::alloc::Global;
+use unit_steps::StepError;
+use up_items::Kind;
+
+/// Whose a tunnel is, and its kind.
+#[derive(Clone, Copy)]
+struct TunnelPlace {
+    ue: UeId,
+    bearer: BearerId,
+    kind: Kind,
+}
+
+/// What was put out after so many outputs.
+fn shown_after(out: &[Output], before: usize) -> &[Output]
+    ensures { result.now ≡ drop before out.now }
+{
+    if before <= out.len() {
+        &out[before..]
+    } else {
+        &[]
+    }
+}
+
+impl Contexts {
+    /// Whose an open tunnel is, and its kind.
+    fn place_of(&self, teid: u32) -> Option<TunnelPlace>
+        ensures { IsPlaceOf (find nat_cmp self.now.tunnels teid) result }
+    {
+        let tunnel = self.tunnels.get(&teid)?;
+        Some(TunnelPlace {
+            ue: tunnel.ue,
+            bearer: tunnel.bearer,
+            kind: tunnel.kind,
+        })
+    }
+
+    /// Octets of this tunnel come to its bearer. Says whether an item was taken.
+    fn come(
+        &mut self,
+        alloc: Global,
+        place: TunnelPlace,
+        teid: u32,
+        octets: &[u8],
+        out: &mut Outputs,
+    ) -> Result<bool, StepError>
+        ensures { (codec : Codec) → ReadsItems codec
+            → HasCome codec place teid octets.now out.old out.new self.old self.new result }
+    {
+        let Some(context) = self.contexts.get_mut(&place.ue) else {
+            out.push(Output::Drop(DropReason::NoContext))?;
+            return Ok(false);
+        };
+        context.come(alloc, place.ue, place.bearer, place.kind, teid, octets, out)
+    }
+
+    /// An item of a tunnel: dropped, held, or taken; then the context ends where it was released and nothing comes any more.
+    pub fn take(
+        &mut self,
+        alloc: Global,
+        teid: u32,
+        octets: &[u8],
+        out: &mut Outputs,
+    ) -> Result<(), StepError>
+        ensures { (codec : Codec) (r : OctetUp) → ReadsItems codec → IsStep
+            (step_after out.old (cu_up_steps codec (with_tables r self.old) (ins.Packet teid octets.now)))
+            out.new (with_tables r self.new) result }
+    {
+        let before = out.len();
+        let Some(place) = self.place_of(teid) else {
+            out.push(Output::Drop(DropReason::NoTunnel))?;
+            return Ok(());
+        };
+        let is_taken = self.come(alloc, place, teid, octets, out)?;
+        if !is_taken {
+            return Ok(());
+        }
+        close_shown(&mut self.tunnels, shown_after(out.as_slice(), before));
+        self.end_where_over(alloc, place.ue, out)
+    }
+
+    /// A poll: refused where nothing is unconfirmed, and where no downlink is served.
+    pub fn poll(
+        &mut self,
+        alloc: Global,
+        ue: UeId,
+        bearer: BearerId,
+        out: &mut Outputs,
+    ) -> Result<(), StepError>
+        ensures { (codec : Codec) (r : OctetUp) → IsStep
+            (step_after out.old (poll (octet_way codec) ue bearer (with_tables r self.old)))
+            out.new (with_tables r self.new) result }
+    {
+        let Some(context) = self.contexts.get_mut(&ue) else {
+            out.push(Output::No(RefuseReason::Empty))?;
+            return Ok(());
+        };
+        context.poll(alloc, ue, bearer, out)
+    }
+}

@@ -1,0 +1,66 @@
+//! Which input goes to which row.
+
+ghost use Rattle.codec_defs.specs.Reading.{ReadsItems};
+ghost use Rattle.codec_range_defs.specs.Ranges.{ReadsInRange};
+ghost use Rattle.unit_defs.specs.CuUp.{ordered};
+ghost use Rattle.unit_octet_defs.specs.Codec.{octet_way};
+ghost use Rattle.unit_octet_defs.specs.Units.{cu_up_steps};
+ghost use Rattle.unit_steps.specs.Steps.{IsStep, step_after};
+
+use crate::record::UpRecord;
+use gnb_types::inputs::{Input, Order};
+use gnb_types::outputs::{Output, Outputs};
+use gnb_types::reasons::DropReason;
+use std::alloc::Global;
+use unit_messages::MessageCodec;
+use unit_requests::put;
+use unit_steps::StepError;
+
+impl UpRecord {
+    /// An order: E1 Setup, or a poll.
+    fn ordered<C: MessageCodec>(
+        &mut self,
+        alloc: Global,
+        codec: &C,
+        order: Order,
+        outputs: &mut Outputs,
+    ) -> Result<(), StepError>
+        ensures { IsStep (step_after outputs.old (ordered (octet_way C.codec) order self.old)) outputs.new self.new result }
+    {
+        match order {
+            Order::Start => self.start(alloc, codec, outputs),
+            Order::Poll(ue, bearer) => self.poll(alloc, ue, bearer, outputs),
+            _ => put(outputs, Output::Drop(DropReason::Unexpected)),
+        }
+    }
+
+    /// One step: what the CU-UP does with its input. What it can't read it drops, and its record is as before.
+    #[tactic(auto, unfolding(unit_octet_defs::specs::Units::cu_up_steps, unit_octet_defs::specs::Reading::read_at_cu_up, unit_defs::specs::CuUp::cu_up_acts))]
+    pub fn act<C: MessageCodec>(
+        &mut self,
+        alloc: Global,
+        codec: &C,
+        input: &Input,
+        outputs: &mut Outputs,
+    ) -> Result<(), StepError>
+        requires { ReadsInRange C.codec }
+        ensures { ReadsItems C.codec → IsStep
+            (step_after outputs.old (cu_up_steps C.codec self.old input.now)) outputs.new self.new result }
+    {
+        match input {
+            Input::Control { from, bytes } => self.control_came(
+                alloc,
+                codec,
+                *from,
+                bytes.as_slice(),
+                outputs,
+            ),
+            Input::Packet { teid, bytes } => self.take(alloc, *teid, bytes.as_slice(), outputs),
+            Input::Tick => self.tick(alloc, outputs),
+            Input::Order(order) => self.ordered(alloc, codec, *order, outputs),
+            Input::Radio { .. } | Input::Confirm { .. } | Input::Offer { .. } => {
+                put(outputs, Output::Drop(DropReason::Unexpected))
+            }
+        }
+    }
+}

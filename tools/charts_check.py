@@ -1,0 +1,224 @@
+#!/usr/bin/env python3
+"""Checks tools/to_chart.py: that the charts of the stories in tools/data and of the examples are well-formed, that each line of a transcript is drawn at its lifelines and in its
+order, that the pictures in docs are those of today, and what is said of a wrong input. Where mscgen is installed it is asked whether it reads the texts.
+
+Nothing here is a proof.
+
+Usage: tools/charts_check.py [--write]      (--write makes the pictures of docs anew)
+"""
+
+import pathlib
+import re
+import shutil
+import subprocess
+import sys
+import xml.etree.ElementTree as ElementTree
+
+import chart_rows
+import chart_svg
+import endpoints
+import stories
+import to_chart
+import transcripts
+from captures_check import BEGIN
+from captures_check import WRONG as WRONG_TRANSCRIPTS
+
+SVG = "{http://www.w3.org/2000/svg}"
+PICTURES = stories.TOOLS.parent / "docs/pictures"
+# the pictures of docs: the story, its range of events, and the title
+DRAWN = {
+    "handover-between-dus": (None, "A terminal moves from one DU of gNB A to the other one"),
+    "handover-between-gnbs": (None, "A terminal moves from gNB A to gNB B"),
+    "lost-on-f1-u": (None, "A frame is lost on F1-U downlink and put again"),
+}
+# a longer chart is made, but not drawn here: that would take seconds
+DRAWN_ROWS = 1000
+WRONG = [
+    *WRONG_TRANSCRIPTS[::6],
+    (BEGIN + "got A.up1/1 u1 b1 dl - 30\n", ":2: no line before this one puts what is got from A.up1/1"),
+    (BEGIN + "lost A.du1/1 2\n", ":2: 2 are lost on A.du1/1, and 0 stand there"),
+    (BEGIN + "deliver u1 b1 ul 0 45\n", ":2: nothing was got before this delivery"),
+]
+# the rows of tools/data/lost-on-f1-u.out up to the return of the lost packet, as a person would write them
+ROWS = """
+1 static u1 A 1 1 12 1 64
+2 offer u1 b1 dl 01
+3 offer u1 b1 dl 02
+4 offer u1 b1 dl 03
+5 get A.up1/1 | core -> A.up1: b1 G-PDU 01
+6 get A.up1/1 | core -> A.up1: b1 G-PDU 02
+7 get A.up1/1 | core -> A.up1: b1 G-PDU 03
+8 get A.du1/1 | A.up1 -> A.du1: b1 COUNT 0: data, NR-U 0, PDCP SN 0
+9 lose A.du1/1 | A.up1 x A.du1: lost: b1 COUNT 1: data, NR-U 1, PDCP SN 1
+10 get A.du1/1 | A.up1 -> A.du1: b1 COUNT 2: data, NR-U 2, PDCP SN 2
+ | A.du1 drop: Gap
+11 air u1 b1 dl | A.du1 -> u1: b1 COUNT 0: PDCP SN 0
+ | u1 deliver b1 COUNT 0 (1 octet)
+12 ack u1 b1 dl
+13 poll u1 b1
+14 get A.du1/1 | A.up1 -> A.du1: b1 polling frame, NR-U 3
+15 get A.up1/2 | A.du1 -> A.up1: b1 delivery status, lost NR-U 1 to 1
+16 get A.up1/2 | A.du1 -> A.up1: b1 COUNT 0: delivery status, delivered SN 0
+17 get A.up1/2 | A.du1 -> A.up1: b1 delivery status
+18 settle | A.up1 -> A.du1: b1 COUNT 0: data, NR-U 4, restart, PDCP SN 0
+""".strip("\n").splitlines()
+
+
+def text_of(row):
+    """A row as words: its event, and what is drawn."""
+    content = row.content
+    if content is None:
+        return chart_svg.text_of_event(row)
+    if isinstance(content, chart_rows.Mark):
+        drawn = f"{content.node} {content.label}"
+    else:
+        sign = {"arrives": "->", "lost": "x", "flies": "o"}[content.end]
+        drawn = f"{content.flight.ends.sender} {sign} {content.flight.ends.receiver}: {content.label}"
+    return f"{chart_svg.text_of_event(row) if row.label else ''} | {drawn}"
+
+
+def check_by_hand():
+    chart = chart_rows.make(endpoints.read_with_ends(stories.DATA / "lost-on-f1-u.out"))
+    assert chart.nodes == ["u1", "A.du1", "A.up1", "core"], chart.nodes
+    for row, awaited in zip(chart.rows, ROWS):
+        assert text_of(row) == awaited, f"{text_of(row)!r}, not {awaited!r}"
+
+
+def check_rows(chart, lines):
+    """Whether each line that is drawn has its row, in the order of the lines."""
+    awaited = [line.kind for line in lines if line.kind not in ("event", "put", "refused")]
+    drawn = [kind_of(row.content) for row in chart.rows if row.content and not is_flying(row.content)]
+    for kind, sort in zip(awaited, drawn, strict=True):
+        assert kind == sort or (sort == "note" and kind in chart_rows.NOTES), f"a row of {sort} stands for '{kind}'"
+    events = [row.event for row in chart.rows if row.label]
+    assert events == [line.event for line in lines if line.kind == "event"]
+    assert [row.event for row in chart.rows if row.refused] == [line.event for line in lines if line.kind == "refused"]
+
+
+def kind_of(content):
+    if isinstance(content, chart_rows.Mark):
+        return content.sort
+    return "lost" if content.end == "lost" else "got"
+
+
+def is_flying(content):
+    return isinstance(content, chart_rows.Arrow) and content.end == "flies"
+
+
+def check_lanes(chart):
+    """Whether no two lanes have the same place at once, but for the last one, which is shared."""
+    for number, lanes in enumerate(chart.lanes):
+        places = [(lane.node, lane.is_right, lane.number) for lane in lanes if lane.number < chart_rows.LANES - 1 and lane.first < number < lane.last]
+        assert len(places) == len(set(places)), f"two lanes have one place in row {number}"
+
+
+def check_picture(chart, text):
+    """Whether a picture is XML, its texts stay within it, and there is no script and nothing from elsewhere in it."""
+    root = ElementTree.fromstring(text)
+    width, height = (float(root.get(side)) for side in ("width", "height"))
+    assert height > chart_svg.ROW * len(chart.rows)
+    for element in root.iter(f"{SVG}text"):
+        half = len(element.text or "") * chart_svg.CHARACTER / 2 if element.get("text-anchor") == "middle" else 0
+        x = float(element.get("x"))
+        assert half - 12 <= x <= width - half + 12, f"'{element.text}' at {x} leaves a picture of width {width}"
+    assert not re.search(r"<script|href=|url\(", text)
+
+
+def check_page(chart, text):
+    assert text.count("<svg") == len(chart.rows) + 2
+    for picture in re.findall(r"<svg.*?</svg>", text, re.DOTALL):
+        ElementTree.fromstring(picture)
+    assert not re.search(r"src=|href=|url\(", text)
+
+
+def check_story(path):
+    """A transcript's chart in each form; how many rows it has."""
+    found = endpoints.read_with_ends(path)
+    chart = chart_rows.make(found)
+    check_rows(chart, [line for line, _, _ in found])
+    check_lanes(chart)
+    if len(chart.rows) > DRAWN_ROWS:
+        return len(chart.rows)
+    check_picture(chart, chart_svg.picture(chart, path.name))
+    check_page(chart, chart_svg.page(chart, path.name))
+    text = to_chart.msc(chart)
+    assert text.count('"') % 2 == 0
+    if shutil.which("mscgen"):
+        ran = subprocess.run(["mscgen", "-T", "svg", "-i", "-", "-o", "/dev/null"], input=text, capture_output=True, text=True, check=False)
+        assert ran.returncode == 0, f"{path}: mscgen says {ran.stderr}"
+    return len(chart.rows)
+
+
+def check_ranges():
+    """A range of events has the rows of these events alone, with the lanes that reach into it."""
+    found = endpoints.read_with_ends(stories.DATA / "handover-between-gnbs.out")
+    whole, part = chart_rows.make(found), chart_rows.make(found, 9, 13)
+    assert [text_of(row) for row in part.rows] == [text_of(row) for row in whole.rows if 9 <= row.event <= 13]
+    assert any(flight.put_row < 0 for flight in part.flights) and "A.up1" in part.nodes
+    check_picture(part, chart_svg.picture(part, "a part"))
+
+
+def check_without_events():
+    """A transcript of a script whose module is refused has no event and no unit; its lines are drawn."""
+    chart = chart_rows.make(list(endpoints.with_ends(transcripts.read("differs Quota\nstop 3 0 20\n"))))
+    assert [row.content.label for row in chart.rows] == ["differs Quota", "stop 3 0 20"]
+    check_picture(chart, chart_svg.picture(chart, "no event"))
+
+
+def check_odd_messages():
+    """Messages that no unit of ours puts: an alternative past the root, an unknown procedure, an unknown mode, and no message."""
+    odd = ["8000", "8003AAAAAA", "0063000100", "000300260000060001000100000200020001000B0001A00000"]
+    text = BEGIN + "".join(f"put #{number} A.cp A.du1 u1 {octets}\n" for number, octets in enumerate(odd, 1))
+    text += "put #5 A.du1 u1 u1 800141\nput #6 A.cp A.du1 u1 00050010000002000100010000070004038001AA\n"
+    chart = chart_rows.make(list(endpoints.with_ends(transcripts.read(text))))
+    assert sum(is_flying(row.content) for row in chart.rows) == 6
+    check_picture(chart, chart_svg.picture(chart, "odd"))
+
+
+def check_words():
+    names = {"DLRRCMessageTransfer": "DL RRC Message Transfer", "UEContextSetupRequest": "UE Context Setup Request", "SNStatusTransfer": "SN Status Transfer",
+             "F1SetupRequest": "F1 Setup Request", "HandoverRequestAcknowledge": "Handover Request Acknowledge"}
+    for name, spelled in names.items():
+        assert chart_rows.spelled(name) == spelled, chart_rows.spelled(name)
+
+
+def check_wrong_words():
+    story = str(stories.DATA / "lost-on-f1-u.out")
+    for words, awaited in ((["--events", "0-3"], "'0-3' is no range of events"), (["--events", "4-2"], "'4-2' is no range"), (["--html", "--msc"], "not allowed with")):
+        ran = stories.run_tool("to_chart", *words, story)
+        assert ran.returncode == 2 and awaited in ran.stderr.splitlines()[-1], ran.stderr
+    ran = stories.run_tool("to_chart", "--events", "17-19", story)
+    assert (ran.returncode, ran.stderr) == (2, f"to_chart: {story}: there is no event 19: the transcript has 18\n"), ran.stderr
+
+
+def picture_of(story, events, title):
+    chart = chart_rows.make(endpoints.read_with_ends(stories.DATA / f"{story}.out"), *(events or ()))
+    return chart_svg.picture(chart, title)
+
+
+def check_docs(is_to_write):
+    """Whether the pictures of docs are those that the tool draws."""
+    for story, (events, title) in DRAWN.items():
+        path, text = PICTURES / f"{story}.svg", picture_of(story, events, title)
+        if is_to_write:
+            path.parent.mkdir(exist_ok=True)
+            path.write_text(text)
+        assert path.exists() and path.read_text() == text, f"{path} isn't what tools/to_chart.py draws: tools/charts_check.py --write draws it anew"
+
+
+def main():
+    check_words()
+    check_by_hand()
+    check_ranges()
+    check_without_events()
+    check_odd_messages()
+    paths = stories.transcripts()
+    rows = sum(check_story(pathlib.Path(path)) for path in paths)
+    stories.check_wrong_inputs("to_chart", WRONG)
+    check_wrong_words()
+    check_docs(sys.argv[1:] == ["--write"])
+    print(f"charts of {len(paths)} transcripts have their {rows} rows")
+
+
+if __name__ == "__main__":
+    sys.exit(main())

@@ -1,0 +1,202 @@
+#!/usr/bin/env python3
+"""Checks the dissector in tools/wireshark: that its table is what tools/to_lua.py makes of the profile's module, and, where tshark is installed, that it reads each message
+and each packet of the stories as tools/profile_reader.py and tools/packet_reader.py do, and that both find the same changed octets malformed.
+
+Nothing here is a proof.
+
+Usage: tools/dissector_check.py [--seed S]
+"""
+
+import argparse
+import random
+import shutil
+import sys
+
+import captures_check
+import endpoints
+import packet_reader
+import profile_reader
+import stories
+import to_lua
+import to_pcapng
+import transcripts
+
+LUA = stories.TOOLS / "wireshark/splitgnb.lua"
+TABLE = stories.TOOLS / "wireshark/splitgnb_profile.lua"
+# fields of control messages and of the user plane, each with the parts of a value that it shows
+SHOWN = ("message", "ue", "instance", "epoch", "teid", "bearer", "mode", "cause", "name", "dlNext", "ulFirst", "ulReceived", "quota", "sn", "final", "forward", "gnb", "up",
+         "du", "bearers", "container")
+USER_PLANE = ("splitgnb.nru.number", "splitgnb.nru.delivered", "splitgnb.nru.lost_start", "splitgnb.pdcp.sn", "splitgnb.pdcp.fmc", "splitgnb.packet")
+CHANGES = 300
+
+
+def tshark(capture, *fields):
+    """The values of these fields in each packet, by the dissector."""
+    words = [word for field in fields for word in ("-e", field)]
+    lines = captures_check.tshark(capture, "-X", f"lua_script:{LUA}", "-T", "fields", "-E", "separator=|", "-E", "occurrence=a", *words)
+    return [line.split("|") for line in lines]
+
+
+# ---- messages
+
+
+def parts_of(value):
+    """The named parts of a value that are no lists or sequences, in their order."""
+    if isinstance(value, list):
+        return [part for entry in value for part in parts_of(entry)]
+    if not isinstance(value, dict):
+        return []
+    found = []
+    for name, part in value.items():
+        if name == "container":
+            found.append((name, part["octets"]))
+        found += parts_of(part) if isinstance(part, (dict, list)) else [(name, part)]
+    return found
+
+
+def shown(name, part):
+    """A part as tshark prints it: of an enumeration the index."""
+    enumerations = {"mode": "Mode", "cause": "Cause", "sn": "SnBits", "gnb": "Gnb"}
+    if name in enumerations:
+        return str(profile_reader.profile()[enumerations[name]]["names"].index(part))
+    if isinstance(part, bool):
+        return str(int(part))
+    return part.lower() if name == "container" else str(part)
+
+
+def fields_of_message(line, kind):
+    name, elements = endpoints.read_message(line, kind)
+    values = {field: [] for field in SHOWN}
+    values["message"] = [] if kind is endpoints.RRC else [name]
+    for part, value in parts_of(elements):
+        if part in values:
+            values[part].append(shown(part, value))
+    return [",".join(values[field]) for field in SHOWN]
+
+
+def truth(text):
+    return text.replace("True", "1").replace("False", "0")
+
+
+def check_messages(found, capture):
+    told = tshark(capture, "splitgnb.malformed", *(f"splitgnb.{field}" for field in SHOWN))
+    assert len(told) == len(found)
+    for (malformed, *values), (path, line, ends, _) in zip(told, found):
+        assert not malformed, f"{path}, line {line.number}: {malformed}"
+        if ends.kind.is_control:
+            values, awaited = [truth(value) for value in values], fields_of_message(line, ends.kind)
+            assert values == awaited, f"{path}, line {line.number}: the dissector reads {values}, not {awaited}"
+
+
+# ---- the user plane
+
+
+def fields_of_item(line, ends, bits):
+    """What the dissector is to show of an item of a tunnel or radio."""
+    shown = {field: "" for field in USER_PLANE}
+    if ends.kind.stands == "PDCP":
+        return list((shown | fields_of_pdcp(line.octets, bits)).values())
+    packet = packet_reader.read_gtpu(line.octets)
+    frame = packet.headers.get(0x84)
+    shown |= fields_of_frame(frame) if frame else {}
+    if ends.kind in (endpoints.F1U_DL, endpoints.F1U_UL):
+        shown |= fields_of_pdcp(packet.payload, bits)
+    elif packet.kind == packet_reader.G_PDU:
+        shown |= fields_of_forwarded(packet)
+    return list(shown.values())
+
+
+def fields_of_frame(frame):
+    if frame[0] >> 4 == 0:
+        return {"splitgnb.nru.number": str(int.from_bytes(frame[2:5], "big"))}
+    at, found = 6, {}
+    if frame[0] & 1:
+        found["splitgnb.nru.lost_start"] = ",".join(str(int.from_bytes(frame[7 + 6 * i : 10 + 6 * i], "big")) for i in range(frame[6]))
+        at += 1 + 6 * frame[6]
+    if frame[0] & 4:
+        found["splitgnb.nru.delivered"] = str(int.from_bytes(frame[at : at + 3], "big"))
+    return found
+
+
+def fields_of_pdcp(data, bits):
+    length = 2 if bits == 12 else 3
+    if not data:
+        return {}
+    if data[0] & 0x80:
+        return {"splitgnb.pdcp.sn": str(int.from_bytes(data[:length], "big") % 2**bits), "splitgnb.packet": data[length:].hex()}
+    return {"splitgnb.pdcp.fmc": str(int.from_bytes(data[1:5], "big"))}
+
+
+def fields_of_forwarded(packet):
+    found = {"splitgnb.packet": packet.payload.hex()}
+    for kind, length in ((0xC0, 2), (0x82, 3)):
+        if kind in packet.headers:
+            found["splitgnb.pdcp.sn"] = str(int.from_bytes(packet.headers[kind][:length], "big"))
+    return found
+
+
+def check_items(found, capture):
+    told = tshark(capture, *USER_PLANE)
+    for values, (path, line, ends, bits) in zip(told, found):
+        if not ends.kind.is_control:
+            awaited = fields_of_item(line, ends, bits)
+            assert values == awaited, f"{path}, line {line.number}: the dissector reads {values}, not {awaited}"
+
+
+# ---- changed octets
+
+
+def changed(chance, octets):
+    """Octets with one octet changed, left out or put in."""
+    place, kind = chance.randrange(len(octets)), chance.random()
+    if kind < 0.7:
+        return octets[:place] + bytes([chance.randrange(256)]) + octets[place + 1 :]
+    return octets[:place] + octets[place + 1 :] if kind < 0.85 else octets[:place] + chance.randbytes(1) + octets[place:]
+
+
+def check_changed(found, seed):
+    """Whether both readers call the same changed messages malformed."""
+    chance = random.Random(seed)
+    controls = [(line, ends.kind) for _, line, ends, _ in found if ends.kind.is_control]
+    blocks, awaited = [to_pcapng.section_header(), *map(to_pcapng.interface, endpoints.KINDS)], []
+    for number in range(CHANGES):
+        line, kind = chance.choice(controls)
+        octets = changed(chance, line.octets) or b"\0"
+        blocks.append(to_pcapng.packet(kind, number, to_pcapng.datagram(line.sender, line.receiver, kind.port, octets), octets.hex()))
+        awaited.append((octets, kind, is_malformed(kind.stands, octets)))
+    told = tshark(b"".join(blocks), "splitgnb.malformed", "_ws.lua.error")
+    for (malformed, error), (octets, kind, is_wrong) in zip(told, awaited, strict=True):
+        assert not error, f"{octets.hex()}: {error}"
+        assert (malformed != "") == is_wrong, f"{kind.stands} {octets.hex()}: the dissector says '{malformed}', and the reader {is_wrong}"
+    return sum(is_wrong for _, _, is_wrong in awaited)
+
+
+def is_malformed(name, octets):
+    """Whether octets are no value of a type, or have a container without a token."""
+    try:
+        [elements] = profile_reader.decode(name, octets).values()
+    except (profile_reader.Malformed, ValueError):
+        return True
+    carried = elements.get("container", {}) if isinstance(elements, dict) else {}
+    return "octets" in carried and carried["octets"] != "" and "RrcToken" not in carried
+
+
+def main():
+    asked = argparse.ArgumentParser(description=__doc__, formatter_class=argparse.RawDescriptionHelpFormatter)
+    asked.add_argument("--seed", type=int, default=1)
+    given = asked.parse_args()
+    assert TABLE.read_text() == to_lua.table(), f"{TABLE} isn't what tools/to_lua.py writes"
+    if shutil.which("tshark") is None:
+        print("the dissector's table is the profile's; tshark isn't installed, and the dissector was not run")
+        return
+    paths = [path for path in stories.transcripts() if path.name != "window.out"]
+    found = [(path, *entry) for path in paths for entry in endpoints.with_ends(transcripts.read_file(path)) if entry[0].kind == "put"]
+    capture = b"".join(to_pcapng.capture(endpoints.read_with_ends(path), "put") for path in paths)
+    check_messages(found, capture)
+    check_items(found, capture)
+    wrong = check_changed(found, given.seed)
+    print(f"the dissector reads {len(found)} messages and packets as the readers do, and of {CHANGES} changed messages it finds the same {wrong} malformed")
+
+
+if __name__ == "__main__":
+    sys.exit(main())
