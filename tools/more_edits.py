@@ -28,11 +28,11 @@ CRATES = ROOT / "crates"
 QUICK_LINES = 90
 PARTS = ("src", "specs", "proofs")
 FUNCTION = re.compile(r"( *)(?:pub(?:\([a-z ]+\))? )?(?:const )?fn (\w+)")
-IMPLEMENTATION = re.compile(r"impl(?:<.*?>)? (?:(\w[\w:]*)(?:<.*>)? for )?&?(\w[\w:]*)")
+IMPLEMENTATION = re.compile(r"impl(?:<.*?>)? (?:(\w[\w:]*)(?:<(.*)>)? for )?&?(\w[\w:]*)")
 
 
 class Function:
-    """A function of a crate: its path below the crate, the lines of its body, and the names that it calls."""
+    """A function of a crate: the end of its path, with its type or else its module, the lines of its body, and the names that it calls."""
 
     def __init__(self, path, name, first, last, body):
         self.path, self.name, self.first, self.last = path, name, first, last
@@ -41,11 +41,11 @@ class Function:
 
 
 class Edit:
-    """An edit: its file's name, the pairs of texts, and the function whose body it changes."""
+    """An edit: its file's name, the pairs of texts, and the function whose body it changes. A line 'slow: ..' says why no quick check has it."""
 
     def __init__(self, file):
         self.file, self.name = file, f"{file.parents[1].name}/{file.name}"
-        self.pairs, path, old = [], "", ""
+        self.pairs, self.is_slow, path, old = [], False, "", ""
         for line in file.read_text().splitlines():
             if line.startswith("file: "):
                 path = line[len("file: "):].strip()
@@ -53,6 +53,8 @@ class Edit:
                 old = line[len("old: "):]
             elif line.startswith("new:"):
                 self.pairs.append((path, old, line[len("new:"):].removeprefix(" ")))
+            elif line.startswith("slow: "):
+                self.is_slow = True
 
     def faults(self):
         """Where a text that the edit changes doesn't stand exactly once in its file."""
@@ -74,13 +76,20 @@ def module_of(path):
     return "".join(f"{part}::" for part in parts)
 
 
+def owner_of(implementation):
+    """What a check calls the type of an `impl` line, with the trait and the types that this is of: `MemoryFromAllocError::`."""
+    if not implementation:
+        return ""
+    trait, arguments, owner = (it or "" for it in implementation.groups())
+    return "".join([owner.split("::")[-1], trait.split("::")[-1], *re.findall(r"(?<!')\b[A-Z]\w*", arguments)]) + "::"
+
+
 def functions_in(folder, path):
     """The functions of a file with a body of their own, as `rt fmt` lays them out."""
     lines, owner = (folder / path).read_text().split("\n"), ""
     for at, line in enumerate(lines):
         if line.startswith("impl"):
-            found = IMPLEMENTATION.match(line)
-            owner = found and f"{found[2].split('::')[-1]}{(found[1] or '').split('::')[-1]}::"
+            owner = owner_of(IMPLEMENTATION.match(line))
         elif line == "}":
             owner = ""
         found = FUNCTION.match(line)
@@ -89,7 +98,7 @@ def functions_in(folder, path):
             begin = next((k for k in range(at, len(lines)) if lines[k] == indent + "{" or k == at and line.endswith("{")), None)
             end = next((k for k in range(at, len(lines)) if lines[k] == indent + "}"), None)
             if begin is not None and end is not None and begin < end:
-                yield Function(f"{module_of(path)}{owner or ''}{found[2]}", found[2], begin, end, lines[begin + 1 : end])
+                yield Function(f"{owner or module_of(path)}{found[2]}", found[2], begin, end, lines[begin + 1 : end])
 
 
 @functools.cache
@@ -143,7 +152,7 @@ def batches(crate, edits):
 
 def quick_batch(crate):
     """The edits of a crate's smallest functions that one short check can try."""
-    weights = {edit: sum(it.lines for it in reached(crate, edit.function())) for edit in edits_of(crate) if edit.function()}
+    weights = {edit: sum(it.lines for it in reached(crate, edit.function())) for edit in edits_of(crate) if edit.function() and not edit.is_slow}
     chosen, left = [], QUICK_LINES
     for edit in sorted(weights, key=weights.get):
         is_first = not chosen
@@ -172,7 +181,8 @@ def command(crate, functions):
     """The check of some functions of a crate, or without any of all of it, over the libraries that `rt ci` left."""
     kit = pathlib.Path(shutil.which("rt")).resolve().parents[1]
     library = lambda name: f"{CRATES}/{name}/out/rlib/{name}.rlib" if name in uses() else f"{kit}/rlibs/{name}.rlib"
-    words = [f"{kit}/bin/rattle", "check", "--crate-name", crate, "src/lib.rt"]
+    root = "lib" if (CRATES / crate / "src/lib.rt").is_file() else "main"
+    words = [f"{kit}/bin/rattle", "check", "--crate-name", crate, f"src/{root}.rt"]
     words += [f"--extern={name}={library(name)}" for name in dict.fromkeys([*uses()[crate], "std"])]
     words += [f"-Ldependency={os.path.dirname(library(name))}" for name in [*below(crate), "std"]]
     words += ["--antt-project", f"{kit}/rattle/logic/antt-project.json", "--logic-built", f"{kit}/logic_built"]
@@ -196,8 +206,8 @@ def is_refused(edit, said):
     """Whether a check says of the edited function, or else of the crate, that it is not proved, and not that it could not tell."""
     if not edit.function():
         return said[-1].startswith("logic=not-proved")
-    name = f"fn {edit.file.parents[1].name}::{edit.function().path}: "
-    return any(line.startswith((name + "not proved", name + "no proof")) for line in said)
+    line = re.compile(rf"fn {edit.file.parents[1].name}::(\w+::)*{re.escape(edit.function().path)}: (not proved|no proof)")
+    return any(line.match(it) for it in said)
 
 
 def tried(crate, edits):
