@@ -4,9 +4,9 @@ use Rattle.gnb_types.specs.declared.names.Gnb.{Gnb}
 use Rattle.gnb_types.specs.declared.outputs.Output.{Output}
 use Rattle.unit_defs.specs.CuUp.{new_cu_up}
 use Rattle.unit_steps.specs.declared.StepError.{StepError}
-use Rattle.up_contexts.specs.declared.placing.PlaceError.{PlaceError}
-use Rattle.up_contexts.specs.declared.placing.PlaceError.TheVariants as errors
-use Rattle.up_contexts.specs.Tables.{OctetUp}
+use Rattle.up_rows.specs.up_contexts.declared.placing.PlaceError.{PlaceError}
+use Rattle.up_rows.specs.up_contexts.declared.placing.PlaceError.TheVariants as errors
+use Rattle.up_rows.specs.up_contexts.Tables.{OctetUp}
 
 -- its record, and why it is of no use, if it isn't
 pub record User : Type 0 where

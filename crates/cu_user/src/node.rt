@@ -9,8 +9,8 @@ ghost use Rattle.unit_defs.specs.Accessors.{up_has_context, is_unconfirmed, up_r
 ghost use Rattle.unit_defs.specs.Static.{up_set_up};
 ghost use Rattle.unit_octet_defs.specs.Units.{cu_up_steps};
 ghost use Rattle.unit_steps.specs.Steps.{IsStep, step_after};
-ghost use Rattle.up_contexts.specs.declared.placing.PlaceError.TheVariants as errors;
-ghost use Rattle.up_contexts.specs.Placing.{IsPlaced};
+ghost use Rattle.up_rows.specs.up_contexts.declared.placing.PlaceError.TheVariants as errors;
+ghost use Rattle.up_rows.specs.up_contexts.Placing.{IsPlaced};
 ghost use Rattle.cu_user.specs.Users.{new_user, outputs_in, failure_in, placing_failure_in};
 
 use gnb_types::inputs::Input;
@@ -21,8 +21,7 @@ use std::alloc::Global;
 use std::marker::Model;
 use unit_messages::MessageCodec;
 use unit_steps::StepError;
-use up_contexts::placing::PlaceError;
-use up_rows::UpRecord;
+use up_rows::{PlaceError, UpRecord};
 
 /// A CU-UP. Contracts see its record of the table of rows, and why it is of no use, if a step could not be made.
 #[derive(Drop)]

@@ -1,3 +1,4 @@
+pub use Rattle.bearer_context.specs as bearer_context
 pub mod Tables
 pub mod Rows
 pub mod Placing

@@ -10,4 +10,6 @@ pub mod packets;
 pub mod placing;
 pub mod tunnels;
 
+pub use bearer_context::{Context, ContextSetup};
 pub use contexts::Contexts;
+pub use up_items::Kind;

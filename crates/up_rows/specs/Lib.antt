@@ -1,2 +1,3 @@
+pub use Rattle.up_contexts.specs as up_contexts
 pub mod Records
 pub mod Modes

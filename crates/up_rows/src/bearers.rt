@@ -6,10 +6,9 @@ ghost use Rattle.message_types.specs.declared.e1.E1Message.TheVariants as e1s;
 ghost use Rattle.unit_defs.specs.CuUp.{context_of, forward_list, setup_response, replies, set_up_for, setup, release};
 ghost use Rattle.unit_octet_defs.specs.Codec.{Codec, octet_way};
 ghost use Rattle.unit_steps.specs.Steps.{IsStep, step_after};
-ghost use Rattle.bearer_context.specs.Answers.{tunnels_of};
+ghost use Rattle.up_contexts.specs.bearer_context.Answers.{tunnels_of};
 
 use crate::record::UpRecord;
-use bearer_context::{Context, ContextSetup};
 use gnb_types::items::Memory;
 use gnb_types::keys::Channel;
 use gnb_types::names::UeId;
@@ -19,7 +18,7 @@ use message_types::E1Message;
 use std::alloc::Global;
 use unit_messages::{Message, MessageCodec};
 use unit_steps::StepError;
-use up_items::Kind;
+use up_contexts::{Context, ContextSetup, Kind};
 
 /// The cause of a failure: no blocks are left for the quota.
 const CAUSE_QUOTA: u32 = 0;

@@ -6,11 +6,11 @@ ghost use Rattle.unit_octet_defs.specs.Codec.{Codec};
 ghost use Rattle.up_rows.specs.Modes.{may_add, may_switch, may_freeze, may_know, may_resume, has_status, statuses_on};
 
 use crate::record::UpRecord;
-use bearer_context::Context;
 use gnb_types::items::{Items, Memory};
 use gnb_types::names::UeId;
 use gnb_types::plans::{SnStatus, StatusList, Tunnel};
 use std::alloc::Global;
+use up_contexts::Context;
 
 /// Whether the downlinks of a context may go to these tunnels: those of a released one go nowhere.
 fn may_switch(context: &Context, downlinks: &[Tunnel]) -> bool

@@ -12,3 +12,4 @@ pub mod record;
 pub mod setups;
 
 pub use record::UpRecord;
+pub use up_contexts::placing::PlaceError;

@@ -15,7 +15,6 @@ ghost use Rattle.unit_steps.specs.Steps.{IsStep, step_after};
 use crate::bearers::UeRequest;
 use crate::modifying::Change;
 use crate::record::UpRecord;
-use bearer_context::ContextSetup;
 use gnb_types::keys::Channel;
 use gnb_types::names::{Gnb, NodeId};
 use gnb_types::outputs::{Output, Outputs};
@@ -26,6 +25,7 @@ use transactions::callee::Verdict;
 use unit_messages::{Kind, Message, MessageCodec};
 use unit_requests::put;
 use unit_steps::StepError;
+use up_contexts::ContextSetup;
 
 fn is_same_gnb(a: Gnb, b: Gnb) -> bool
     ensures { result ≡ is_same_gnb a b }

@@ -3,7 +3,7 @@
 ghost use Rattle.std.specs.Prelude.{◌≡◌, true, Some};
 ghost use Rattle.codec_range_defs.specs.Ranges.{AreShortStatuses};
 ghost use Rattle.message_types.specs.declared.e1.E1Message.TheVariants as e1s;
-ghost use Rattle.bearer_context.specs.Orders.{AreShort};
+ghost use Rattle.up_contexts.specs.bearer_context.Orders.{AreShort};
 ghost use Rattle.unit_defs.specs.Messages.{cause_busy};
 ghost use Rattle.unit_defs.specs.CuUp.{context_of, replies, modified, modify_on};
 ghost use Rattle.unit_octet_defs.specs.Codec.{Codec, octet_way};
