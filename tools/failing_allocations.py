@@ -2,8 +2,9 @@
 """Lets each request for memory fail in turn: of the program, in each example that has an input (tools/examples.py); or, where crates of tests are named, of
 each of their tests.
 
-Every run of the program must end with status 9 and a front of what is printed where none fails. Every test must pass: those of tests_up do where the step in
-which memory ran out answers that and nothing else, a later step answers it too, and another CU-UP then does the steps as they should be.
+Every run of the program must end with status 9 and a front of what is printed where none fails. Every test must pass: those of tests_up, tests_du_node and
+tests_cu_control do where the step in which memory ran out answers that and nothing else, a later step answers it too, and another unit then does the steps as
+they should be; so do those of tests_transactions, of a call. Tests of other crates mostly fail where memory runs out.
 
 A C compiler makes the library that lets a request fail; where there is none this is said, and the check passes. Nothing of this is proved.
 
@@ -76,7 +77,7 @@ def each_passes(library, program, test):
     for number in range(1, requests + 1):
         status, _, said = answer(library, [program, test], b"", number)
         if status:
-            return f"request {number} failed: status {status}, {said.decode(errors='replace').strip()}"
+            return f"request {number} failed: status {status}, {said.decode(errors='replace').partition(chr(10))[0]}"
     print(f"{test}: passes, whichever of {requests} requests fails")
     return None
 
