@@ -19,6 +19,7 @@ import shutil
 import subprocess
 import sys
 import tempfile
+import time
 
 import other_reading
 
@@ -40,19 +41,34 @@ class Unmeasured(Exception):
     """Why there is no measurement."""
 
 
+def high_water(process):
+    """The peak memory of a process so far in KiB, 0 where it has ended."""
+    try:
+        lines = pathlib.Path(f"/proc/{process}/status").read_text().splitlines()
+    except OSError:
+        return 0
+    return next((int(line.split()[1]) for line in lines if line.startswith("VmHWM:")), 0)
+
+
 def measure(command, given, taken):
-    """Runs a command with a file as its input, and another one for its output: its status, processor seconds, and peak memory in KiB."""
+    """Runs a command with a file as its input, and another one for its output: its status, processor seconds, and peak memory in KiB.
+
+    The peak is asked for while it runs: what the system says at its end is at least what this program itself needs, which counts until the command begins."""
     source = os.open(given, os.O_RDONLY)
     sink = os.open(taken, os.O_WRONLY | os.O_CREAT | os.O_TRUNC)
     quiet = os.open(os.devnull, os.O_WRONLY)
     try:
         actions = [(os.POSIX_SPAWN_DUP2, source, 0), (os.POSIX_SPAWN_DUP2, sink, 1), (os.POSIX_SPAWN_DUP2, quiet, 2)]
         process = os.posix_spawnp(command[0], command, os.environ, file_actions=actions)
-        _, status, usage = os.wait4(process, 0)
+        ended, peak = 0, 0
+        while not ended:
+            peak = max(peak, high_water(process))
+            time.sleep(0.002)
+            ended, status, usage = os.wait4(process, os.WNOHANG)
     finally:
         for handle in (source, sink, quiet):
             os.close(handle)
-    return os.waitstatus_to_exitcode(status), usage.ru_utime + usage.ru_stime, usage.ru_maxrss
+    return os.waitstatus_to_exitcode(status), usage.ru_utime + usage.ru_stime, peak or usage.ru_maxrss
 
 
 # ---- inputs

@@ -1,5 +1,6 @@
 #!/usr/bin/env python3
-"""Checks tools/bench.py on a small program in place of ours: one that copies its input for `run`, fails for `generate`, and has no other word.
+"""Checks tools/bench.py on a small program in place of ours: one that copies its input for `run`, fails for `generate`, and has no other word; and
+tools/bench_up.py on one that does nothing, or fails.
 
 Nothing here is a proof, and no time is judged.
 
@@ -54,10 +55,34 @@ def check_wrong(folder):
     assert ran.returncode == 2 and "from 1 to 2047, the smaller one first" in ran.stderr, ran.stderr
 
 
+UP_ROWS = [
+    r"\| Packets each way \| Seconds .*\| Packets a second \| Peak MiB \|",
+    r"\|(---\|){5}",
+    rf"\| 10 \| {NUMBER} \| - \| ([0-9,]+|-) \| {NUMBER} \|",
+    rf"\| 40 \| {NUMBER} \| ({NUMBER}|-) \| ([0-9,]+|-) \| {NUMBER} \|",
+]
+
+
+def check_up(folder):
+    program = folder / "tests"
+    program.write_text('#!/bin/sh\n[ "$1" = packets::carries_packets ] && [ "$PACKETS" -ne 41 ]\n')
+    program.chmod(0o755)
+    ran = stories.run_tool("bench_up", "--small", "10", "--large", "40", "--program", str(program))
+    assert ran.returncode == 0, ran.stderr
+    for line, awaited in zip(ran.stdout.splitlines(), UP_ROWS, strict=True):
+        assert re.fullmatch(awaited, line), f"{line!r} isn't {awaited!r}"
+    ran = stories.run_tool("bench_up", "--small", "10", "--large", "41", "--program", str(program))
+    assert (ran.returncode, ran.stderr) == (2, "bench_up: with 41 packets the test ended with status 1\n"), ran.stderr
+    ran = stories.run_tool("bench_up", "--program", str(folder / "none"))
+    said = f"bench_up: '{folder / 'none'}' is no program that can be run; 'rt test' in crates/tests_up builds the one that is measured\n"
+    assert (ran.returncode, ran.stdout, ran.stderr) == (2, "", said), ran.stderr
+
+
 def main():
     with tempfile.TemporaryDirectory() as folder:
         check_table(pathlib.Path(folder))
         check_wrong(pathlib.Path(folder))
+        check_up(pathlib.Path(folder))
     print("the table of measurements has its rows")
 
 

@@ -1,12 +1,12 @@
 -- Steps of a tick, over plain values.
-use Rattle.std.proofs.Common.{◌≡◌, ℕ, suc, ◌+◌, ◌<◌, List, [], ◌∷◌, ◌++◌, map, length, drop, get_or, refl, sym, ap, ◌∙◌, append_assoc, arith}
+use Rattle.std.proofs.Common.{◌≡◌, ℕ, List, [], ◌∷◌, ◌++◌, map, refl, sym, ap, ◌∙◌}
 use Rattle.std.specs.List.{flat_map}
-use Rattle.std.proofs.Math.Seq.{drop-cons}
 use Rattle.gnb_types.specs.declared.outputs.Output.{Output}
 use Rattle.transaction_defs.specs.Callers.{repeats, expires, due, after_tick}
 use Rattle.transaction_defs.specs.Callers as callers
 use Rattle.transactions.specs.declared.caller.Due.{Due}
 use Rattle.transactions.specs.Answers.{due_as}
+use Rattle.setup_requests.specs.Dues.{put_again}
 use Rattle.gnb_types.specs.declared.inputs.Input.TheVariants as ins
 use Rattle.unit_defs.specs.Du.{due_output, with_transactions, tick, du_acts}
 use Rattle.unit_octet_defs.specs.Reading.{read_at_du}
@@ -17,18 +17,6 @@ use Rattle.unit_steps.specs.Steps.{stepped, step_after}
 use Rattle.unit_steps.proofs.StepLaws.{outputs_append}
 use Rattle.unit_requests.specs.Requests.{Kept}
 use Rattle.du_contexts.specs.Tables.{OctetDu}
-use Rattle.du_rows.specs.Records.{put_again}
-
--- one more is put
-pub one_is_put : (i : ℕ) (dues : List Due) (d : Due) (before after all : List Output) → i < length dues → after ≡ before ++ put_again (get_or dues i d)
-    → before ++ flat_map put_again (drop i dues) ≡ all → after ++ flat_map put_again (drop (i + 1) dues) ≡ all
-one_is_put i dues d before after all within is so_far =
-    let next : suc i ≡ i + 1 = omega arith in
-    let split : drop i dues ≡ get_or dues i d ∷ drop (i + 1) dues = drop-cons dues i d within ∙ ap (λ (j : ℕ). get_or dues i d ∷ drop j dues) next in
-    ap (λ (os : List Output). os ++ flat_map put_again (drop (i + 1) dues)) is
-    ∙ append_assoc before (put_again (get_or dues i d)) (flat_map put_again (drop (i + 1) dues))
-    ∙ ap (λ (ds : List Due). before ++ flat_map put_again ds) (sym split)
-    ∙ so_far
 
 module _ (codec : Codec) (before mid : List Output) where
   puts_again : (dues : List (callers.Due (List ℕ))) → flat_map put_again (map due_as dues) ≡ outputs_of (flat_map (due_output (octet_way codec)) dues)

@@ -1,10 +1,6 @@
--- The record of a DU, of its parts; and what a request that is open puts at a tick.
-use Rattle.std.specs.Prelude.{ℕ, Bool, List, [], ◌∷◌}
+-- The record of a DU, of its parts.
+use Rattle.std.specs.Prelude.{ℕ, Bool}
 use Rattle.gnb_types.specs.declared.names.Gnb.{Gnb}
-use Rattle.gnb_types.specs.declared.outputs.Output.{Output}
-use Rattle.gnb_types.specs.declared.outputs.Output.TheVariants as outs
-use Rattle.transactions.specs.declared.caller.Due.{Due}
-use Rattle.transactions.specs.declared.caller.Due.TheVariants.{Repeat, Expired}
 use Rattle.unit_requests.specs.Requests.{Kept}
 use Rattle.du_contexts.specs.Tables.{OctetDu, DuTables}
 
@@ -18,8 +14,3 @@ du_record gnb number is_set_up tables requests = record {
   contexts = tables.contexts;
   transactions = requests;
 }
-
--- it is put again, or nothing is
-abbrev pub put_again : Due → List Output
-put_again (Repeat channel request) = outs.Control channel.peer channel.ue request ∷ []
-put_again (Expired channel) = []

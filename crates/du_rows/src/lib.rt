@@ -4,7 +4,6 @@
 
 pub mod inputs;
 pub mod messages;
-mod names;
 pub mod packets;
 pub mod record;
 pub mod relays;

@@ -1,51 +1,19 @@
 //! F1 Setup (TS 38.473, 8.2.3), and ticks.
 
-ghost use Rattle.std.specs.Prelude.{◌≡◌, ◌++◌, OnOk};
-ghost use Rattle.std.specs.List.{flat_map};
 ghost use Rattle.unit_defs.specs.Du.{start, set_up, tick};
 ghost use Rattle.unit_octet_defs.specs.Codec.{Codec, octet_way};
 ghost use Rattle.unit_steps.specs.Steps.{IsStep, step_after};
-ghost use Rattle.du_rows.specs.Records.{put_again};
 
-use crate::names::node_name;
 use crate::record::DuRecord;
-use gnb_types::items::Memory;
 use gnb_types::keys::Channel;
 use gnb_types::names::NodeId;
-use gnb_types::outputs::{Output, Outputs};
+use gnb_types::outputs::Outputs;
 use message_types::F1;
+use setup_requests::{node_name, put_due};
 use std::alloc::Global;
-use transactions::caller::Due;
 use unit_messages::{Message, MessageCodec};
 use unit_requests::Waiting;
 use unit_steps::StepError;
-
-/// What is due of one open request is put again.
-fn put_one(item: &Due, outputs: &mut Outputs) -> Result<(), Memory>
-    ensures { OnOk result (outputs.new ≡ outputs.old ++ put_again item.now) }
-{
-    match item {
-        Due::Repeat { channel, bytes } => {
-            let bytes = bytes.clone()?;
-            outputs.push(Output::Control {
-                to: channel.peer,
-                ue: channel.ue,
-                bytes,
-            })
-        }
-        Due::Expired { .. } => Ok(()),
-    }
-}
-
-/// What is due at a tick is put again.
-fn put_due(due: &[Due], outputs: &mut Outputs) -> Result<(), Memory>
-    ensures { OnOk result (outputs.new ≡ outputs.old ++ flat_map put_again due.now) }
-{
-    for item in due {
-        put_one(item, outputs)?;
-    }
-    Ok(())
-}
 
 impl DuRecord {
     /// F1 Setup is begun, unless the DU is set up.

@@ -1,3 +1,4 @@
 mod Types
 mod Determined
 mod Said
+mod Found

@@ -3,6 +3,7 @@ use Rattle.std.specs.Prelude.{◌≡◌, ◌⊎◌, ℕ, List, Option, None, Res
 use Rattle.aper_defs.specs.Trees.{Tree}
 use Rattle.aper_defs.specs.Values.{Value}
 use Rattle.aper_defs.specs.Spelling.{Spells}
+use Rattle.aper_defs.specs.Reading.{decoded}
 use Rattle.message_defs.specs.Heard.{Cause, unknown_procedure, unknown_element}
 use Rattle.message_octets.specs.declared.error.MsgError.{MsgError}
 use Rattle.message_octets.specs.declared.error.MsgError.TheVariants as errors
@@ -34,3 +35,7 @@ AreSaidIn t Says rejected msg octets = (v : Value) × Spells t v octets × Says 
 pub record IsMessageWhereSaid (M : Type 0) (answers : Result M MsgError → Type 0) (msg : M) (Said : Type 0) : Type 0 where
   pub said : answers (Ok msg) → Said
   pub answered : Said → (result : Result M MsgError) → answers result → IsUnlessMemory result (Ok msg)
+
+-- this message is heard in the value that is found in the octets
+abbrev pub IsFoundIn : {M : Type 0} → Tree → (Value → Result M Cause) → M → List ℕ → Type 0
+IsFoundIn t heard msg octets = (v : Value) × (decoded t octets ≡ Ok v) × (heard v ≡ Ok msg)

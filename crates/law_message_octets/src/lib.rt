@@ -20,8 +20,9 @@ ghost use Rattle.message_defs.specs.Core.{written_core, heard_core, SaysCore};
 ghost use Rattle.message_defs.specs.Tokens.{written_token, heard_token, SaysToken};
 ghost use Rattle.message_octets.specs.declared.error.MsgError.{MsgError};
 ghost use Rattle.message_octets.specs.Answers.{IsHeardIn};
+ghost use Rattle.message_octets.specs.Reading.{read_as};
 ghost use Rattle.law_message_versions.specs.Versions.{without_origin};
-ghost use Rattle.law_message_octets.specs.Answered.{IsUnlessMemory, IsRefusal, SpellsNone, AreSaidIn, IsMessageWhereSaid, answer_of};
+ghost use Rattle.law_message_octets.specs.Answered.{IsUnlessMemory, IsRefusal, SpellsNone, AreSaidIn, IsMessageWhereSaid, answer_of, IsFoundIn};
 
 /// To octets that spell a value the answer is what is heard in it, unless memory runs out.
 pub fn what_octets_say_is_answered()
@@ -101,4 +102,18 @@ pub fn said_messages_are_answered()
         (AreSaidIn core_type SaysCore (rejected_in core_messages) msg octets) }
     ensures token { (token : Token) (octets : List ℕ) → IsMessageWhereSaid Token (IsHeardIn token_type heard_token octets) token
         (AreSaidIn token_type SaysToken (λ v. None) token octets) }
+{}
+
+/// A message that a unit reads in octets is heard in the value that is found in them.
+pub fn read_messages_are_heard()
+    ensures f1 { (msg : F1Message) (octets : List ℕ) → read_as f1_type heard_f1 octets ≡ Ok msg
+        → IsFoundIn f1_type heard_f1 msg octets }
+    ensures e1 { (msg : E1Message) (octets : List ℕ) → read_as e1_type heard_e1 octets ≡ Ok msg
+        → IsFoundIn e1_type heard_e1 msg octets }
+    ensures xn { (w : Version) (msg : XnMessage) (octets : List ℕ) → read_as (xn_type (number_of w)) heard_xn octets ≡ Ok msg
+        → IsFoundIn (xn_type (number_of w)) heard_xn msg octets }
+    ensures core { (msg : CoreMessage) (octets : List ℕ) → read_as core_type heard_core octets ≡ Ok msg
+        → IsFoundIn core_type heard_core msg octets }
+    ensures token { (token : Token) (octets : List ℕ) → read_as token_type heard_token octets ≡ Ok token
+        → IsFoundIn token_type heard_token token octets }
 {}

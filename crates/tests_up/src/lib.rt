@@ -4,6 +4,8 @@
 #[cfg(test)]
 mod few_messages;
 #[cfg(test)]
+mod packets;
+#[cfg(test)]
 mod reasons;
 #[cfg(test)]
 mod rows;

@@ -158,7 +158,7 @@ fn input_of(alloc: Global, given: &Call) -> Result<Input, Fail> {
 
 /// How a step went, or a run.
 #[derive(Clone, Copy, Debug, PartialEq, Eq)]
-enum Outcome {
+pub enum Outcome {
     /// It put out what it should.
     AsTold,
     Differs,
@@ -166,15 +166,24 @@ enum Outcome {
     OutOfMemory,
 }
 
-fn outcome_if(good: bool, outcome: Outcome) -> Outcome {
+pub fn outcome_if(good: bool, outcome: Outcome) -> Outcome {
     if good { outcome } else { Outcome::Differs }
 }
 
 /// Whether a CU-UP that ran out of memory answers the same from then on.
-fn stays_failed(alloc: Global, node: &mut CuUser) -> bool {
+pub fn stays_failed(alloc: Global, node: &mut CuUser) -> bool {
     match node.step(alloc, &FewMessages, &Input::Tick) {
         Err(StepError::Memory) => true,
         Ok(_) | Err(StepError::Spent { .. }) => false,
+    }
+}
+
+/// What a step puts out; or how it went, where it could not be made.
+pub fn outputs_of(alloc: Global, node: &mut CuUser, input: &Input) -> Result<Outputs, Outcome> {
+    match node.step(alloc, &FewMessages, input) {
+        Ok(outputs) => Ok(outputs),
+        Err(StepError::Memory) => Err(outcome_if(stays_failed(alloc, node), Outcome::OutOfMemory)),
+        Err(StepError::Spent { .. }) => Err(Outcome::Differs),
     }
 }
 
@@ -185,10 +194,9 @@ fn step_outcome(
     puts: &[Put],
 ) -> Result<Outcome, Fail> {
     let input = input_of(alloc, given)?;
-    match node.step(alloc, &FewMessages, &input) {
+    match outputs_of(alloc, node, &input) {
         Ok(outputs) => Ok(outcome_if(are_puts(alloc, &outputs, puts)?, Outcome::AsTold)),
-        Err(StepError::Memory) => Ok(outcome_if(stays_failed(alloc, node), Outcome::OutOfMemory)),
-        Err(StepError::Spent { .. }) => Ok(Outcome::Differs),
+        Err(outcome) => Ok(outcome),
     }
 }
 

@@ -4,7 +4,7 @@ use Rattle.transactions.specs.declared.caller.Due.{Due}
 use Rattle.unit_defs.specs.Du.{tick}
 use Rattle.unit_octet_defs.specs.Codec.{octet_way}
 use Rattle.unit_steps.specs.Steps.{stepped}
-use Rattle.du_rows.specs.Records.{put_again}
+use Rattle.setup_requests.specs.Dues.{put_again}
 use Rattle.du_rows.proofs.SetupSteps.{tick_step}
 use Rattle.unit_steps.specs.Steps.{step_after}
 use Rattle.du_contexts.specs.Tables.{OctetDu}

@@ -1,5 +1,5 @@
 use Rattle.tests_up.proofs.InRange.{in_range}
-use Rattle.tests_up.proofs.steps.step_outcome.Goals as goal
+use Rattle.tests_up.proofs.steps.outputs_of.Goals as goal
 
 pub step-requires : goal.step-requires
 step-requires c = in_range
