@@ -1,0 +1,4 @@
+pub mod Sorted
+pub mod Runs
+pub mod Dues
+pub mod Ticks

@@ -1,0 +1,20 @@
+-- What a tick of a unit does for a terminal in two runs.
+use Rattle.std.specs.Prelude.{◌≡◌}
+use Rattle.gnb_types.specs.declared.names.NodeId.{NodeId}
+use Rattle.gnb_types.specs.declared.names.NodeId.TheVariants.{Core, Ue}
+use Rattle.gnb_types.specs.declared.names.UeId.{UeId}
+use Rattle.run_defs.specs.States.{Stepped, stepped, step_spent}
+use Rattle.law_tick_slices.specs.Ticks.{outputs_of}
+use Rattle.law_slice_arguments.specs.Views.{StayAlikeAt}
+
+-- a node at which a tick is everyone's; a terminal's tick is its own
+abbrev pub IsUnit : NodeId → Type 0
+IsUnit Core = ⊥
+IsUnit (Ue n) = ⊥
+IsUnit node = Unit {0}
+
+-- where both go on, what is put for the terminal is the same, in the same order, and its slice there and what is shared are the same
+abbrev pub TickAlike : {M C L P : Type 0} → NodeId → UeId → Stepped M C L P → Stepped M C L P → Type 0
+TickAlike node ue (stepped xs a) (stepped ys b) = (outputs_of ue.0 xs ≡ outputs_of ue.0 ys) × StayAlikeAt node ue a b
+TickAlike node ue (stepped xs a) (step_spent counter) = Unit {0}
+TickAlike node ue (step_spent counter) other = Unit {0}
