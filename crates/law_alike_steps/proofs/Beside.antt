@@ -69,32 +69,32 @@ added_to end ts item None = ts
 added_to end ts item (Some items) = put tunnel_cmp ts end (items ++ item ∷ [])
 
 -- what stands at q after a put at this end, an opening and a closing, as a function of what stood there
+same_end : (end q : TunnelEnd) → eq_by_cmp tunnel_cmp q end ≡ true → q ≡ end
+same_end end q tie = tunnel_exact q end ((Equal-is (tunnel_cmp q end)).0 tie)
+
+abbrev pub Items : Type 0 → Type 0
+Items X = Option (List (Item X))
+
+abbrev pub Ends : Type 0 → Type 0
+Ends X = List (TunnelEnd × List (Item X))
+
 module _ {X : Type 0} (end q : TunnelEnd) (key : EntityKey) where
-  abbrev pub Items : Type 0
-  Items = Option (List (Item X))
-
-  abbrev pub Ends : Type 0
-  Ends = List (TunnelEnd × List (Item X))
-
-  abbrev pub added : Item X → Items → Items
+  abbrev pub added : Item X → Items X → Items X
   added item o = cond (eq_by_cmp tunnel_cmp q end) (option_map (λ (xs : List (Item X)). xs ++ items_of key (item ∷ [])) o) o
 
-  abbrev opened_then : Items → Items
+  abbrev opened_then : Items X → Items X
   opened_then o = cond (eq_by_cmp tunnel_cmp q end) (Some (unwrap_or o [])) o
 
-  abbrev closed_then : Items → Items
+  abbrev closed_then : Items X → Items X
   closed_then o = cond (eq_by_cmp tunnel_cmp q end) None o
 
-  abbrev pub with_these : List (Item X) → Items → Items
+  abbrev pub with_these : List (Item X) → Items X → Items X
   with_these items o = cond (eq_by_cmp tunnel_cmp q end) (Some items) o
 
-  here : eq_by_cmp tunnel_cmp q end ≡ true → q ≡ end
-  here tie = tunnel_exact q end ((Equal-is (tunnel_cmp q end)).0 tie)
+  pub stands_so : (ts : Ends X) (o : Items X) → find tunnel_cmp ts end ≡ o → eq_by_cmp tunnel_cmp q end ≡ true → stand ts q key ≡ option_map (items_of key) o
+  stands_so ts o found tie = ap (λ (e : TunnelEnd). stand ts e key) (same_end end q tie) ∙ ap (option_map (items_of key)) found
 
-  pub stands_so : (ts : Ends) (o : Items) → find tunnel_cmp ts end ≡ o → eq_by_cmp tunnel_cmp q end ≡ true → stand ts q key ≡ option_map (items_of key) o
-  stands_so ts o found tie = ap (λ (e : TunnelEnd). stand ts e key) (here tie) ∙ ap (option_map (items_of key)) found
-
-  is_added : (ts : Ends) (item : Item X) (o : Items) → find tunnel_cmp ts end ≡ o → stand (added_to end ts item o) q key ≡ added item (stand ts q key)
+  is_added : (ts : Ends X) (item : Item X) (o : Items X) → find tunnel_cmp ts end ≡ o → stand (added_to end ts item o) q key ≡ added item (stand ts q key)
   is_added ts item None found = by (eq_by_cmp tunnel_cmp q end) refl
     where
       by : (b : Bool) → eq_by_cmp tunnel_cmp q end ≡ b
@@ -113,12 +113,12 @@ module _ {X : Type 0} (end q : TunnelEnd) (key : EntityKey) where
           ap (λ (xs : List (Item X)). Some xs) (items_end key items item)
           ∙ sym (ap (option_map (λ (xs : List (Item X)). xs ++ items_of key (item ∷ []))) (stands_so ts (Some items) found tie))
 
-  is_opened : (ts : Ends) → stand (with_tunnel end ts) q key ≡ opened_then (stand ts q key)
+  is_opened : (ts : Ends X) → stand (with_tunnel end ts) q key ≡ opened_then (stand ts q key)
   unfolding at
   is_opened ts =
       ap (option_map (items_of key)) (find-put tunnel_total ts end (at tunnel_cmp [] ts end) q) ∙ by (eq_by_cmp tunnel_cmp q end) refl
     where
-      out : (o : Items) → items_of key (unwrap_or o []) ≡ unwrap_or (option_map (items_of key) o) []
+      out : (o : Items X) → items_of key (unwrap_or o []) ≡ unwrap_or (option_map (items_of key) o) []
       out None = refl
       out (Some items) = refl
 
@@ -128,34 +128,34 @@ module _ {X : Type 0} (end q : TunnelEnd) (key : EntityKey) where
       by false tie = refl
       by true tie =
           ap (λ (xs : List (Item X)). Some xs) (out (find tunnel_cmp ts end))
-          ∙ sym (ap (λ (o : Items). Some (unwrap_or o [])) (stands_so ts (find tunnel_cmp ts end) refl tie))
+          ∙ sym (ap (λ (o : Items X). Some (unwrap_or o [])) (stands_so ts (find tunnel_cmp ts end) refl tie))
 
-  is_closed : (ts : Ends) → stand (without tunnel_cmp ts end) q key ≡ closed_then (stand ts q key)
+  is_closed : (ts : Ends X) → stand (without tunnel_cmp ts end) q key ≡ closed_then (stand ts q key)
   is_closed ts = ap (option_map (items_of key)) (find-without tunnel_total ts end q) ∙ by (eq_by_cmp tunnel_cmp q end)
     where
       by : (b : Bool) → option_map (items_of key) (cond b None (find tunnel_cmp ts q)) ≡ cond b None (stand ts q key)
       by false = refl
       by true = refl
 
-  pub is_put : (ts : Ends) (items : List (Item X)) → stand (put tunnel_cmp ts end items) q key ≡ with_these (items_of key items) (stand ts q key)
+  pub is_put : (ts : Ends X) (items : List (Item X)) → stand (put tunnel_cmp ts end items) q key ≡ with_these (items_of key items) (stand ts q key)
   is_put ts items = ap (option_map (items_of key)) (find-put tunnel_total ts end items q) ∙ by (eq_by_cmp tunnel_cmp q end)
     where
       by : (b : Bool) → option_map (items_of key) (cond b (Some items) (find tunnel_cmp ts q)) ≡ cond b (Some (items_of key items)) (stand ts q key)
       by false = refl
       by true = refl
 
-module _ {M C L P : Type 0} (world : World M C L P) (ue : UeId) (Open : TunnelEnd → Type 0) where
-  abbrev Same : State M C L P → State M C L P → Type 0
-  Same s t = Alike ue Open s t
+module _ {M C L P : Type 0} (world : World M C L P) (ue : UeId) (shows : TunnelEnd → Bool) where
+  abbrev Like : State M C L P → State M C L P → Type 0
+  Like s t = Alike ue shows s t
 
   abbrev From : Within M C L P → Within M C L P → Type 0
-  From e d = AlikeFrom ue Open e d
+  From e d = AlikeFrom ue shows e d
 
   abbrev pub Steps : Type 0
   Steps = State M C L P → Within M C L P
 
   abbrev pub KeepAlike : Steps → Steps → Type 0
-  KeepAlike f g = (x y : State M C L P) → Same x y → From (f x) (g y)
+  KeepAlike f g = (x y : State M C L P) → Like x y → From (f x) (g y)
 
   pub then_alike : (e d : Within M C L P) (f g : Steps) → From e d → KeepAlike f g → From (e next f) (d next g)
   then_alike (goes told x) (goes more y) f g h each = by (f x) (g y) (each x y h)
@@ -183,8 +183,8 @@ module _ {M C L P : Type 0} (world : World M C L P) (ue : UeId) (Open : TunnelEn
 
   -- ---- one thing changes
 
-  pub books_alike : (key : EntityKey) (f : Book → Book) → key.ue ≡ ue → (x y : State M C L P) → Same x y
-      → Same (with_book key (f (book_of x key)) x) (with_book key (f (book_of y key)) y)
+  pub books_alike : (key : EntityKey) (f : Book → Book) → key.ue ≡ ue → (x y : State M C L P) → Like x y
+      → Like (with_book key (f (book_of x key)) x) (with_book key (f (book_of y key)) y)
   books_alike key f its x y h = record {
     letters = h.letters;
     tunnels = h.tunnels;
@@ -195,7 +195,7 @@ module _ {M C L P : Type 0} (world : World M C L P) (ue : UeId) (Open : TunnelEn
     node = h.node;
   }
 
-  pub radios_alike : (key : EntityKey) (v w : Radio P) → v ≡ w → (x y : State M C L P) → Same x y → Same (with_radio key v x) (with_radio key w y)
+  pub radios_alike : (key : EntityKey) (v w : Radio P) → v ≡ w → (x y : State M C L P) → Like x y → Like (with_radio key v x) (with_radio key w y)
   radios_alike key v w same x y h = record {
     letters = h.letters;
     tunnels = h.tunnels;
@@ -206,9 +206,9 @@ module _ {M C L P : Type 0} (world : World M C L P) (ue : UeId) (Open : TunnelEn
     node = h.node;
   }
 
-  pub tunnels_alike : (x y : State M C L P) (ts us : List (TunnelEnd × List (Item L))) → Same x y
-      → ((q : TunnelEnd) → Open q → (key : EntityKey) → key.ue ≡ ue → stand ts q key ≡ stand us q key)
-      → Same (record x { tunnels = ts }) (record y { tunnels = us })
+  pub tunnels_alike : (x y : State M C L P) (ts us : List (TunnelEnd × List (Item L))) → Like x y
+      → ((q : TunnelEnd) → shows q ≡ true → (key : EntityKey) → key.ue ≡ ue → stand ts q key ≡ stand us q key)
+      → Like (record x { tunnels = ts }) (record y { tunnels = us })
   tunnels_alike x y ts us h same = record {
     letters = h.letters;
     tunnels = same;
@@ -221,12 +221,12 @@ module _ {M C L P : Type 0} (world : World M C L P) (ue : UeId) (Open : TunnelEn
 
   -- ---- what is put
 
-  on_tunnel_alike : (end : TunnelEnd) (item : Item L) (x y : State M C L P) → Same x y → (o p : Option (List (Item L)))
+  on_tunnel_alike : (end : TunnelEnd) (item : Item L) (x y : State M C L P) → Like x y → (o p : Option (List (Item L)))
       → find tunnel_cmp x.tunnels end ≡ o → find tunnel_cmp y.tunnels end ≡ p → From (on_tunnel world x end item o) (on_tunnel world y end item p)
   on_tunnel_alike end item x y h o p found also = by o p found also
     where
       same : (o p : Option (List (Item L))) → find tunnel_cmp x.tunnels end ≡ o → find tunnel_cmp y.tunnels end ≡ p
-          → Same (record x { tunnels = added_to end x.tunnels item o }) (record y { tunnels = added_to end y.tunnels item p })
+          → Like (record x { tunnels = added_to end x.tunnels item o }) (record y { tunnels = added_to end y.tunnels item p })
       same o p found also = tunnels_alike x y _ _ h
           (λ q owned key is. is_added end q key x.tunnels item o found ∙ ap (added end q key item) (h.tunnels q owned key is) ∙ sym (is_added end q key y.tunnels item p also))
 
@@ -271,7 +271,7 @@ module _ {M C L P : Type 0} (world : World M C L P) (ue : UeId) (Open : TunnelEn
       (goes (put_item (radio_link item.key epoch) (shown item.key item.count (world.show_pdu item.content)) ∷ []) y)
       (put_on_connected world item.key epoch item) (put_on_connected world item.key epoch item) h (connected_alike item.key epoch item its)
 
-  noted_alike : (key : EntityKey) (tag : Tag) → key.ue ≡ ue → (x y : State M C L P) → Same x y → Same (noted key tag x) (noted key tag y)
+  noted_alike : (key : EntityKey) (tag : Tag) → key.ue ≡ ue → (x y : State M C L P) → Like x y → Like (noted key tag x) (noted key tag y)
   noted_alike key Absent its x y h = h
   noted_alike key (Own count) its x y h = books_alike key (λ (b : Book). record b { numbered = max b.numbered (count + 1) }) its x y h
   noted_alike key Same its x y h = h

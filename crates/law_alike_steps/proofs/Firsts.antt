@@ -39,15 +39,15 @@ some_same xs ys e = cc
 tail_same : {X : Type 0} (x : X) (xs ys : List X) → x ∷ xs ≡ x ∷ ys → xs ≡ ys
 tail_same x xs ys e = cc
 
-module _ (reading : Reading) (ue : UeId) (Open : TunnelEnd → Type 0) where
-  abbrev Same : RunState → RunState → Type 0
-  Same s t = Alike ue Open s t
+module _ (reading : Reading) (ue : UeId) (shows : TunnelEnd → Bool) where
+  abbrev Like : RunState → RunState → Type 0
+  Like s t = Alike ue shows s t
 
   abbrev pub From : Within (Message Token) Token (Written (Load Pdu)) (Written Pdu) → Within (Message Token) Token (Written (Load Pdu)) (Written Pdu) → Type 0
-  From e d = AlikeFrom ue Open e d
+  From e d = AlikeFrom ue shows e d
 
   pub firsts_alike : (first second : Event) (place other : Place) (cause : RunCause) (s t : RunState) (u v : Units (Message Token) Token)
-      → Same (record s { units = u }) (record t { units = v }) → Stands first s (in_place place cause) → Stands second t (in_place other cause)
+      → Like (record s { units = u }) (record t { units = v }) → Stands first s (in_place place cause) → Stands second t (in_place other cause)
       → IsCauseFor ue s (in_place place cause)
       → From (first_of (plain_world reading) (in_place place cause) (record s { units = u }))
       (first_of (plain_world reading) (in_place other cause) (record t { units = v }))
@@ -73,16 +73,16 @@ module _ (reading : Reading) (ue : UeId) (Open : TunnelEnd → Type 0) where
       comes es = ap (λ (w : UeId). find ue_cmp (put ue_cmp es w (new_ue plan)) ue) is ∙ find-put-same ue_total es ue (new_ue plan)
   firsts_alike first second place other (by_release gnb who) s t u v h at also is =
       subst (λ (w : UeId). From (leaves (plain_world reading) w (record s { units = u })) (leaves (plain_world reading) w (record t { units = v }))) (sym is)
-      (leaves_alike (plain_world reading) ue Open (record s { units = u }) (record t { units = v }) h)
+      (leaves_alike (plain_world reading) ue shows (record s { units = u }) (record t { units = v }) h)
   firsts_alike first second place other (by_offer who bearer p) s t u v h at also is =
-      books_alike (plain_world reading) ue Open (entity who bearer Ul) (λ (b : Book). record b { offered = b.offered + 1 }) is
+      books_alike (plain_world reading) ue shows (entity who bearer Ul) (λ (b : Book). record b { offered = b.offered + 1 }) is
       (record s { units = u }) (record t { units = v }) h
   firsts_alike first second place other (by_item end item rest) s t u v h at also is =
-      tunnels_alike (plain_world reading) ue Open (record s { units = u }) (record t { units = v })
+      tunnels_alike (plain_world reading) ue shows (record s { units = u }) (record t { units = v })
       (put tunnel_cmp s.tunnels end place.items) (put tunnel_cmp t.tunnels end other.items) h
       (λ q owned key its. is_put end q key s.tunnels place.items ∙ by q owned key its (eq_by_cmp tunnel_cmp q end) refl ∙ sym (is_put end q key t.tunnels other.items))
     where
-      by : (q : TunnelEnd) → Open q → (key : EntityKey) → key.ue ≡ ue → (b : Bool) → eq_by_cmp tunnel_cmp q end ≡ b
+      by : (q : TunnelEnd) → shows q ≡ true → (key : EntityKey) → key.ue ≡ ue → (b : Bool) → eq_by_cmp tunnel_cmp q end ≡ b
           → cond b (Some (items_of key place.items)) (stand s.tunnels q key) ≡ cond b (Some (items_of key other.items)) (stand t.tunnels q key)
       by q owned key its false tie = h.tunnels q owned key its
       by q owned key its true tie =
@@ -92,10 +92,10 @@ module _ (reading : Reading) (ue : UeId) (Open : TunnelEnd → Type 0) where
           (sym (stands_so end q key s.tunnels (Some (item ∷ place.items)) at tie) ∙ h.tunnels q owned key its
           ∙ stands_so end q key t.tunnels (Some (item ∷ other.items)) also tie)))
   firsts_alike first second place other (by_air key home item) s t u v h at also is =
-      radios_alike (plain_world reading) ue Open key _ _ (ap (λ (r : Radio (Written Pdu)). record r { carried = r.carried + 1 }) (h.radios key is))
+      radios_alike (plain_world reading) ue shows key _ _ (ap (λ (r : Radio (Written Pdu)). record r { carried = r.carried + 1 }) (h.radios key is))
       (record s { units = u }) (record t { units = v }) h
   firsts_alike first second place other (by_ack key home item rest) s t u v h at also is =
-      radios_alike (plain_world reading) ue Open key (record { items = place.pdus; carried = (radio_of s key).carried - 1 })
+      radios_alike (plain_world reading) ue shows key (record { items = place.pdus; carried = (radio_of s key).carried - 1 })
       (record { items = other.pdus; carried = (radio_of t key).carried - 1 })
       (λ i. record { items = left i; carried = (h.radios key is i).carried - 1 }) (record s { units = u }) (record t { units = v }) h
     where

@@ -72,50 +72,50 @@ or_parts false b h = (refl, h)
 true_not : true ≡ false → ⊥
 true_not h = absurd cc
 
-module _ {P : Type 0} (ue : UeId) (q : EntityKey) (its : q.ue ≡ ue) where
-  abbrev is_among : List EntityKey → Bool
-  is_among [] = false
-  is_among (key ∷ keys) = eq_by_cmp entity_cmp q key || is_among keys
+same_key : (q e : EntityKey) → is_at (entity_cmp q) e ≡ true → q ≡ e
+same_key q e tie = entity_exact q e ((Equal-is (entity_cmp q e)).0 tie)
 
-  silent_then : (keys : List EntityKey) (rs : List (EntityKey × Radio P)) → (is_among keys ≡ false → at entity_cmp silence rs q ≡ silence)
+abbrev is_among : EntityKey → List EntityKey → Bool
+is_among q [] = false
+is_among q (key ∷ keys) = eq_by_cmp entity_cmp q key || is_among q keys
+
+module _ {P : Type 0} (ue : UeId) (q : EntityKey) (its : q.ue ≡ ue) where
+  silent_then : (keys : List EntityKey) (rs : List (EntityKey × Radio P)) → (is_among q keys ≡ false → at entity_cmp silence rs q ≡ silence)
       → at entity_cmp silence (emptied_all rs keys) q ≡ silence
   silent_then [] rs was = was refl
   silent_then (key ∷ keys) rs was =
       silent_then keys (emptied rs key)
       (λ none. at-without entity_total silence rs key q ∙ by (eq_by_cmp entity_cmp q key) refl none)
     where
-      by : (b : Bool) → eq_by_cmp entity_cmp q key ≡ b → is_among keys ≡ false → cond b silence (at entity_cmp silence rs q) ≡ silence
+      by : (b : Bool) → eq_by_cmp entity_cmp q key ≡ b → is_among q keys ≡ false → cond b silence (at entity_cmp silence rs q) ≡ silence
       by true tie none = refl
-      by false tie none = was (ap (λ (c : Bool). c || is_among keys) tie ∙ none)
-
-  same_key : (e : EntityKey) → is_at (entity_cmp q) e ≡ true → q ≡ e
-  same_key e tie = entity_exact q e ((Equal-is (entity_cmp q e)).0 tie)
+      by false tie none = was (ap (λ (c : Bool). c || is_among q keys) tie ∙ none)
 
   -- each radio of the terminal is among those
-  all_among : (rs : List (EntityKey × Radio P)) → is_among (own_keys ue rs) ≡ false → at entity_cmp silence rs q ≡ silence
+  all_among : (rs : List (EntityKey × Radio P)) → is_among q (own_keys ue rs) ≡ false → at entity_cmp silence rs q ≡ silence
   unfolding at find
   all_among [] none = refl
   all_among (e ∷ es) none = by (e.0.ue.0 == ue.0) (is_at (entity_cmp q) e.0) refl refl none (all_among es)
     where
       by : (own here : Bool) → (e.0.ue.0 == ue.0) ≡ own → is_at (entity_cmp q) e.0 ≡ here
-          → is_among ((if own then e.0 ∷ [] else []) ++ own_keys ue es) ≡ false
-          → (is_among (own_keys ue es) ≡ false → unwrap_or (lookup (is_at (entity_cmp q)) es) silence ≡ silence)
+          → is_among q ((if own then e.0 ∷ [] else []) ++ own_keys ue es) ≡ false
+          → (is_among q (own_keys ue es) ≡ false → unwrap_or (lookup (is_at (entity_cmp q)) es) silence ≡ silence)
           → unwrap_or (cond here (Some e.1) (lookup (is_at (entity_cmp q)) es)) silence ≡ silence
-      by true true own tie no again = absurd (true_not (sym tie ∙ (or_parts (eq_by_cmp entity_cmp q e.0) (is_among (own_keys ue es)) no).0))
-      by true false own tie no again = again (or_parts (eq_by_cmp entity_cmp q e.0) (is_among (own_keys ue es)) no).1
-      by false true own tie no again =
-          absurd (true_not (sym (eq-eqb e.0.ue.0 ue.0 (ap (λ (k : EntityKey). k.ue.0) (sym (same_key e.0 tie)) ∙ ap (λ (u : UeId). u.0) its)) ∙ own))
-      by false false own tie no again = again no
+      by true true own tie out again = absurd (true_not (sym tie ∙ (or_parts (eq_by_cmp entity_cmp q e.0) (is_among q (own_keys ue es)) out).0))
+      by true false own tie out again = again (or_parts (eq_by_cmp entity_cmp q e.0) (is_among q (own_keys ue es)) out).1
+      by false true own tie out again =
+          absurd (true_not (sym (eq-eqb e.0.ue.0 ue.0 (ap (λ (k : EntityKey). k.ue.0) (sym (same_key q e.0 tie)) ∙ ap (λ (u : UeId). u.0) its)) ∙ own))
+      by false false own tie out again = again out
 
-module _ {M C L P : Type 0} (world : World M C L P) (ue : UeId) (Open : TunnelEnd → Type 0) where
-  abbrev Same : State M C L P → State M C L P → Type 0
-  Same s t = Alike ue Open s t
+module _ {M C L P : Type 0} (world : World M C L P) (ue : UeId) (shows : TunnelEnd → Bool) where
+  abbrev Like : State M C L P → State M C L P → Type 0
+  Like s t = Alike ue shows s t
 
   abbrev From : Within M C L P → Within M C L P → Type 0
-  From e d = AlikeFrom ue Open e d
+  From e d = AlikeFrom ue shows e d
 
   abbrev Keep : (State M C L P → Within M C L P) → (State M C L P → Within M C L P) → Type 0
-  Keep f g = KeepAlike world ue Open f g
+  Keep f g = KeepAlike world ue shows f g
 
   -- it goes on, and the radios of these keys are empty
   lost_each : (epoch : ℕ) (keys : List EntityKey) (s : State M C L P)
@@ -125,7 +125,7 @@ module _ {M C L P : Type 0} (world : World M C L P) (ue : UeId) (Open : TunnelEn
       let rest = lost_each epoch keys (record s { radios = emptied s.radios key }) in
       (radio_lost world epoch key (radio_of s key).items ++ rest.0, ap (told_before (radio_lost world epoch key (radio_of s key).items)) rest.1)
 
-  lose_of_alike : (o p : Option ℕ) → o ≡ p → (x y : State M C L P) → Same x y → From (lose_radios_of world ue o x) (lose_radios_of world ue p y)
+  lose_of_alike : (o p : Option ℕ) → o ≡ p → (x y : State M C L P) → Like x y → From (lose_radios_of world ue o x) (lose_radios_of world ue p y)
   lose_of_alike None None e x y h = h
   lose_of_alike None (Some n) e x y h = absurd cc
   lose_of_alike (Some m) None e x y h = absurd cc
@@ -151,7 +151,7 @@ module _ {M C L P : Type 0} (world : World M C L P) (ue : UeId) (Open : TunnelEn
 
   -- ---- its radio is connected in an epoch, or isn't
 
-  connects_alike : (o p : Option ℕ) → o ≡ p → (x y : State M C L P) → Same x y → Same (connect_in world ue o x) (connect_in world ue p y)
+  connects_alike : (o p : Option ℕ) → o ≡ p → (x y : State M C L P) → Like x y → Like (connect_in world ue o x) (connect_in world ue p y)
   connects_alike o p e x y h = record {
     letters = h.letters;
     tunnels = h.tunnels;
@@ -182,7 +182,7 @@ module _ {M C L P : Type 0} (world : World M C L P) (ue : UeId) (Open : TunnelEn
           (if b then goes_on y else (lose_radios world ue y next (λ z. goes_on (connect_in world ue (epoch_now world y ue) z))))
       by true true e = h
       by false false e =
-          then_alike world ue Open (lose_radios world ue x) (lose_radios world ue y)
+          then_alike world ue shows (lose_radios world ue x) (lose_radios world ue y)
           (λ z. goes_on (connect_in world ue (epoch_now world x ue) z)) (λ z. goes_on (connect_in world ue (epoch_now world y ue) z))
           (lose_alike x y h) (λ z w i. connects_alike (epoch_now world x ue) (epoch_now world y ue) now z w i)
       by true false e = absurd cc
@@ -197,7 +197,7 @@ module _ {M C L P : Type 0} (world : World M C L P) (ue : UeId) (Open : TunnelEn
 
   leaves_alike : Keep (leaves world ue) (leaves world ue)
   leaves_alike x y h =
-      then_alike world ue Open (lose_radios world ue x) (lose_radios world ue y)
+      then_alike world ue shows (lose_radios world ue x) (lose_radios world ue y)
       (λ z. goes_on (record (connect_in world ue None z) { gone = z.gone ++ ue ∷ [] })) (λ z. goes_on (record (connect_in world ue None z) { gone = z.gone ++ ue ∷ [] }))
       (lose_alike x y h)
       (λ z w i. let c = connects_alike None None refl z w i in record {
@@ -218,12 +218,12 @@ module _ {M C L P : Type 0} (world : World M C L P) (ue : UeId) (Open : TunnelEn
   carried_alike n m same k l taken node outputs all f g u v x y first =
       subst (λ (b : NodeId). From (carried_out world n k f outputs u x) (carried_out world b l g outputs v y)) same
       (subst (λ (c : Option ℕ). From (carried_out world n k f outputs u x) (carried_out world n c g outputs v y)) taken
-      (then_alike world ue Open
+      (then_alike world ue shows
       (f (record x { units = u }) next reconnect_node world n next put_out_all world n k outputs)
       (g (record y { units = v }) next reconnect_node world n next put_out_all world n k outputs) check_spans check_spans
-      (then_alike world ue Open (f (record x { units = u }) next reconnect_node world n) (g (record y { units = v }) next reconnect_node world n)
+      (then_alike world ue shows (f (record x { units = u }) next reconnect_node world n) (g (record y { units = v }) next reconnect_node world n)
       (put_out_all world n k outputs) (put_out_all world n k outputs)
-      (then_alike world ue Open (f (record x { units = u })) (g (record y { units = v })) (reconnect_node world n) (reconnect_node world n)
+      (then_alike world ue shows (f (record x { units = u })) (g (record y { units = v })) (reconnect_node world n) (reconnect_node world n)
       first (nodes_alike n node))
-      (all_alike world ue Open n k outputs all))
-      (checks_alike world ue Open)))
+      (all_alike world ue shows n k outputs all))
+      (checks_alike world ue shows)))

@@ -1,5 +1,5 @@
 -- That what a run keeps of a terminal is the same in two states, and of two sets of units; and what two steps make of it.
-use Rattle.std.specs.Prelude.{ℕ, ◌≡◌, List, Option}
+use Rattle.std.specs.Prelude.{ℕ, ◌≡◌, Bool, true, List, Option}
 use Rattle.std.specs.Option.{option_map}
 use Rattle.std.specs.List.{AllByRecursion}
 use Rattle.gnb_types.specs.declared.names.Gnb.{Gnb}
@@ -24,11 +24,11 @@ use Rattle.law_others_stay.specs.Others.{letters_of}
 abbrev pub stand : {X : Type 0} → List (TunnelEnd × List (Item X)) → TunnelEnd → EntityKey → Option (List (Item X))
 stand ts end key = option_map (items_of key) (find tunnel_cmp ts end)
 
-module _ {M C L P : Type 0} (ue : UeId) (Open : TunnelEnd → Type 0) where
+module _ {M C L P : Type 0} (ue : UeId) (shows : TunnelEnd → Bool) where
   -- the same of the terminal in two states, on these tunnels
   pub record Alike (s t : State M C L P) : Type 0 where
     pub letters : letters_of ue s.bag.letters ≡ letters_of ue t.bag.letters
-    pub tunnels : (end : TunnelEnd) → Open end → (key : EntityKey) → key.ue ≡ ue → stand s.tunnels end key ≡ stand t.tunnels end key
+    pub tunnels : (end : TunnelEnd) → shows end ≡ true → (key : EntityKey) → key.ue ≡ ue → stand s.tunnels end key ≡ stand t.tunnels end key
     pub radios : (key : EntityKey) → key.ue ≡ ue → radio_of s key ≡ radio_of t key
     pub books : (key : EntityKey) → key.ue ≡ ue → book_of s key ≡ book_of t key
     pub connected : find ue_cmp s.connected ue ≡ find ue_cmp t.connected ue

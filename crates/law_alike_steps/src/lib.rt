@@ -19,16 +19,16 @@ ghost use Rattle.run_defs.specs.Written.{Written};
 ghost use Rattle.scenario_text.specs.declared.event.Event.{Event};
 ghost use Rattle.law_slices.specs.Steps.{IsFor};
 ghost use Rattle.std.specs.List.{AllByRecursion};
-ghost use Rattle.std.specs.Prelude.{List, Option, Some, ℕ, ◌≡◌};
+ghost use Rattle.std.specs.Prelude.{Bool, List, Option, Some, ℕ, ◌≡◌};
 ghost use Rattle.unit_defs.specs.Ways.{Load, Message, Pdu, Put};
 
 /// Whatever units answer, and from any two states in which what is kept of a terminal beside the units is the same, on the tunnels
 /// that are looked at: so it is after outputs that are all the terminal's, where both go on.
 pub fn outputs_of_a_terminal_do_the_same<M, C, L, P>()
-    ensures { (world : World M C L P) (ue : UeId) (Open : TunnelEnd → Type 0) (node : NodeId) (taken : Option ℕ)
+    ensures { (world : World M C L P) (ue : UeId) (shows : TunnelEnd → Bool) (node : NodeId) (taken : Option ℕ)
         (outputs : List (Put M L P)) (s t : State M C L P) → AllByRecursion (IsFor ue.0) outputs
-        → Alike ue Open s t
-        → AlikeFrom ue Open (put_out_all world node taken outputs s) (put_out_all world node taken outputs t) }
+        → Alike ue shows s t
+        → AlikeFrom ue shows (put_out_all world node taken outputs s) (put_out_all world node taken outputs t) }
 {}
 
 /// In any two states that runs reach, where a terminal's slice is the same at all units, and what couples terminals at one of them: this

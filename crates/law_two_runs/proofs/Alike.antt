@@ -1,5 +1,5 @@
 -- Two runs in which a terminal's acts are the same have its whole slice in common: each act keeps it so, and steps of others leave it.
-use Rattle.std.proofs.Common.{◌≡◌, ℕ, ◌+◌, false, List, [], ◌∷◌, map, Option, Some, None, refl, sym, ap, ◌∙◌, subst}
+use Rattle.std.proofs.Common.{◌≡◌, ℕ, ◌+◌, Bool, false, List, [], ◌∷◌, map, Option, Some, None, refl, sym, ap, ◌∙◌, subst}
 use Rattle.std.specs.List.{AllByRecursion}
 use Rattle.gnb_types.specs.declared.names.NodeId.{NodeId}
 use Rattle.gnb_types.specs.declared.names.NodeId.TheVariants.{Core}
@@ -53,7 +53,7 @@ use Rattle.law_alike_steps.proofs.Beside.{then_alike, checks_alike, books_alike,
 use Rattle.law_alike_steps.proofs.Steps.{same_in_place, carried_alike}
 use Rattle.law_alike_steps.proofs.Firsts.{firsts_alike}
 use Rattle.law_alike_steps.proofs.Units.{RunUnits, RunPuts, all_same, written_for, together}
-use Rattle.law_two_runs.proofs.Opens.{IsOpen, stand_alike, items_alike}
+use Rattle.law_two_runs.proofs.Opens.{opens_at, stand_alike, items_alike}
 
 abbrev CoreOf : Type 0
 CoreOf = CoreRecord (Message Token) Token
@@ -110,7 +110,7 @@ module _ (reading : Reading) (ue : UeId) where
   -- of two states that share a slice, seen at the tunnels that are the terminal's then
   begin : (s t x y : RunState) → After s → After t → After x → After y → Share s t → GiveOnce s.units x.units → GiveOnce t.units y.units
       → Agree ue x.units y.units → (a b : RunUnits) → Agree ue a b
-      → Alike ue (IsOpen ue x.units) (record s { units = a }) (record t { units = b })
+      → Alike ue (opens_at ue x.units) (record s { units = a }) (record t { units = b })
   begin s t x y p q later too h gives also agree a b there = record {
     letters = h.letters;
     tunnels = stand_alike ue s t (sound_on reading s p) (sound_on reading t q) (agree_of s t h) x.units y.units agree gives also h.items;
@@ -122,7 +122,7 @@ module _ (reading : Reading) (ue : UeId) where
   }
 
   finish : (x y : RunState) → After x → After y → Agree ue x.units y.units → core_slice ue x.core ≡ core_slice ue y.core
-      → Alike ue (IsOpen ue x.units) x y → Share x y
+      → Alike ue (opens_at ue x.units) x y → Share x y
   finish x y later too agree core h = record {
     units = agree.units;
     tunnels = agree.tunnels;
@@ -183,20 +183,20 @@ module _ (reading : Reading) (ue : UeId) where
       (subst (λ (v : RunUnits). Agree ue (units_by world c a.units) v) (sym second) (agree_by place other cause s a.units b.units both.units step.1)) in
       let base = begin s t x y p q later too h (step_gives reading a.event s x _ (itself_made cause place s x a))
       (step_gives reading b.event t y _ (itself_made cause other t y b)) agree a.units b.units both.units in
-      let carried : AlikeFrom ue (IsOpen ue x.units)
+      let carried : AlikeFrom ue (opens_at ue x.units)
       (carried_out world (node_of c) (count_of c) (first_of world c) a.outputs a.units s)
       (carried_out world (node_of d) (count_of d) (first_of world d) a.outputs b.units t) =
-      carried_alike world ue (IsOpen ue x.units) (node_of c) (node_of d) nodes (count_of c) (count_of d) counts step.0 a.outputs both.its
+      carried_alike world ue (opens_at ue x.units) (node_of c) (node_of d) nodes (count_of c) (count_of d) counts step.0 a.outputs both.its
       (first_of world c) (first_of world d) a.units b.units s t
-      (firsts_alike reading ue (IsOpen ue x.units) a.event b.event place other cause s t a.units b.units base a.acted.stands b.acted.stands step.1) in
+      (firsts_alike reading ue (opens_at ue x.units) a.event b.event place other cause s t a.units b.units base a.acted.stands b.acted.stands step.1) in
       finish x y later too agree
       (ap (core_slice ue) (same_core world a.event c a.outputs a.units s x a.lines a.acted a.goes_so)
       ∙ h.core
       ∙ sym (ap (core_slice ue) (same_core world b.event d b.outputs b.units t y b.lines b.acted b.goes_so)))
-      (subst (λ (w : RunWithin). AlikeFrom ue (IsOpen ue x.units) (goes a.lines x) w) b.goes_so
-      (subst (λ (w : RunWithin). AlikeFrom ue (IsOpen ue x.units) w
+      (subst (λ (w : RunWithin). AlikeFrom ue (opens_at ue x.units) (goes a.lines x) w) b.goes_so
+      (subst (λ (w : RunWithin). AlikeFrom ue (opens_at ue x.units) w
       (carried_out world (node_of d) (count_of d) (first_of world d) b.outputs b.units t)) a.goes_so
-      (subst (λ (os : RunPuts). AlikeFrom ue (IsOpen ue x.units) (carried_out world (node_of c) (count_of c) (first_of world c) a.outputs a.units s)
+      (subst (λ (os : RunPuts). AlikeFrom ue (opens_at ue x.units) (carried_out world (node_of c) (count_of c) (first_of world c) a.outputs a.units s)
       (carried_out world (node_of d) (count_of d) (first_of world d) os b.units t)) both.outputs carried)))
 
   -- ---- the core puts what is offered
@@ -234,20 +234,20 @@ module _ (reading : Reading) (ue : UeId) where
       (step_gives reading (events.Offer ue bearer Dl packet) t y _ (offer_made bearer packet t y b)) agree s.units t.units (agree_of s t h) in
       let end : TunnelEnd = record { node = a.path.up; teid = teid_of a.path.n3 bearer } in
       let item : Item (Written (Load Pdu)) = record { key = entity ue bearer Dl; count = None; content = world.lay_n3 (teid_of a.path.n3 bearer) packet } in
-      let done : AlikeFrom ue (IsOpen ue x.units) (core_offers reading ue bearer packet a.path s) (core_offers reading ue bearer packet a.path t) =
-      then_alike world ue (IsOpen ue x.units) (put_on_tunnel world end item (offered world (entity ue bearer Dl) s))
+      let done : AlikeFrom ue (opens_at ue x.units) (core_offers reading ue bearer packet a.path s) (core_offers reading ue bearer packet a.path t) =
+      then_alike world ue (opens_at ue x.units) (put_on_tunnel world end item (offered world (entity ue bearer Dl) s))
       (put_on_tunnel world end item (offered world (entity ue bearer Dl) t)) check_spans check_spans
-      (put_on_tunnel_alike world ue (IsOpen ue x.units) end item (offered world (entity ue bearer Dl) s) (offered world (entity ue bearer Dl) t)
-      (books_alike world ue (IsOpen ue x.units) (entity ue bearer Dl) (λ (k : Book). record k { offered = k.offered + 1 }) refl s t base))
-      (checks_alike world ue (IsOpen ue x.units)) in
+      (put_on_tunnel_alike world ue (opens_at ue x.units) end item (offered world (entity ue bearer Dl) s) (offered world (entity ue bearer Dl) t)
+      (books_alike world ue (opens_at ue x.units) (entity ue bearer Dl) (λ (k : Book). record k { offered = k.offered + 1 }) refl s t base))
+      (checks_alike world ue (opens_at ue x.units)) in
       let cores : HoldsWith world (has_core world s.core) 0 (goes a.lines x) =
       subst (HoldsWith world (has_core world s.core) 0) a.goes_so (offer_core bearer packet a.path s) in
       let others : HoldsWith world (has_core world t.core) 0 (goes b.lines y) =
       subst (HoldsWith world (has_core world t.core) 0) b.goes_so (offer_core bearer packet b.path t) in
       finish x y later too agree (ap (core_slice ue) cores.core ∙ h.core ∙ sym (ap (core_slice ue) others.core))
-      (subst (λ (w : RunWithin). AlikeFrom ue (IsOpen ue x.units) (goes a.lines x) w) b.goes_so
-      (subst (λ (w : RunWithin). AlikeFrom ue (IsOpen ue x.units) w (core_offers reading ue bearer packet b.path t)) a.goes_so
-      (subst (λ (z : CorePath). AlikeFrom ue (IsOpen ue x.units) (core_offers reading ue bearer packet a.path s) (core_offers reading ue bearer packet z t)) path done)))
+      (subst (λ (w : RunWithin). AlikeFrom ue (opens_at ue x.units) (goes a.lines x) w) b.goes_so
+      (subst (λ (w : RunWithin). AlikeFrom ue (opens_at ue x.units) w (core_offers reading ue bearer packet b.path t)) a.goes_so
+      (subst (λ (z : CorePath). AlikeFrom ue (opens_at ue x.units) (core_offers reading ue bearer packet a.path s) (core_offers reading ue bearer packet z t)) path done)))
 
   -- ---- the core takes a message
 
@@ -305,7 +305,7 @@ module _ (reading : Reading) (ue : UeId) where
       (λ z k. facts_put_all world (has_core world core) Core None outputs (core_fits world core Core None outputs) z k))
       (λ z k. facts_checked world (has_core world core) 0 z k)
 
-  landed_alike : (Shows : TunnelEnd → Type 0) (m n : ℕ) (a b : CoreOf) (s t : RunState) → Alike ue Shows s t
+  landed_alike : (Shows : TunnelEnd → Bool) (m n : ℕ) (a b : CoreOf) (s t : RunState) → Alike ue Shows s t
       → Alike ue Shows (record s { core = a; bag = landed s.bag m }) (record t { core = b; bag = landed t.bag n })
   unfolding landed
   landed_alike Shows m n a b s t h = record {
@@ -333,21 +333,21 @@ module _ (reading : Reading) (ue : UeId) where
       (subst (λ (v : RunUnits). Agree ue s.units v) (sym second) (agree_of s t h)) in
       let base = begin s t x y p q later too h (step_gives reading events.Pump s x _ (core_made from message s x a))
       (step_gives reading events.Pump t y _ (core_made from message t y b)) agree s.units t.units (agree_of s t h) in
-      let done : AlikeFrom ue (IsOpen ue x.units) (core_does reading a.number l a.outputs a.core s) (core_does reading b.number k a.outputs b.core t) =
-      then_alike world ue (IsOpen ue x.units) (landed_as world a.number l (record s { core = a.core }) next put_out_all world Core None a.outputs)
+      let done : AlikeFrom ue (opens_at ue x.units) (core_does reading a.number l a.outputs a.core s) (core_does reading b.number k a.outputs b.core t) =
+      then_alike world ue (opens_at ue x.units) (landed_as world a.number l (record s { core = a.core }) next put_out_all world Core None a.outputs)
       (landed_as world b.number k (record t { core = b.core }) next put_out_all world Core None a.outputs) check_spans check_spans
-      (then_alike world ue (IsOpen ue x.units) (landed_as world a.number l (record s { core = a.core })) (landed_as world b.number k (record t { core = b.core }))
+      (then_alike world ue (opens_at ue x.units) (landed_as world a.number l (record s { core = a.core })) (landed_as world b.number k (record t { core = b.core }))
       (put_out_all world Core None a.outputs) (put_out_all world Core None a.outputs)
-      (landed_alike (IsOpen ue x.units) a.number b.number a.core b.core s t base) (all_alike world ue (IsOpen ue x.units) Core None a.outputs both.its))
-      (checks_alike world ue (IsOpen ue x.units)) in
+      (landed_alike (opens_at ue x.units) a.number b.number a.core b.core s t base) (all_alike world ue (opens_at ue x.units) Core None a.outputs both.its))
+      (checks_alike world ue (opens_at ue x.units)) in
       let cores : HoldsWith world (has_core world a.core) 0 (goes a.lines x) =
       subst (HoldsWith world (has_core world a.core) 0) a.goes_so (core_then a.number l a.outputs a.core s) in
       let others : HoldsWith world (has_core world b.core) 0 (goes b.lines y) =
       subst (HoldsWith world (has_core world b.core) 0) b.goes_so (core_then b.number k b.outputs b.core t) in
       finish x y later too agree (ap (core_slice ue) cores.core ∙ both.core ∙ sym (ap (core_slice ue) others.core))
-      (subst (λ (w : RunWithin). AlikeFrom ue (IsOpen ue x.units) (goes a.lines x) w) b.goes_so
-      (subst (λ (w : RunWithin). AlikeFrom ue (IsOpen ue x.units) w (core_does reading b.number k b.outputs b.core t)) a.goes_so
-      (subst (λ (os : RunPuts). AlikeFrom ue (IsOpen ue x.units) (core_does reading a.number l a.outputs a.core s)
+      (subst (λ (w : RunWithin). AlikeFrom ue (opens_at ue x.units) (goes a.lines x) w) b.goes_so
+      (subst (λ (w : RunWithin). AlikeFrom ue (opens_at ue x.units) w (core_does reading b.number k b.outputs b.core t)) a.goes_so
+      (subst (λ (os : RunPuts). AlikeFrom ue (opens_at ue x.units) (core_does reading a.number l a.outputs a.core s)
       (core_does reading b.number k os b.core t)) both.outputs done)))
 
   -- ---- an item is lost
@@ -362,11 +362,11 @@ module _ (reading : Reading) (ue : UeId) where
       (subst (λ (v : RunUnits). Agree ue s.units v) (sym (ap (λ (z : RunState). z.units) b.loses)) (agree_of s t h)) in
       let base = begin s t x y p q later too h (step_gives reading events.Pump s x _ (loss_made end item s x a))
       (step_gives reading events.Pump t y _ (loss_made end item t y b)) agree s.units t.units (agree_of s t h) in
-      let done : Alike ue (IsOpen ue x.units) (record s { tunnels = put tunnel_cmp s.tunnels end a.rest })
+      let done : Alike ue (opens_at ue x.units) (record s { tunnels = put tunnel_cmp s.tunnels end a.rest })
       (record t { tunnels = put tunnel_cmp t.tunnels end b.rest }) =
-      firsts_alike reading ue (IsOpen ue x.units) events.Pump events.Pump (record { items = a.rest; pdus = []; number = 0 })
+      firsts_alike reading ue (opens_at ue x.units) events.Pump events.Pump (record { items = a.rest; pdus = []; number = 0 })
       (record { items = b.rest; pdus = []; number = 0 }) (by_item end item []) s t s.units t.units base a.found b.found (a.its, a.found) in
       finish x y later too agree
       (ap (λ (z : RunState). core_slice ue z.core) a.loses ∙ h.core ∙ sym (ap (λ (z : RunState). core_slice ue z.core) b.loses))
-      (subst (λ (z : RunState). Alike ue (IsOpen ue x.units) z y) (sym a.loses)
-      (subst (λ (z : RunState). Alike ue (IsOpen ue x.units) (record s { tunnels = put tunnel_cmp s.tunnels end a.rest }) z) (sym b.loses) done))
+      (subst (λ (z : RunState). Alike ue (opens_at ue x.units) z y) (sym a.loses)
+      (subst (λ (z : RunState). Alike ue (opens_at ue x.units) (record s { tunnels = put tunnel_cmp s.tunnels end a.rest }) z) (sym b.loses) done))

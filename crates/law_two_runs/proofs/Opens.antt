@@ -40,8 +40,8 @@ is_its ue u (up_id gnb number) teid = is_some (up_own ue (find nat_cmp (up_of u 
 is_its ue u (du_id gnb number) teid = is_some (du_own ue (find nat_cmp (du_of u gnb number).tunnels teid))
 is_its ue u node teid = false
 
-abbrev pub IsOpen : UeId → RunUnits → TunnelEnd → Type 0
-IsOpen ue u end = is_its ue u end.node end.teid ≡ true
+abbrev pub opens_at : UeId → RunUnits → TunnelEnd → Bool
+opens_at ue u end = is_its ue u end.node end.teid
 
 module _ (ue : UeId) where
   pub its_alike : (u v : RunUnits) → Agree ue u v → (node : NodeId) (teid : ℕ) → is_its ue u node teid ≡ is_its ue v node teid
@@ -118,7 +118,7 @@ module _ (ue : UeId) where
 
   pub stand_alike : (s t : RunState) → Sound s → Sound t → Agree ue s.units t.units → (a b : RunUnits) → Agree ue a b → GiveOnce s.units a → GiveOnce t.units b
       → ((end : TunnelEnd) (key : EntityKey) → key.ue ≡ ue → items_on s end key ≡ items_on t end key)
-      → (end : TunnelEnd) → IsOpen ue a end → (key : EntityKey) → key.ue ≡ ue → stand s.tunnels end key ≡ stand t.tunnels end key
+      → (end : TunnelEnd) → opens_at ue a end ≡ true → (key : EntityKey) → key.ue ≡ ue → stand s.tunnels end key ≡ stand t.tunnels end key
   unfolding at
   stand_alike s t sound also h a b k gives too items end owned key its =
       same_stand key (find tunnel_cmp s.tunnels end) (find tunnel_cmp t.tunnels end)
@@ -194,7 +194,7 @@ module _ (ue : UeId) where
   out_of key (Some items) = refl
 
   pub items_alike : (s t : RunState) → Sound s → Sound t → Agree ue s.units t.units
-      → ((end : TunnelEnd) → IsOpen ue s.units end → (key : EntityKey) → key.ue ≡ ue → stand s.tunnels end key ≡ stand t.tunnels end key)
+      → ((end : TunnelEnd) → opens_at ue s.units end ≡ true → (key : EntityKey) → key.ue ≡ ue → stand s.tunnels end key ≡ stand t.tunnels end key)
       → (end : TunnelEnd) (key : EntityKey) → key.ue ≡ ue → items_on s end key ≡ items_on t end key
   unfolding at
   items_alike s t sound also h same end key its = by (is_its ue s.units end.node end.teid) refl
