@@ -100,7 +100,7 @@ module _ (reading : Reading) (ue : UeId) (shows : TunnelEnd → Bool) where
       (λ i. record { items = left i; carried = (h.radios key is i).carried - 1 }) (record s { units = u }) (record t { units = v }) h
     where
       left : place.pdus ≡ other.pdus
-      left = tail_same item place.pdus other.pdus (sym at.1.0 ∙ ap (λ (r : Radio (Written Pdu)). r.items) (h.radios key is) ∙ also.1.0)
+      left = tail_same item place.pdus other.pdus (sym at.1 ∙ ap (λ (r : Radio (Written Pdu)). r.items) (h.radios key is) ∙ also.1)
   firsts_alike first second place other (by_letter number l to) s t u v h at also is = record {
     letters = h.letters;
     tunnels = h.tunnels;

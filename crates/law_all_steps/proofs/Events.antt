@@ -15,7 +15,7 @@ use Rattle.tables.specs.Tables.{find}
 use Rattle.message_types.specs.declared.rrc.Token.{Token}
 use Rattle.scenario_text.specs.declared.event.Event.{Event}
 use Rattle.scenario_text.specs.declared.event.Event.TheVariants as events
-use Rattle.unit_defs.specs.Ways.{Message, Load, Pdu, Put, held, no, teids_spent}
+use Rattle.unit_defs.specs.Ways.{Message, Load, Pdu, held, no, teids_spent}
 use Rattle.unit_defs.specs.Static.{up_has_room, up_has_teids, du_has_teids}
 use Rattle.transport_defs.specs.declared.Item.{Item}
 use Rattle.transport_defs.specs.declared.Letter.{Letter}
@@ -28,7 +28,7 @@ use Rattle.run_defs.specs.Steps.{letters_spent, too_many_letters, Done, is_done,
 use Rattle.run_defs.specs.Conditions.{is_held_by_units, is_interface}
 use Rattle.run_defs.specs.Events.{static, order_each, start, lose_message_on, lose_message, lose_items, lose_item_on, lose_item, core_injected, inject_to, inject_message, inject_item}
 use Rattle.run_defs.specs.Runs.{Reading, plain_world, happens, tunnel_end}
-use Rattle.law_steps.specs.Causes.{Cause, by_order, by_octets, by_octets_on, node_of, given_of, count_of, first_of, Stands}
+use Rattle.law_steps.specs.Causes.{by_order, by_octets, by_octets_on, node_of, given_of, count_of, first_of, Stands}
 use Rattle.law_steps.specs.Made.{IsDone, Made, stays, ends, then_made, sets_up, starts, acts, holds_item, holds_pdu, offers, core_takes, core_reads, lands, loses_letter, loses_item, remarks}
 use Rattle.law_run_slices.specs.Units.{given_ue}
 use Rattle.law_own_steps.proofs.Steps.{Sound}
@@ -127,11 +127,14 @@ module _ (reading : Reading) (event : Event) (ue : UeId) where
   abbrev StartsApart : NodeId → Type 0
   StartsApart node = (t : RunState) → given_ue reading t.units node (order_for orders.Start) ≡ Some (record { 0 = 0 })
 
+  abbrev starting : NodeId → RunCause
+  starting node = by_order node orders.Start
+
   start_one : record { 0 = 0 } ≢ ue → (node : NodeId) → StartsApart node → (t : RunState) → Apart t (step (plain_world reading) node (order_for orders.Start) t)
   unfolding step
   start_one apart node is t =
       ordered_apart t (does (plain_world reading) node (order_for orders.Start) None goes_on t)
-      (does_apart t (by_order node orders.Start) tt (subst (λ (o : Option UeId). IsNotFor ue (by_order node orders.Start) o) (sym (is t)) apart))
+      (does_apart t (starting node) tt (subst (λ (o : Option UeId). IsNotFor ue (starting node) o) (sym (is t)) apart))
 
   start_each : record { 0 = 0 } ≢ ue → (nodes : List NodeId) → AllByRecursion StartsApart nodes → (t : RunState)
       → Apart t (order_each (plain_world reading) (λ node. step (plain_world reading) node (order_for orders.Start)) nodes t)
@@ -149,7 +152,7 @@ module _ (reading : Reading) (event : Event) (ue : UeId) where
   start_apart s apart =
       choose_apart s s.started _ _ (λ h. refused_apart s reasons.Busy)
       (λ h. let each = start_each apart starting_nodes
-      ((λ t. refl), (λ t. refl), (λ t. refl), (λ t. refl), (λ t. refl), (λ t. refl), (λ t. refl), (λ t. refl), tt) (record s { started = true }) in
+      ((λ t. refl), ((λ t. refl), ((λ t. refl), ((λ t. refl), ((λ t. refl), ((λ t. refl), ((λ t. refl), ((λ t. refl), tt)))))))) (record s { started = true }) in
       (starts s _ each.0, each.1))
 
   -- ---- what is lost

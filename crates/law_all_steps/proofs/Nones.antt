@@ -1,6 +1,6 @@
 -- What is for no terminal, and no tick: octets that a unit drops, or the core's own, which does nothing of it. So the slices of all that
 -- don't make the step stay.
-use Rattle.std.proofs.Common.{◌≡◌, ℕ, ◌+◌, Bool, true, false, ◌&&◌, List, [], ◌∷◌, Option, Some, None, refl, sym, ap, ◌∙◌, subst, arith}
+use Rattle.std.proofs.Common.{◌≡◌, ℕ, ◌+◌, Bool, true, false, ◌&&◌, List, ◌∷◌, Option, Some, None, refl, sym, ap, ◌∙◌, subst, arith}
 use Rattle.std.specs.Prelude.{◌≢◌, is_some, if◌then◌else◌}
 use Rattle.std.specs.List.{AllByRecursion}
 use Rattle.std.specs.Ordering.{nat_cmp}
@@ -10,7 +10,6 @@ use Rattle.gnb_types.specs.declared.names.UeId.{UeId}
 use Rattle.gnb_types.specs.declared.names.Dir.{Dir}
 use Rattle.gnb_types.specs.declared.names.Dir.TheVariants.{Dl, Ul}
 use Rattle.gnb_types.specs.declared.keys.EntityKey.{EntityKey}
-use Rattle.gnb_types.specs.Orders.{tunnel_cmp}
 use Rattle.tables.specs.Tables.{find}
 use Rattle.message_types.specs.declared.rrc.Token.{Token}
 use Rattle.scenario_text.specs.declared.event.Event.{Event}
@@ -41,10 +40,10 @@ use Rattle.law_own_steps.proofs.Steps.{RunState, Sound}
 use Rattle.law_own_steps.proofs.Leaves.{same_core, same_units}
 use Rattle.law_all_steps.specs.Steps.{IsNoTick, IsNotMadeBy}
 
-abbrev RunCause : Type 0
+abbrev pub RunCause : Type 0
 RunCause = Cause (Message Token) (Written (Load Pdu)) (Written Pdu)
 
-abbrev RunPuts : Type 0
+abbrev pub RunPuts : Type 0
 RunPuts = List (Put (Message Token) (Written (Load Pdu)) (Written Pdu))
 
 -- a home of a ready radio has an epoch of the terminal

@@ -6,7 +6,7 @@ use Rattle.gnb_types.specs.declared.names.NodeId.{NodeId}
 use Rattle.gnb_types.specs.declared.names.UeId.{UeId}
 use Rattle.message_types.specs.declared.rrc.Token.{Token}
 use Rattle.scenario_text.specs.declared.event.Event.{Event}
-use Rattle.unit_defs.specs.Ways.{Message, Pdu, Load, Put}
+use Rattle.unit_defs.specs.Ways.{Message, Pdu, Load}
 use Rattle.run_defs.specs.Lines.{RunLine}
 use Rattle.run_defs.specs.Units.{Units}
 use Rattle.run_defs.specs.Written.{Written}
@@ -14,11 +14,11 @@ use Rattle.run_defs.specs.States.{goes, stops, told_before, ◌next◌, goes_on,
 use Rattle.run_defs.specs.Steps.{carried_out}
 use Rattle.run_defs.specs.Conditions.{statically}
 use Rattle.run_defs.specs.Runs.{Reading, plain_world}
-use Rattle.law_steps.specs.Causes.{Cause, node_of, given_of, count_of, first_of}
+use Rattle.law_steps.specs.Causes.{node_of, given_of, count_of, first_of}
 use Rattle.law_steps.specs.Made.{Made, stays, ends, then_made, sets_up, starts, acts, holds_item, holds_pdu, offers, core_takes, core_reads, lands, loses_letter, loses_item, remarks}
 use Rattle.law_slices.specs.Slices.{message_ue}
 use Rattle.law_run_slices.specs.Units.{given_ue}
-use Rattle.law_own_steps.specs.Own.{IsActed, LeavesOthers}
+use Rattle.law_own_steps.specs.Own.{IsActed}
 use Rattle.law_own_steps.proofs.Leaves.{act_leaves}
 use Rattle.law_own_events.specs.Events.{RunState, RunOutcome, AllFor}
 use Rattle.law_own_events.proofs.Leaves.{LeavesAt, made_leaves}

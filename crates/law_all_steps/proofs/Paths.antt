@@ -1,5 +1,5 @@
 -- After any steps of a run links and nodes hold their own.
-use Rattle.std.proofs.Common.{◌≡◌, List, [], ◌∷◌, Option, Some, None, subst}
+use Rattle.std.proofs.Common.{◌≡◌, List, [], ◌∷◌, Some, subst}
 use Rattle.std.specs.List.{AllByRecursion}
 use Rattle.message_types.specs.declared.rrc.Token.{Token}
 use Rattle.scenario_text.specs.declared.event.Event.{Event}

@@ -1,5 +1,5 @@
 -- Slices that two states have in common: what leaves the others leaves each of them.
-use Rattle.std.proofs.Common.{◌≡◌, refl, sym, ◌∙◌}
+use Rattle.std.proofs.Common.{refl, sym, ◌∙◌}
 use Rattle.std.specs.Prelude.{◌≢◌}
 use Rattle.gnb_types.specs.declared.names.UeId.{UeId}
 use Rattle.run_defs.specs.States.{State}

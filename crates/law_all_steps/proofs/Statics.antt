@@ -1,5 +1,5 @@
 -- A terminal that is set up without messages leaves the whole slices of the others.
-use Rattle.std.proofs.Common.{◌≡◌, ℕ, zero, suc, ◌+◌, ◌*◌, ◌==◌, Bool, true, false, cond, ◌&&◌, List, [], ◌∷◌, Option, Some, None, refl, sym, ap, ◌∙◌, subst, eqb-true}
+use Rattle.std.proofs.Common.{◌≡◌, ℕ, zero, suc, ◌+◌, ◌*◌, ◌==◌, Bool, true, false, cond, ◌&&◌, List, [], Option, Some, None, refl, sym, ap, ◌∙◌, subst, eqb-true}
 use Rattle.std.specs.Prelude.{◌≢◌, unwrap_or, if◌then◌else◌}
 use Rattle.std.specs.Option.{option_map}
 use Rattle.std.specs.Ordering.{nat_cmp, eq_by_cmp}
@@ -10,7 +10,6 @@ use Rattle.gnb_types.specs.declared.names.NodeId.{NodeId}
 use Rattle.gnb_types.specs.declared.names.NodeId.TheVariants.{CuUp as up_id, Du as du_id}
 use Rattle.gnb_types.specs.declared.names.UeId.{UeId}
 use Rattle.gnb_types.specs.declared.keys.TunnelEnd.{TunnelEnd}
-use Rattle.gnb_types.specs.declared.keys.EntityKey.{EntityKey}
 use Rattle.gnb_types.specs.declared.plans.Plan.{Plan}
 use Rattle.gnb_types.specs.Orders.{node_cmp, ue_cmp, tunnel_cmp}
 use Rattle.gnb_types.proofs.OrderLemmas.{node_total, node_exact, ue_total, tunnel_total, tunnel_exact}
@@ -21,13 +20,13 @@ use Rattle.unit_defs.specs.UpRecords.{CuUp}
 use Rattle.unit_defs.specs.CuUp.{new_cu_up}
 use Rattle.unit_defs.specs.Du.{DuContext, DuTunnel, Du, new_du}
 use Rattle.unit_defs.specs.CpRecords.{CuCpRecord, terminal_in}
-use Rattle.unit_defs.specs.Static.{up_placed, up_has_teids, du_placed, du_has_teids, cp_placed, cp_set_up, up_set_up, du_set_up}
+use Rattle.unit_defs.specs.Static.{up_context, up_placed, up_has_teids, du_context, du_placed, du_has_teids, cp_context, cp_placed, cp_set_up, up_set_up, du_set_up}
 use Rattle.transport_defs.specs.declared.Item.{Item}
 use Rattle.transport_defs.specs.Links.{items_of}
 use Rattle.run_defs.specs.Units.{Units, cp_of, with_cp, up_of, with_up, du_of, with_du, with_ue}
 use Rattle.run_defs.specs.States.{State}
 use Rattle.run_defs.specs.Steps.{with_tunnel}
-use Rattle.run_defs.specs.Conditions.{is_held_by_units, all_set_up, units_placed, tunnels_from, statically}
+use Rattle.run_defs.specs.Conditions.{is_held_by_units, all_set_up, units_placed, n3_from, tunnels_from, statically}
 use Rattle.law_owner_facts.specs.Owned.{du_names, du_context_names, DuOwns, AreOwned}
 use Rattle.law_tunnel_owners.proofs.Placed.{placed_owned}
 use Rattle.law_slice_owners.proofs.Owners.{tunnels_same as up_tunnels_same}
@@ -89,7 +88,7 @@ module _ {M C : Type 0} (plan : Plan) (u : Units M C) (other : UeId) (apart : ot
   placed_cp : (r : CuCpRecord M C) → cp_slice other (cp_set_up (cp_placed r plan)) ≡ cp_slice other r
   unfolding cp_placed
   placed_cp r = λ i. record {
-    terminal = terminal_in (find-put-other ue_total r.terminals plan.ue _ other (apart_ues other plan.ue apart) i);
+    terminal = terminal_in (find-put-other ue_total r.terminals plan.ue (record { context = Some (cp_context plan); taken = None }) other (apart_ues other plan.ue apart) i);
     requests = requests_of other.0 r.transactions;
   }
 
@@ -142,7 +141,7 @@ module _ {M C : Type 0} (plan : Plan) (u : Units M C) (other : UeId) (apart : ot
   up_stays : up_part other up_then ≡ up_part other up_now
   unfolding up_placed
   up_stays = λ i. record {
-    context = find-put-other ue_total up_now.contexts plan.ue _ other (apart_ues other plan.ue apart) i;
+    context = find-put-other ue_total up_now.contexts plan.ue (up_context up_now plan du_now.next_teid) other (apart_ues other plan.ue apart) i;
     requests = requests_of other.0 up_now.transactions;
   }
 
@@ -187,7 +186,7 @@ module _ {M C : Type 0} (plan : Plan) (u : Units M C) (other : UeId) (apart : ot
   du_stays : du_part du_then ≡ du_part du_now
   unfolding du_placed
   du_stays = λ i. (
-    find-put-other ue_total du_now.contexts plan.ue _ other (apart_ues other plan.ue apart) i,
+    find-put-other ue_total du_now.contexts plan.ue (du_context du_now plan (up_now.next_teid + 1)) other (apart_ues other plan.ue apart) i,
     requests_of other.0 du_now.transactions,
   )
 
@@ -273,7 +272,7 @@ module _ {M C L P : Type 0} (plan : Plan) (s : State M C L P) (free : is_held_by
         units = λ other apart. units_stay plan s.units other apart owned then_owned;
         tunnels = λ gnb number other apart. up_slices plan s.units other apart owned then_owned gnb number;
         core = λ other apart i. record {
-          path = find-put-other ue_total s.core.paths plan.ue _ other (apart_ues other plan.ue apart) i;
+          path = find-put-other ue_total s.core.paths plan.ue (record { up = up_id plan.gnb plan.up; n3 = n3_from 1 up plan.bearers }) other (apart_ues other plan.ue apart) i;
           requests = requests_of other.0 s.core.transactions;
         };
         beside = record {

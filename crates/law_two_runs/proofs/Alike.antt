@@ -167,8 +167,8 @@ module _ (reading : Reading) (ue : UeId) where
       let mine = same_in_place place cause in
       let its = same_in_place other cause in
       let nodes : node_of c ≡ node_of d = mine.0 ∙ sym its.0 in
-      let givens : given_of c ≡ given_of d = mine.1.0 ∙ sym its.1.0 in
-      let counts : count_of c ≡ count_of d = mine.1.1 ∙ sym its.1.1 in
+      let givens : given_of c ≡ given_of d = mine.1 ∙ sym its.1 in
+      let counts : count_of c ≡ count_of d = mine.2 ∙ sym its.2 in
       let sound : Sound s = sound_on reading s p in
       let later : After x = one_more a.event s x _ p (itself_made cause place s x a) in
       let too : After y = one_more b.event t y _ q (itself_made cause other t y b) in
