@@ -20,7 +20,6 @@ use Rattle.transport_defs.specs.declared.Item.{Item}
 use Rattle.transport_defs.specs.declared.Letter.{Letter}
 use Rattle.transport_defs.specs.Links.{Radio, items_of, put_letter, is_epoch}
 use Rattle.run_defs.specs.Lines.{put_item, lost_items, tunnel_link, radio_link, shown}
-use Rattle.run_defs.specs.Units.{ue_of}
 use Rattle.run_defs.specs.States.{State, Book, new_book, World, Stop, goes, stops, told_before, ◌next◌, goes_on, Within, entity, book_of, with_book, radio_of, with_radio}
 use Rattle.run_defs.specs.Steps.{first_outstanding, entities_of, checked_by, check_spans, noted, count_beside, item_of, with_tunnel, on_tunnel, put_on_tunnel, put_on_connected, put_on_radio, put_control, opens, closes, put_out, put_out_all}
 use Rattle.law_slices.specs.Steps.{IsFor}

@@ -1,8 +1,7 @@
 -- A step that is a terminal's changes what a run keeps of it beside its units alike in two states in which it is the same.
-use Rattle.std.proofs.Common.{◌≡◌, ◌==◌, ℕ, ◌+◌, ◌-◌, Bool, true, false, cond, ◌||◌, List, [], ◌∷◌, ◌++◌, Option, Some, None, refl, sym, ap, ◌∙◌, subst}
+use Rattle.std.proofs.Common.{◌≡◌, ◌==◌, ℕ, Bool, true, false, cond, ◌||◌, List, [], ◌∷◌, ◌++◌, Option, Some, None, refl, sym, ap, ◌∙◌, subst}
 use Rattle.std.proofs.lemmas.Bool.{eq-eqb}
 use Rattle.std.specs.Prelude.{if◌then◌else◌, unwrap_or, is_some}
-use Rattle.std.specs.Option.{option_map}
 use Rattle.std.specs.List.{AllByRecursion, flat_map}
 use Rattle.std.specs.Ordering.{eq_by_cmp}
 use Rattle.std.specs.Cmp.{Equal-is}
@@ -11,30 +10,25 @@ use Rattle.std.specs.BTreeMap.{is_at}
 use Rattle.gnb_types.specs.declared.names.NodeId.{NodeId}
 use Rattle.gnb_types.specs.declared.names.NodeId.TheVariants.{CuCp, CuUp, Du, Core, Ue}
 use Rattle.gnb_types.specs.declared.names.UeId.{UeId}
-use Rattle.gnb_types.specs.declared.names.Dir.TheVariants.{Ul}
 use Rattle.gnb_types.specs.declared.keys.TunnelEnd.{TunnelEnd}
 use Rattle.gnb_types.specs.declared.keys.EntityKey.{EntityKey}
-use Rattle.gnb_types.specs.declared.plans.Plan.{Plan}
-use Rattle.gnb_types.specs.Orders.{ue_cmp, entity_cmp, tunnel_cmp}
+use Rattle.gnb_types.specs.Orders.{ue_cmp, entity_cmp}
 use Rattle.gnb_types.proofs.OrderLemmas.{entity_total, entity_exact, ue_total}
-use Rattle.tables.specs.Tables.{find, put, without, at}
+use Rattle.tables.specs.Tables.{find, at}
 use Rattle.tables.proofs.TableLaws.{at-without, find-put-same, find-without-same}
 use Rattle.unit_defs.specs.Ways.{Put}
-use Rattle.unit_defs.specs.Ue.{UeNode, new_ue}
-use Rattle.transport_defs.specs.declared.Item.{Item}
-use Rattle.transport_defs.specs.Links.{Radio, items_of, landed, emptied, connect}
+use Rattle.transport_defs.specs.Links.{Radio, emptied, connect}
 use Rattle.run_defs.specs.Lines.{RunLine}
-use Rattle.run_defs.specs.Units.{Units, ue_of, with_ue}
-use Rattle.run_defs.specs.States.{State, Book, World, goes, stops, told_before, ◌next◌, goes_on, Within, entity, book_of, radio_of, with_radio, was_attached}
+use Rattle.run_defs.specs.Units.{Units}
+use Rattle.run_defs.specs.States.{State, World, goes, told_before, ◌next◌, goes_on, Within, radio_of}
 use Rattle.run_defs.specs.Steps.{check_spans, put_out_all, radio_lost, lose_each, lose_radios_of, lose_radios, radios_of, same_epoch, epoch_on_air, epoch_now, connect_in, reconnect, reconnect_node, carried_out}
 use Rattle.run_defs.specs.Events.{leaves}
-use Rattle.law_steps.specs.Causes.{Cause, by_order, by_tick, by_octets, by_octets_on, by_attach, by_release, by_offer, by_item, by_air, by_ack, by_letter, node_of, count_of, first_of}
-use Rattle.law_steps.proofs.Frames.{units_by}
+use Rattle.law_steps.specs.Causes.{by_order, by_tick, by_octets, by_octets_on, by_attach, by_release, by_offer, by_item, by_air, by_ack, by_letter, node_of, given_of, count_of}
 use Rattle.law_slices.specs.Steps.{IsFor}
 use Rattle.law_others_stay.specs.Others.{IsNodeFor}
 use Rattle.law_alike_steps.specs.Places.{RunCause, Place, in_place}
-use Rattle.law_alike_steps.specs.Alike.{stand, Alike, AlikeFrom}
-use Rattle.law_alike_steps.proofs.Beside.{KeepAlike, then_alike, checks_alike, books_alike, radios_alike, tunnels_alike, all_alike}
+use Rattle.law_alike_steps.specs.Alike.{Alike, AlikeFrom}
+use Rattle.law_alike_steps.proofs.Beside.{KeepAlike, then_alike, checks_alike, all_alike}
 
 -- ---- what is taken in its place is as it is
 
@@ -195,7 +189,7 @@ module _ {M C L P : Type 0} (world : World M C L P) (ue : UeId) (shows : TunnelE
   nodes_alike (Du gnb number) is x y h = h
   nodes_alike Core is x y h = h
 
-  leaves_alike : Keep (leaves world ue) (leaves world ue)
+  pub leaves_alike : Keep (leaves world ue) (leaves world ue)
   leaves_alike x y h =
       then_alike world ue shows (lose_radios world ue x) (lose_radios world ue y)
       (λ z. goes_on (record (connect_in world ue None z) { gone = z.gone ++ ue ∷ [] })) (λ z. goes_on (record (connect_in world ue None z) { gone = z.gone ++ ue ∷ [] }))

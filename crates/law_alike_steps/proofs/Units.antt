@@ -12,22 +12,19 @@ use Rattle.gnb_types.specs.declared.names.UeId.{UeId}
 use Rattle.gnb_types.specs.declared.names.SnBits.{SnBits}
 use Rattle.gnb_types.specs.Orders.{ue_cmp, node_cmp}
 use Rattle.gnb_types.proofs.OrderLemmas.{node_total, node_exact, ue_total, ue_exact}
-use Rattle.tables.specs.Tables.{find, put}
-use Rattle.tables.proofs.TableLaws.{at-put, find-put, find-put-same}
+use Rattle.tables.proofs.TableLaws.{at-put, find-put}
 use Rattle.message_types.specs.declared.rrc.Token.{Token}
 use Rattle.unit_defs.specs.Ways.{Message, Pdu, Load, Put, control, packet, radio, deliver, dropped, held, opened, closed, failed, no, Input, gives, spent}
 use Rattle.unit_defs.specs.UpRecords.{CuUp}
 use Rattle.unit_defs.specs.CuUp.{new_cu_up, cu_up_acts}
 use Rattle.unit_defs.specs.Du.{Du, new_du, du_acts}
-use Rattle.unit_defs.specs.Ue.{UeNode, ue_acts, new_ue}
+use Rattle.unit_defs.specs.Ue.{UeNode, ue_acts}
 use Rattle.unit_defs.specs.CpRecords.{CuCpRecord}
 use Rattle.unit_defs.specs.CuCp.{cu_cp_acts}
 use Rattle.run_defs.specs.Units.{Units, cp_of, with_cp, up_of, with_up, du_of, with_du, ue_of, with_ue}
 use Rattle.run_defs.specs.Written.{Written, written_item, written_pdu, written_put, PlainStepped, WrittenStepped, written_step}
 use Rattle.run_defs.specs.States.{Lengths, stepped, step_spent}
 use Rattle.run_defs.specs.Runs.{Reading, PlainGiven, Plain, plain_way, input_of, stepped_with, ue_stepped, plain_by, plain_world}
-use Rattle.law_steps.specs.Causes.{by_order, by_tick, by_octets, by_octets_on, by_attach, by_release, by_offer, by_item, by_air, by_ack, by_letter}
-use Rattle.law_steps.proofs.Frames.{units_by}
 use Rattle.law_slices.specs.Steps.{IsFor}
 use Rattle.law_cp_slice.specs.CuCps.{CpShared, cp_slice}
 use Rattle.law_up_slice.specs.CuUps.{UpShared, up_slice, up_part}
@@ -37,7 +34,6 @@ use Rattle.law_run_slices.proofs.Units.{given_step}
 use Rattle.law_slice_owners.proofs.Owners.{apart_of}
 use Rattle.law_slice_arguments.specs.Views.{AreAlikeAt, StayAlikeAt, AnswerAlike}
 use Rattle.law_slice_arguments.proofs.Views.{alike_answers}
-use Rattle.law_others_stay.specs.Others.{IsCauseFor}
 use Rattle.law_own_steps.proofs.Steps.{Sound}
 use Rattle.law_own_events.specs.Events.{RunState}
 use Rattle.law_alike_steps.specs.Places.{of_cp, of_up, of_du, shared_at}

@@ -111,9 +111,9 @@ module _ (reading : Reading) (ue : UeId) where
   begin : (s t x y : RunState) → After s → After t → After x → After y → Share s t → GiveOnce s.units x.units → GiveOnce t.units y.units
       → Agree ue x.units y.units → (a b : RunUnits) → Agree ue a b
       → Alike ue (opens_at ue x.units) (record s { units = a }) (record t { units = b })
-  begin s t x y p q later too h gives also agree a b there = record {
+  begin s t x y p q later too h mine also agree a b there = record {
     letters = h.letters;
-    tunnels = stand_alike ue s t (sound_on reading s p) (sound_on reading t q) (agree_of s t h) x.units y.units agree gives also h.items;
+    tunnels = stand_alike ue s t (sound_on reading s p) (sound_on reading t q) (agree_of s t h) x.units y.units agree mine also h.items;
     radios = h.radios;
     books = h.books;
     connected = h.connected;

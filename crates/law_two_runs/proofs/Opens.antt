@@ -160,32 +160,32 @@ module _ (ue : UeId) where
 
   own_apart : (s : RunState) → Sound s → (key : EntityKey) → key.ue ≡ ue → (node : NodeId) (teid : ℕ) → is_its ue s.units node teid ≡ false
       → stands s node teid ≡ true → (k : EntityKey) (load : Load Pdu) → IsOwnAt s.units node teid k load → k.ue ≢ key.ue
-  own_apart s sound key its (up_id gnb number) teid no there k load own same =
-      by (find nat_cmp (up_of s.units gnb number).tunnels teid) refl (sym there ∙ sound.standing.0 gnb number teid) no
+  own_apart s sound key its (up_id gnb number) teid away there k load own same =
+      by (find nat_cmp (up_of s.units gnb number).tunnels teid) refl (sym there ∙ sound.standing.0 gnb number teid) away
     where
       by : (o : Option UpTunnel) → find nat_cmp (up_of s.units gnb number).tunnels teid ≡ o → true ≡ is_some o → is_some (up_own ue o) ≡ false → ⊥
       by None e owned none = absurd cc
       by (Some x) e owned none = not_up x none (sym (own x e).0 ∙ same ∙ its)
-  own_apart s sound key its (du_id gnb number) teid no there k load own same =
-      by (find nat_cmp (du_of s.units gnb number).tunnels teid) refl (sym there ∙ sound.standing.1 gnb number teid) no
+  own_apart s sound key its (du_id gnb number) teid away there k load own same =
+      by (find nat_cmp (du_of s.units gnb number).tunnels teid) refl (sym there ∙ sound.standing.1 gnb number teid) away
     where
       by : (o : Option DuTunnel) → find nat_cmp (du_of s.units gnb number).tunnels teid ≡ o → true ≡ is_some o → is_some (du_own ue o) ≡ false → ⊥
       by None e owned none = absurd cc
       by (Some x) e owned none = not_du x none (sym (own x e).0 ∙ same ∙ its)
-  own_apart s sound key its (CuCp gnb) teid no there k load own same = own
-  own_apart s sound key its Core teid no there k load own same = own
-  own_apart s sound key its (Ue n) teid no there k load own same = own
+  own_apart s sound key its (CuCp gnb) teid away there k load own same = own
+  own_apart s sound key its Core teid away there k load own same = own
+  own_apart s sound key its (Ue n) teid away there k load own same = own
 
   pub none_there : (s : RunState) → Sound s → (end : TunnelEnd) (key : EntityKey) → key.ue ≡ ue → is_its ue s.units end.node end.teid ≡ false
       → items_on s end key ≡ []
   unfolding at
-  none_there s sound end key its no = by (find tunnel_cmp s.tunnels end) refl
+  none_there s sound end key its away = by (find tunnel_cmp s.tunnels end) refl
     where
       by : (o : Option (List (Item (Written (Load Pdu))))) → find tunnel_cmp s.tunnels end ≡ o → items_of key (unwrap_or o []) ≡ []
       by None found = refl
       by (Some items) found =
           none_of key items
-          (each_apart key s.units end.node end.teid items (own_apart s sound key its end.node end.teid no (ap is_some found)) (sound.tunnels end items found))
+          (each_apart key s.units end.node end.teid items (own_apart s sound key its end.node end.teid away (ap is_some found)) (sound.tunnels end items found))
 
   -- ---- and so the same of the terminal stands on each tunnel
 
@@ -204,6 +204,6 @@ module _ (ue : UeId) where
           out_of key (find tunnel_cmp s.tunnels end)
           ∙ ap (λ (o : Option (List (Item (Written (Load Pdu))))). unwrap_or o []) (same end owned key its)
           ∙ sym (out_of key (find tunnel_cmp t.tunnels end))
-      by false no =
-          none_there s sound end key its no
-          ∙ sym (none_there t also end key its (sym (its_alike s.units t.units h end.node end.teid) ∙ no))
+      by false away =
+          none_there s sound end key its away
+          ∙ sym (none_there t also end key its (sym (its_alike s.units t.units h end.node end.teid) ∙ away))
