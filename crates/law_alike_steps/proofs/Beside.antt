@@ -42,7 +42,7 @@ joined : {X : Type 0} (xs ys zs : List X) → xs ++ (ys ++ zs) ≡ (xs ++ ys) ++
 joined [] ys zs = refl
 joined (w ∷ ws) ys zs = ap (λ (vs : List _). w ∷ vs) (joined ws ys zs)
 
-letters_end : {M : Type 0} (ue : UeId) (es : List (ℕ × Letter M)) (e : ℕ × Letter M)
+pub letters_end : {M : Type 0} (ue : UeId) (es : List (ℕ × Letter M)) (e : ℕ × Letter M)
     → letters_of ue (es ++ e ∷ []) ≡ letters_of ue es ++ (if e.1.ue == ue.0 then e.1 ∷ [] else [])
 letters_end ue [] e = none_after (if e.1.ue == ue.0 then e.1 ∷ [] else [])
 letters_end ue (x ∷ es) e =

@@ -182,7 +182,7 @@ module _ {M C L P : Type 0} (world : World M C L P) (ue : UeId) (shows : TunnelE
       by true false e = absurd cc
       by false true e = absurd cc
 
-  nodes_alike : (node : NodeId) → IsNodeFor ue node → Keep (reconnect_node world node) (reconnect_node world node)
+  pub nodes_alike : (node : NodeId) → IsNodeFor ue node → Keep (reconnect_node world node) (reconnect_node world node)
   nodes_alike (Ue n) is x y h = subst (λ (u : UeId). From (reconnect world u x) (reconnect world u y)) (sym is) (its_alike x y h)
   nodes_alike (CuCp gnb) is x y h = h
   nodes_alike (CuUp gnb number) is x y h = h

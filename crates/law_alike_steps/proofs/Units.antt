@@ -166,7 +166,7 @@ module _ (ue : UeId) where
 
   -- ---- so the slice is the same of all units then
 
-  agrees : (node : NodeId) (u v a b : RunUnits) → Agree ue u v → OnlyAt node u a → OnlyAt node v b → StayAlikeAt node ue a b → Agree ue a b
+  pub agrees : (node : NodeId) (u v a b : RunUnits) → Agree ue u v → OnlyAt node u a → OnlyAt node v b → StayAlikeAt node ue a b → Agree ue a b
   agrees node u v a b h only also stay = record {
     units = λ i. record { cps = λ g. cps g i; ups = λ g n. ups g n i; dus = λ g n. dus g n i; node = there i };
     tunnels = λ g n. tunnels g n;

@@ -1,5 +1,5 @@
 -- After any steps of a run: the terminals of a CU-CP, and the open requests of each unit, are in order.
-use Rattle.std.proofs.Common.{◌≡◌, ℕ, None}
+use Rattle.std.proofs.Common.{ℕ, None}
 use Rattle.std.specs.List.Sorted.{IsStrictlySortedBy}
 use Rattle.gnb_types.specs.declared.names.Gnb.{Gnb}
 use Rattle.gnb_types.specs.declared.names.NodeId.{NodeId}

@@ -1,6 +1,5 @@
 -- On any input a CU-CP keeps its terminals in ascending order.
-use Rattle.std.proofs.Common.{◌≡◌, ℕ, Bool, true, false, List, [], ◌∷◌, Option, Some, None}
-use Rattle.std.specs.Prelude.{if◌then◌else◌}
+use Rattle.std.proofs.Common.{ℕ, Bool, true, false, List, [], ◌∷◌, Option, Some, None}
 use Rattle.gnb_types.specs.declared.inputs.Order.{Order}
 use Rattle.gnb_types.specs.declared.inputs.Order.TheVariants as orders
 use Rattle.gnb_types.specs.declared.keys.Channel.{Channel}
@@ -21,7 +20,7 @@ use Rattle.unit_defs.specs.Messages.{channel, shares_interface}
 use Rattle.unit_defs.specs.Static.{cp_placed}
 use Rattle.unit_defs.specs.Transactions.{Kind, request, reply, transfer, kind_of, Asked, ask, ask_at_once, advance, replied, replied_late}
 use Rattle.unit_defs.specs.CpRecords.{Attempt, CuCpRecord, terminal_of, with_transactions, Say, asks, cancels, replies, replies_late, sends, fails, ignores, refuses, forgets, Row, row, row_spent, with_terminal, with_attempt, waiting_of, after_begun, after_asked, noted, say_one, say_all, carry_out}
-use Rattle.unit_defs.specs.CuCp.{at_of, Answered, answers_none, answers_with, answer, after_failed_setup, put_next, closed_at, answered_by, reply_came, with_unit, set_up, asked, token_came, transferred, control_by, control_came, expired_on, due_one, due_each, command_on, command_each, ues_of, tick, ordered, cu_cp_acts}
+use Rattle.unit_defs.specs.CuCp.{at_of, Answered, answers_none, answers_with, answer, after_failed_setup, put_next, closed_at, answered_by, reply_came, with_unit, set_up, asked, token_came, transferred, control_by, control_came, due_one, due_each, command_on, command_each, ues_of, tick, ordered, cu_cp_acts}
 use Rattle.law_answers.specs.After.{HoldsAfter}
 use Rattle.law_answers.proofs.Answers.{holds_if, holds_then, any_then, holds_request, holds_reply}
 

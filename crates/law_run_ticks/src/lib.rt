@@ -10,16 +10,17 @@ ghost use Rattle.law_cp_slice.specs.CuCps.{cp_view};
 ghost use Rattle.law_own_events.specs.Events.{RunState};
 ghost use Rattle.law_run_channels.specs.Tied.{kept_by};
 ghost use Rattle.law_run_control.specs.Control.{control_of};
-ghost use Rattle.law_run_ticks.specs.Ticks.{IsUnit, TickAlike};
+ghost use Rattle.law_run_ticks.specs.Ticks.{AreTold, IsUnit, TickAlike};
 ghost use Rattle.law_slice_arguments.specs.Views.{StayAlikeAt};
 ghost use Rattle.law_tick_slices.specs.Ticks.{cp_own_tick, ShowsOwn};
 ghost use Rattle.run_defs.specs.Runs.{plain_way, plain_world, Reading};
-ghost use Rattle.run_defs.specs.States.{sn_of, tick_for};
-ghost use Rattle.run_defs.specs.Units.{cp_of};
+ghost use Rattle.message_types.specs.declared.rrc.Token.{Token};
+ghost use Rattle.run_defs.specs.States.{Lengths, sn_of, tick_for};
+ghost use Rattle.run_defs.specs.Units.{cp_of, Units};
 ghost use Rattle.std.specs.Prelude.{◌≡◌};
 ghost use Rattle.tables.specs.Tables.{IsSorted};
 ghost use Rattle.unit_defs.specs.CuCp.{cu_cp_acts};
-ghost use Rattle.unit_defs.specs.Ways.{tick_input};
+ghost use Rattle.unit_defs.specs.Ways.{Message, tick_input};
 
 /// After any steps of a run the terminals of each CU-CP are in ascending order, and so are the channels of the open requests of each
 /// unit.
@@ -47,4 +48,10 @@ pub fn ticks_do_the_same_for_a_terminal()
         → sn_of s ue ≡ sn_of t ue
         → TickAlike node ue ((plain_world reading).answer (sn_of s) s.units node tick_for)
         ((plain_world reading).answer (sn_of t) t.units node tick_for) }
+{}
+
+/// From every state: a tick of a unit puts no item on a tunnel or a radio, delivers nothing, and opens and closes no tunnel.
+pub fn ticks_put_messages_alone()
+    ensures { (reading : Reading) (lengths : Lengths) (units : Units (Message Token) Token) (node : NodeId) → IsUnit node
+        → AreTold ((plain_world reading).answer lengths units node tick_for) }
 {}
