@@ -73,7 +73,7 @@ module _ (ue : UeId) where
     names_same t teid is =
         ap (du_context_names t teid) (subst (λ (v : UeId). find ue_cmp s.contexts v ≡ find ue_cmp r.contexts v) (sym is) same)
 
-    du_tunnels_same : (teid : ℕ) → own_tunnel ue (find nat_cmp s.tunnels teid) ≡ own_tunnel ue (find nat_cmp r.tunnels teid)
+    pub du_tunnels_same : (teid : ℕ) → own_tunnel ue (find nat_cmp s.tunnels teid) ≡ own_tunnel ue (find nat_cmp r.tunnels teid)
     du_tunnels_same teid =
         own_alike (find nat_cmp s.tunnels teid) (find nat_cmp r.tunnels teid)
         (λ t is e. p.0.stands teid t (sym (names_same t teid is) ∙ q.0.named teid t e))
@@ -253,7 +253,7 @@ open_same ts end q = at-put tunnel_total [] ts end (at tunnel_cmp [] ts end) q �
         let here : q ≡ end = tunnel_exact q end ((Equal-is (tunnel_cmp q end)).0 tie) in
         ap (λ (e : TunnelEnd). at tunnel_cmp [] ts e) (sym here)
 
-from_same : {X : Type 0} (node : NodeId) (teid count : ℕ) (ts : List (TunnelEnd × List (Item X))) (q : TunnelEnd)
+pub from_same : {X : Type 0} (node : NodeId) (teid count : ℕ) (ts : List (TunnelEnd × List (Item X))) (q : TunnelEnd)
     → at tunnel_cmp [] (tunnels_from node teid count ts) q ≡ at tunnel_cmp [] ts q
 from_same node teid zero ts q = refl
 from_same node teid (suc count) ts q =

@@ -1,9 +1,11 @@
 -- After the same acts a terminal's slice is the same.
 use Rattle.std.proofs.Common.{◌≡◌, ℕ, List, [], ◌∷◌, refl, sym, ap, ◌∙◌, subst}
 use Rattle.gnb_types.specs.declared.names.NodeId.{NodeId}
+use Rattle.gnb_types.specs.declared.names.NodeId.TheVariants.{CuUp as up_id, Du as du_id}
 use Rattle.gnb_types.specs.declared.names.UeId.{UeId}
 use Rattle.gnb_types.specs.declared.names.BearerId.{BearerId}
 use Rattle.gnb_types.specs.declared.keys.TunnelEnd.{TunnelEnd}
+use Rattle.gnb_types.specs.declared.plans.Plan.{Plan}
 use Rattle.message_types.specs.declared.rrc.Token.{Token}
 use Rattle.scenario_text.specs.declared.event.Event.{Event}
 use Rattle.unit_defs.specs.Ways.{Message, Load, Pdu}
@@ -19,8 +21,8 @@ use Rattle.law_all_steps.specs.Steps.{AfterSteps, NoneFor}
 use Rattle.law_all_steps.proofs.Shared.{share_same, share_back, share_then}
 use Rattle.law_all_steps.proofs.Others.{SharesAt, made_shares}
 use Rattle.law_alike_steps.specs.Places.{Shared, shared_at, RunCause, Place, in_place}
-use Rattle.law_two_runs.specs.Acts.{TerminalAct, acts_by, is_offered, is_taken, is_lost, ActsItself, IsOffered, IsTaken, IsLost, HasActed, not_yet, by_others, by_itself, by_offer, by_core, by_loss}
-use Rattle.law_two_runs.proofs.Alike.{acted_after, itself_shares, offer_shares, core_shares, loss_shares}
+use Rattle.law_two_runs.specs.Acts.{TerminalAct, acts_by, is_offered, is_taken, is_lost, ticks_at, is_placed, shared_but_room, ActsItself, IsOffered, IsTaken, IsLost, IsTicked, IsPlaced, HasActed, not_yet, by_others, by_itself, by_offer, by_core, by_loss, by_ticking, by_static}
+use Rattle.law_two_runs.proofs.Alike.{acted_after, itself_shares, offer_shares, core_shares, loss_shares, tick_shares, placed_shares}
 
 -- ---- what two acts have in common, where they are the same
 
@@ -54,6 +56,21 @@ end_of a b i j e = cc
 item_of : (a b : TunnelEnd) (i j : Item (Written (Load Pdu))) → is_lost a i ≡ is_lost b j → i ≡ j
 item_of a b i j e = cc
 
+node_in : (m n : NodeId) (x y : Shared) → ticks_at m x ≡ ticks_at n y → m ≡ n
+node_in m n x y e = cc
+
+shared_in : (m n : NodeId) (x y : Shared) → ticks_at m x ≡ ticks_at n y → x ≡ y
+shared_in m n x y e = cc
+
+plan_in : (a b : Plan) (v w x y : Shared) → is_placed a v w ≡ is_placed b x y → a ≡ b
+plan_in a b v w x y e = cc
+
+up_in : (a b : Plan) (v w x y : Shared) → is_placed a v w ≡ is_placed b x y → v ≡ x
+up_in a b v w x y e = cc
+
+du_in : (a b : Plan) (v w x y : Shared) → is_placed a v w ≡ is_placed b x y → w ≡ y
+du_in a b v w x y e = cc
+
 module _ (reading : Reading) (ue : UeId) where
   abbrev Share : RunState → RunState → Type 0
   Share s t = ShareSlice ue s t
@@ -78,6 +95,8 @@ module _ (reading : Reading) (ue : UeId) where
   from_first acts s t none first (by_offer list more bearer packet x y p a is) = absurd cc
   from_first acts s t none first (by_core list more from message x y p a is) = absurd cc
   from_first acts s t none first (by_loss list more end item x y p a is) = absurd cc
+  from_first acts s t none first (by_ticking list rest node u v q b so) = absurd cc
+  from_first acts s t none first (by_static list rest plan u v q b so) = absurd cc
 
   itself_then : (acts more : List TerminalAct) (cause : RunCause) (place : Place) (s x : RunState) → Acted more s → ActsItself reading ue cause place s x
       → acts ≡ acts_by cause (shared_at s.units (node_of (in_place place cause))) ∷ more → Shares more s → Shares acts x
@@ -97,6 +116,8 @@ module _ (reading : Reading) (ue : UeId) where
   itself_then acts more cause place s x p a is again t (by_offer list rest bearer packet u v q b so) = absurd cc
   itself_then acts more cause place s x p a is again t (by_core list rest from message u v q b so) = absurd cc
   itself_then acts more cause place s x p a is again t (by_loss list rest end item u v q b so) = absurd cc
+  itself_then acts more cause place s x p a is again t (by_ticking list rest node u v q b so) = absurd cc
+  itself_then acts more cause place s x p a is again t (by_static list rest plan u v q b so) = absurd cc
 
   offer_then : (acts more : List TerminalAct) (bearer : BearerId) (packet : List ℕ) (s x : RunState) → Acted more s → IsOffered reading ue bearer packet s x
       → acts ≡ is_offered bearer packet ∷ more → Shares more s → Shares acts x
@@ -115,6 +136,8 @@ module _ (reading : Reading) (ue : UeId) where
   offer_then acts more bearer packet s x p a is again t (by_itself list rest cause place u v q b so) = absurd cc
   offer_then acts more bearer packet s x p a is again t (by_core list rest from message u v q b so) = absurd cc
   offer_then acts more bearer packet s x p a is again t (by_loss list rest end item u v q b so) = absurd cc
+  offer_then acts more bearer packet s x p a is again t (by_ticking list rest node u v q b so) = absurd cc
+  offer_then acts more bearer packet s x p a is again t (by_static list rest plan u v q b so) = absurd cc
 
   core_then : (acts more : List TerminalAct) (from : NodeId) (message : Message Token) (s x : RunState) → Acted more s → IsTaken reading ue from message s x
       → acts ≡ is_taken from message ∷ more → Shares more s → Shares acts x
@@ -133,6 +156,8 @@ module _ (reading : Reading) (ue : UeId) where
   core_then acts more from message s x p a is again t (by_itself list rest cause place u v q b so) = absurd cc
   core_then acts more from message s x p a is again t (by_offer list rest bearer packet u v q b so) = absurd cc
   core_then acts more from message s x p a is again t (by_loss list rest end item u v q b so) = absurd cc
+  core_then acts more from message s x p a is again t (by_ticking list rest node u v q b so) = absurd cc
+  core_then acts more from message s x p a is again t (by_static list rest plan u v q b so) = absurd cc
 
   loss_then : (acts more : List TerminalAct) (end : TunnelEnd) (item : Item (Written (Load Pdu))) (s x : RunState) → Acted more s → IsLost ue end item s x
       → acts ≡ is_lost end item ∷ more → Shares more s → Shares acts x
@@ -151,6 +176,52 @@ module _ (reading : Reading) (ue : UeId) where
   loss_then acts more end item s x p a is again t (by_itself list rest cause place u v q b so) = absurd cc
   loss_then acts more end item s x p a is again t (by_offer list rest bearer packet u v q b so) = absurd cc
   loss_then acts more end item s x p a is again t (by_core list rest from message u v q b so) = absurd cc
+  loss_then acts more end item s x p a is again t (by_ticking list rest node u v q b so) = absurd cc
+  loss_then acts more end item s x p a is again t (by_static list rest plan u v q b so) = absurd cc
+
+  tick_then : (acts more : List TerminalAct) (node : NodeId) (s x : RunState) → Acted more s → IsTicked reading node s x
+      → acts ≡ ticks_at node (shared_but_room s.units node) ∷ more → Shares more s → Shares acts x
+  tick_then acts more node s x p a is again t (not_yet list u none start) = absurd cc
+  tick_then acts more node s x p a is again t (by_others list event u v e told q made apart goes_so) =
+      share_then ue x u v (tick_then acts more node s x p a is again u q)
+      (others_share event u v e told (acted_after reading ue list u q) made apart goes_so)
+  tick_then acts more node s x p a is again t (by_ticking list rest second u v q b so) =
+      let both = sym is ∙ so in
+      let one = act_of _ _ more rest both in
+      let left = rest_of _ _ more rest both in
+      let same = node_in node second _ _ one in
+      tick_shares reading ue node s x u v (acted_after reading ue more s p) (acted_after reading ue rest u q)
+      (again u (subst (λ (list : List TerminalAct). Acted list u) (sym left) q)) a
+      (subst (λ (n : NodeId). IsTicked reading n u v) (sym same) b)
+      (shared_in node second _ _ one ∙ ap (shared_but_room u.units) (sym same))
+  tick_then acts more node s x p a is again t (by_itself list rest cause place u v q b so) = absurd cc
+  tick_then acts more node s x p a is again t (by_offer list rest bearer packet u v q b so) = absurd cc
+  tick_then acts more node s x p a is again t (by_core list rest from message u v q b so) = absurd cc
+  tick_then acts more node s x p a is again t (by_loss list rest end item u v q b so) = absurd cc
+  tick_then acts more node s x p a is again t (by_static list rest plan u v q b so) = absurd cc
+
+  static_then : (acts more : List TerminalAct) (plan : Plan) (s x : RunState) → Acted more s → IsPlaced ue plan s x
+      → acts ≡ is_placed plan (shared_but_room s.units (up_id plan.gnb plan.up)) (shared_but_room s.units (du_id plan.gnb plan.du)) ∷ more
+      → Shares more s → Shares acts x
+  static_then acts more plan s x p a is again t (not_yet list u none start) = absurd cc
+  static_then acts more plan s x p a is again t (by_others list event u v e told q made apart goes_so) =
+      share_then ue x u v (static_then acts more plan s x p a is again u q)
+      (others_share event u v e told (acted_after reading ue list u q) made apart goes_so)
+  static_then acts more plan s x p a is again t (by_static list rest second u v q b so) =
+      let both = sym is ∙ so in
+      let one = act_of _ _ more rest both in
+      let left = rest_of _ _ more rest both in
+      let same = plan_in plan second _ _ _ _ one in
+      placed_shares reading ue plan s x u v (acted_after reading ue more s p) (acted_after reading ue rest u q)
+      (again u (subst (λ (list : List TerminalAct). Acted list u) (sym left) q)) a
+      (subst (λ (k : Plan). IsPlaced ue k u v) (sym same) b)
+      (up_in plan second _ _ _ _ one ∙ ap (λ (k : Plan). shared_but_room u.units (up_id k.gnb k.up)) (sym same))
+      (du_in plan second _ _ _ _ one ∙ ap (λ (k : Plan). shared_but_room u.units (du_id k.gnb k.du)) (sym same))
+  static_then acts more plan s x p a is again t (by_itself list rest cause place u v q b so) = absurd cc
+  static_then acts more plan s x p a is again t (by_offer list rest bearer packet u v q b so) = absurd cc
+  static_then acts more plan s x p a is again t (by_core list rest from message u v q b so) = absurd cc
+  static_then acts more plan s x p a is again t (by_loss list rest end item u v q b so) = absurd cc
+  static_then acts more plan s x p a is again t (by_ticking list rest node u v q b so) = absurd cc
 
   -- ---- the same acts
 
@@ -162,3 +233,5 @@ module _ (reading : Reading) (ue : UeId) where
   same_acts acts s (by_offer list more bearer packet x y p a is) t q = offer_then list more bearer packet x y p a is (same_acts more x p) t q
   same_acts acts s (by_core list more from message x y p a is) t q = core_then list more from message x y p a is (same_acts more x p) t q
   same_acts acts s (by_loss list more end item x y p a is) t q = loss_then list more end item x y p a is (same_acts more x p) t q
+  same_acts acts s (by_ticking list more node x y p a is) t q = tick_then list more node x y p a is (same_acts more x p) t q
+  same_acts acts s (by_static list more plan x y p a is) t q = static_then list more plan x y p a is (same_acts more x p) t q

@@ -1,15 +1,17 @@
 -- Two runs in which a terminal's acts are the same have its whole slice in common: each act keeps it so, and steps of others leave it.
-use Rattle.std.proofs.Common.{◌≡◌, ℕ, ◌+◌, Bool, false, List, [], ◌∷◌, map, Option, Some, None, refl, sym, ap, ◌∙◌, subst}
+use Rattle.std.proofs.Common.{◌≡◌, ℕ, ◌+◌, ◌*◌, Bool, false, List, [], ◌∷◌, map, Option, Some, None, refl, sym, ap, ◌∙◌, subst}
+use Rattle.std.proofs.lemmas.Bool.{or_parts}
 use Rattle.std.specs.List.{AllByRecursion}
 use Rattle.gnb_types.specs.declared.names.NodeId.{NodeId}
-use Rattle.gnb_types.specs.declared.names.NodeId.TheVariants.{Core}
+use Rattle.gnb_types.specs.declared.names.NodeId.TheVariants.{CuUp as up_id, Du as du_id, Core}
 use Rattle.gnb_types.specs.declared.names.UeId.{UeId}
 use Rattle.gnb_types.specs.declared.names.BearerId.{BearerId}
 use Rattle.gnb_types.specs.declared.names.Dir.TheVariants.{Dl}
 use Rattle.gnb_types.specs.declared.keys.TunnelEnd.{TunnelEnd}
+use Rattle.gnb_types.specs.declared.plans.Plan.{Plan}
 use Rattle.gnb_types.specs.Orders.{ue_cmp, tunnel_cmp}
 use Rattle.gnb_types.proofs.OrderLemmas.{ue_total}
-use Rattle.tables.specs.Tables.{find, put}
+use Rattle.tables.specs.Tables.{find, put, at}
 use Rattle.tables.proofs.TableLaws.{find-put-same}
 use Rattle.message_types.specs.declared.rrc.Token.{Token}
 use Rattle.scenario_text.specs.declared.event.Event.{Event}
@@ -20,19 +22,22 @@ use Rattle.unit_defs.specs.Core.{CorePath, CoreRecord, core_acts}
 use Rattle.unit_defs.specs.Ue.{UeNode, new_ue}
 use Rattle.transport_defs.specs.declared.Item.{Item}
 use Rattle.transport_defs.specs.declared.Letter.{Letter}
-use Rattle.transport_defs.specs.Links.{landed}
+use Rattle.transport_defs.specs.Links.{items_of, landed}
 use Rattle.run_defs.specs.Lines.{lost_items, tunnel_link}
-use Rattle.run_defs.specs.Units.{Units}
+use Rattle.run_defs.specs.Units.{Units, up_of, du_of}
 use Rattle.run_defs.specs.Written.{Written, written_put, WrittenCoreStepped}
-use Rattle.run_defs.specs.States.{Book, Lengths, sn_in, sn_of, goes, step_of, ◌next◌, as_step, core_stepped, letter_for, entity}
+use Rattle.run_defs.specs.States.{Book, Lengths, sn_in, sn_of, goes, step_of, ◌next◌, as_step, core_stepped, letter_for, was_attached, entity}
 use Rattle.run_defs.specs.Steps.{check_spans, put_on_tunnel, put_out_all, count_letters, carried_out}
+use Rattle.run_defs.specs.Conditions.{all_set_up, units_placed, n3_from, tunnels_from, statically}
 use Rattle.run_defs.specs.Events.{offered, landed_as}
 use Rattle.run_defs.specs.Runs.{Reading, Plain, plain_way, core_done, plain_world}
 use Rattle.law_steps.specs.Causes.{by_order, by_tick, by_octets, by_octets_on, by_attach, by_release, by_offer as by_own_offer, by_item, by_air, by_ack, by_letter, node_of, given_of, count_of, first_of}
-use Rattle.law_steps.specs.Made.{Made, acts as acts_so, offers, core_takes, loses_item}
+use Rattle.law_steps.specs.Made.{Made, acts as acts_so, sets_up, offers, core_takes, loses_item}
 use Rattle.law_steps.proofs.Frames.{HasUnits, units_by, then_units, keep_checked as units_checked, keep_put_on_tunnel as units_on_tunnel, keep_put_all as units_put_all}
 use Rattle.law_run_facts.proofs.Within.{HoldsWith, then_holds, keep_checked as facts_checked, keep_put_on_tunnel as facts_on_tunnel, keep_put_all as facts_put_all}
 use Rattle.law_teids.specs.Given.{GiveOnce}
+use Rattle.law_owner_facts.specs.Owned.{AreOwned}
+use Rattle.law_tunnel_owners.proofs.Placed.{placed_owned}
 use Rattle.law_slices.specs.Slices.{core_slice, message_ue}
 use Rattle.law_slices.specs.Steps.{IsFor, PutsFor, StaysFor, seen}
 use Rattle.law_slices.proofs.Cores.{acts_same, acts_steps}
@@ -44,15 +49,18 @@ use Rattle.law_own_events.specs.Events.{RunState, RunOutcome}
 use Rattle.law_all_steps.specs.Slices.{ShareSlice}
 use Rattle.law_all_steps.specs.Steps.{AfterSteps, none_yet, one_more, NoneFor}
 use Rattle.law_all_steps.proofs.Shared.{share_same, share_back, share_then}
+use Rattle.law_all_steps.proofs.Statics.{from_same}
 use Rattle.law_all_steps.proofs.Paths.{step_gives, sound_on}
 use Rattle.law_all_steps.proofs.Others.{SharesAt, made_shares}
 use Rattle.law_alike_steps.specs.Places.{shared_at, RunCause, Place, in_place}
 use Rattle.law_alike_steps.specs.Alike.{Alike, AlikeFrom, Agree, Together}
-use Rattle.law_two_runs.specs.Acts.{TerminalAct, acts_by, is_offered, is_taken, is_lost, RunWithin, core_offers, core_does, ActsItself, IsOffered, IsTaken, IsLost, HasActed, not_yet, by_others, by_itself, by_offer, by_core, by_loss}
+use Rattle.law_two_runs.specs.Acts.{TerminalAct, acts_by, is_offered, is_taken, is_lost, RunWithin, core_offers, core_does, ActsItself, IsOffered, IsTaken, IsLost, shared_but_room, IsTicked, IsPlaced, HasActed, not_yet, by_others, by_itself, by_offer, by_core, by_loss, by_ticking, by_static}
 use Rattle.law_alike_steps.proofs.Beside.{then_alike, checks_alike, books_alike, put_on_tunnel_alike, all_alike}
 use Rattle.law_alike_steps.proofs.Steps.{same_in_place, carried_alike}
 use Rattle.law_alike_steps.proofs.Firsts.{firsts_alike}
 use Rattle.law_alike_steps.proofs.Units.{RunUnits, RunPuts, all_same, written_for, together}
+use Rattle.law_two_runs.proofs.Ticks.{unit_for, ticked_alike, Ticked, units_tick}
+use Rattle.law_two_runs.proofs.Placed.{there, next_up, placed_agree}
 use Rattle.law_two_runs.proofs.Opens.{opens_at, stand_alike, items_alike}
 
 abbrev CoreOf : Type 0
@@ -65,7 +73,7 @@ module _ (reading : Reading) (ue : UeId) where
   abbrev Share : RunState → RunState → Type 0
   Share s t = ShareSlice ue s t
 
-  -- ---- a state after an act comes after steps
+  -- ---- an act is a step
 
   itself_made : (cause : RunCause) (place : Place) (s t : RunState) (a : ActsItself reading ue cause place s t)
       → Made (plain_world reading) a.event s (goes (step_of (Some (node_of (in_place place cause))) a.lines ∷ []) t)
@@ -91,16 +99,6 @@ module _ (reading : Reading) (ue : UeId) where
   loss_made end item s t a =
       subst (λ (x : RunState). Made (plain_world reading) events.Pump s (goes (step_of None (lost_items (tunnel_link end) 1 ∷ []) ∷ []) x)) (sym a.loses)
       (loses_item s end item a.rest a.found)
-
-  pub acted_after : (acts : List TerminalAct) (s : RunState) → HasActed reading ue acts s → After s
-  acted_after acts s (not_yet list x none first) = subst (λ (y : RunState). After y) (sym first) none_yet
-  acted_after acts s (by_others list event x y e told p made none goes_so) =
-      one_more event x y told (acted_after list x p) (subst (λ (o : RunOutcome). Made (plain_world reading) event x o) goes_so made)
-  acted_after acts s (by_itself list more cause place x y p a is) = one_more a.event x y _ (acted_after more x p) (itself_made cause place x y a)
-  acted_after acts s (by_offer list more bearer packet x y p a is) =
-      one_more (events.Offer ue bearer Dl packet) x y _ (acted_after more x p) (offer_made bearer packet x y a)
-  acted_after acts s (by_core list more from message x y p a is) = one_more events.Pump x y _ (acted_after more x p) (core_made from message x y a)
-  acted_after acts s (by_loss list more end item x y p a is) = one_more events.Pump x y _ (acted_after more x p) (loss_made end item x y a)
 
   -- ---- slices of states and of their units
 
@@ -370,3 +368,90 @@ module _ (reading : Reading) (ue : UeId) where
       (ap (λ (z : RunState). core_slice ue z.core) a.loses ∙ h.core ∙ sym (ap (λ (z : RunState). core_slice ue z.core) b.loses))
       (subst (λ (z : RunState). Alike ue (opens_at ue x.units) z y) (sym a.loses)
       (subst (λ (z : RunState). Alike ue (opens_at ue x.units) (record s { tunnels = put tunnel_cmp s.tunnels end a.rest }) z) (sym b.loses) done))
+
+  -- ---- a unit has a tick
+
+  tick_made : (node : NodeId) (s t : RunState) (a : IsTicked reading node s t)
+      → Made (plain_world reading) a.event s (goes (step_of (Some node) a.lines ∷ []) t)
+  tick_made node s t a =
+      subst (λ (w : RunWithin). Made (plain_world reading) a.event s (as_step (Some node) w)) a.goes_so
+      (acts_so s (by_tick node) a.outputs a.units a.acted.stands a.acted.answers a.done a.acted.few)
+
+  pub tick_shares : (node : NodeId) (s x t y : RunState) → After s → After t → Share s t → (a : IsTicked reading node s x) (b : IsTicked reading node t y)
+      → shared_but_room s.units node ≡ shared_but_room t.units node → Share x y
+  tick_shares node s x t y p q h a b shared =
+      let world = plain_world reading in
+      let later : After x = one_more a.event s x _ p (tick_made node s x a) in
+      let too : After y = one_more b.event t y _ q (tick_made node t y b) in
+      let both : Ticked reading ue a.outputs b.outputs a.units b.units = units_tick reading ue node s x t y p q (agree_of s t h) (ap sn_in h.plan) a b shared in
+      let first : x.units ≡ a.units = same_units world a.event (by_tick node) a.outputs a.units s x a.lines a.acted a.goes_so in
+      let second : y.units ≡ b.units = same_units world b.event (by_tick node) b.outputs b.units t y b.lines b.acted b.goes_so in
+      let agree : Agree ue x.units y.units = subst (λ (u : RunUnits). Agree ue u y.units) (sym first)
+      (subst (λ (v : RunUnits). Agree ue a.units v) (sym second) both.units) in
+      let base = begin s t x y p q later too h (step_gives reading a.event s x _ (tick_made node s x a))
+      (step_gives reading b.event t y _ (tick_made node t y b)) agree a.units b.units both.units in
+      finish x y later too agree
+      (ap (core_slice ue) (same_core world a.event (by_tick node) a.outputs a.units s x a.lines a.acted a.goes_so)
+      ∙ h.core
+      ∙ sym (ap (core_slice ue) (same_core world b.event (by_tick node) b.outputs b.units t y b.lines b.acted b.goes_so)))
+      (subst (λ (w : RunWithin). AlikeFrom ue (opens_at ue x.units) (goes a.lines x) w) b.goes_so
+      (subst (λ (w : RunWithin). AlikeFrom ue (opens_at ue x.units) w (carried_out world node None (first_of world (by_tick node)) b.outputs b.units t)) a.goes_so
+      (ticked_alike world ue node None (opens_at ue x.units) (unit_for ue node a.unit) a.outputs b.outputs both.first both.second both.same a.units b.units s t base)))
+
+  -- ---- the terminal is set up without messages
+
+  placed_made : (plan : Plan) (s t : RunState) (a : IsPlaced ue plan s t) → Made (plain_world reading) (events.Static plan) s (goes [] t)
+  placed_made plan s t a =
+      subst (λ (x : RunState). Made (plain_world reading) (events.Static plan) s (goes [] x)) (sym a.sets_up) (sets_up s plan refl a.free a.room a.teids)
+
+  static_owned : (plan : Plan) (s x : RunState) → After s → IsPlaced ue plan s x → AreOwned (all_set_up (units_placed plan s.units))
+  static_owned plan s x p a =
+      placed_owned s.units plan (or_parts (was_attached s plan.ue) _ a.free).1 a.teids (sound_on reading s p).owned
+
+  pub placed_shares : (plan : Plan) (s x t y : RunState) → After s → After t → Share s t → IsPlaced ue plan s x → IsPlaced ue plan t y
+      → shared_but_room s.units (up_id plan.gnb plan.up) ≡ shared_but_room t.units (up_id plan.gnb plan.up)
+      → shared_but_room s.units (du_id plan.gnb plan.du) ≡ shared_but_room t.units (du_id plan.gnb plan.du) → Share x y
+  placed_shares plan s x t y p q h a b up du =
+      let owned = static_owned plan s x p a in
+      let also = static_owned plan t y q b in
+      let agree : Agree ue (all_set_up (units_placed plan s.units)) (all_set_up (units_placed plan t.units)) =
+      placed_agree plan ue a.its s.units t.units (agree_of s t h) up du owned also in
+      let first : ℕ = (up_of s.units plan.gnb plan.up).next_teid in
+      let path : ℕ → CorePath = λ n. record { up = up_id plan.gnb plan.up; n3 = n3_from 1 n plan.bearers } in
+      subst (λ (z : RunState). Share z y) (sym a.sets_up) (subst (λ (z : RunState). Share (statically plan s) z) (sym b.sets_up) (record {
+        units = agree.units;
+        tunnels = agree.tunnels;
+        core = λ i. record {
+          path = (there plan ue a.its s.core.paths (path first)
+              ∙ ap (λ (n : ℕ). Some (path n)) (next_up plan ue a.its s.units t.units (agree_of s t h) up du owned also)
+              ∙ sym (there plan ue a.its t.core.paths (path (up_of t.units plan.gnb plan.up).next_teid))) i;
+          requests = (h.core i).requests;
+        };
+        letters = h.letters;
+        items = λ end key is. ap (items_of key) (tunnels_at s end) ∙ h.items end key is ∙ sym (ap (items_of key) (tunnels_at t end));
+        radios = h.radios;
+        books = h.books;
+        connected = there plan ue a.its s.connected 1 ∙ sym (there plan ue a.its t.connected 1);
+        plan = there plan ue a.its s.plans plan ∙ sym (there plan ue a.its t.plans plan);
+      }))
+    where
+      tunnels_at : (z : RunState) (end : TunnelEnd) → at tunnel_cmp [] (statically plan z).tunnels end ≡ at tunnel_cmp [] z.tunnels end
+      tunnels_at z end =
+          let up : ℕ = (up_of z.units plan.gnb plan.up).next_teid in
+          let du : ℕ = (du_of z.units plan.gnb plan.du).next_teid in
+          from_same (du_id plan.gnb plan.du) du plan.bearers (tunnels_from (up_id plan.gnb plan.up) up (2 * plan.bearers) z.tunnels) end
+          ∙ from_same (up_id plan.gnb plan.up) up (2 * plan.bearers) z.tunnels end
+
+  -- ---- a state after acts comes after steps
+
+  pub acted_after : (acts : List TerminalAct) (s : RunState) → HasActed reading ue acts s → After s
+  acted_after acts s (not_yet list x none first) = subst (λ (y : RunState). After y) (sym first) none_yet
+  acted_after acts s (by_others list event x y e told p made none goes_so) =
+      one_more event x y told (acted_after list x p) (subst (λ (o : RunOutcome). Made (plain_world reading) event x o) goes_so made)
+  acted_after acts s (by_itself list more cause place x y p a is) = one_more a.event x y _ (acted_after more x p) (itself_made cause place x y a)
+  acted_after acts s (by_offer list more bearer packet x y p a is) =
+      one_more (events.Offer ue bearer Dl packet) x y _ (acted_after more x p) (offer_made bearer packet x y a)
+  acted_after acts s (by_core list more from message x y p a is) = one_more events.Pump x y _ (acted_after more x p) (core_made from message x y a)
+  acted_after acts s (by_loss list more end item x y p a is) = one_more events.Pump x y _ (acted_after more x p) (loss_made end item x y a)
+  acted_after acts s (by_ticking list more node x y p a is) = one_more a.event x y _ (acted_after more x p) (tick_made node x y a)
+  acted_after acts s (by_static list more plan x y p a is) = one_more (events.Static plan) x y _ (acted_after more x p) (placed_made plan x y a)

@@ -1,3 +1,5 @@
 pub mod Opens
+pub mod Ticks
+pub mod Placed
 pub mod Alike
 pub mod Acts
