@@ -89,7 +89,7 @@ another ue Core is = (next_ue ue, (tt, differs ue))
 module _ (reading : Reading) (t : RunState) (sound : Sound t) (who : UeId) where
   -- ---- an item stands where a TEID is open, and a ready radio has its home: both are somebody's
 
-  item_never : (node : NodeId) (teid : ℕ) (key : EntityKey) (load : Load Pdu) (x : Taken Pdu) → IsOwnAt t.units node teid key load
+  pub item_never : (node : NodeId) (teid : ℕ) (key : EntityKey) (load : Load Pdu) (x : Taken Pdu) → IsOwnAt t.units node teid key load
       → stands t node teid ≡ true → given_in t.units node (Some (packet_input teid x)) ≡ None → ⊥
   item_never (up_id gnb number) teid key load x own there is = by (find nat_cmp (up_of t.units gnb number).tunnels teid) refl is
     where
@@ -111,7 +111,7 @@ module _ (reading : Reading) (t : RunState) (sound : Sound t) (who : UeId) where
   item_never Core teid key load x own there is = own
   item_never (Ue n) teid key load x own there is = own
 
-  air_never : (home : NodeId) (key : EntityKey) (item : Item (Written Pdu)) → ready_home t key.ue ≡ Some home → (d : Dir)
+  pub air_never : (home : NodeId) (key : EntityKey) (item : Item (Written Pdu)) → ready_home t key.ue ≡ Some home → (d : Dir)
       → given_ue reading t.units (receiver_by d key.ue home) (carried_for item) ≡ None → ⊥
   air_never home key item ready Dl is = absurd cc
   air_never (du_id gnb number) key item ready Ul is = absurd cc
@@ -120,7 +120,7 @@ module _ (reading : Reading) (t : RunState) (sound : Sound t) (who : UeId) where
   air_never (up_id gnb number) key item ready Ul is = no_home t (up_id gnb number) key.ue (λ u. refl) ready
   air_never Core key item ready Ul is = no_home t Core key.ue (λ u. refl) ready
 
-  ack_never : (home : NodeId) (key : EntityKey) (item : Item (Written Pdu)) → ready_home t key.ue ≡ Some home → (d : Dir)
+  pub ack_never : (home : NodeId) (key : EntityKey) (item : Item (Written Pdu)) → ready_home t key.ue ≡ Some home → (d : Dir)
       → given_ue reading t.units (sender_by d key.ue home) (confirmed_for item) ≡ None → ⊥
   ack_never home key item ready Ul is = absurd cc
   ack_never (du_id gnb number) key item ready Dl is = absurd cc
@@ -147,7 +147,11 @@ module _ (reading : Reading) (t : RunState) (sound : Sound t) (who : UeId) where
   silent event (by_order (up_id gnb number) order) at other none node = absurd cc
   silent event (by_order (du_id gnb number) order) at other none node = absurd cc
   silent event (by_order (Ue n) order) at other none node = absurd cc
-  silent event (by_tick n) at other none node = absurd other
+  silent event (by_tick Core) at other none node = ((tt, tt), (tt, refl))
+  silent event (by_tick (Ue n)) at other none node = absurd cc
+  silent event (by_tick (CuCp gnb)) at other none node = absurd other
+  silent event (by_tick (up_id gnb number)) at other none node = absurd other
+  silent event (by_tick (du_id gnb number)) at other none node = absurd other
   silent event (by_attach plan) at other none node = absurd cc
   silent event (by_release gnb ue) at other none node = absurd cc
   silent event (by_offer ue bearer p) at other none node = absurd cc

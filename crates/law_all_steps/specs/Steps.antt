@@ -1,7 +1,7 @@
 -- States after any steps of a run, and steps that are no business of a terminal.
 use Rattle.std.specs.Prelude.{◌≡◌, ◌≢◌, true, List, ◌∷◌, Option, Some, None}
 use Rattle.gnb_types.specs.declared.names.NodeId.{NodeId}
-use Rattle.gnb_types.specs.declared.names.NodeId.TheVariants.{Ue}
+use Rattle.gnb_types.specs.declared.names.NodeId.TheVariants.{Core, Ue}
 use Rattle.gnb_types.specs.declared.names.UeId.{UeId}
 use Rattle.gnb_types.specs.Orders.{tunnel_cmp}
 use Rattle.tables.specs.Tables.{find}
@@ -27,8 +27,14 @@ pub data AfterSteps (reading : Reading) : RunState → Type 0 where
 
 -- ---- a step is no business of a terminal: it is another one's; or it is for none, no tick, and not made by the terminal
 
+-- a tick of a unit is everyone's; the core has none, and a terminal's is its own
+abbrev pub HasNoTick : NodeId → Type 0
+HasNoTick Core = Unit {0}
+HasNoTick (Ue n) = Unit {0}
+HasNoTick node = ⊥
+
 abbrev pub IsNoTick : {M L P : Type 0} → Cause M L P → Type 0
-IsNoTick (by_tick node) = ⊥
+IsNoTick (by_tick node) = HasNoTick node
 IsNoTick cause = Unit {0}
 
 abbrev pub IsNotMadeBy : UeId → NodeId → Type 0

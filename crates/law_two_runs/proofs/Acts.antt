@@ -21,7 +21,8 @@ use Rattle.law_all_steps.specs.Steps.{AfterSteps, NoneFor}
 use Rattle.law_all_steps.proofs.Shared.{share_same, share_back, share_then}
 use Rattle.law_all_steps.proofs.Others.{SharesAt, made_shares}
 use Rattle.law_alike_steps.specs.Places.{Shared, shared_at, RunCause, Place, in_place}
-use Rattle.law_two_runs.specs.Acts.{TerminalAct, acts_by, is_offered, is_taken, is_lost, ticks_at, is_placed, shared_but_room, ActsItself, IsOffered, IsTaken, IsLost, IsTicked, IsPlaced, HasActed, not_yet, by_others, by_itself, by_offer, by_core, by_loss, by_ticking, by_static}
+use Rattle.law_alike_states.specs.States.{shared_but_room, IsTicked}
+use Rattle.law_two_runs.specs.Acts.{TerminalAct, acts_by, is_offered, is_taken, is_lost, ticks_at, is_placed, ActsItself, IsOffered, IsTaken, IsLost, IsPlaced, HasActed, not_yet, by_others, by_itself, by_offer, by_core, by_loss, by_ticking, by_static}
 use Rattle.law_two_runs.proofs.Alike.{acted_after, itself_shares, offer_shares, core_shares, loss_shares, tick_shares, placed_shares}
 
 -- ---- what two acts have in common, where they are the same

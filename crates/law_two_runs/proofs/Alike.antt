@@ -54,14 +54,15 @@ use Rattle.law_all_steps.proofs.Paths.{step_gives, sound_on}
 use Rattle.law_all_steps.proofs.Others.{SharesAt, made_shares}
 use Rattle.law_alike_steps.specs.Places.{shared_at, RunCause, Place, in_place}
 use Rattle.law_alike_steps.specs.Alike.{Alike, AlikeFrom, Agree, Together}
-use Rattle.law_two_runs.specs.Acts.{TerminalAct, acts_by, is_offered, is_taken, is_lost, RunWithin, core_offers, core_does, ActsItself, IsOffered, IsTaken, IsLost, shared_but_room, IsTicked, IsPlaced, HasActed, not_yet, by_others, by_itself, by_offer, by_core, by_loss, by_ticking, by_static}
+use Rattle.law_alike_states.specs.States.{shared_but_room, IsTicked, Ticked}
+use Rattle.law_two_runs.specs.Acts.{TerminalAct, acts_by, is_offered, is_taken, is_lost, RunWithin, core_offers, core_does, ActsItself, IsOffered, IsTaken, IsLost, IsPlaced, HasActed, not_yet, by_others, by_itself, by_offer, by_core, by_loss, by_ticking, by_static}
 use Rattle.law_alike_steps.proofs.Beside.{then_alike, checks_alike, books_alike, put_on_tunnel_alike, all_alike}
 use Rattle.law_alike_steps.proofs.Steps.{same_in_place, carried_alike}
 use Rattle.law_alike_steps.proofs.Firsts.{firsts_alike}
 use Rattle.law_alike_steps.proofs.Units.{RunUnits, RunPuts, all_same, written_for, together}
-use Rattle.law_two_runs.proofs.Ticks.{unit_for, ticked_alike, Ticked, units_tick}
-use Rattle.law_two_runs.proofs.Placed.{there, next_up, placed_agree}
-use Rattle.law_two_runs.proofs.Opens.{opens_at, stand_alike, items_alike}
+use Rattle.law_alike_states.proofs.Ticks.{unit_for, ticked_alike, units_tick}
+use Rattle.law_alike_states.proofs.Placed.{there, next_up, placed_agree}
+use Rattle.law_alike_states.proofs.Opens.{opens_at, stand_alike, items_alike}
 
 abbrev CoreOf : Type 0
 CoreOf = CoreRecord (Message Token) Token
@@ -383,7 +384,7 @@ module _ (reading : Reading) (ue : UeId) where
       let world = plain_world reading in
       let later : After x = one_more a.event s x _ p (tick_made node s x a) in
       let too : After y = one_more b.event t y _ q (tick_made node t y b) in
-      let both : Ticked reading ue a.outputs b.outputs a.units b.units = units_tick reading ue node s x t y p q (agree_of s t h) (ap sn_in h.plan) a b shared in
+      let both : Ticked ue a.outputs b.outputs a.units b.units = units_tick reading ue node s x t y p q (agree_of s t h) (ap sn_in h.plan) a b shared in
       let first : x.units ≡ a.units = same_units world a.event (by_tick node) a.outputs a.units s x a.lines a.acted a.goes_so in
       let second : y.units ≡ b.units = same_units world b.event (by_tick node) b.outputs b.units t y b.lines b.acted b.goes_so in
       let agree : Agree ue x.units y.units = subst (λ (u : RunUnits). Agree ue u y.units) (sym first)

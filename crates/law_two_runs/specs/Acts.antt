@@ -1,7 +1,7 @@
 -- The acts of a terminal along the steps of a run, the newest first.
 use Rattle.std.specs.Prelude.{ℕ, ◌≡◌, true, false, ◌&&◌, ◌||◌, List, [], ◌∷◌, Option, Some, None}
 use Rattle.gnb_types.specs.declared.names.NodeId.{NodeId}
-use Rattle.gnb_types.specs.declared.names.NodeId.TheVariants.{CuCp, CuUp as up_id, Du as du_id, Core}
+use Rattle.gnb_types.specs.declared.names.NodeId.TheVariants.{CuUp as up_id, Du as du_id, Core, Ue}
 use Rattle.gnb_types.specs.declared.names.UeId.{UeId}
 use Rattle.gnb_types.specs.declared.names.BearerId.{BearerId}
 use Rattle.gnb_types.specs.declared.names.Dir.TheVariants.{Dl}
@@ -19,25 +19,22 @@ use Rattle.transport_defs.specs.declared.Item.{Item}
 use Rattle.transport_defs.specs.declared.Letter.{Letter}
 use Rattle.transport_defs.specs.Links.{letter}
 use Rattle.run_defs.specs.Lines.{RunLine}
-use Rattle.run_defs.specs.Units.{Units, cp_of, up_of, du_of}
+use Rattle.run_defs.specs.Units.{Units, up_of, du_of}
 use Rattle.run_defs.specs.Written.{Written}
 use Rattle.run_defs.specs.States.{new_state, goes, ◌next◌, Within, RunStep, core_stepped, letter_for, sn_of, was_attached, entity}
 use Rattle.run_defs.specs.Steps.{check_spans, put_on_tunnel, put_out_all, too_many_letters, carried_out}
 use Rattle.run_defs.specs.Conditions.{is_held_by_units, statically}
 use Rattle.run_defs.specs.Events.{offered, landed_as}
 use Rattle.run_defs.specs.Runs.{Reading, plain_world}
-use Rattle.law_steps.specs.Causes.{by_tick, node_of, given_of, count_of, first_of}
+use Rattle.law_steps.specs.Causes.{node_of, given_of, count_of, first_of}
 use Rattle.law_steps.specs.Made.{IsDone, Made}
 use Rattle.law_slices.specs.Slices.{message_ue}
 use Rattle.law_run_slices.specs.Units.{given_ue}
 use Rattle.law_own_steps.specs.Own.{IsActed}
 use Rattle.law_own_events.specs.Events.{RunState, RunOutcome}
 use Rattle.law_all_steps.specs.Steps.{NoneFor}
-use Rattle.law_cp_slice.specs.CuCps.{cp_shared}
-use Rattle.law_up_slice.specs.CuUps.{up_shared}
-use Rattle.law_du_slice.specs.Dus.{du_shared}
-use Rattle.law_run_ticks.specs.Ticks.{IsUnit}
-use Rattle.law_alike_steps.specs.Places.{Shared, of_cp, of_up, of_du, of_none, shared_at, RunCause, Place, in_place}
+use Rattle.law_alike_states.specs.States.{shared_but_room, IsTicked}
+use Rattle.law_alike_steps.specs.Places.{Shared, shared_at, RunCause, Place, in_place}
 
 -- ---- the acts of a terminal: a unit's step, what the core puts and takes, and an item that is lost; a tick of a unit, which is everyone's;
 -- and that it is set up without messages
@@ -49,13 +46,6 @@ pub data TerminalAct : Type 0 where
   is_lost : (end : TunnelEnd) (item : Item (Written (Load Pdu))) → TerminalAct
   ticks_at : (node : NodeId) (shared : Shared) → TerminalAct
   is_placed : (plan : Plan) (up du : Shared) → TerminalAct
-
--- the same without room, which says nothing to a tick, and to a terminal that is set up without messages
-abbrev pub shared_but_room : {M C : Type 0} → Units M C → NodeId → Shared
-shared_but_room units (CuCp gnb) = of_cp (cp_shared (cp_of units gnb))
-shared_but_room units (up_id gnb number) = of_up (up_shared (up_of units gnb number)) (λ count quota. false)
-shared_but_room units (du_id gnb number) = of_du (du_shared (du_of units gnb number))
-shared_but_room units node = of_none
 
 abbrev pub RunWithin : Type 0
 RunWithin = Within (Message Token) Token (Written (Load Pdu)) (Written Pdu)
@@ -114,17 +104,6 @@ pub record IsLost (ue : UeId) (end : TunnelEnd) (item : Item (Written (Load Pdu)
   pub found : find tunnel_cmp s.tunnels end ≡ Some (item ∷ rest)
   pub its : item.key.ue ≡ ue
   pub loses : t ≡ record s { tunnels = put tunnel_cmp s.tunnels end rest }
-
--- a unit has a tick
-pub record IsTicked (reading : Reading) (node : NodeId) (s t : RunState) : Type 0 where
-  pub event : Event
-  pub outputs : List (Put (Message Token) (Written (Load Pdu)) (Written Pdu))
-  pub units : Units (Message Token) Token
-  pub lines : List (RunLine (Message Token))
-  pub unit : IsUnit node
-  pub acted : IsActed (plain_world reading) event s (by_tick node) outputs units
-  pub done : IsDone outputs
-  pub goes_so : carried_out (plain_world reading) node None (first_of (plain_world reading) (by_tick node)) outputs units s ≡ goes lines t
 
 -- the terminal is set up without messages
 pub record IsPlaced (ue : UeId) (plan : Plan) (s t : RunState) : Type 0 where

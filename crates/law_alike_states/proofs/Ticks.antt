@@ -1,23 +1,20 @@
 -- A tick of a unit does the same for a terminal in two states that share its slice.
-use Rattle.std.proofs.Common.{◌≡◌, ◌==◌, ℕ, ◌+◌, length, Bool, true, false, List, [], ◌∷◌, ◌++◌, Option, None, refl, sym, ap, ◌∙◌, subst}
+use Rattle.std.proofs.Common.{◌≡◌, ◌==◌, ℕ, ◌+◌, length, Bool, true, false, List, [], ◌∷◌, ◌++◌, Option, refl, sym, ap, ◌∙◌, subst}
 use Rattle.std.specs.Prelude.{if◌then◌else◌}
 use Rattle.std.specs.List.{AllByRecursion}
 use Rattle.gnb_types.specs.declared.names.NodeId.{NodeId}
 use Rattle.gnb_types.specs.declared.names.NodeId.TheVariants.{CuCp, CuUp as up_id, Du as du_id, Core, Ue}
 use Rattle.gnb_types.specs.declared.names.UeId.{UeId}
 use Rattle.gnb_types.specs.declared.keys.TunnelEnd.{TunnelEnd}
-use Rattle.message_types.specs.declared.rrc.Token.{Token}
-use Rattle.unit_defs.specs.Ways.{Message, Pdu, Load, Put, control, packet, radio, deliver, dropped, held, opened, closed, failed, no}
+use Rattle.unit_defs.specs.Ways.{Put, control, packet, radio, deliver, dropped, held, opened, closed, failed, no}
 use Rattle.transport_defs.specs.declared.Letter.{Letter}
 use Rattle.transport_defs.specs.Links.{Bag, put_letter}
 use Rattle.run_defs.specs.Lines.{RunLine, put_message}
 use Rattle.run_defs.specs.Units.{Units}
-use Rattle.run_defs.specs.Written.{Written, WrittenStepped}
-use Rattle.run_defs.specs.States.{State, World, goes, told_before, ◌next◌, goes_on, Within, stepped, tick_for, sn_in, sn_of}
+use Rattle.run_defs.specs.Written.{WrittenStepped}
+use Rattle.run_defs.specs.States.{State, World, goes, told_before, ◌next◌, goes_on, Within, stepped, tick_for, sn_of}
 use Rattle.run_defs.specs.Steps.{check_spans, reconnect_node, put_control, put_out, put_out_all, carried_out}
 use Rattle.run_defs.specs.Runs.{Reading, plain_world}
-use Rattle.law_steps.specs.Causes.{by_tick, first_of}
-use Rattle.law_slices.specs.Slices.{core_slice}
 use Rattle.law_slice_arguments.specs.Views.{StayAlikeAt}
 use Rattle.law_tick_slices.specs.Ticks.{outputs_of}
 use Rattle.law_others_stay.specs.Others.{letters_of, IsNodeFor}
@@ -31,10 +28,10 @@ use Rattle.law_alike_steps.specs.Places.{of_cp, of_up, of_du}
 use Rattle.law_alike_steps.specs.Alike.{Alike, AlikeFrom, Agree}
 use Rattle.law_alike_steps.proofs.Beside.{letters_end, then_alike, checks_alike}
 use Rattle.law_alike_steps.proofs.Steps.{nodes_alike}
-use Rattle.law_alike_steps.proofs.Units.{RunUnits, RunPuts, agrees, only_answered}
+use Rattle.law_alike_steps.proofs.Units.{RunUnits, agrees, only_answered}
 use Rattle.law_own_events.specs.Events.{RunState}
 use Rattle.law_all_steps.specs.Steps.{AfterSteps}
-use Rattle.law_two_runs.specs.Acts.{shared_but_room, IsTicked}
+use Rattle.law_alike_states.specs.States.{shared_but_room, IsTicked, Ticked}
 
 -- ---- control messages of a terminal among what is told
 
@@ -163,16 +160,9 @@ module _ (reading : Reading) (ue : UeId) where
   stay_at Core u v is h e = absurd is
   stay_at (Ue n) u v is h e = absurd is
 
-  -- the same is put for the terminal, nothing but messages is put, and its slice is the same at all units
-  pub record Ticked (xs ys : RunPuts) (a b : RunUnits) : Type 0 where
-    pub same : outputs_of ue.0 xs ≡ outputs_of ue.0 ys
-    pub first : AllByRecursion IsTold xs
-    pub second : AllByRecursion IsTold ys
-    pub units : Agree ue a b
-
   pub units_tick : (node : NodeId) (s x t y : RunState) → AfterSteps reading s → AfterSteps reading t → Agree ue s.units t.units → sn_of s ue ≡ sn_of t ue
       → (a : IsTicked reading node s x) (b : IsTicked reading node t y) → shared_but_room s.units node ≡ shared_but_room t.units node
-      → Ticked a.outputs b.outputs a.units b.units
+      → Ticked ue a.outputs b.outputs a.units b.units
   units_tick node s x t y p q h lengths a b shared =
       let world = plain_world reading in
       let both : TickAlike node ue (stepped a.outputs a.units) (stepped b.outputs b.units) =

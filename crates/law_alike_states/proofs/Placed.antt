@@ -1,9 +1,8 @@
 -- A terminal that is set up without messages is set up alike in two states that share its slice, where the same TEIDs come next.
-use Rattle.std.proofs.Common.{◌≡◌, ℕ, ◌+◌, ◌*◌, Bool, true, false, cond, ◌&&◌, List, Option, Some, None, refl, sym, ap, ◌∙◌, subst}
+use Rattle.std.proofs.Common.{◌≡◌, ℕ, ◌+◌, Bool, true, false, cond, List, Option, Some, None, refl, sym, ap, ◌∙◌}
 use Rattle.std.specs.Prelude.{unwrap_or}
 use Rattle.std.specs.Option.{option_map}
-use Rattle.std.specs.Ordering.{eq_by_cmp, is_eq}
-use Rattle.std.specs.Cmp.{Equal-is}
+use Rattle.std.specs.Ordering.{eq_by_cmp}
 use Rattle.gnb_types.specs.declared.names.Gnb.{Gnb}
 use Rattle.gnb_types.specs.declared.names.Gnb.TheVariants.{A, B}
 use Rattle.gnb_types.specs.declared.names.NodeId.{NodeId}
@@ -11,14 +10,14 @@ use Rattle.gnb_types.specs.declared.names.NodeId.TheVariants.{CuUp as up_id, Du 
 use Rattle.gnb_types.specs.declared.names.UeId.{UeId}
 use Rattle.gnb_types.specs.declared.plans.Plan.{Plan}
 use Rattle.gnb_types.specs.Orders.{ue_cmp, node_cmp}
-use Rattle.gnb_types.proofs.OrderLemmas.{node_total, node_exact, ue_total}
+use Rattle.gnb_types.proofs.OrderLemmas.{node_total, ue_total}
 use Rattle.tables.specs.Tables.{find, put, at}
 use Rattle.tables.proofs.TableLaws.{at-put, find-put-same}
 use Rattle.unit_defs.specs.Ue.{UeNode, new_ue, placed}
 use Rattle.unit_defs.specs.UpRecords.{UpContext, CuUp}
 use Rattle.unit_defs.specs.CuUp.{new_cu_up}
 use Rattle.unit_defs.specs.Du.{DuContext, Du, new_du}
-use Rattle.unit_defs.specs.CpRecords.{CpTerminal, CuCpRecord, terminal_in}
+use Rattle.unit_defs.specs.CpRecords.{CuCpRecord, terminal_in}
 use Rattle.unit_defs.specs.Static.{up_context, up_placed, du_context, du_placed, cp_context, cp_placed, cp_set_up, up_set_up, du_set_up}
 use Rattle.run_defs.specs.Units.{Units, cp_of, with_cp, up_of, with_up, du_of, with_du, with_ue}
 use Rattle.run_defs.specs.Conditions.{all_set_up, units_placed}
@@ -27,13 +26,13 @@ use Rattle.law_owner_facts.specs.Owned.{AreOwned}
 use Rattle.law_slice_owners.proofs.Owners.{tunnels_same as up_tunnels_same}
 use Rattle.law_slices.specs.Slices.{Requests, requests_of}
 use Rattle.law_cp_slice.specs.CuCps.{cp_slice}
-use Rattle.law_up_slice.specs.CuUps.{UpPart, up_part, up_slice, UpShared}
-use Rattle.law_du_slice.specs.Dus.{du_slice, DuShared}
+use Rattle.law_up_slice.specs.CuUps.{up_part, UpShared}
+use Rattle.law_du_slice.specs.Dus.{DuShared}
 use Rattle.law_alike_steps.specs.Places.{of_up, of_du}
 use Rattle.law_alike_steps.specs.Alike.{Agree}
 use Rattle.law_alike_steps.proofs.Units.{RunUnits}
 use Rattle.law_all_steps.proofs.Statics.{du_tunnels_same}
-use Rattle.law_two_runs.specs.Acts.{shared_but_room}
+use Rattle.law_alike_states.specs.States.{shared_but_room}
 
 -- what stands at the terminal's key after a put there
 module _ (plan : Plan) (ue : UeId) (its : plan.ue ≡ ue) where
