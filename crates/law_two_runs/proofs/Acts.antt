@@ -1,5 +1,5 @@
 -- After the same acts a terminal's slice is the same.
-use Rattle.std.proofs.Common.{◌≡◌, ℕ, List, [], ◌∷◌, refl, sym, ap, ◌∙◌, subst}
+use Rattle.std.proofs.Common.{◌≡◌, ℕ, List, [], ◌∷◌, sym, ap, ◌∙◌, subst}
 use Rattle.gnb_types.specs.declared.names.NodeId.{NodeId}
 use Rattle.gnb_types.specs.declared.names.NodeId.TheVariants.{CuUp as up_id, Du as du_id}
 use Rattle.gnb_types.specs.declared.names.UeId.{UeId}
@@ -22,8 +22,8 @@ use Rattle.law_all_steps.proofs.Shared.{share_same, share_back, share_then}
 use Rattle.law_all_steps.proofs.Others.{SharesAt, made_shares}
 use Rattle.law_alike_steps.specs.Places.{Shared, shared_at, RunCause, Place, in_place}
 use Rattle.law_alike_states.specs.States.{shared_but_room, IsTicked}
-use Rattle.law_two_runs.specs.Acts.{TerminalAct, acts_by, is_offered, is_taken, is_lost, ticks_at, is_placed, ActsItself, IsOffered, IsTaken, IsLost, IsPlaced, HasActed, not_yet, by_others, by_itself, by_offer, by_core, by_loss, by_ticking, by_static}
-use Rattle.law_two_runs.proofs.Alike.{acted_after, itself_shares, offer_shares, core_shares, loss_shares, tick_shares, placed_shares}
+use Rattle.law_two_runs.specs.Acts.{TerminalAct, acts_by, is_offered, is_taken, is_lost, ticks_at, is_placed, hears, ActsItself, IsOffered, IsTaken, IsLost, IsPlaced, Heard, IsHeard, HasActed, not_yet, by_others, by_itself, by_offer, by_core, by_loss, by_ticking, by_static, by_hearing}
+use Rattle.law_two_runs.proofs.Alike.{acted_after, itself_shares, offer_shares, core_shares, loss_shares, tick_shares, placed_shares, heard_shares}
 
 -- ---- what two acts have in common, where they are the same
 
@@ -72,6 +72,9 @@ up_in a b v w x y e = cc
 du_in : (a b : Plan) (v w x y : Shared) → is_placed a v w ≡ is_placed b x y → w ≡ y
 du_in a b v w x y e = cc
 
+heard_in : (a b : Heard) → hears a ≡ hears b → a ≡ b
+heard_in a b e = cc
+
 module _ (reading : Reading) (ue : UeId) where
   abbrev Share : RunState → RunState → Type 0
   Share s t = ShareSlice ue s t
@@ -98,6 +101,7 @@ module _ (reading : Reading) (ue : UeId) where
   from_first acts s t none first (by_loss list more end item x y p a is) = absurd cc
   from_first acts s t none first (by_ticking list rest node u v q b so) = absurd cc
   from_first acts s t none first (by_static list rest plan u v q b so) = absurd cc
+  from_first acts s t none first (by_hearing list rest heard u v q b so) = absurd cc
 
   itself_then : (acts more : List TerminalAct) (cause : RunCause) (place : Place) (s x : RunState) → Acted more s → ActsItself reading ue cause place s x
       → acts ≡ acts_by cause (shared_at s.units (node_of (in_place place cause))) ∷ more → Shares more s → Shares acts x
@@ -119,6 +123,7 @@ module _ (reading : Reading) (ue : UeId) where
   itself_then acts more cause place s x p a is again t (by_loss list rest end item u v q b so) = absurd cc
   itself_then acts more cause place s x p a is again t (by_ticking list rest node u v q b so) = absurd cc
   itself_then acts more cause place s x p a is again t (by_static list rest plan u v q b so) = absurd cc
+  itself_then acts more cause place s x p a is again t (by_hearing list rest heard u v q b so) = absurd cc
 
   offer_then : (acts more : List TerminalAct) (bearer : BearerId) (packet : List ℕ) (s x : RunState) → Acted more s → IsOffered reading ue bearer packet s x
       → acts ≡ is_offered bearer packet ∷ more → Shares more s → Shares acts x
@@ -139,6 +144,7 @@ module _ (reading : Reading) (ue : UeId) where
   offer_then acts more bearer packet s x p a is again t (by_loss list rest end item u v q b so) = absurd cc
   offer_then acts more bearer packet s x p a is again t (by_ticking list rest node u v q b so) = absurd cc
   offer_then acts more bearer packet s x p a is again t (by_static list rest plan u v q b so) = absurd cc
+  offer_then acts more bearer packet s x p a is again t (by_hearing list rest heard u v q b so) = absurd cc
 
   core_then : (acts more : List TerminalAct) (from : NodeId) (message : Message Token) (s x : RunState) → Acted more s → IsTaken reading ue from message s x
       → acts ≡ is_taken from message ∷ more → Shares more s → Shares acts x
@@ -159,6 +165,7 @@ module _ (reading : Reading) (ue : UeId) where
   core_then acts more from message s x p a is again t (by_loss list rest end item u v q b so) = absurd cc
   core_then acts more from message s x p a is again t (by_ticking list rest node u v q b so) = absurd cc
   core_then acts more from message s x p a is again t (by_static list rest plan u v q b so) = absurd cc
+  core_then acts more from message s x p a is again t (by_hearing list rest heard u v q b so) = absurd cc
 
   loss_then : (acts more : List TerminalAct) (end : TunnelEnd) (item : Item (Written (Load Pdu))) (s x : RunState) → Acted more s → IsLost ue end item s x
       → acts ≡ is_lost end item ∷ more → Shares more s → Shares acts x
@@ -179,6 +186,7 @@ module _ (reading : Reading) (ue : UeId) where
   loss_then acts more end item s x p a is again t (by_core list rest from message u v q b so) = absurd cc
   loss_then acts more end item s x p a is again t (by_ticking list rest node u v q b so) = absurd cc
   loss_then acts more end item s x p a is again t (by_static list rest plan u v q b so) = absurd cc
+  loss_then acts more end item s x p a is again t (by_hearing list rest heard u v q b so) = absurd cc
 
   tick_then : (acts more : List TerminalAct) (node : NodeId) (s x : RunState) → Acted more s → IsTicked reading node s x
       → acts ≡ ticks_at node (shared_but_room s.units node) ∷ more → Shares more s → Shares acts x
@@ -200,6 +208,7 @@ module _ (reading : Reading) (ue : UeId) where
   tick_then acts more node s x p a is again t (by_core list rest from message u v q b so) = absurd cc
   tick_then acts more node s x p a is again t (by_loss list rest end item u v q b so) = absurd cc
   tick_then acts more node s x p a is again t (by_static list rest plan u v q b so) = absurd cc
+  tick_then acts more node s x p a is again t (by_hearing list rest heard u v q b so) = absurd cc
 
   static_then : (acts more : List TerminalAct) (plan : Plan) (s x : RunState) → Acted more s → IsPlaced ue plan s x
       → acts ≡ is_placed plan (shared_but_room s.units (up_id plan.gnb plan.up)) (shared_but_room s.units (du_id plan.gnb plan.du)) ∷ more
@@ -223,6 +232,27 @@ module _ (reading : Reading) (ue : UeId) where
   static_then acts more plan s x p a is again t (by_core list rest from message u v q b so) = absurd cc
   static_then acts more plan s x p a is again t (by_loss list rest end item u v q b so) = absurd cc
   static_then acts more plan s x p a is again t (by_ticking list rest node u v q b so) = absurd cc
+  static_then acts more plan s x p a is again t (by_hearing list rest heard u v q b so) = absurd cc
+
+  hear_then : (acts more : List TerminalAct) (heard : Heard) (s x : RunState) → Acted more s → IsHeard reading ue heard s x
+      → acts ≡ hears heard ∷ more → Shares more s → Shares acts x
+  hear_then acts more heard s x p a is again t (not_yet list u none start) = absurd cc
+  hear_then acts more heard s x p a is again t (by_others list event u v e told q made apart goes_so) =
+      share_then ue x u v (hear_then acts more heard s x p a is again u q)
+      (others_share event u v e told (acted_after reading ue list u q) made apart goes_so)
+  hear_then acts more heard s x p a is again t (by_hearing list rest second u v q b so) =
+      let both = sym is ∙ so in
+      let one = act_of _ _ more rest both in
+      let left = rest_of _ _ more rest both in
+      heard_shares reading ue heard s x u v (acted_after reading ue more s p) (acted_after reading ue rest u q)
+      (again u (subst (λ (list : List TerminalAct). Acted list u) (sym left) q)) a
+      (subst (λ (k : Heard). IsHeard reading ue k u v) (sym (heard_in heard second one)) b)
+  hear_then acts more heard s x p a is again t (by_itself list rest cause place u v q b so) = absurd cc
+  hear_then acts more heard s x p a is again t (by_offer list rest bearer packet u v q b so) = absurd cc
+  hear_then acts more heard s x p a is again t (by_core list rest from message u v q b so) = absurd cc
+  hear_then acts more heard s x p a is again t (by_loss list rest end item u v q b so) = absurd cc
+  hear_then acts more heard s x p a is again t (by_ticking list rest node u v q b so) = absurd cc
+  hear_then acts more heard s x p a is again t (by_static list rest plan u v q b so) = absurd cc
 
   -- ---- the same acts
 
@@ -236,3 +266,4 @@ module _ (reading : Reading) (ue : UeId) where
   same_acts acts s (by_loss list more end item x y p a is) t q = loss_then list more end item x y p a is (same_acts more x p) t q
   same_acts acts s (by_ticking list more node x y p a is) t q = tick_then list more node x y p a is (same_acts more x p) t q
   same_acts acts s (by_static list more plan x y p a is) t q = static_then list more plan x y p a is (same_acts more x p) t q
+  same_acts acts s (by_hearing list more heard x y p a is) t q = hear_then list more heard x y p a is (same_acts more x p) t q

@@ -1,5 +1,5 @@
 -- Two runs in which a terminal's acts are the same have its whole slice in common: each act keeps it so, and steps of others leave it.
-use Rattle.std.proofs.Common.{◌≡◌, ℕ, ◌+◌, ◌*◌, Bool, false, List, [], ◌∷◌, map, Option, Some, None, refl, sym, ap, ◌∙◌, subst}
+use Rattle.std.proofs.Common.{◌≡◌, ℕ, ◌+◌, ◌*◌, Bool, List, [], ◌∷◌, map, Some, None, refl, sym, ap, ◌∙◌, subst}
 use Rattle.std.proofs.lemmas.Bool.{or_parts}
 use Rattle.std.specs.List.{AllByRecursion}
 use Rattle.gnb_types.specs.declared.names.NodeId.{NodeId}
@@ -14,9 +14,8 @@ use Rattle.gnb_types.proofs.OrderLemmas.{ue_total}
 use Rattle.tables.specs.Tables.{find, put, at}
 use Rattle.tables.proofs.TableLaws.{find-put-same}
 use Rattle.message_types.specs.declared.rrc.Token.{Token}
-use Rattle.scenario_text.specs.declared.event.Event.{Event}
 use Rattle.scenario_text.specs.declared.event.Event.TheVariants as events
-use Rattle.unit_defs.specs.Ways.{Message, Pdu, Load, Put, gives, spent}
+use Rattle.unit_defs.specs.Ways.{Message, Pdu, Load, dropped, gives, spent}
 use Rattle.unit_defs.specs.Messages.{teid_of}
 use Rattle.unit_defs.specs.Core.{CorePath, CoreRecord, core_acts}
 use Rattle.unit_defs.specs.Ue.{UeNode, new_ue}
@@ -24,13 +23,13 @@ use Rattle.transport_defs.specs.declared.Item.{Item}
 use Rattle.transport_defs.specs.declared.Letter.{Letter}
 use Rattle.transport_defs.specs.Links.{items_of, landed}
 use Rattle.run_defs.specs.Lines.{lost_items, tunnel_link}
-use Rattle.run_defs.specs.Units.{Units, up_of, du_of}
-use Rattle.run_defs.specs.Written.{Written, written_put, WrittenCoreStepped}
-use Rattle.run_defs.specs.States.{Book, Lengths, sn_in, sn_of, goes, step_of, ◌next◌, as_step, core_stepped, letter_for, was_attached, entity}
+use Rattle.run_defs.specs.Units.{up_of, du_of}
+use Rattle.run_defs.specs.Written.{Written, written_put, WrittenStepped, WrittenCoreStepped}
+use Rattle.run_defs.specs.States.{Book, Lengths, sn_in, sn_of, goes, step_of, ◌next◌, as_step, stepped, core_stepped, letter_for, was_attached, entity}
 use Rattle.run_defs.specs.Steps.{check_spans, put_on_tunnel, put_out_all, count_letters, carried_out}
 use Rattle.run_defs.specs.Conditions.{all_set_up, units_placed, n3_from, tunnels_from, statically}
 use Rattle.run_defs.specs.Events.{offered, landed_as}
-use Rattle.run_defs.specs.Runs.{Reading, Plain, plain_way, core_done, plain_world}
+use Rattle.run_defs.specs.Runs.{Reading, Plain, plain_way, fault_of, core_done, plain_world}
 use Rattle.law_steps.specs.Causes.{by_order, by_tick, by_octets, by_octets_on, by_attach, by_release, by_offer as by_own_offer, by_item, by_air, by_ack, by_letter, node_of, given_of, count_of, first_of}
 use Rattle.law_steps.specs.Made.{Made, acts as acts_so, sets_up, offers, core_takes, loses_item}
 use Rattle.law_steps.proofs.Frames.{HasUnits, units_by, then_units, keep_checked as units_checked, keep_put_on_tunnel as units_on_tunnel, keep_put_all as units_put_all}
@@ -38,24 +37,22 @@ use Rattle.law_run_facts.proofs.Within.{HoldsWith, then_holds, keep_checked as f
 use Rattle.law_teids.specs.Given.{GiveOnce}
 use Rattle.law_owner_facts.specs.Owned.{AreOwned}
 use Rattle.law_tunnel_owners.proofs.Placed.{placed_owned}
-use Rattle.law_slices.specs.Slices.{core_slice, message_ue}
+use Rattle.law_slices.specs.Slices.{core_slice}
 use Rattle.law_slices.specs.Steps.{IsFor, PutsFor, StaysFor, seen}
 use Rattle.law_slices.proofs.Cores.{acts_same, acts_steps}
-use Rattle.law_run_slices.specs.Units.{units_slice, given_ue}
-use Rattle.law_others_stay.specs.Others.{IsCauseFor, IsStepFor}
+use Rattle.law_run_slices.specs.Units.{given_ue}
+use Rattle.law_others_stay.specs.Others.{IsNodeFor, IsCauseFor, IsStepFor}
 use Rattle.law_own_steps.proofs.Steps.{Sound, step_for}
 use Rattle.law_own_steps.proofs.Leaves.{has_core, core_fits, core_is, same_core, same_units}
 use Rattle.law_own_events.specs.Events.{RunState, RunOutcome}
 use Rattle.law_all_steps.specs.Slices.{ShareSlice}
-use Rattle.law_all_steps.specs.Steps.{AfterSteps, none_yet, one_more, NoneFor}
-use Rattle.law_all_steps.proofs.Shared.{share_same, share_back, share_then}
+use Rattle.law_all_steps.specs.Steps.{AfterSteps, none_yet, one_more}
 use Rattle.law_all_steps.proofs.Statics.{from_same}
 use Rattle.law_all_steps.proofs.Paths.{step_gives, sound_on}
-use Rattle.law_all_steps.proofs.Others.{SharesAt, made_shares}
 use Rattle.law_alike_steps.specs.Places.{shared_at, RunCause, Place, in_place}
 use Rattle.law_alike_steps.specs.Alike.{Alike, AlikeFrom, Agree, Together}
 use Rattle.law_alike_states.specs.States.{shared_but_room, IsTicked, Ticked}
-use Rattle.law_two_runs.specs.Acts.{TerminalAct, acts_by, is_offered, is_taken, is_lost, RunWithin, core_offers, core_does, ActsItself, IsOffered, IsTaken, IsLost, IsPlaced, HasActed, not_yet, by_others, by_itself, by_offer, by_core, by_loss, by_ticking, by_static}
+use Rattle.law_two_runs.specs.Acts.{TerminalAct, RunWithin, core_offers, core_does, ActsItself, IsOffered, IsTaken, IsLost, IsPlaced, Heard, heard_from, heard_on, heard_cause, IsHeard, HasActed, not_yet, by_others, by_itself, by_offer, by_core, by_loss, by_ticking, by_static, by_hearing}
 use Rattle.law_alike_steps.proofs.Beside.{then_alike, checks_alike, books_alike, put_on_tunnel_alike, all_alike}
 use Rattle.law_alike_steps.proofs.Steps.{same_in_place, carried_alike}
 use Rattle.law_alike_steps.proofs.Firsts.{firsts_alike}
@@ -443,6 +440,70 @@ module _ (reading : Reading) (ue : UeId) where
           from_same (du_id plan.gnb plan.du) du plan.bearers (tunnels_from (up_id plan.gnb plan.up) up (2 * plan.bearers) z.tunnels) end
           ∙ from_same (up_id plan.gnb plan.up) up (2 * plan.bearers) z.tunnels end
 
+  -- ---- octets that the terminal's own node drops
+
+  heard_made : (heard : Heard) (s t : RunState) (a : IsHeard reading ue heard s t)
+      → Made (plain_world reading) a.event s (goes (step_of (Some (node_of (heard_cause ue heard))) a.lines ∷ []) t)
+  heard_made heard s t a =
+      subst (λ (w : RunWithin). Made (plain_world reading) a.event s (as_step (Some (node_of (heard_cause ue heard))) w)) a.goes_so
+      (acts_so s (heard_cause ue heard) a.outputs a.units a.acted.stands a.acted.answers a.done a.acted.few)
+
+  abbrev drops_so : Heard → RunPuts
+  drops_so heard = dropped (fault_of reading (node_of (heard_cause ue heard)) (given_of (heard_cause ue heard))) ∷ []
+
+  heard_answer : (heard : Heard) (lengths : Lengths) (u : RunUnits)
+      → (plain_world reading).answer lengths u (node_of (heard_cause ue heard)) (given_of (heard_cause ue heard)) ≡ stepped (drops_so heard) u
+  heard_answer (heard_from from octets) lengths u = refl
+  heard_answer (heard_on teid octets) lengths u = refl
+
+  heard_units : (heard : Heard) (u : RunUnits) → units_by (plain_world reading) (heard_cause ue heard) u ≡ u
+  heard_units (heard_from from octets) u = refl
+  heard_units (heard_on teid octets) u = refl
+
+  heard_node : (heard : Heard) → IsNodeFor ue (node_of (heard_cause ue heard))
+  heard_node (heard_from from octets) = refl
+  heard_node (heard_on teid octets) = refl
+
+  heard_first : (heard : Heard) (Shows : TunnelEnd → Bool) (s t : RunState) → Alike ue Shows s t
+      → AlikeFrom ue Shows (first_of (plain_world reading) (heard_cause ue heard) s) (first_of (plain_world reading) (heard_cause ue heard) t)
+  heard_first (heard_from from octets) Shows s t h = h
+  heard_first (heard_on teid octets) Shows s t h = h
+
+  both_same : (xs ys : RunPuts) (u v : RunUnits) → ◌≡◌ {A = WrittenStepped} (stepped xs u) (stepped ys v) → (xs ≡ ys) × (u ≡ v)
+  both_same xs ys u v e = (cc, cc)
+
+  pub heard_shares : (heard : Heard) (s x t y : RunState) → After s → After t → Share s t → IsHeard reading ue heard s x → IsHeard reading ue heard t y → Share x y
+  heard_shares heard s x t y p q h a b =
+      let world = plain_world reading in
+      let c : RunCause = heard_cause ue heard in
+      let one = both_same (drops_so heard) a.outputs s.units a.units (sym (heard_answer heard (sn_of s) s.units) ∙ a.acted.answers) in
+      let two = both_same (drops_so heard) b.outputs t.units b.units (sym (heard_answer heard (sn_of t) t.units) ∙ b.acted.answers) in
+      let later : After x = one_more a.event s x _ p (heard_made heard s x a) in
+      let too : After y = one_more b.event t y _ q (heard_made heard t y b) in
+      let middle : Agree ue a.units b.units = subst (λ (u : RunUnits). Agree ue u b.units) one.1
+      (subst (λ (v : RunUnits). Agree ue s.units v) two.1 (agree_of s t h)) in
+      let first : x.units ≡ a.units = same_units world a.event c a.outputs a.units s x a.lines a.acted a.goes_so ∙ heard_units heard a.units in
+      let second : y.units ≡ b.units = same_units world b.event c b.outputs b.units t y b.lines b.acted b.goes_so ∙ heard_units heard b.units in
+      let agree : Agree ue x.units y.units = subst (λ (u : RunUnits). Agree ue u y.units) (sym first)
+      (subst (λ (v : RunUnits). Agree ue a.units v) (sym second) middle) in
+      let base = begin s t x y p q later too h (step_gives reading a.event s x _ (heard_made heard s x a))
+      (step_gives reading b.event t y _ (heard_made heard t y b)) agree a.units b.units middle in
+      let carried : AlikeFrom ue (opens_at ue x.units) (carried_out world (node_of c) (count_of c) (first_of world c) (drops_so heard) a.units s)
+      (carried_out world (node_of c) (count_of c) (first_of world c) (drops_so heard) b.units t) =
+      carried_alike world ue (opens_at ue x.units) (node_of c) (node_of c) refl (count_of c) (count_of c) refl (heard_node heard) (drops_so heard) (tt, tt)
+      (first_of world c) (first_of world c) a.units b.units s t
+      (heard_first heard (opens_at ue x.units) (record s { units = a.units }) (record t { units = b.units }) base) in
+      finish x y later too agree
+      (ap (core_slice ue) (same_core world a.event c a.outputs a.units s x a.lines a.acted a.goes_so)
+      ∙ h.core
+      ∙ sym (ap (core_slice ue) (same_core world b.event c b.outputs b.units t y b.lines b.acted b.goes_so)))
+      (subst (λ (w : RunWithin). AlikeFrom ue (opens_at ue x.units) (goes a.lines x) w) b.goes_so
+      (subst (λ (w : RunWithin). AlikeFrom ue (opens_at ue x.units) w (carried_out world (node_of c) (count_of c) (first_of world c) b.outputs b.units t)) a.goes_so
+      (subst (λ (os : RunPuts). AlikeFrom ue (opens_at ue x.units) (carried_out world (node_of c) (count_of c) (first_of world c) os a.units s)
+      (carried_out world (node_of c) (count_of c) (first_of world c) b.outputs b.units t)) one.0
+      (subst (λ (os : RunPuts). AlikeFrom ue (opens_at ue x.units) (carried_out world (node_of c) (count_of c) (first_of world c) (drops_so heard) a.units s)
+      (carried_out world (node_of c) (count_of c) (first_of world c) os b.units t)) two.0 carried))))
+
   -- ---- a state after acts comes after steps
 
   pub acted_after : (acts : List TerminalAct) (s : RunState) → HasActed reading ue acts s → After s
@@ -456,3 +517,4 @@ module _ (reading : Reading) (ue : UeId) where
   acted_after acts s (by_loss list more end item x y p a is) = one_more events.Pump x y _ (acted_after more x p) (loss_made end item x y a)
   acted_after acts s (by_ticking list more node x y p a is) = one_more a.event x y _ (acted_after more x p) (tick_made node x y a)
   acted_after acts s (by_static list more plan x y p a is) = one_more (events.Static plan) x y _ (acted_after more x p) (placed_made plan x y a)
+  acted_after acts s (by_hearing list more heard x y p a is) = one_more a.event x y _ (acted_after more x p) (heard_made heard x y a)

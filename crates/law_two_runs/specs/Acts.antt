@@ -1,5 +1,5 @@
 -- The acts of a terminal along the steps of a run, the newest first.
-use Rattle.std.specs.Prelude.{ℕ, ◌≡◌, true, false, ◌&&◌, ◌||◌, List, [], ◌∷◌, Option, Some, None}
+use Rattle.std.specs.Prelude.{ℕ, ◌≡◌, true, false, ◌&&◌, ◌||◌, List, [], ◌∷◌, Some, None}
 use Rattle.gnb_types.specs.declared.names.NodeId.{NodeId}
 use Rattle.gnb_types.specs.declared.names.NodeId.TheVariants.{CuUp as up_id, Du as du_id, Core, Ue}
 use Rattle.gnb_types.specs.declared.names.UeId.{UeId}
@@ -26,7 +26,7 @@ use Rattle.run_defs.specs.Steps.{check_spans, put_on_tunnel, put_out_all, too_ma
 use Rattle.run_defs.specs.Conditions.{is_held_by_units, statically}
 use Rattle.run_defs.specs.Events.{offered, landed_as}
 use Rattle.run_defs.specs.Runs.{Reading, plain_world}
-use Rattle.law_steps.specs.Causes.{node_of, given_of, count_of, first_of}
+use Rattle.law_steps.specs.Causes.{by_octets, by_octets_on, node_of, given_of, count_of, first_of}
 use Rattle.law_steps.specs.Made.{IsDone, Made}
 use Rattle.law_slices.specs.Slices.{message_ue}
 use Rattle.law_run_slices.specs.Units.{given_ue}
@@ -36,8 +36,18 @@ use Rattle.law_all_steps.specs.Steps.{NoneFor}
 use Rattle.law_alike_states.specs.States.{shared_but_room, IsTicked}
 use Rattle.law_alike_steps.specs.Places.{Shared, shared_at, RunCause, Place, in_place}
 
+-- ---- octets from outside that come to the terminal's own node
+
+pub data Heard : Type 0 where
+  heard_from : (from : NodeId) (octets : List ℕ) → Heard
+  heard_on : (teid : ℕ) (octets : List ℕ) → Heard
+
+abbrev pub heard_cause : UeId → Heard → RunCause
+heard_cause ue (heard_from from octets) = by_octets from (Ue ue.0) octets
+heard_cause ue (heard_on teid octets) = by_octets_on (record { node = Ue ue.0; teid = teid }) octets
+
 -- ---- the acts of a terminal: a unit's step, what the core puts and takes, and an item that is lost; a tick of a unit, which is everyone's;
--- and that it is set up without messages
+-- that it is set up without messages; and octets that its own node drops
 
 pub data TerminalAct : Type 0 where
   acts_by : (cause : RunCause) (shared : Shared) → TerminalAct
@@ -46,6 +56,7 @@ pub data TerminalAct : Type 0 where
   is_lost : (end : TunnelEnd) (item : Item (Written (Load Pdu))) → TerminalAct
   ticks_at : (node : NodeId) (shared : Shared) → TerminalAct
   is_placed : (plan : Plan) (up du : Shared) → TerminalAct
+  hears : (heard : Heard) → TerminalAct
 
 abbrev pub RunWithin : Type 0
 RunWithin = Within (Message Token) Token (Written (Load Pdu)) (Written Pdu)
@@ -113,6 +124,17 @@ pub record IsPlaced (ue : UeId) (plan : Plan) (s t : RunState) : Type 0 where
   pub teids : up_has_teids (up_of s.units plan.gnb plan.up) plan && du_has_teids (du_of s.units plan.gnb plan.du) plan ≡ true
   pub sets_up : t ≡ statically plan s
 
+-- the terminal's own node drops octets
+pub record IsHeard (reading : Reading) (ue : UeId) (heard : Heard) (s t : RunState) : Type 0 where
+  pub event : Event
+  pub outputs : List (Put (Message Token) (Written (Load Pdu)) (Written Pdu))
+  pub units : Units (Message Token) Token
+  pub lines : List (RunLine (Message Token))
+  pub acted : IsActed (plain_world reading) event s (heard_cause ue heard) outputs units
+  pub done : IsDone outputs
+  pub goes_so : carried_out (plain_world reading) (node_of (heard_cause ue heard)) (count_of (heard_cause ue heard))
+      (first_of (plain_world reading) (heard_cause ue heard)) outputs units s ≡ goes lines t
+
 -- After steps of any events, one after another, from the first state, the terminal's acts were these, the newest first; of the steps
 -- between them none is the terminal's business.
 pub data HasActed (reading : Reading) (ue : UeId) : List TerminalAct → RunState → Type 0 where
@@ -134,3 +156,5 @@ pub data HasActed (reading : Reading) (ue : UeId) : List TerminalAct → RunStat
   by_static : (acts more : List TerminalAct) (plan : Plan) (s t : RunState) → HasActed reading ue more s → IsPlaced ue plan s t
       → acts ≡ is_placed plan (shared_but_room s.units (up_id plan.gnb plan.up)) (shared_but_room s.units (du_id plan.gnb plan.du)) ∷ more
       → HasActed reading ue acts t
+  by_hearing : (acts more : List TerminalAct) (heard : Heard) (s t : RunState) → HasActed reading ue more s → IsHeard reading ue heard s t
+      → acts ≡ hears heard ∷ more → HasActed reading ue acts t

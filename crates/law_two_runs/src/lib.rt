@@ -21,6 +21,13 @@ pub fn the_same_acts_leave_the_same_slice()
         → HasActed reading ue acts s → HasActed reading ue acts t → ShareSlice ue s t }
 {}
 
+/// And whatever steps a run makes, its acts for a terminal are a list of such: so its slice is what this list makes of it, and of all
+/// else nothing enters but what couples terminals at the units that act for it.
+pub fn each_run_has_acts_for_a_terminal()
+    ensures { (reading : Reading) (ue : UeId) (t : RunState) → AfterSteps reading t
+        → (acts : List TerminalAct) × HasActed reading ue acts t }
+{}
+
 /// So a unit's step for a terminal depends on the terminal's slice and on what is shared at the unit alone, over the whole state of a
 /// run: where two states have the slice in common, and the same stands there to be taken, they have it in common after the step.
 pub fn a_step_depends_on_the_slice()
