@@ -17,13 +17,12 @@ use Rattle.transport_defs.specs.Links.{landed}
 use Rattle.run_defs.specs.Lines.{RunLine}
 use Rattle.run_defs.specs.Units.{Units, up_of}
 use Rattle.run_defs.specs.Written.{Written, written_put, WrittenCoreStepped}
-use Rattle.run_defs.specs.States.{goes, stops, told_before, ◌next◌, goes_on, Ending, Within, as_step, RunStep, core_stepped, Lengths, sn_of, entity, book_of, new_state}
+use Rattle.run_defs.specs.States.{goes, stops, told_before, ◌next◌, goes_on, Ending, Within, as_step, RunStep, core_stepped, Lengths, sn_of, entity, book_of}
 use Rattle.run_defs.specs.Steps.{check_spans, put_on_tunnel, put_out_all, count_letters, carried_out}
 use Rattle.run_defs.specs.Events.{offered, landed_as}
 use Rattle.run_defs.specs.Runs.{Reading, Plain, plain_way, core_done, plain_world}
 use Rattle.law_steps.specs.Causes.{by_item, node_of, count_of, first_of}
 use Rattle.law_steps.specs.Made.{Made, stays, ends, then_made, sets_up, starts, acts, holds_item, holds_pdu, offers, core_takes, core_reads, lands, loses_letter, loses_item, remarks}
-use Rattle.law_steps.specs.Reached.{reached}
 use Rattle.law_steps.proofs.Frames.{HasUnits, then_units, keep_checked as units_checked, keep_put_on_tunnel as units_on_tunnel, keep_put_all as units_put_all}
 use Rattle.law_run_facts.proofs.Within.{HoldsWith, then_holds, keep_checked as facts_checked, keep_put_on_tunnel as facts_on_tunnel, keep_put_all as facts_put_all}
 use Rattle.law_slices.specs.Slices.{core_slice}
@@ -36,9 +35,7 @@ use Rattle.law_others_stay.proofs.Steps.{StayFrom, same, stay_same, stay_then, t
 use Rattle.law_own_steps.specs.Own.{LeavesOthers}
 use Rattle.law_own_steps.proofs.Steps.{Sound, all_for}
 use Rattle.law_own_steps.proofs.Leaves.{has_core, core_fits, core_is, act_leaves}
-use Rattle.law_own_events.specs.Passed.{Passes, further}
 use Rattle.law_own_events.specs.Events.{RunState, RunOutcome, AllFor}
-use Rattle.law_own_events.proofs.Passed.{sound_past}
 
 abbrev RunPut : Type 0
 RunPut = Put (Message Token) (Written (Load Pdu)) (Written Pdu)
@@ -179,13 +176,9 @@ module _ (reading : Reading) (ue : UeId) where
 
   -- ---- a whole event
 
-  module _ (events : List Event) (event : Event) (s : RunState) (there : reached (plain_world reading) events new_state ≡ Some s) where
-    abbrev PassesTo : RunState → Type 0
-    PassesTo t = Passes (plain_world reading) event s t
-
-    sound : (t : RunState) → PassesTo t → Sound t
-    sound t p = sound_past reading events event s there t p
-
+  -- of states that may be passed, in which links hold their own; the steps of this event lead from one to another
+  module _ (PassesTo : RunState → Type 0) (sound : (t : RunState) → PassesTo t → Sound t) (event : Event)
+      (onward : (t u : RunState) (told : List (RunStep (Message Token))) → PassesTo t → Made (plain_world reading) event t (goes told u) → PassesTo u) where
     offer_leaves : (t : RunState) (bearer : BearerId) (end : TunnelEnd) (item : Item (Written (Load Pdu))) → item.key.ue ≡ ue
         → LeavesAt t (as_step (Some Core) (put_on_tunnel (plain_world reading) end item (offered (plain_world reading) (entity ue bearer Dl) t) next check_spans))
     offer_leaves t bearer end item is =
@@ -213,11 +206,11 @@ module _ (reading : Reading) (ue : UeId) where
     made_leaves t e (then_made x d more p q) passed all =
         then_leaves x d more (made_leaves x d p passed all.0)
         (λ y told ends_so. made_leaves y (more y) (q y)
-        (further s x y told passed (subst (λ (o : RunOutcome). Made (plain_world reading) event x o) ends_so p)) (all.1 y told ends_so))
+        (onward x y told passed (subst (λ (o : RunOutcome). Made (plain_world reading) event x o) ends_so p)) (all.1 y told ends_so))
     made_leaves t e (sets_up x plan is free room teids) passed all = absurd all
     made_leaves t e (starts x d p) passed all =
         let y : RunState = record x { started = true } in
-        from_started x d (made_leaves y d p (further s x y [] passed (starts x (goes_on y) (stays y))) all)
+        from_started x d (made_leaves y d p (onward x y [] passed (starts x (goes_on y) (stays y))) all)
     made_leaves t e (acts x cause outputs units at is fine few) passed all =
         let world = plain_world reading in
         step_leaves x (Some (node_of cause)) (carried_out world (node_of cause) (count_of cause) (first_of world cause) outputs units x)

@@ -1,7 +1,8 @@
 use Rattle.std.proofs.Common.{subst}
 use Rattle.run_defs.specs.Runs.{plain_world, happens}
 use Rattle.law_own_steps.proofs.Runs.{sound_in_run}
-use Rattle.law_own_events.specs.Passed.{not_yet}
+use Rattle.law_own_events.specs.Passed.{Passes, not_yet, further}
+use Rattle.law_own_events.proofs.Passed.{sound_past}
 use Rattle.law_own_events.proofs.Leaves.{LeavesAt, made_leaves}
 use Rattle.law_named_events.proofs.Named.{named_for}
 use Rattle.law_named_events.proofs.an_event_for_a_terminal_leaves_the_others.Goals as goal
@@ -10,4 +11,5 @@ pub returns : goal.returns
 returns c = λ reading events event s t ue told there its goes_so.
     let own = named_for reading ue s (sound_in_run reading events s there) event its in
     subst (LeavesAt reading ue s) goes_so
-    (made_leaves reading ue events event s there s (happens (plain_world reading) event s) own.0 (not_yet s) own.1)
+    (made_leaves reading ue (Passes (plain_world reading) event s) (sound_past reading events event s there) event (further s) s
+    (happens (plain_world reading) event s) own.0 (not_yet s) own.1)

@@ -1,0 +1,160 @@
+-- The acts of a terminal along the steps of a run, the newest first.
+use Rattle.std.specs.Prelude.{ℕ, ◌≡◌, true, false, ◌&&◌, ◌||◌, List, [], ◌∷◌, Some, None}
+use Rattle.gnb_types.specs.declared.names.NodeId.{NodeId}
+use Rattle.gnb_types.specs.declared.names.NodeId.TheVariants.{CuUp as up_id, Du as du_id, Core, Ue}
+use Rattle.gnb_types.specs.declared.names.UeId.{UeId}
+use Rattle.gnb_types.specs.declared.names.BearerId.{BearerId}
+use Rattle.gnb_types.specs.declared.names.Dir.TheVariants.{Dl}
+use Rattle.gnb_types.specs.declared.keys.TunnelEnd.{TunnelEnd}
+use Rattle.gnb_types.specs.declared.plans.Plan.{Plan}
+use Rattle.gnb_types.specs.Orders.{ue_cmp, tunnel_cmp}
+use Rattle.tables.specs.Tables.{find, put}
+use Rattle.message_types.specs.declared.rrc.Token.{Token}
+use Rattle.scenario_text.specs.declared.event.Event.{Event}
+use Rattle.unit_defs.specs.Ways.{Message, Load, Pdu, Put}
+use Rattle.unit_defs.specs.Messages.{teid_of}
+use Rattle.unit_defs.specs.Core.{CorePath, CoreRecord}
+use Rattle.unit_defs.specs.Static.{up_has_room, up_has_teids, du_has_teids}
+use Rattle.transport_defs.specs.declared.Item.{Item}
+use Rattle.transport_defs.specs.declared.Letter.{Letter}
+use Rattle.transport_defs.specs.Links.{letter}
+use Rattle.run_defs.specs.Lines.{RunLine}
+use Rattle.run_defs.specs.Units.{Units, up_of, du_of}
+use Rattle.run_defs.specs.Written.{Written}
+use Rattle.run_defs.specs.States.{new_state, goes, ◌next◌, Within, RunStep, core_stepped, letter_for, sn_of, was_attached, entity}
+use Rattle.run_defs.specs.Steps.{check_spans, put_on_tunnel, put_out_all, too_many_letters, carried_out}
+use Rattle.run_defs.specs.Conditions.{is_held_by_units, statically}
+use Rattle.run_defs.specs.Events.{offered, landed_as}
+use Rattle.run_defs.specs.Runs.{Reading, plain_world}
+use Rattle.law_steps.specs.Causes.{by_octets, by_octets_on, node_of, given_of, count_of, first_of}
+use Rattle.law_steps.specs.Made.{IsDone, Made}
+use Rattle.law_slices.specs.Slices.{message_ue}
+use Rattle.law_run_slices.specs.Units.{given_ue}
+use Rattle.law_own_steps.specs.Own.{IsActed}
+use Rattle.law_own_events.specs.Events.{RunState, RunOutcome}
+use Rattle.law_all_steps.specs.Steps.{NoneFor}
+use Rattle.law_alike_states.specs.States.{shared_but_room, IsTicked}
+use Rattle.law_alike_steps.specs.Places.{Shared, shared_at, RunCause, Place, in_place}
+
+-- ---- octets from outside that come to the terminal's own node
+
+pub data Heard : Type 0 where
+  heard_from : (from : NodeId) (octets : List ℕ) → Heard
+  heard_on : (teid : ℕ) (octets : List ℕ) → Heard
+
+abbrev pub heard_cause : UeId → Heard → RunCause
+heard_cause ue (heard_from from octets) = by_octets from (Ue ue.0) octets
+heard_cause ue (heard_on teid octets) = by_octets_on (record { node = Ue ue.0; teid = teid }) octets
+
+-- ---- the acts of a terminal: a unit's step, what the core puts and takes, and an item that is lost; a tick of a unit, which is everyone's;
+-- that it is set up without messages; and octets that its own node drops
+
+pub data TerminalAct : Type 0 where
+  acts_by : (cause : RunCause) (shared : Shared) → TerminalAct
+  is_offered : (bearer : BearerId) (packet : List ℕ) → TerminalAct
+  is_taken : (from : NodeId) (message : Message Token) → TerminalAct
+  is_lost : (end : TunnelEnd) (item : Item (Written (Load Pdu))) → TerminalAct
+  ticks_at : (node : NodeId) (shared : Shared) → TerminalAct
+  is_placed : (plan : Plan) (up du : Shared) → TerminalAct
+  hears : (heard : Heard) → TerminalAct
+
+abbrev pub RunWithin : Type 0
+RunWithin = Within (Message Token) Token (Written (Load Pdu)) (Written Pdu)
+
+-- the core puts a packet that is offered, on the path of its terminal; and what it does with a message
+abbrev pub core_offers : Reading → UeId → BearerId → List ℕ → CorePath → RunState → RunWithin
+core_offers reading ue bearer packet path s =
+    let world = plain_world reading in
+    put_on_tunnel world (record { node = path.up; teid = teid_of path.n3 bearer })
+    (record { key = entity ue bearer Dl; count = None; content = world.lay_n3 (teid_of path.n3 bearer) packet })
+    (offered world (entity ue bearer Dl) s) next check_spans
+
+abbrev pub core_does : Reading → ℕ → Letter (Message Token) → List (Put (Message Token) (Written (Load Pdu)) (Written Pdu)) → CoreRecord (Message Token) Token
+    → RunState → RunWithin
+core_does reading number l outputs core s =
+    let world = plain_world reading in
+    landed_as world number l (record s { core = core }) next put_out_all world Core None outputs next check_spans
+
+-- ---- one act, from a state to the next
+
+-- a unit makes a step for the terminal, with what stands in this place
+pub record ActsItself (reading : Reading) (ue : UeId) (cause : RunCause) (place : Place) (s t : RunState) : Type 0 where
+  pub event : Event
+  pub outputs : List (Put (Message Token) (Written (Load Pdu)) (Written Pdu))
+  pub units : Units (Message Token) Token
+  pub lines : List (RunLine (Message Token))
+  pub acted : IsActed (plain_world reading) event s (in_place place cause) outputs units
+  pub done : IsDone outputs
+  pub its : given_ue reading s.units (node_of (in_place place cause)) (given_of (in_place place cause)) ≡ Some ue
+  pub goes_so : carried_out (plain_world reading) (node_of (in_place place cause)) (count_of (in_place place cause))
+      (first_of (plain_world reading) (in_place place cause)) outputs units s ≡ goes lines t
+
+-- the core puts a packet that is offered at the terminal
+pub record IsOffered (reading : Reading) (ue : UeId) (bearer : BearerId) (packet : List ℕ) (s t : RunState) : Type 0 where
+  pub path : CorePath
+  pub lines : List (RunLine (Message Token))
+  pub found : find ue_cmp s.core.paths ue ≡ Some path
+  pub goes_so : core_offers reading ue bearer packet path s ≡ goes lines t
+
+-- the core takes a message of the terminal
+pub record IsTaken (reading : Reading) (ue : UeId) (from : NodeId) (message : Message Token) (s t : RunState) : Type 0 where
+  pub number : ℕ
+  pub owner : ℕ
+  pub outputs : List (Put (Message Token) (Written (Load Pdu)) (Written Pdu))
+  pub core : CoreRecord (Message Token) Token
+  pub lines : List (RunLine (Message Token))
+  pub found : letter s.bag number ≡ Some (record { from = from; to = Core; ue = owner; message = message })
+  pub its : message_ue from message ≡ ue
+  pub answers : (plain_world reading).core_answer (sn_of s) s.core (letter_for from message) ≡ core_stepped outputs core
+  pub few : too_many_letters (plain_world reading) outputs s ≡ false
+  pub goes_so : core_does reading number (record { from = from; to = Core; ue = owner; message = message }) outputs core s ≡ goes lines t
+
+-- an item of the terminal is lost
+pub record IsLost (ue : UeId) (end : TunnelEnd) (item : Item (Written (Load Pdu))) (s t : RunState) : Type 0 where
+  pub rest : List (Item (Written (Load Pdu)))
+  pub found : find tunnel_cmp s.tunnels end ≡ Some (item ∷ rest)
+  pub its : item.key.ue ≡ ue
+  pub loses : t ≡ record s { tunnels = put tunnel_cmp s.tunnels end rest }
+
+-- the terminal is set up without messages
+pub record IsPlaced (ue : UeId) (plan : Plan) (s t : RunState) : Type 0 where
+  pub its : plan.ue ≡ ue
+  pub free : was_attached s plan.ue || is_held_by_units plan s.units ≡ false
+  pub room : up_has_room (up_of s.units plan.gnb plan.up) plan ≡ true
+  pub teids : up_has_teids (up_of s.units plan.gnb plan.up) plan && du_has_teids (du_of s.units plan.gnb plan.du) plan ≡ true
+  pub sets_up : t ≡ statically plan s
+
+-- the terminal's own node drops octets
+pub record IsHeard (reading : Reading) (ue : UeId) (heard : Heard) (s t : RunState) : Type 0 where
+  pub event : Event
+  pub outputs : List (Put (Message Token) (Written (Load Pdu)) (Written Pdu))
+  pub units : Units (Message Token) Token
+  pub lines : List (RunLine (Message Token))
+  pub acted : IsActed (plain_world reading) event s (heard_cause ue heard) outputs units
+  pub done : IsDone outputs
+  pub goes_so : carried_out (plain_world reading) (node_of (heard_cause ue heard)) (count_of (heard_cause ue heard))
+      (first_of (plain_world reading) (heard_cause ue heard)) outputs units s ≡ goes lines t
+
+-- After steps of any events, one after another, from the first state, the terminal's acts were these, the newest first; of the steps
+-- between them none is the terminal's business.
+pub data HasActed (reading : Reading) (ue : UeId) : List TerminalAct → RunState → Type 0 where
+  not_yet : (acts : List TerminalAct) (s : RunState) → acts ≡ [] → s ≡ new_state → HasActed reading ue acts s
+  by_others : (acts : List TerminalAct) (event : Event) (s t : RunState) (e : RunOutcome) (told : List (RunStep (Message Token)))
+      → HasActed reading ue acts s → (made : Made (plain_world reading) event s e) → NoneFor reading event ue s e made → e ≡ goes told t
+      → HasActed reading ue acts t
+  by_itself : (acts more : List TerminalAct) (cause : RunCause) (place : Place) (s t : RunState) → HasActed reading ue more s
+      → ActsItself reading ue cause place s t → acts ≡ acts_by cause (shared_at s.units (node_of (in_place place cause))) ∷ more
+      → HasActed reading ue acts t
+  by_offer : (acts more : List TerminalAct) (bearer : BearerId) (packet : List ℕ) (s t : RunState) → HasActed reading ue more s
+      → IsOffered reading ue bearer packet s t → acts ≡ is_offered bearer packet ∷ more → HasActed reading ue acts t
+  by_core : (acts more : List TerminalAct) (from : NodeId) (message : Message Token) (s t : RunState) → HasActed reading ue more s
+      → IsTaken reading ue from message s t → acts ≡ is_taken from message ∷ more → HasActed reading ue acts t
+  by_loss : (acts more : List TerminalAct) (end : TunnelEnd) (item : Item (Written (Load Pdu))) (s t : RunState) → HasActed reading ue more s
+      → IsLost ue end item s t → acts ≡ is_lost end item ∷ more → HasActed reading ue acts t
+  by_ticking : (acts more : List TerminalAct) (node : NodeId) (s t : RunState) → HasActed reading ue more s → IsTicked reading node s t
+      → acts ≡ ticks_at node (shared_but_room s.units node) ∷ more → HasActed reading ue acts t
+  by_static : (acts more : List TerminalAct) (plan : Plan) (s t : RunState) → HasActed reading ue more s → IsPlaced ue plan s t
+      → acts ≡ is_placed plan (shared_but_room s.units (up_id plan.gnb plan.up)) (shared_but_room s.units (du_id plan.gnb plan.du)) ∷ more
+      → HasActed reading ue acts t
+  by_hearing : (acts more : List TerminalAct) (heard : Heard) (s t : RunState) → HasActed reading ue more s → IsHeard reading ue heard s t
+      → acts ≡ hears heard ∷ more → HasActed reading ue acts t

@@ -1,0 +1,40 @@
+//! Laws of two runs: after the same acts of a terminal its slice is the same. Each function does nothing: its contract is the law.
+#![tactic(auto)]
+
+ghost use Rattle.gnb_types.specs.declared.names.UeId.{UeId};
+ghost use Rattle.law_alike_steps.specs.Places.{in_place, Place, RunCause, shared_at};
+ghost use Rattle.law_all_steps.specs.Slices.{ShareSlice};
+ghost use Rattle.law_all_steps.specs.Steps.{AfterSteps};
+ghost use Rattle.law_own_events.specs.Events.{RunState};
+ghost use Rattle.law_steps.specs.Causes.{node_of};
+ghost use Rattle.law_two_runs.specs.Acts.{ActsItself, HasActed, TerminalAct};
+ghost use Rattle.run_defs.specs.Runs.{Reading};
+ghost use Rattle.std.specs.Prelude.{List, ◌≡◌};
+
+/// Two runs, each with events of its own, whose acts for a terminal were the same, one after another, have its whole slice in
+/// common: what all units and the core keep of it, which open TEIDs are its, and its messages, items, books, connection and plan.
+/// An act is what a unit takes for the terminal, with what couples terminals at that unit; a packet that the core puts, and a message
+/// that it takes; an item that is lost. Of all else that a run does between them, to whomever, nothing is asked but that it is no
+/// business of the terminal's.
+pub fn the_same_acts_leave_the_same_slice()
+    ensures { (reading : Reading) (ue : UeId) (acts : List TerminalAct) (s t : RunState)
+        → HasActed reading ue acts s → HasActed reading ue acts t → ShareSlice ue s t }
+{}
+
+/// And whatever steps a run makes, its acts for a terminal are a list of such: so its slice is what this list makes of it, and of all
+/// else nothing enters but what couples terminals at the units that act for it.
+pub fn each_run_has_acts_for_a_terminal()
+    ensures { (reading : Reading) (ue : UeId) (t : RunState) → AfterSteps reading t
+        → (acts : List TerminalAct) × HasActed reading ue acts t }
+{}
+
+/// So a unit's step for a terminal depends on the terminal's slice and on what is shared at the unit alone, over the whole state of a
+/// run: where two states have the slice in common, and the same stands there to be taken, they have it in common after the step.
+pub fn a_step_depends_on_the_slice()
+    ensures { (reading : Reading) (ue : UeId) (cause : RunCause) (place other : Place)
+        (s x t y : RunState) → AfterSteps reading s → AfterSteps reading t
+        → ShareSlice ue s t → ActsItself reading ue cause place s x
+        → ActsItself reading ue cause other t y
+        → shared_at s.units (node_of (in_place place cause)) ≡ shared_at t.units (node_of (in_place other cause))
+        → ShareSlice ue x y }
+{}
