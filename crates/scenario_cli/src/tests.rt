@@ -113,148 +113,185 @@ fn status(code: u8, place: u64, reason: u16) -> Status {
     }
 }
 
-#[test]
-fn whole_calls(rt: HostRuntime) -> Result<(), Fail> {
-    let rows = [
-        ("run", SCRIPT, status(0, 0, 0), TRANSCRIPT),
-        ("go", SCRIPT, status(2, 0, 0), "stop 2 0 0\n"),
-        ("profile 1", SCRIPT, status(2, 0, 0), "stop 2 0 0\n"),
-        ("profile 2 2", SCRIPT, status(2, 0, 0), "stop 2 0 0\n"),
-        ("run", "", status(4, 1, 1), "stop 4 1 1\n"),
-        ("run", "module builtin x", status(4, 1, 4), "stop 4 1 4\n"),
-        (
-            "run",
-            "module builtin\n\n; none\n\n",
-            status(0, 0, 0),
-            "end 0\n",
-        ),
-        (
-            "run",
-            "module builtin\n\nair u2 b1 dl\n; one\nget A.up1\n",
-            status(4, 5, 2),
-            "> air u2 b1 dl\nrefused NoBearer\nstop 4 5 2\n",
-        ),
-        (
-            "run",
-            "module builtin\nair u1 b1 dl",
-            status(0, 0, 0),
-            "> air u1 b1 dl\nrefused NoBearer\nend 1\n",
-        ),
-        ("run", REFUSALS, status(0, 0, 0), REFUSED),
-        ("run", FIVE_PACKETS, status(0, 0, 0), HELD),
-        ("run", "module builtin 2\n", status(4, 1, 4), "stop 4 1 4\n"),
-        (
-            "run",
-            "module text\n",
-            status(3, 2, 9),
-            "module 2 1 9\nstop 3 2 9\n",
-        ),
-        (
-            "run",
-            "module text\nM DEFINITIONS AUTOMATIC TAGS ::= BEGIN\nEND\nair u1 b1 dl\n",
-            status(3, 0, 20),
-            "differs Bearer\nstop 3 0 20\n",
-        ),
-        (
-            "run",
-            "module text\nM DEFINITIONS AUTOMATIC TAGS ::= BEGIN END x\nEND\nair u1 b1 dl\n",
-            status(4, 3, 4),
-            "stop 4 3 4\n",
-        ),
-        ("um 12 2", LATE_PACKET, status(0, 0, 0), LATE),
-        ("um 18 1000", "\n; none\n", status(0, 0, 0), "end 0\n"),
-        (
-            "um 12 2",
-            "tick\ngive 1\n",
-            status(4, 2, 2),
-            "> tick\nstop 4 2 2\n",
-        ),
-        ("um", LATE_PACKET, status(2, 0, 0), "stop 2 0 0\n"),
-        ("um 12", LATE_PACKET, status(2, 0, 0), "stop 2 0 0\n"),
-        ("um 13 2", LATE_PACKET, status(2, 0, 0), "stop 2 0 0\n"),
-        ("um 12 0", LATE_PACKET, status(2, 0, 0), "stop 2 0 0\n"),
-        ("um 12 1001", LATE_PACKET, status(2, 0, 0), "stop 2 0 0\n"),
-        ("um 12 2 2", LATE_PACKET, status(2, 0, 0), "stop 2 0 0\n"),
-        ("duplicate 12 4", TWO_LEGS, status(0, 0, 0), DUPLICATED),
-        ("duplicate 18 4096", "", status(0, 0, 0), "end 0\n"),
-        (
-            "duplicate 12 4",
-            "ask\ncarry 0\n",
-            status(4, 2, 2),
-            "> ask\nquiet 0\nstop 4 2 2\n",
-        ),
-        ("duplicate 12", TWO_LEGS, status(2, 0, 0), "stop 2 0 0\n"),
-        ("duplicate 12 3", TWO_LEGS, status(2, 0, 0), "stop 2 0 0\n"),
-        (
-            "duplicate 12 4097",
-            TWO_LEGS,
-            status(2, 0, 0),
-            "stop 2 0 0\n",
-        ),
-        ("check", "", status(4, 1, 1), "stop 4 1 1\n"),
-        ("check", "module", status(4, 1, 1), "stop 4 1 1\n"),
-        ("check", "module x\n", status(4, 1, 1), "stop 4 1 1\n"),
-        (
-            "check",
-            "module builtin\n",
-            status(0, 0, 0),
-            "module SplitGNB 53\n",
-        ),
-        (
-            "check",
-            "module builtin 2",
-            status(0, 0, 0),
-            "module SplitGNB 53\n",
-        ),
-        (
-            "check",
-            "module builtin\n\n",
-            status(4, 2, 4),
-            "stop 4 2 4\n",
-        ),
-        ("check", "module text x\n", status(4, 1, 4), "stop 4 1 4\n"),
-        ("check", MODULE, status(0, 0, 0), "module M 1\n"),
-        (
-            "check",
-            "module text\nM DEFINITIONS AUTOMATIC TAGS ::= BEGIN\nT ::= BOOLEAN END",
-            status(0, 0, 0),
-            "module M 1\n",
-        ),
-        (
-            "check",
-            "module text\nM DEFINITIONS AUTOMATIC TAGS ::= BEGIN\nT ::= REAL\nEND\nmore\n",
-            status(3, 3, 6),
-            "module 3 7 6\nstop 3 3 6\n",
-        ),
-        (
-            "check",
-            "module text\nM DEFINITIONS AUTOMATIC TAGS ::= BEGIN END x\n\n",
-            status(4, 3, 4),
-            "stop 4 3 4\n",
-        ),
-        (
-            "check",
-            "module text\nM DEFINITIONS AUTOMATIC TAGS ::= BEGIN\nEND\n\n",
-            status(4, 4, 4),
-            "stop 4 4 4\n",
-        ),
-    ];
-    for (word, input, answer, text) in rows {
-        for piece in [1, 4096] {
-            assert!(rt; piece > 0);
-            let call = Call {
-                word,
-                input,
-                piece,
-                failing_reads: &[],
-                failing_writes: &[],
-            };
-            let (status, held, _) = call.answer(rt.alloc())?;
-            assert_eq!(rt; status, answer);
-            assert_eq!(rt; held.as_slice(), text.as_bytes());
+/// The words and the input of a call, the code, the place and the reason of its status, and what it writes.
+type Row = (&'static str, &'static str, (u8, u64, u16), &'static str);
+
+/// Scripts that are run, and words that are no form.
+const RUNS: [Row; 15] = [
+    ("run", SCRIPT, (0, 0, 0), TRANSCRIPT),
+    ("go", SCRIPT, (2, 0, 0), "stop 2 0 0\n"),
+    ("profile 1", SCRIPT, (2, 0, 0), "stop 2 0 0\n"),
+    ("profile 2 2", SCRIPT, (2, 0, 0), "stop 2 0 0\n"),
+    ("run", "", (4, 1, 1), "stop 4 1 1\n"),
+    ("run", "module builtin x", (4, 1, 4), "stop 4 1 4\n"),
+    (
+        "run",
+        "module builtin\n\n; none\n\n",
+        (0, 0, 0),
+        "end 0\n",
+    ),
+    (
+        "run",
+        "module builtin\n\nair u2 b1 dl\n; one\nget A.up1\n",
+        (4, 5, 2),
+        "> air u2 b1 dl\nrefused NoBearer\nstop 4 5 2\n",
+    ),
+    (
+        "run",
+        "module builtin\nair u1 b1 dl",
+        (0, 0, 0),
+        "> air u1 b1 dl\nrefused NoBearer\nend 1\n",
+    ),
+    ("run", REFUSALS, (0, 0, 0), REFUSED),
+    ("run", FIVE_PACKETS, (0, 0, 0), HELD),
+    ("run", "module builtin 2\n", (4, 1, 4), "stop 4 1 4\n"),
+    (
+        "run",
+        "module text\n",
+        (3, 2, 9),
+        "module 2 1 9\nstop 3 2 9\n",
+    ),
+    (
+        "run",
+        "module text\nM DEFINITIONS AUTOMATIC TAGS ::= BEGIN\nEND\nair u1 b1 dl\n",
+        (3, 0, 20),
+        "differs Bearer\nstop 3 0 20\n",
+    ),
+    (
+        "run",
+        "module text\nM DEFINITIONS AUTOMATIC TAGS ::= BEGIN END x\nEND\nair u1 b1 dl\n",
+        (4, 3, 4),
+        "stop 4 3 4\n",
+    ),
+];
+
+/// Scripts of one bearer.
+const BEARERS: [Row; 15] = [
+    ("um 12 2", LATE_PACKET, (0, 0, 0), LATE),
+    ("um 18 1000", "\n; none\n", (0, 0, 0), "end 0\n"),
+    (
+        "um 12 2",
+        "tick\ngive 1\n",
+        (4, 2, 2),
+        "> tick\nstop 4 2 2\n",
+    ),
+    ("um", LATE_PACKET, (2, 0, 0), "stop 2 0 0\n"),
+    ("um 12", LATE_PACKET, (2, 0, 0), "stop 2 0 0\n"),
+    ("um 13 2", LATE_PACKET, (2, 0, 0), "stop 2 0 0\n"),
+    ("um 12 0", LATE_PACKET, (2, 0, 0), "stop 2 0 0\n"),
+    ("um 12 1001", LATE_PACKET, (2, 0, 0), "stop 2 0 0\n"),
+    ("um 12 2 2", LATE_PACKET, (2, 0, 0), "stop 2 0 0\n"),
+    ("duplicate 12 4", TWO_LEGS, (0, 0, 0), DUPLICATED),
+    ("duplicate 18 4096", "", (0, 0, 0), "end 0\n"),
+    (
+        "duplicate 12 4",
+        "ask\ncarry 0\n",
+        (4, 2, 2),
+        "> ask\nquiet 0\nstop 4 2 2\n",
+    ),
+    ("duplicate 12", TWO_LEGS, (2, 0, 0), "stop 2 0 0\n"),
+    ("duplicate 12 3", TWO_LEGS, (2, 0, 0), "stop 2 0 0\n"),
+    (
+        "duplicate 12 4097",
+        TWO_LEGS,
+        (2, 0, 0),
+        "stop 2 0 0\n",
+    ),
+];
+
+/// Modules that are checked.
+const CHECKS: [Row; 12] = [
+    ("check", "", (4, 1, 1), "stop 4 1 1\n"),
+    ("check", "module", (4, 1, 1), "stop 4 1 1\n"),
+    ("check", "module x\n", (4, 1, 1), "stop 4 1 1\n"),
+    (
+        "check",
+        "module builtin\n",
+        (0, 0, 0),
+        "module SplitGNB 53\n",
+    ),
+    (
+        "check",
+        "module builtin 2",
+        (0, 0, 0),
+        "module SplitGNB 53\n",
+    ),
+    (
+        "check",
+        "module builtin\n\n",
+        (4, 2, 4),
+        "stop 4 2 4\n",
+    ),
+    ("check", "module text x\n", (4, 1, 4), "stop 4 1 4\n"),
+    ("check", MODULE, (0, 0, 0), "module M 1\n"),
+    (
+        "check",
+        "module text\nM DEFINITIONS AUTOMATIC TAGS ::= BEGIN\nT ::= BOOLEAN END",
+        (0, 0, 0),
+        "module M 1\n",
+    ),
+    (
+        "check",
+        "module text\nM DEFINITIONS AUTOMATIC TAGS ::= BEGIN\nT ::= REAL\nEND\nmore\n",
+        (3, 3, 6),
+        "module 3 7 6\nstop 3 3 6\n",
+    ),
+    (
+        "check",
+        "module text\nM DEFINITIONS AUTOMATIC TAGS ::= BEGIN END x\n\n",
+        (4, 3, 4),
+        "stop 4 3 4\n",
+    ),
+    (
+        "check",
+        "module text\nM DEFINITIONS AUTOMATIC TAGS ::= BEGIN\nEND\n\n",
+        (4, 4, 4),
+        "stop 4 4 4\n",
+    ),
+];
+
+/// Whether a call whose input comes in such pieces comes to this.
+fn comes_to(alloc: Global, row: Row, piece: usize) -> bool
+    requires { 0 < piece }
+{
+    let (word, input, (code, place, reason), text) = row;
+    let call = Call {
+        word,
+        input,
+        piece,
+        failing_reads: &[],
+        failing_writes: &[],
+    };
+    match call.answer(alloc) {
+        Ok((answer, held, _)) => {
+            answer == status(code, place, reason) && held.as_slice() == text.as_bytes()
+        }
+        Err(_) => false,
+    }
+}
+
+fn come_to(alloc: Global, rows: &[Row]) -> bool {
+    for &row in rows {
+        if !comes_to(alloc, row, 1) || !comes_to(alloc, row, 4096) {
+            return false;
         }
     }
-    Ok(())
+    true
+}
+
+#[test]
+fn whole_runs(rt: HostRuntime) {
+    assert!(rt; come_to(rt.alloc(), &RUNS));
+}
+
+#[test]
+fn whole_runs_of_a_bearer(rt: HostRuntime) {
+    assert!(rt; come_to(rt.alloc(), &BEARERS));
+}
+
+#[test]
+fn whole_checks(rt: HostRuntime) {
+    assert!(rt; come_to(rt.alloc(), &CHECKS));
 }
 
 /// The texts of the profile, for which nothing is read; a front of one stands where a write fails.
@@ -274,7 +311,7 @@ fn profile_texts(rt: HostRuntime) -> Result<(), Fail> {
             failing_writes,
         };
         let (status, held, _) = call.answer(rt.alloc())?;
-        assert_eq!(rt; status, answer);
+        assert!(rt; status == answer);
         assert!(rt; held.as_slice() == text);
     }
     Ok(())
@@ -306,8 +343,8 @@ fn scripts_with_a_text(rt: HostRuntime) -> Result<(), Fail> {
         let mut source = MemorySource::new(octets, 4096, Vec::new(alloc));
         let mut sink = MemorySink::new(alloc, 4096, Vec::new(alloc));
         let status = gnb(alloc, words.as_slice(), &mut source, &mut sink);
-        assert_eq!(rt; status, answer);
-        assert_eq!(rt; sink.bytes_held(), output.as_bytes());
+        assert!(rt; status == answer);
+        assert!(rt; sink.bytes_held() == output.as_bytes());
     }
     Ok(())
 }
@@ -351,8 +388,8 @@ fn each_read_fails(rt: &impl Abort, alloc: Global, piece: usize, reads: u64) -> 
         let (answer, held, _) = call.answer(alloc)?;
         let taken = min(SCRIPT.len(), ((number - 1) as usize).saturating_mul(piece));
         let text = text_at(alloc, taken)?;
-        assert_eq!(rt; answer, status(6, taken as u64, 0));
-        assert_eq!(rt; held.as_slice(), text.as_bytes());
+        assert!(rt; answer == status(6, taken as u64, 0));
+        assert!(rt; held.as_slice() == text.as_bytes());
     }
     Ok(())
 }
@@ -381,67 +418,71 @@ fn each_write_fails(rt: &impl Abort, alloc: Global, piece: usize) -> Result<(), 
         };
         let (answer, held, calls) = call.answer(alloc)?;
         if answer.code == 0 {
-            assert_eq!(rt; held.as_slice(), TRANSCRIPT.as_bytes());
-            assert_eq!(rt; calls, number - 1);
+            assert!(rt; held.as_slice() == TRANSCRIPT.as_bytes());
+            assert!(rt; calls == number - 1);
             return Ok(());
         }
-        assert_eq!(rt; answer, status(7, 0, 0));
+        assert!(rt; answer == status(7, 0, 0));
         assert!(rt; TRANSCRIPT.as_bytes().starts_with(held.as_slice()));
-        assert_eq!(rt; calls, number);
+        assert!(rt; calls == number);
         assert!(rt; piece > 1 || held.as_slice().len() as u64 == number - 1);
     }
     assert!(rt; false);
     Ok(())
 }
 
+/// A module that is none, and what a check of it writes.
+const WRONG: &str = "module text\nM END\nEND\n";
+
+const FAULT: &str = "module 2 3 2\nstop 3 2 2\n";
+
+/// Whether a check of which the write with this number fails comes to a front of the line of a fault and the `stop` line.
+fn writes_a_front(alloc: Global, number: u64) -> bool {
+    let call = Call {
+        word: "check",
+        input: WRONG,
+        piece: 1,
+        failing_reads: &[],
+        failing_writes: &[number],
+    };
+    let Ok((answer, held, calls)) = call.answer(alloc) else {
+        return false;
+    };
+    let length = FAULT.len() as u64;
+    let (wanted, count) = if number > length {
+        (status(3, 2, 2), length)
+    } else {
+        (status(7, 0, 0), number)
+    };
+    answer == wanted && calls == count && FAULT.as_bytes().starts_with(held.as_slice())
+}
+
+/// Whether a check of which the read with this number fails ends so.
+fn ends_at(alloc: Global, number: u64, wanted: Status) -> bool {
+    let call = Call {
+        word: "check",
+        input: WRONG,
+        piece: 1,
+        failing_reads: &[number],
+        failing_writes: &[],
+    };
+    match call.answer(alloc) {
+        Ok((answer, _, _)) => answer == wanted,
+        Err(_) => false,
+    }
+}
+
 /// A check whose reads or writes fail: of the line of a fault and the `stop` line a front was
 /// written.
 #[test]
-fn failing_checks(rt: HostRuntime) -> Result<(), Fail> {
-    let alloc = rt.alloc();
-    let wrong = "module text\nM END\nEND\n";
-    let wanted = "module 2 3 2\nstop 3 2 2\n";
+fn failing_checks(rt: HostRuntime) {
     for number in 1..28 {
-        let call = Call {
-            word: "check",
-            input: wrong,
-            piece: 1,
-            failing_reads: &[],
-            failing_writes: &[number],
-        };
-        let (answer, held, calls) = call.answer(alloc)?;
-        let all = number as usize > wanted.len();
-        assert_eq!(rt;
-            answer,
-            if all {
-                status(3, 2, 2)
-            } else {
-                status(7, 0, 0)
-            }
-        );
-        assert!(rt; wanted.as_bytes().starts_with(held.as_slice()));
-        assert_eq!(rt; calls, if all { wanted.len() as u64 } else { number });
+        assert!(rt; writes_a_front(rt.alloc(), number));
     }
-    for number in 1..24 {
-        let call = Call {
-            word: "check",
-            input: wrong,
-            piece: 1,
-            failing_reads: &[number],
-            failing_writes: &[],
-        };
-        let (answer, _, _) = call.answer(alloc)?;
-        let taken = number - 1;
-        assert_eq!(rt;
-            answer,
-            if taken < 22 {
-                status(6, taken, 0)
-            } else {
-                status(3, 2, 2)
-            }
-        );
+    for taken in 0..22 {
+        assert!(rt; ends_at(rt.alloc(), taken + 1, status(6, taken, 0)));
     }
-    Ok(())
+    assert!(rt; ends_at(rt.alloc(), 23, status(3, 2, 2)));
 }
 
 /// A packet of 2,048 octets is taken, and one of 2,049 is refused.
@@ -464,8 +505,8 @@ fn sizes(rt: HostRuntime) -> Result<(), Fail> {
         failing_writes: &[],
     };
     let (answer, held, _) = call.answer(alloc)?;
-    assert_eq!(rt; answer, status(0, 0, 0));
-    assert_eq!(rt; held.as_slice(), text.as_bytes());
+    assert!(rt; answer == status(0, 0, 0));
+    assert!(rt; held.as_slice() == text.as_bytes());
     Ok(())
 }
 
@@ -482,7 +523,7 @@ fn outstanding_counts(rt: HostRuntime) -> Result<(), Fail> {
         failing_writes: &[],
     };
     let (answer, held, _) = call.answer(alloc)?;
-    assert_eq!(rt; answer, status(5, 2049, 0));
+    assert!(rt; answer == status(5, 2049, 0));
     assert!(rt;
         held.as_slice().ends_with(
             b"> offer 00\nput #2049 2048 880000\noutstanding 2049 2048\nstop 5 2049 0\n",

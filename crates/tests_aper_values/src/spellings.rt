@@ -9,7 +9,7 @@ use asn1_module::{Module, TypeId, read_module};
 use gnb_types::hex::hex_bytes;
 use gnb_types::octets::Octets;
 use profile::PROFILE_TEXT;
-use std::alloc::Global;
+use std::alloc::{AllocError, Global};
 use std::process::Abort;
 use std::test::Fail;
 
@@ -56,49 +56,46 @@ fn is_spelling(alloc: Global, m: &Module, row: Row) -> bool {
     octets.len() < 1000 && is_read_and_written(alloc, m, id, octets, shown)
 }
 
-#[test]
-fn worked(rt: HostRuntime) -> Result<(), Fail> {
-    let (module, _) = read_module(rt.alloc(), TYPES)?;
-    for row in WORKED {
-        assert!(rt; is_spelling(rt.alloc(), &module, row));
+fn are_spellings(alloc: Global, m: &Module, rows: &[Row]) -> bool {
+    for &row in rows {
+        if !is_spelling(alloc, m, row) {
+            return false;
+        }
     }
-    Ok(())
+    true
+}
+
+/// Whether each of these is a spelling by the types of a text.
+fn are_spelled(alloc: Global, text: &[u8], rows: &[Row]) -> bool {
+    match read_module(alloc, text) {
+        Ok((module, _)) => are_spellings(alloc, &module, rows),
+        Err(_) => false,
+    }
 }
 
 #[test]
-fn numbers(rt: HostRuntime) -> Result<(), Fail> {
-    let (module, _) = read_module(rt.alloc(), TYPES)?;
-    for row in NUMBERS {
-        assert!(rt; is_spelling(rt.alloc(), &module, row));
-    }
-    Ok(())
+fn worked(rt: HostRuntime) {
+    assert!(rt; are_spelled(rt.alloc(), TYPES, &WORKED));
 }
 
 #[test]
-fn strings(rt: HostRuntime) -> Result<(), Fail> {
-    let (module, _) = read_module(rt.alloc(), TYPES)?;
-    for row in STRINGS {
-        assert!(rt; is_spelling(rt.alloc(), &module, row));
-    }
-    Ok(())
+fn numbers(rt: HostRuntime) {
+    assert!(rt; are_spelled(rt.alloc(), TYPES, &NUMBERS));
 }
 
 #[test]
-fn structures(rt: HostRuntime) -> Result<(), Fail> {
-    let (module, _) = read_module(rt.alloc(), TYPES)?;
-    for row in STRUCTURES {
-        assert!(rt; is_spelling(rt.alloc(), &module, row));
-    }
-    Ok(())
+fn strings(rt: HostRuntime) {
+    assert!(rt; are_spelled(rt.alloc(), TYPES, &STRINGS));
 }
 
 #[test]
-fn messages(rt: HostRuntime) -> Result<(), Fail> {
-    let (module, _) = read_module(rt.alloc(), PROFILE_TEXT)?;
-    for row in MESSAGES {
-        assert!(rt; is_spelling(rt.alloc(), &module, row));
-    }
-    Ok(())
+fn structures(rt: HostRuntime) {
+    assert!(rt; are_spelled(rt.alloc(), TYPES, &STRUCTURES));
+}
+
+#[test]
+fn messages(rt: HostRuntime) {
+    assert!(rt; are_spelled(rt.alloc(), PROFILE_TEXT, &MESSAGES));
 }
 
 /// Whether these octets are read as so many octets of zeros, which are written as them.
@@ -121,14 +118,31 @@ fn is_zeros(alloc: Global, m: &Module, id: TypeId, octets: &[u8], count: usize) 
     }
 }
 
+/// The head of a part of 16,384 octets, as many zeros, and an empty part.
+fn parts(alloc: Global) -> Result<Vec<u8>, AllocError> {
+    let mut octets = Vec::from_elem(alloc, 0u8, 16_386)?;
+    octets[0] = 0xc1;
+    Ok(octets)
+}
+
+fn are_zeros(alloc: Global, m: &Module, octets: &[u8]) -> bool {
+    let Some(id) = m.find(b"Any-Octets") else {
+        return false;
+    };
+    octets.len() == 16_386 && is_zeros(alloc, m, id, octets, 16_384)
+}
+
+fn is_in_parts(alloc: Global, octets: &[u8]) -> bool {
+    match read_module(alloc, TYPES) {
+        Ok((module, _)) => are_zeros(alloc, &module, octets),
+        Err(_) => false,
+    }
+}
+
 /// 16,384 octets come in a part of so many and an empty one.
 #[test]
 fn in_parts(rt: HostRuntime) -> Result<(), Fail> {
-    let (module, _) = read_module(rt.alloc(), TYPES)?;
-    let id = module.find(b"Any-Octets").ok_or("a type")?;
-    let mut octets = Vec::from_elem(rt.alloc(), 0u8, 16_386)?;
-    octets[0] = 0xc1;
-    assert!(rt; octets.len() == 16_386);
-    assert!(rt; is_zeros(rt.alloc(), &module, id, octets.as_slice(), 16_384));
+    let octets = parts(rt.alloc())?;
+    assert!(rt; is_in_parts(rt.alloc(), octets.as_slice()));
     Ok(())
 }

@@ -2,7 +2,7 @@
 
 use asn1_assignments::*;
 use asn1_types::TypeId;
-use std::test::Fail;
+use std::alloc::Global;
 
 const TEXT: &[u8] = b"M DEFINITIONS AUTOMATIC TAGS ::= BEGIN\n\
 A ::= SEQUENCE OF BOOLEAN\n\
@@ -57,18 +57,36 @@ fn first_procedure(assignment: &Assignment) -> Option<&ProcedureRow> {
     }
 }
 
-#[test]
-fn assignments_of_each_kind(rt: HostRuntime) -> Result<(), Fail> {
-    let syntax = read_syntax(rt.alloc(), TEXT).ok().ok_or("a module")?;
-    assert!(rt;
-        syntax.name.as_slice() == b"M".as_slice() && syntax.end == 323 && syntax.nodes.len() == 6
-    );
-    let assignments = syntax.assignments.as_slice();
-    assert_eq!(rt; assignments.len(), 3);
+fn are_placed(assignments: &[Assignment]) -> bool {
     for (assignment, expected) in assignments.iter().zip(&ASSIGNMENTS) {
-        assert!(rt; is_placed(assignment, expected));
+        if !is_placed(assignment, expected) {
+            return false;
+        }
     }
-    assert!(rt; first_row(&assignments[1]) == Some(&ROW));
-    assert!(rt; first_procedure(&assignments[2]) == Some(&PROCEDURE));
-    Ok(())
+    assignments.len() == 3
+}
+
+fn is_as_written(syntax: &Syntax) -> bool {
+    let assignments = syntax.assignments.as_slice();
+    let [_, set, procedures] = assignments else {
+        return false;
+    };
+    syntax.name.as_slice() == b"M".as_slice()
+        && syntax.end == 323
+        && syntax.nodes.len() == 6
+        && are_placed(assignments)
+        && first_row(set) == Some(&ROW)
+        && first_procedure(procedures) == Some(&PROCEDURE)
+}
+
+fn is_read(alloc: Global, text: &[u8]) -> bool {
+    match read_syntax(alloc, text) {
+        Ok(syntax) => is_as_written(&syntax),
+        Err(_) => false,
+    }
+}
+
+#[test]
+fn assignments_of_each_kind(rt: HostRuntime) {
+    assert!(rt; is_read(rt.alloc(), TEXT));
 }

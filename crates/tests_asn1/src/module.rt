@@ -3,7 +3,6 @@
 use asn1_module::*;
 use profile::PROFILE_TEXT;
 use std::alloc::{AllocError, Global};
-use std::test::Fail;
 
 /// A text behind a module's first line, and its fault.
 struct Refusal {
@@ -189,23 +188,29 @@ fn with_header(alloc: Global, body: &[u8]) -> Result<Vec<u8>, AllocError> {
     Ok(text)
 }
 
-#[test]
-fn refusals_are_placed(rt: HostRuntime) -> Result<(), Fail> {
-    for refusal in &REFUSALS {
-        let text = with_header(rt.alloc(), refusal.body)?;
-        let error = read_module(rt.alloc(), &text)
-            .err()
-            .ok_or("the text is no module")?;
-        assert!(rt;
-            error
-                == ModuleError::Refused {
-                    line: refusal.line,
-                    column: refusal.column,
-                    reason: refusal.reason,
-                }
-        );
+/// Whether a text is no module, with its first fault here.
+fn is_refused(alloc: Global, text: &[u8], line: u64, column: u64, reason: ModuleReason) -> bool {
+    let refused = ModuleError::Refused {
+        line,
+        column,
+        reason,
+    };
+    read_module(alloc, text).is_err_and(|error| error == refused)
+}
+
+fn is_refusal(alloc: Global, refusal: &Refusal) -> bool {
+    let (line, column, reason) = (refusal.line, refusal.column, refusal.reason);
+    match with_header(alloc, refusal.body) {
+        Ok(text) => is_refused(alloc, text.as_slice(), line, column, reason),
+        Err(_) => false,
     }
-    Ok(())
+}
+
+#[test]
+fn refusals_are_placed(rt: HostRuntime) {
+    for refusal in &REFUSALS {
+        assert!(rt; is_refusal(rt.alloc(), refusal));
+    }
 }
 
 /// A list on the second line, each of its entries a letter with a number from 0 on and the rest of the entry; and what stands
@@ -323,23 +328,18 @@ fn crowd_text(alloc: Global, crowd: &Crowd) -> Result<String, AllocError> {
     Ok(text)
 }
 
-#[test]
-fn full_lists_take_no_more(rt: HostRuntime) -> Result<(), Fail> {
-    for (crowd, reason) in &CROWDS {
-        let text = crowd_text(rt.alloc(), crowd)?;
-        let error = read_module(rt.alloc(), text.as_bytes())
-            .err()
-            .ok_or("the text is no module")?;
-        assert!(rt;
-            error
-                == ModuleError::Refused {
-                    line: 3,
-                    column: 1,
-                    reason: *reason,
-                }
-        );
+fn takes_no_more(alloc: Global, crowd: &Crowd, reason: ModuleReason) -> bool {
+    match crowd_text(alloc, crowd) {
+        Ok(text) => is_refused(alloc, text.as_bytes(), 3, 1, reason),
+        Err(_) => false,
     }
-    Ok(())
+}
+
+#[test]
+fn full_lists_take_no_more(rt: HostRuntime) {
+    for (crowd, reason) in &CROWDS {
+        assert!(rt; takes_no_more(rt.alloc(), crowd, *reason));
+    }
 }
 
 /// The module of the profile, with its types by name, and two of its sets.
@@ -356,13 +356,17 @@ fn is_the_profile(module: &Module) -> bool {
         && procedures.is_some_and(|rows| rows.len() == 5)
 }
 
+fn is_read_whole(alloc: Global) -> bool {
+    match read_module(alloc, PROFILE_TEXT) {
+        // The text ends with a line's end.
+        Ok((module, octets)) => {
+            octets.checked_add(1) == Some(PROFILE_TEXT.len()) && is_the_profile(&module)
+        }
+        Err(_) => false,
+    }
+}
+
 #[test]
-fn profile_is_read_whole(rt: HostRuntime) -> Result<(), Fail> {
-    let (module, octets) = read_module(rt.alloc(), PROFILE_TEXT)
-        .ok()
-        .ok_or("a module")?;
-    // The text ends with a line's end.
-    assert_eq!(rt; octets.checked_add(1), Some(PROFILE_TEXT.len()));
-    assert!(rt; is_the_profile(&module));
-    Ok(())
+fn profile_is_read_whole(rt: HostRuntime) {
+    assert!(rt; is_read_whole(rt.alloc()));
 }

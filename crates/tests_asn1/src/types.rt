@@ -4,7 +4,6 @@ use asn1_tokens::{Sign, Word};
 use asn1_types::*;
 use gnb_types::octets::Octets;
 use std::alloc::Global;
-use std::test::Fail;
 
 /// A type, with how many types stand inside it.
 const TYPES: [(&[u8], usize); 12] = [
@@ -28,17 +27,27 @@ const TYPES: [(&[u8], usize); 12] = [
     (b"Protocol-PDU {{Set}}", 0),
 ];
 
-#[test]
-fn types_are_read_whole(rt: HostRuntime) -> Result<(), Fail> {
-    for &(text, inside) in &TYPES {
-        let mut nodes = Items::new(rt.alloc());
-        let mut reader = Reader::new(rt.alloc(), text).ok().ok_or("memory")?;
-        let whole = reader.definition(100, &mut nodes).ok().ok_or("a type")?;
-        assert_eq!(rt; whole.number, inside);
-        assert_eq!(rt; nodes.len().checked_sub(1), Some(inside));
-        assert_eq!(rt; reader.place(), text.len());
+/// Whether a type up to this place is read, with so many types inside it.
+fn is_type(reader: &mut Reader, nodes: &mut Items<Node>, end: usize, inside: usize) -> bool {
+    let Ok(whole) = reader.definition(100, nodes) else {
+        return false;
+    };
+    whole.number == inside && nodes.len().checked_sub(1) == Some(inside) && reader.place() == end
+}
+
+fn is_read_whole(alloc: Global, text: &[u8], inside: usize) -> bool {
+    let mut nodes = Items::new(alloc);
+    match Reader::new(alloc, text) {
+        Ok(mut reader) => is_type(&mut reader, &mut nodes, text.len(), inside),
+        Err(_) => false,
     }
-    Ok(())
+}
+
+#[test]
+fn types_are_read_whole(rt: HostRuntime) {
+    for &(text, inside) in &TYPES {
+        assert!(rt; is_read_whole(rt.alloc(), text, inside));
+    }
 }
 
 /// Two names, two numbers and a comma.
@@ -74,13 +83,14 @@ fn is_end(reader: &mut Reader, place: usize) -> Result<bool, ReadError> {
     Ok(is_placed && reader.unexpected() == fault)
 }
 
+fn are_taken(alloc: Global, reader: &mut Reader) -> bool {
+    are_words(reader) == Ok(true)
+        && are_names(alloc, reader) == Ok(true)
+        && is_end(reader, 27) == Ok(true)
+}
+
 #[test]
-fn items_are_taken(rt: HostRuntime) -> Result<(), Fail> {
-    let mut reader = Reader::new(rt.alloc(), b"Upper lower 7 8 , a, b} END $")
-        .ok()
-        .ok_or("memory")?;
-    assert!(rt; are_words(&mut reader) == Ok(true));
-    assert!(rt; are_names(rt.alloc(), &mut reader) == Ok(true));
-    assert!(rt; is_end(&mut reader, 27) == Ok(true));
-    Ok(())
+fn items_are_taken(rt: HostRuntime) {
+    let reader = Reader::new(rt.alloc(), b"Upper lower 7 8 , a, b} END $");
+    assert!(rt; reader.is_ok_and(|mut reader| are_taken(rt.alloc(), &mut reader)));
 }
