@@ -143,7 +143,7 @@ fn is_data(alloc: Global, packet: &str, poll: bool, restart: bool, sn: u32) -> b
 #[test]
 fn data_frames_in_packets(rt: HostRuntime) {
     for &(packet, poll, restart, sn) in &DATA_FRAMES {
-        assert!(rt; is_data(rt.alloc(), packet, poll, restart, sn));
+        assert!(rt; is_data(rt.alloc(), packet, poll, restart, sn), "{packet}");
     }
 }
 
@@ -176,7 +176,7 @@ fn is_status(alloc: Global, packet: &str, lost: &[(u32, u32)], delivered: Option
 #[test]
 fn statuses_in_packets(rt: HostRuntime) {
     for &(packet, lost, delivered) in &STATUSES {
-        assert!(rt; is_status(rt.alloc(), packet, lost, delivered));
+        assert!(rt; is_status(rt.alloc(), packet, lost, delivered), "{packet}");
     }
 }
 
@@ -219,6 +219,6 @@ fn is_refused(alloc: Global, content: &str, reason: FrameError) -> bool {
 #[test]
 fn refused_frames(rt: HostRuntime) {
     for &(content, reason) in &REFUSALS {
-        assert!(rt; is_refused(rt.alloc(), content, reason));
+        assert!(rt; is_refused(rt.alloc(), content, reason), "{content}");
     }
 }

@@ -2,6 +2,7 @@
 
 use gtpu::*;
 use std::alloc::Global;
+use std::process::Abort;
 
 /// The octets of a packet, its kind, its TEID, the type of its first extension header, its extension headers, and its payload.
 type Row = (&'static [u8], Kind, u32, u8, &'static [u8], &'static [u8]);
@@ -33,13 +34,12 @@ fn goes_both_ways(alloc: Global, octets: &[u8], packet: Packet) -> bool {
     }
 }
 
-fn go_both_ways(alloc: Global, rows: &[Row]) -> bool {
+/// Each packet is read from its octets and written as them.
+fn go_both_ways(rt: &impl Abort, alloc: Global, rows: &[Row]) {
     for &(octets, kind, teid, first, chain, payload) in rows {
-        if !goes_both_ways(alloc, octets, packet(kind, teid, first, chain, payload)) {
-            return false;
-        }
+        let packet = packet(kind, teid, first, chain, payload);
+        assert!(rt; goes_both_ways(alloc, octets, packet), "{octets:?}");
     }
-    true
 }
 
 /// A packet on N3 and one to a CU-UP, packets with numbers of 12 and of 18 bits, a poll, two statuses, two forwarded packets, and the
@@ -129,7 +129,7 @@ const PACKETS: [Row; 10] = [
 
 #[test]
 fn packets(rt: HostRuntime) {
-    assert!(rt; go_both_ways(rt.alloc(), &PACKETS));
+    go_both_ways(&rt, rt.alloc(), &PACKETS);
 }
 
 /// A sequence number, and all optional fields.
@@ -206,7 +206,7 @@ const PACKETS_OF_A_HANDOVER: [Row; 6] = [
 
 #[test]
 fn packets_of_a_handover(rt: HostRuntime) {
-    assert!(rt; go_both_ways(rt.alloc(), &PACKETS_OF_A_HANDOVER));
+    go_both_ways(&rt, rt.alloc(), &PACKETS_OF_A_HANDOVER);
 }
 
 /// The first packet, one put again after a loss, the next, that one put again, and a status.
@@ -255,7 +255,7 @@ const PACKETS_OF_F1U: [Row; 5] = [
 
 #[test]
 fn packets_of_f1u(rt: HostRuntime) {
-    assert!(rt; go_both_ways(rt.alloc(), &PACKETS_OF_F1U));
+    go_both_ways(&rt, rt.alloc(), &PACKETS_OF_F1U);
 }
 
 fn is_read_as(octets: &[u8], packet: Packet) -> bool {
@@ -268,12 +268,22 @@ fn fields_that_are_not_evaluated(rt: HostRuntime) {
     // the spare bit
     assert!(rt; is_read_as(b"\x38\xFF\x00\x01\x00\x00\x00\x01\x45", plain));
     // E without a header
-    assert!(rt; is_read_as(b"\x34\xFF\x00\x05\x00\x00\x00\x01\x12\x34\x56\x00\x45", plain));
+    assert!(rt;
+        is_read_as(
+            b"\x34\xFF\x00\x05\x00\x00\x00\x01\x12\x34\x56\x00\x45",
+            plain
+        )
+    );
     let numbered = Packet {
         seq: Some(0x1234),
         ..plain
     };
-    assert!(rt; is_read_as(b"\x32\xFF\x00\x05\x00\x00\x00\x01\x12\x34\x56\x84\x45", numbered));
+    assert!(rt;
+        is_read_as(
+            b"\x32\xFF\x00\x05\x00\x00\x00\x01\x12\x34\x56\x84\x45",
+            numbered
+        )
+    );
 }
 
 const REFUSALS: [(&[u8], GtpuError); 18] = [
@@ -331,18 +341,15 @@ const REFUSALS: [(&[u8], GtpuError); 18] = [
     ),
 ];
 
-fn are_refused(rows: &[(&[u8], GtpuError)]) -> bool {
-    for &(octets, error) in rows {
-        if decode(octets) != Err(error) {
-            return false;
-        }
-    }
-    true
+fn is_refused(octets: &[u8], error: GtpuError) -> bool {
+    decode(octets) == Err(error)
 }
 
 #[test]
 fn refusals(rt: HostRuntime) {
-    assert!(rt; are_refused(&REFUSALS));
+    for &(octets, error) in &REFUSALS {
+        assert!(rt; is_refused(octets, error), "{octets:?}");
+    }
 }
 
 /// The octets of two extension headers, one known and one not, and one more.
@@ -357,19 +364,16 @@ const EXTENSIONS: [(u8, Option<&[u8]>); 4] = [
     (LONG_PDCP_PDU_NUMBER, None),
 ];
 
-fn has_extensions(octets: &[u8], rows: &[(u8, Option<&[u8]>)]) -> bool {
-    let Ok(packet) = decode(octets) else {
-        return false;
-    };
-    for &(code, content) in rows {
-        if extension(&packet, code) != content {
-            return false;
-        }
+fn has_extension(octets: &[u8], code: u8, content: Option<&[u8]>) -> bool {
+    match decode(octets) {
+        Ok(packet) => extension(&packet, code) == content,
+        Err(_) => false,
     }
-    true
 }
 
 #[test]
 fn extensions(rt: HostRuntime) {
-    assert!(rt; has_extensions(EXTENDED, &EXTENSIONS));
+    for &(code, content) in &EXTENSIONS {
+        assert!(rt; has_extension(EXTENDED, code, content), "{code}");
+    }
 }

@@ -6,6 +6,7 @@ use gnb_types::octets::{Memory, Octets};
 use link_packets::*;
 use nr_user_plane::ranges::Ranges;
 use pdcp::pdu::Pdu;
+use std::process::Abort;
 use std::test::Fail;
 
 const N3_PACKET: &[u8] = b"\x30\xFF\x00\x01\x00\x00\x00\x01\x45";
@@ -30,13 +31,10 @@ const NUMBERED: &[u8] = b"\x34\xFF\x00\x09\x00\x00\x00\x03\x00\x00\x00\xC0\x01\x
 const LONG_NUMBER: &[u8] =
     b"\x34\xFF\x00\x0D\x00\x00\x00\x03\x00\x00\x00\x82\x02\x03\xFF\xFF\x00\x00\x00\x00\x03";
 
-fn are_of_n3(table: &[(&[u8], Option<N3>)]) -> bool {
+fn are_of_n3(rt: &impl Abort, table: &[(&[u8], Option<N3>)]) {
     for (octets, read) in table {
-        if read_n3(octets) != *read {
-            return false;
-        }
+        assert!(rt; read_n3(octets) == *read, "{octets:?}");
     }
-    true
 }
 
 /// On N3 a packet and an End Marker; a sequence number, no packet, and a header of another link are none of its.
@@ -52,16 +50,13 @@ fn octets_of_n3(rt: HostRuntime) {
         (b"\x30\xFF\x00\x00\x00\x00\x00\x01", None),
         (NUMBERED, None),
     ];
-    assert!(rt; are_of_n3(&table));
+    are_of_n3(&rt, &table);
 }
 
-fn are_to_a_du(table: &[(&[u8], Option<F1uDownlink>)]) -> bool {
+fn are_to_a_du(rt: &impl Abort, table: &[(&[u8], Option<F1uDownlink>)]) {
     for (octets, read) in table {
-        if read_f1u_downlink(Len12, octets) != *read {
-            return false;
-        }
+        assert!(rt; read_f1u_downlink(Len12, octets) == *read, "{octets:?}");
     }
-    true
 }
 
 /// To a DU a packet and a poll; an End Marker, a status, a poll with a PDU, and a data frame without one are none of its.
@@ -95,7 +90,7 @@ fn octets_to_a_du(rt: HostRuntime) {
             None,
         ),
     ];
-    assert!(rt; are_to_a_du(&table));
+    are_to_a_du(&rt, &table);
 }
 
 fn is_from_a_du(sn: SnBits, octets: &[u8], read: &F1uUplink) -> bool {
@@ -149,13 +144,10 @@ fn none_from_a_du(rt: HostRuntime) {
     assert!(rt; read_f1u_uplink(Len12, STATUS_AND_PAYLOAD).is_none());
 }
 
-fn are_forwarded_down(table: &[(SnBits, &[u8], Option<Forwarded>)]) -> bool {
+fn are_forwarded_down(rt: &impl Abort, table: &[(SnBits, &[u8], Option<Forwarded>)]) {
     for (sn, octets, read) in table {
-        if read_forwarding_down(*sn, octets) != *read {
-            return false;
-        }
+        assert!(rt; read_forwarding_down(*sn, octets) == *read, "{octets:?}");
     }
-    true
 }
 
 /// Between two CU-UPs downwards a packet with its number, read modulo the sequence space, and one without; the header of the
@@ -176,16 +168,13 @@ fn octets_forwarded_down(rt: HostRuntime) {
             None,
         ),
     ];
-    assert!(rt; are_forwarded_down(&table));
+    are_forwarded_down(&rt, &table);
 }
 
-fn are_forwarded_up(table: &[(SnBits, &[u8], Option<Forwarded>)]) -> bool {
+fn are_forwarded_up(rt: &impl Abort, table: &[(SnBits, &[u8], Option<Forwarded>)]) {
     for (sn, octets, read) in table {
-        if read_forwarding_up(*sn, octets) != *read {
-            return false;
-        }
+        assert!(rt; read_forwarding_up(*sn, octets) == *read, "{octets:?}");
     }
-    true
 }
 
 /// Upwards a packet with its number, and an End Marker; the header of the other length of numbers, and no header are none of its.
@@ -201,7 +190,7 @@ fn octets_forwarded_up(rt: HostRuntime) {
         (Len12, LONG_NUMBER, None),
         (Len12, N3_PACKET, None),
     ];
-    assert!(rt; are_forwarded_up(&table));
+    are_forwarded_up(&rt, &table);
 }
 
 #[test]

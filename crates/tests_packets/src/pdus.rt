@@ -100,7 +100,7 @@ fn is_data_pdu(alloc: Global, row: DataPdu) -> bool {
 #[test]
 fn data_pdus(rt: HostRuntime) {
     for &row in &DATA_PDUS {
-        assert!(rt; is_data_pdu(rt.alloc(), row));
+        assert!(rt; is_data_pdu(rt.alloc(), row), "{}", row.0);
     }
 }
 
@@ -171,7 +171,7 @@ fn is_refused(sn: SnBits, octets: &[u8], reason: PduError) -> bool {
 #[test]
 fn refused_pdus(rt: HostRuntime) {
     for &(sn, octets, reason) in &REFUSALS {
-        assert!(rt; is_refused(sn, octets, reason));
+        assert!(rt; is_refused(sn, octets, reason), "{octets:?}");
     }
 }
 
@@ -196,6 +196,6 @@ const COUNTS: [(SnBits, u32, u32, Option<u32>); 14] = [
 #[test]
 fn counts_of_numbers(rt: HostRuntime) {
     for &(sn, deliv, number, count) in &COUNTS {
-        assert!(rt; near(sn, deliv, number) == count);
+        assert!(rt; near(sn, deliv, number) == count, "{number} near {deliv}");
     }
 }
