@@ -11,7 +11,6 @@ use gnb_types::octets::Octets;
 use profile::PROFILE_TEXT;
 use std::alloc::{AllocError, Global};
 use std::process::Abort;
-use std::test::Fail;
 
 /// The octets that a value is written as.
 fn written(alloc: Global, m: &Module, id: TypeId, value: &Value) -> Option<Octets>
@@ -26,22 +25,38 @@ fn written(alloc: Global, m: &Module, id: TypeId, value: &Value) -> Option<Octet
     encode(alloc, m, id, value).ok()
 }
 
+fn is_written(alloc: Global, m: &Module, id: TypeId, value: &Value, octets: &[u8]) -> bool
+    requires { id.number < length m.now.nodes }
+{
+    match written(alloc, m, id, value) {
+        Some(found) => found.as_slice() == octets,
+        None => false,
+    }
+}
+
+fn is_shown(alloc: Global, value: &Value, shown: &str) -> bool {
+    match format!(in alloc; "{value:?}") {
+        Ok(text) => text.as_str() == shown,
+        Err(_) => false,
+    }
+}
+
 /// Whether these octets are read as a value that is shown so and is written as them.
 fn is_read_and_written(alloc: Global, m: &Module, id: TypeId, octets: &[u8], shown: &str) -> bool
     requires inside { id.number < length m.now.nodes }
     requires short { length octets.now < 2 ^ 61 }
 {
-    let Ok(value) = decode(alloc, m, id, octets) else {
-        return false;
-    };
-    let Ok(text) = format!(in alloc; "{value:?}") else {
-        return false;
-    };
-    let is_written = match written(alloc, m, id, &value) {
-        None => false,
-        Some(found) => found.as_slice() == octets,
-    };
-    text.as_str() == shown && is_written
+    match decode(alloc, m, id, octets) {
+        Ok(value) => {
+            let is_it = is_shown(alloc, &value, shown) && is_written(alloc, m, id, &value, octets);
+            drop(value);
+            is_it
+        }
+        Err(error) => {
+            drop(error);
+            false
+        }
+    }
 }
 
 fn is_spelling(alloc: Global, m: &Module, row: Row) -> bool {
@@ -49,53 +64,60 @@ fn is_spelling(alloc: Global, m: &Module, row: Row) -> bool {
     let Some(id) = m.find(name) else {
         return false;
     };
-    let Ok(octets) = hex_bytes(alloc, hex) else {
+    let Ok(octets) = hex_bytes(alloc, hex.as_bytes()) else {
         return false;
     };
     let octets = octets.as_slice();
     octets.len() < 1000 && is_read_and_written(alloc, m, id, octets, shown)
 }
 
-fn are_spellings(alloc: Global, m: &Module, rows: &[Row]) -> bool {
+fn are_spellings(rt: &impl Abort, alloc: Global, m: &Module, rows: &[Row]) {
     for &row in rows {
-        if !is_spelling(alloc, m, row) {
-            return false;
-        }
+        assert!(rt; is_spelling(alloc, m, row), "{}", row.1);
     }
-    true
 }
 
-/// Whether each of these is a spelling by the types of a text.
-fn are_spelled(alloc: Global, text: &[u8], rows: &[Row]) -> bool {
+/// Each of these is a spelling by the types of a text.
+fn are_spelled(rt: &impl Abort, alloc: Global, text: &[u8], rows: &[Row]) {
     match read_module(alloc, text) {
-        Ok((module, _)) => are_spellings(alloc, &module, rows),
-        Err(_) => false,
+        Ok((module, _)) => are_spellings(rt, alloc, &module, rows),
+        Err(_) => assert!(rt; false),
     }
 }
 
 #[test]
 fn worked(rt: HostRuntime) {
-    assert!(rt; are_spelled(rt.alloc(), TYPES, &WORKED));
+    are_spelled(&rt, rt.alloc(), TYPES, &WORKED);
 }
 
 #[test]
 fn numbers(rt: HostRuntime) {
-    assert!(rt; are_spelled(rt.alloc(), TYPES, &NUMBERS));
+    are_spelled(&rt, rt.alloc(), TYPES, &NUMBERS);
 }
 
 #[test]
 fn strings(rt: HostRuntime) {
-    assert!(rt; are_spelled(rt.alloc(), TYPES, &STRINGS));
+    are_spelled(&rt, rt.alloc(), TYPES, &STRINGS);
 }
 
 #[test]
 fn structures(rt: HostRuntime) {
-    assert!(rt; are_spelled(rt.alloc(), TYPES, &STRUCTURES));
+    are_spelled(&rt, rt.alloc(), TYPES, &STRUCTURES);
 }
 
 #[test]
 fn messages(rt: HostRuntime) {
-    assert!(rt; are_spelled(rt.alloc(), PROFILE_TEXT, &MESSAGES));
+    are_spelled(&rt, rt.alloc(), PROFILE_TEXT, &MESSAGES);
+}
+
+/// Whether a value is so many octets of zeros.
+fn has_zeros(value: &Value, count: usize) -> bool {
+    match value {
+        Value::Octets(zeros) => {
+            zeros.len() == count && zeros.as_slice().iter().all(|octet| *octet == 0)
+        }
+        _ => false,
+    }
 }
 
 /// Whether these octets are read as so many octets of zeros, which are written as them.
@@ -103,18 +125,16 @@ fn is_zeros(alloc: Global, m: &Module, id: TypeId, octets: &[u8], count: usize) 
     requires inside { id.number < length m.now.nodes }
     requires short { length octets.now < 2 ^ 61 }
 {
-    let Ok(value) = decode(alloc, m, id, octets) else {
-        return false;
-    };
-    let is_written = match written(alloc, m, id, &value) {
-        None => false,
-        Some(found) => found.as_slice() == octets,
-    };
-    match &value {
-        Value::Octets(zeros) => {
-            zeros.len() == count && zeros.as_slice().iter().all(|octet| *octet == 0) && is_written
+    match decode(alloc, m, id, octets) {
+        Ok(value) => {
+            let is_it = has_zeros(&value, count) && is_written(alloc, m, id, &value, octets);
+            drop(value);
+            is_it
         }
-        _ => false,
+        Err(error) => {
+            drop(error);
+            false
+        }
     }
 }
 
@@ -141,7 +161,7 @@ fn is_in_parts(alloc: Global, octets: &[u8]) -> bool {
 
 /// 16,384 octets come in a part of so many and an empty one.
 #[test]
-fn in_parts(rt: HostRuntime) -> Result<(), Fail> {
+fn in_parts(rt: HostRuntime) -> Result<(), AllocError> {
     let octets = parts(rt.alloc())?;
     assert!(rt; is_in_parts(rt.alloc(), octets.as_slice()));
     Ok(())

@@ -2,7 +2,7 @@
 
 use asn1_assignments::*;
 use asn1_types::TypeId;
-use std::alloc::Global;
+use std::process::Abort;
 
 const TEXT: &[u8] = b"M DEFINITIONS AUTOMATIC TAGS ::= BEGIN\n\
 A ::= SEQUENCE OF BOOLEAN\n\
@@ -57,36 +57,27 @@ fn first_procedure(assignment: &Assignment) -> Option<&ProcedureRow> {
     }
 }
 
-fn are_placed(assignments: &[Assignment]) -> bool {
+fn are_as_written(rt: &impl Abort, assignments: &[Assignment]) {
+    assert!(rt; assignments.len() == 3);
     for (assignment, expected) in assignments.iter().zip(&ASSIGNMENTS) {
-        if !is_placed(assignment, expected) {
-            return false;
-        }
+        assert!(rt; is_placed(assignment, expected));
     }
-    assignments.len() == 3
+    if let [_, set, procedures] = assignments {
+        assert!(rt; first_row(set) == Some(&ROW));
+        assert!(rt; first_procedure(procedures) == Some(&PROCEDURE));
+    }
 }
 
-fn is_as_written(syntax: &Syntax) -> bool {
-    let assignments = syntax.assignments.as_slice();
-    let [_, set, procedures] = assignments else {
-        return false;
-    };
-    syntax.name.as_slice() == b"M".as_slice()
-        && syntax.end == 323
-        && syntax.nodes.len() == 6
-        && are_placed(assignments)
-        && first_row(set) == Some(&ROW)
-        && first_procedure(procedures) == Some(&PROCEDURE)
-}
-
-fn is_read(alloc: Global, text: &[u8]) -> bool {
-    match read_syntax(alloc, text) {
-        Ok(syntax) => is_as_written(&syntax),
-        Err(_) => false,
-    }
+fn is_as_written(rt: &impl Abort, syntax: &Syntax) {
+    assert!(rt; syntax.name.as_slice() == b"M".as_slice());
+    assert!(rt; syntax.end == 323 && syntax.nodes.len() == 6);
+    are_as_written(rt, syntax.assignments.as_slice());
 }
 
 #[test]
 fn assignments_of_each_kind(rt: HostRuntime) {
-    assert!(rt; is_read(rt.alloc(), TEXT));
+    match read_syntax(rt.alloc(), TEXT) {
+        Ok(syntax) => is_as_written(&rt, &syntax),
+        Err(_) => assert!(rt; false),
+    }
 }
