@@ -9,7 +9,6 @@ use scenario_text::print::print_line;
 use scenario_text::read::{TextError, is_skipped, read_event};
 use std::alloc::Global;
 use std::process::Abort;
-use std::test::Fail;
 
 /// Plans: lines with a wrong word, and the reason of the first.
 const PLANS: [(&str, TextReason); 21] = [
@@ -159,14 +158,20 @@ const OTHERS: [(&str, TextReason); 27] = [
     ("; a remark", TextReason::Word),
 ];
 
+fn is_refused(alloc: Global, line: &str, reason: TextReason) -> bool {
+    match read_event(alloc, line.as_bytes()) {
+        Ok(event) => {
+            drop(event);
+            false
+        }
+        Err(error) => error == TextError::Refused(reason),
+    }
+}
+
 /// Each of these lines is refused for its reason.
 fn are_refused(rt: &impl Abort, alloc: Global, lines: &[(&str, TextReason)]) {
     for &(line, reason) in lines {
-        let read = read_event(alloc, line.as_bytes());
-        assert!(rt;
-            read.is_err_and(|error| error == TextError::Refused(reason)),
-            "{line}"
-        );
+        assert!(rt; is_refused(alloc, line, reason), "{line}");
     }
 }
 
@@ -334,7 +339,7 @@ fn shows_packet(alloc: Global, packet: Octets, text: &str) -> bool {
 
 /// Lines that show an item or a packet.
 #[test]
-fn items(rt: HostRuntime) -> Result<(), Fail> {
+fn items(rt: HostRuntime) -> Result<(), Memory> {
     let alloc = rt.alloc();
     let n3 = item(alloc, None, &[0x30, 0xff, 0, 1, 0, 0, 0, 1, 0x45])?;
     assert!(rt; shows_put(alloc, n3, "put A.up1/1 u1 b1 dl - 30FF00010000000145"));
@@ -365,7 +370,7 @@ fn shows_got_message(alloc: Global, message: Message, text: &str) -> bool {
 
 /// Lines that show a message.
 #[test]
-fn messages(rt: HostRuntime) -> Result<(), Fail> {
+fn messages(rt: HostRuntime) -> Result<(), Memory> {
     let alloc = rt.alloc();
     let message = setup(alloc, 0)?;
     assert!(rt; shows_put_message(alloc, message, "put #12 A.cp A.du1 u0 002F"));
@@ -462,6 +467,6 @@ const OTHER_LINES: [(OutLine, &str); 14] = [
 #[test]
 fn other_lines(rt: HostRuntime) {
     for (line, text) in &OTHER_LINES {
-        assert!(rt; has_text(rt.alloc(), line, text));
+        assert!(rt; has_text(rt.alloc(), line, text), "{text}");
     }
 }
