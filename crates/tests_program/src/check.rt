@@ -234,11 +234,15 @@ const INPUTS: [(&str, Expected); 27] = [
     ),
 ];
 
+/// Whether the check comes to this octet by octet, and in one piece.
+fn comes_to_in_pieces(alloc: Global, input: &str, expected: Expected) -> bool {
+    comes_to(alloc, input, 1, &[], expected) && comes_to(alloc, input, 4096, &[], expected)
+}
+
 #[test]
 fn whole_inputs(rt: HostRuntime) {
     for &(input, expected) in &INPUTS {
-        assert!(rt; comes_to(rt.alloc(), input, 1, &[], expected), "{input}");
-        assert!(rt; comes_to(rt.alloc(), input, 4096, &[], expected), "{input}");
+        assert!(rt; comes_to_in_pieces(rt.alloc(), input, expected), "{input}");
     }
 }
 
