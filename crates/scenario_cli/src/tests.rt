@@ -349,7 +349,7 @@ fn scripts_with_a_text(rt: HostRuntime) {
 /// read.
 fn text_at(alloc: Global, taken: usize) -> Result<String, AllocError> {
     let mut text = String::new(alloc);
-    for (end, lines) in STEPS {
+    for &(end, lines) in &STEPS {
         if end <= taken {
             text.push_str(lines)?;
         }

@@ -158,7 +158,7 @@ fn takes_octets(octets: &[u8; 4], start: u64, count: usize, found: Option<&[u8]>
 
 #[test]
 fn whole_octets(rt: HostRuntime) {
-    for (start, count, found) in TAKEN {
+    for &(start, count, found) in &TAKEN {
         assert!(rt;
             takes_octets(b"per\xa0", start, count, found),
             "{count} at {start}"

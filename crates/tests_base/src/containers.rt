@@ -8,7 +8,7 @@ use tables::table::Table;
 
 /// The keys 1, 5 and 9, whose values are their octets, but for two: 1 has one more, 5 has 50.
 fn fill_table(alloc: Global, table: &mut Table<u8, Octets>) -> Result<(), Memory> {
-    for key in [5u8, 1, 9] {
+    for &key in &[5u8, 1, 9] {
         drop(table.put(key, Octets::one(alloc, key)?)?);
     }
     drop(table.put(5, Octets::one(alloc, 50)?)?);
@@ -39,7 +39,7 @@ fn has_keys(table: &Table<u8, Octets>) -> bool {
 fn a_table_is_filled(rt: HostRuntime) -> Result<(), Memory> {
     let table = filled_table(rt.alloc())?;
     assert!(rt; has_keys(&table));
-    for (key, next) in [(0, 1), (1, 5), (4, 5), (5, 9)] {
+    for &(key, next) in &[(0, 1), (1, 5), (4, 5), (5, 9)] {
         assert!(rt; table.after(&key).is_some_and(|entry| *entry.0 == next));
     }
     Ok(())
@@ -144,7 +144,7 @@ fn a_queue_from_end_to_end(rt: HostRuntime) -> Result<(), Memory> {
 
 /// Puts the keys 1 and 9, whose values are their octets, and 2 in the slot of a key that was taken; key 1 has one more octet.
 fn fill_shelf(alloc: Global, shelf: &mut Shelf<u8, Octets>) -> Result<(), Memory> {
-    for key in [5u8, 1, 9] {
+    for &key in &[5u8, 1, 9] {
         drop(shelf.put(key, Octets::one(alloc, key)?)?);
     }
     if let Some(value) = shelf.get_mut(&1) {

@@ -38,7 +38,7 @@ fn stands_for(alloc: Global, text: &[u8], bytes: &[u8]) -> Result<bool, HexError
 
 #[test]
 fn hexadecimal_text(rt: HostRuntime) {
-    for (bytes, text) in VECTORS {
+    for &(bytes, text) in &VECTORS {
         assert!(rt; has_text(rt.alloc(), bytes, text) == Ok(true), "{bytes:?}");
         assert!(rt;
             stands_for(rt.alloc(), text, bytes) == Ok(true),
@@ -50,7 +50,7 @@ fn hexadecimal_text(rt: HostRuntime) {
 
 #[test]
 fn no_hexadecimal_text(rt: HostRuntime) {
-    for text in NO_BYTES {
+    for &text in &NO_BYTES {
         assert!(rt;
             stands_for(rt.alloc(), text, b"") == Err(HexError::NotHex),
             "{text:?}"

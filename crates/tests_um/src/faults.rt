@@ -41,7 +41,7 @@ fn call<'a>(piece: usize, failing_reads: &'a [u64], failing_writes: &'a [u64]) -
 /// What the events of the lines print that lie whole among the first bytes, and then the `stop` line of a failed read.
 fn text_at(alloc: Global, taken: usize) -> Result<String, AllocError> {
     let mut text = String::new(alloc);
-    for (end, lines) in STEPS {
+    for &(end, lines) in &STEPS {
         if end <= taken && end < SCRIPT.len() {
             text.push_str(lines)?;
         }
