@@ -53,7 +53,7 @@ fn items_go(rt: &impl Abort, tallies: &mut Tallies) {
     }
 }
 
-fn item(alloc: Global, ue: u8, count: u32) -> Item {
+fn item(alloc: Global, ue: u8, count: u32) -> Item<Octets> {
     Item {
         key: key(ue),
         count: Some(count),
@@ -61,13 +61,13 @@ fn item(alloc: Global, ue: u8, count: u32) -> Item {
     }
 }
 
-fn queue_of(alloc: Global, item: Item) -> Result<Queue<Item>, Memory> {
+fn queue_of(alloc: Global, item: Item<Octets>) -> Result<Queue<Item<Octets>>, Memory> {
     let mut queue = Queue::new(alloc);
     queue.push(item)?;
     Ok(queue)
 }
 
-fn items_of(alloc: Global, item: Item) -> Result<VecDeque<Item>, Memory> {
+fn items_of(alloc: Global, item: Item<Octets>) -> Result<VecDeque<Item<Octets>>, Memory> {
     let mut items = VecDeque::new(alloc);
     items.push_back(item)?;
     Ok(items)
