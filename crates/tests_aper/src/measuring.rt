@@ -41,10 +41,10 @@ fn boolean(value: Value) -> Option<u128> {
     octets(end)
 }
 
-/// How many octets a number has as one of these.
-fn integer(low: i128, high: i128, extensible: bool, number: i128) -> Option<u128> {
+/// How many octets a number has as one of those from 0 on up to a greatest one.
+fn integer(most: u64, extensible: bool, number: i128) -> Option<u128> {
     let value = Value::Int(number);
-    let end = integer_end(low, high, extensible, &value, 0);
+    let end = integer_end(0, i128::from(most), extensible, &value, 0);
     drop(value);
     octets(end)
 }
@@ -57,23 +57,23 @@ fn enumerated(index: u32) -> Option<u128> {
     octets(end)
 }
 
-/// Numbers from the first on up to the second one, maybe past them: how many octets this one has.
-const INTEGERS: [(i128, i128, bool, i128, Option<u128>); 6] = [
-    (0, 65536, false, 5, Some(2)),
-    (0, 65536, false, 65536, Some(4)),
-    (0, 68719476735, false, 5, Some(2)),
-    (0, 10, true, 5, Some(1)),
-    (0, 10, true, 65536, Some(5)),
-    (0, 10, false, 65536, None),
+/// Up to this number, maybe past it: how many octets a number has.
+const INTEGERS: [(u64, bool, i128, Option<u128>); 6] = [
+    (65536, false, 5, Some(2)),
+    (65536, false, 65536, Some(4)),
+    (68719476735, false, 5, Some(2)),
+    (10, true, 5, Some(1)),
+    (10, true, 65536, Some(5)),
+    (10, false, 65536, None),
 ];
 
 /// Where numbers, truth values and names end from the first bit on, as how many octets that is.
 #[test]
 fn numbers(rt: HostRuntime) {
-    for &(low, high, extensible, number, count) in &INTEGERS {
+    for &(most, extensible, number, count) in &INTEGERS {
         assert!(rt;
-            integer(low, high, extensible, number) == count,
-            "{number} of {low} to {high}"
+            integer(most, extensible, number) == count,
+            "{number} up to {most}"
         );
     }
     assert!(rt; boolean(Value::Bool(true)) == Some(1));
