@@ -27,10 +27,10 @@ use Rattle.law_open_tunnels.specs.Open.{stands}
 use Rattle.law_owner_facts.specs.Owned.{WereGiven}
 use Rattle.law_up_slice.specs.CuUps.{own_tunnel as up_own}
 use Rattle.law_du_slice.specs.Dus.{own_tunnel as du_own}
-use Rattle.law_run_tunnels.specs.Own.{IsOwnAt}
-use Rattle.law_others_stay.specs.Others.{items_on}
-use Rattle.law_own_steps.proofs.Steps.{Sound}
-use Rattle.law_own_events.specs.Events.{RunState}
+use Rattle.law_alike_steps.specs.law_run_tunnels.Own.{IsOwnAt}
+use Rattle.law_alike_steps.specs.law_others_stay.Others.{items_on}
+use Rattle.law_alike_steps.proofs.law_own_steps.Steps.{Sound}
+use Rattle.law_alike_steps.specs.law_own_events.Events.{RunState}
 use Rattle.law_alike_steps.specs.Alike.{stand, Agree}
 use Rattle.law_alike_steps.proofs.Units.{RunUnits}
 

@@ -23,7 +23,7 @@ use Rattle.run_defs.specs.Units.{Units, cp_of, with_cp, up_of, with_up, du_of, w
 use Rattle.run_defs.specs.Conditions.{all_set_up, units_placed}
 use Rattle.law_teids.proofs.Placed.{find_mapped}
 use Rattle.law_owner_facts.specs.Owned.{AreOwned}
-use Rattle.law_slice_owners.proofs.Owners.{tunnels_same as up_tunnels_same}
+use Rattle.law_alike_steps.proofs.law_slice_owners.Owners.{tunnels_same as up_tunnels_same}
 use Rattle.law_slices.specs.Slices.{Requests, requests_of}
 use Rattle.law_cp_slice.specs.CuCps.{cp_slice}
 use Rattle.law_up_slice.specs.CuUps.{up_part, UpShared}
@@ -31,7 +31,7 @@ use Rattle.law_du_slice.specs.Dus.{DuShared}
 use Rattle.law_alike_steps.specs.Places.{of_up, of_du}
 use Rattle.law_alike_steps.specs.Alike.{Agree}
 use Rattle.law_alike_steps.proofs.Units.{RunUnits}
-use Rattle.law_all_steps.proofs.Statics.{du_tunnels_same}
+use Rattle.law_run_ticks.proofs.law_all_steps.Statics.{du_tunnels_same}
 use Rattle.law_alike_states.specs.States.{shared_but_room}
 
 -- what stands at the terminal's key after a put there

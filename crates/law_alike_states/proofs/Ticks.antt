@@ -15,9 +15,9 @@ use Rattle.run_defs.specs.Written.{WrittenStepped}
 use Rattle.run_defs.specs.States.{State, World, goes, told_before, ◌next◌, goes_on, Within, stepped, tick_for, sn_of}
 use Rattle.run_defs.specs.Steps.{check_spans, reconnect_node, put_control, put_out, put_out_all, carried_out}
 use Rattle.run_defs.specs.Runs.{Reading, plain_world}
-use Rattle.law_slice_arguments.specs.Views.{StayAlikeAt}
-use Rattle.law_tick_slices.specs.Ticks.{outputs_of}
-use Rattle.law_others_stay.specs.Others.{letters_of, IsNodeFor}
+use Rattle.law_alike_steps.specs.law_slice_arguments.Views.{StayAlikeAt}
+use Rattle.law_run_ticks.specs.law_tick_slices.Ticks.{outputs_of}
+use Rattle.law_alike_steps.specs.law_others_stay.Others.{letters_of, IsNodeFor}
 use Rattle.law_cp_slice.specs.CuCps.{CpShared}
 use Rattle.law_up_slice.specs.CuUps.{UpShared}
 use Rattle.law_du_slice.specs.Dus.{DuShared}
@@ -29,8 +29,8 @@ use Rattle.law_alike_steps.specs.Alike.{Alike, AlikeFrom, Agree}
 use Rattle.law_alike_steps.proofs.Beside.{letters_end, then_alike, checks_alike}
 use Rattle.law_alike_steps.proofs.Steps.{nodes_alike}
 use Rattle.law_alike_steps.proofs.Units.{RunUnits, agrees, only_answered}
-use Rattle.law_own_events.specs.Events.{RunState}
-use Rattle.law_all_steps.specs.Steps.{AfterSteps}
+use Rattle.law_alike_steps.specs.law_own_events.Events.{RunState}
+use Rattle.law_run_ticks.specs.law_all_steps.Steps.{AfterSteps}
 use Rattle.law_alike_states.specs.States.{shared_but_room, IsTicked, Ticked}
 
 -- ---- control messages of a terminal among what is told

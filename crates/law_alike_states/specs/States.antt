@@ -18,9 +18,9 @@ use Rattle.law_steps.specs.Made.{IsDone}
 use Rattle.law_cp_slice.specs.CuCps.{cp_shared}
 use Rattle.law_up_slice.specs.CuUps.{up_shared}
 use Rattle.law_du_slice.specs.Dus.{du_shared}
-use Rattle.law_tick_slices.specs.Ticks.{outputs_of}
-use Rattle.law_own_steps.specs.Own.{IsActed}
-use Rattle.law_own_events.specs.Events.{RunState}
+use Rattle.law_run_ticks.specs.law_tick_slices.Ticks.{outputs_of}
+use Rattle.law_alike_steps.specs.law_own_steps.Own.{IsActed}
+use Rattle.law_alike_steps.specs.law_own_events.Events.{RunState}
 use Rattle.law_run_ticks.specs.Ticks.{IsUnit, IsTold}
 use Rattle.law_alike_steps.specs.Places.{Shared, of_cp, of_up, of_du, of_none}
 use Rattle.law_alike_steps.specs.Alike.{Agree}

@@ -23,7 +23,7 @@ use Rattle.run_defs.specs.Lines.{put_item, lost_items, tunnel_link, radio_link, 
 use Rattle.run_defs.specs.States.{State, Book, new_book, World, Stop, goes, stops, told_before, ◌next◌, goes_on, Within, entity, book_of, with_book, radio_of, with_radio}
 use Rattle.run_defs.specs.Steps.{first_outstanding, entities_of, checked_by, check_spans, noted, count_beside, item_of, with_tunnel, on_tunnel, put_on_tunnel, put_on_connected, put_on_radio, put_control, opens, closes, put_out, put_out_all}
 use Rattle.law_slices.specs.Steps.{IsFor}
-use Rattle.law_others_stay.specs.Others.{letters_of}
+use Rattle.law_own_events.specs.law_others_stay.Others.{letters_of}
 use Rattle.law_alike_steps.specs.Alike.{stand, Alike, AlikeFrom}
 
 -- ---- tables

@@ -22,7 +22,7 @@ use Rattle.run_defs.specs.States.{Book, Within, entity, radio_of}
 use Rattle.run_defs.specs.Events.{leaves}
 use Rattle.run_defs.specs.Runs.{Reading, plain_world}
 use Rattle.law_steps.specs.Causes.{by_order, by_tick, by_octets, by_octets_on, by_attach, by_release, by_offer, by_item, by_air, by_ack, by_letter, first_of, Stands}
-use Rattle.law_others_stay.specs.Others.{IsCauseFor}
+use Rattle.law_own_events.specs.law_others_stay.Others.{IsCauseFor}
 use Rattle.law_own_events.specs.Events.{RunState}
 use Rattle.law_alike_steps.specs.Places.{RunCause, Place, in_place}
 use Rattle.law_alike_steps.specs.Alike.{stand, Alike, AlikeFrom}

@@ -25,7 +25,7 @@ use Rattle.run_defs.specs.Steps.{check_spans, put_out_all, radio_lost, lose_each
 use Rattle.run_defs.specs.Events.{leaves}
 use Rattle.law_steps.specs.Causes.{by_order, by_tick, by_octets, by_octets_on, by_attach, by_release, by_offer, by_item, by_air, by_ack, by_letter, node_of, given_of, count_of}
 use Rattle.law_slices.specs.Steps.{IsFor}
-use Rattle.law_others_stay.specs.Others.{IsNodeFor}
+use Rattle.law_own_events.specs.law_others_stay.Others.{IsNodeFor}
 use Rattle.law_alike_steps.specs.Places.{RunCause, Place, in_place}
 use Rattle.law_alike_steps.specs.Alike.{Alike, AlikeFrom}
 use Rattle.law_alike_steps.proofs.Beside.{KeepAlike, then_alike, checks_alike, all_alike}

@@ -29,12 +29,12 @@ use Rattle.law_slices.specs.Steps.{IsFor}
 use Rattle.law_cp_slice.specs.CuCps.{CpShared, cp_slice}
 use Rattle.law_up_slice.specs.CuUps.{UpShared, up_slice, up_part}
 use Rattle.law_du_slice.specs.Dus.{DuShared, du_slice}
-use Rattle.law_run_slices.specs.Units.{units_slice, given_in, given_ue, IsUnitsStepOf}
-use Rattle.law_run_slices.proofs.Units.{given_step}
-use Rattle.law_slice_owners.proofs.Owners.{apart_of}
+use Rattle.law_own_events.specs.law_run_slices.Units.{units_slice, given_in, given_ue, IsUnitsStepOf}
+use Rattle.law_own_events.proofs.law_run_slices.Units.{given_step}
+use Rattle.law_own_events.proofs.law_slice_owners.Owners.{apart_of}
 use Rattle.law_slice_arguments.specs.Views.{AreAlikeAt, StayAlikeAt, AnswerAlike}
 use Rattle.law_slice_arguments.proofs.Views.{alike_answers}
-use Rattle.law_own_steps.proofs.Steps.{Sound}
+use Rattle.law_own_events.proofs.law_own_steps.Steps.{Sound}
 use Rattle.law_own_events.specs.Events.{RunState}
 use Rattle.law_alike_steps.specs.Places.{of_cp, of_up, of_du, shared_at}
 use Rattle.law_alike_steps.specs.Alike.{Agree, Together}

@@ -15,8 +15,8 @@ use Rattle.run_defs.specs.Units.{Units, up_of, ue_of}
 use Rattle.run_defs.specs.States.{State, goes, stops, Within, book_of, radio_of}
 use Rattle.law_slices.specs.Steps.{IsFor}
 use Rattle.law_up_slice.specs.CuUps.{up_slice}
-use Rattle.law_run_slices.specs.Units.{units_slice}
-use Rattle.law_others_stay.specs.Others.{letters_of}
+use Rattle.law_own_events.specs.law_run_slices.Units.{units_slice}
+use Rattle.law_own_events.specs.law_others_stay.Others.{letters_of}
 
 -- ---- beside the units
 

@@ -8,7 +8,7 @@ ghost use Rattle.gnb_types.specs.declared.names.UeId.{UeId};
 ghost use Rattle.law_alike_steps.specs.Alike.{Agree, Alike, AlikeFrom, Together};
 ghost use Rattle.law_alike_steps.specs.Places.{shared_at};
 ghost use Rattle.law_own_events.specs.Events.{RunState};
-ghost use Rattle.law_run_slices.specs.Units.{given_ue};
+ghost use Rattle.law_own_events.specs.law_run_slices.Units.{given_ue};
 ghost use Rattle.law_steps.specs.Reached.{reached};
 ghost use Rattle.message_types.specs.declared.rrc.Token.{Token};
 ghost use Rattle.run_defs.specs.Runs.{plain_world, PlainGiven, Reading};

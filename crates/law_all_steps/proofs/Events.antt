@@ -30,9 +30,9 @@ use Rattle.run_defs.specs.Events.{static, order_each, start, lose_message_on, lo
 use Rattle.run_defs.specs.Runs.{Reading, plain_world, happens, tunnel_end}
 use Rattle.law_steps.specs.Causes.{by_order, by_octets, by_octets_on, node_of, given_of, count_of, first_of, Stands}
 use Rattle.law_steps.specs.Made.{IsDone, Made, stays, ends, then_made, sets_up, starts, acts, holds_item, holds_pdu, offers, core_takes, core_reads, lands, loses_letter, loses_item, remarks}
-use Rattle.law_run_slices.specs.Units.{given_ue}
-use Rattle.law_own_steps.proofs.Steps.{Sound}
-use Rattle.law_own_events.specs.Events.{RunState, RunOutcome, AllFor}
+use Rattle.law_named_events.specs.law_run_slices.Units.{given_ue}
+use Rattle.law_named_events.proofs.law_own_steps.Steps.{Sound}
+use Rattle.law_named_events.specs.law_own_events.Events.{RunState, RunOutcome, AllFor}
 use Rattle.law_named_events.specs.Named.{event_ue}
 use Rattle.law_named_events.proofs.Named.{named_for}
 use Rattle.law_all_steps.specs.Steps.{IsNotMadeBy, IsNotFor, NoneFor, IsNotTheirs, OldestIsNotTheirs, IsNoBusiness}

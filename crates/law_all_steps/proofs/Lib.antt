@@ -4,3 +4,4 @@ pub mod Nones
 pub mod Statics
 pub mod Others
 pub mod Events
+pub use Rattle.law_named_events.proofs.law_run_facts as law_run_facts

@@ -31,13 +31,13 @@ use Rattle.law_open_tunnels.specs.Open.{stands}
 use Rattle.law_slices.specs.Slices.{core_slice}
 use Rattle.law_up_slice.specs.CuUps.{up_slice, tunnel_ue as up_tunnel_ue}
 use Rattle.law_du_slice.specs.Dus.{tunnel_ue as du_tunnel_ue}
-use Rattle.law_run_slices.specs.Units.{units_slice, given_in, given_ue}
-use Rattle.law_run_tunnels.specs.Own.{IsOwnAt}
-use Rattle.law_others_stay.specs.Others.{IsNodeFor, IsStepFor, IsOutputFor}
-use Rattle.law_others_stay.proofs.Steps.{others_stay}
-use Rattle.law_own_steps.specs.Own.{IsActed, LeavesOthers}
-use Rattle.law_own_steps.proofs.Steps.{RunState, Sound}
-use Rattle.law_own_steps.proofs.Leaves.{same_core, same_units}
+use Rattle.law_named_events.specs.law_run_slices.Units.{units_slice, given_in, given_ue}
+use Rattle.law_named_events.specs.law_run_tunnels.Own.{IsOwnAt}
+use Rattle.law_named_events.specs.law_others_stay.Others.{IsNodeFor, IsStepFor, IsOutputFor}
+use Rattle.law_named_events.proofs.law_others_stay.Steps.{others_stay}
+use Rattle.law_named_events.specs.law_own_steps.Own.{IsActed, LeavesOthers}
+use Rattle.law_named_events.proofs.law_own_steps.Steps.{RunState, Sound}
+use Rattle.law_named_events.proofs.law_own_steps.Leaves.{same_core, same_units}
 use Rattle.law_all_steps.specs.Steps.{IsNoTick, IsNotMadeBy}
 
 abbrev pub RunCause : Type 0

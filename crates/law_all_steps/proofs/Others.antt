@@ -17,11 +17,11 @@ use Rattle.run_defs.specs.Runs.{Reading, plain_world}
 use Rattle.law_steps.specs.Causes.{node_of, given_of, count_of, first_of}
 use Rattle.law_steps.specs.Made.{Made, stays, ends, then_made, sets_up, starts, acts, holds_item, holds_pdu, offers, core_takes, core_reads, lands, loses_letter, loses_item, remarks}
 use Rattle.law_slices.specs.Slices.{message_ue}
-use Rattle.law_run_slices.specs.Units.{given_ue}
-use Rattle.law_own_steps.specs.Own.{IsActed}
-use Rattle.law_own_steps.proofs.Leaves.{act_leaves}
-use Rattle.law_own_events.specs.Events.{RunState, RunOutcome, AllFor}
-use Rattle.law_own_events.proofs.Leaves.{LeavesAt, made_leaves}
+use Rattle.law_named_events.specs.law_run_slices.Units.{given_ue}
+use Rattle.law_named_events.specs.law_own_steps.Own.{IsActed}
+use Rattle.law_named_events.proofs.law_own_steps.Leaves.{act_leaves}
+use Rattle.law_named_events.specs.law_own_events.Events.{RunState, RunOutcome, AllFor}
+use Rattle.law_named_events.proofs.law_own_events.Leaves.{LeavesAt, made_leaves}
 use Rattle.law_all_steps.specs.Slices.{ShareSlice}
 use Rattle.law_all_steps.specs.Steps.{AfterSteps, one_more, IsNotFor, NoneFor}
 use Rattle.law_all_steps.proofs.Paths.{sound_on}

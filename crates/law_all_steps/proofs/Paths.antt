@@ -15,26 +15,26 @@ use Rattle.law_steps.proofs.Frames.{made_relates}
 use Rattle.law_steps.proofs.Runs.{made_of_steps}
 use Rattle.law_teids.specs.Given.{GiveOnce}
 use Rattle.law_teids.proofs.Runs.{give_same, give_then, placed_gives, answer_gives}
-use Rattle.law_run_facts.specs.Facts.{Hold}
-use Rattle.law_run_facts.specs.UnitFacts.{written_facts}
-use Rattle.law_run_facts.proofs.Runs.{made_holds}
-use Rattle.law_run_facts.proofs.Later.{made_later}
-use Rattle.law_run_facts.proofs.Plain.{plain_kept, first_holds}
+use Rattle.law_named_events.specs.law_run_facts.Facts.{Hold}
+use Rattle.law_named_events.specs.law_run_facts.UnitFacts.{written_facts}
+use Rattle.law_named_events.proofs.law_run_facts.Runs.{made_holds}
+use Rattle.law_named_events.proofs.law_run_facts.Later.{made_later}
+use Rattle.law_named_events.proofs.law_run_facts.Plain.{plain_kept, first_holds}
 use Rattle.law_open_tunnels.proofs.Runs.{first_stands, made_stands}
 use Rattle.law_open_tunnels.specs.Open.{StandWhereOpen}
 use Rattle.law_owner_facts.specs.Owned.{AreOwned}
-use Rattle.law_tunnel_owners.proofs.Placed.{first_owned}
-use Rattle.law_tunnel_owners.proofs.Runs.{owned_made}
+use Rattle.law_named_events.proofs.law_tunnel_owners.Placed.{first_owned}
+use Rattle.law_named_events.proofs.law_tunnel_owners.Runs.{owned_made}
 use Rattle.law_tunnel_names.specs.Names.{by_book}
 use Rattle.law_unit_tunnels.specs.Units.{NoneIsFree}
-use Rattle.law_tunnel_book.specs.Book.{book_of}
-use Rattle.law_tunnel_book.proofs.Books.{holds_own}
-use Rattle.law_step_slices.proofs.Runs.{themselves, keep}
-use Rattle.law_run_tunnels.proofs.Held.{Later}
-use Rattle.law_run_tunnels.proofs.Runs.{Named, kept, first, own_there}
-use Rattle.law_own_steps.proofs.Steps.{RunState, Sound}
-use Rattle.law_own_events.specs.Events.{RunOutcome}
-use Rattle.law_own_events.specs.Passed.{Passes, not_yet, further}
+use Rattle.law_named_events.specs.law_tunnel_book.Book.{book_of}
+use Rattle.law_named_events.proofs.law_tunnel_book.Books.{holds_own}
+use Rattle.law_named_events.proofs.law_step_slices.Runs.{themselves, keep}
+use Rattle.law_named_events.proofs.law_run_tunnels.Held.{Later}
+use Rattle.law_named_events.proofs.law_run_tunnels.Runs.{Named, kept, first, own_there}
+use Rattle.law_named_events.proofs.law_own_steps.Steps.{RunState, Sound}
+use Rattle.law_named_events.specs.law_own_events.Events.{RunOutcome}
+use Rattle.law_named_events.specs.law_own_events.Passed.{Passes, not_yet, further}
 use Rattle.law_all_steps.specs.Steps.{AfterSteps, none_yet, one_more}
 
 abbrev RunUnits : Type 0

@@ -3,7 +3,7 @@ use Rattle.std.proofs.Common.{refl, sym, ◌∙◌}
 use Rattle.std.specs.Prelude.{◌≢◌}
 use Rattle.gnb_types.specs.declared.names.UeId.{UeId}
 use Rattle.run_defs.specs.States.{State}
-use Rattle.law_own_steps.specs.Own.{LeavesOthers}
+use Rattle.law_named_events.specs.law_own_steps.Own.{LeavesOthers}
 use Rattle.law_all_steps.specs.Slices.{ShareSlice}
 
 module _ {M C L P : Type 0} (ue : UeId) where

@@ -28,15 +28,15 @@ use Rattle.run_defs.specs.States.{State}
 use Rattle.run_defs.specs.Steps.{with_tunnel}
 use Rattle.run_defs.specs.Conditions.{is_held_by_units, all_set_up, units_placed, n3_from, tunnels_from, statically}
 use Rattle.law_owner_facts.specs.Owned.{du_names, du_context_names, DuOwns, AreOwned}
-use Rattle.law_tunnel_owners.proofs.Placed.{placed_owned}
-use Rattle.law_slice_owners.proofs.Owners.{tunnels_same as up_tunnels_same}
+use Rattle.law_named_events.proofs.law_tunnel_owners.Placed.{placed_owned}
+use Rattle.law_named_events.proofs.law_slice_owners.Owners.{tunnels_same as up_tunnels_same}
 use Rattle.law_slices.specs.Slices.{Requests, requests_of}
 use Rattle.law_slices.proofs.Tables.{apart_ues}
 use Rattle.law_cp_slice.specs.CuCps.{cp_slice}
 use Rattle.law_up_slice.specs.CuUps.{UpPart, up_part, up_slice}
 use Rattle.law_du_slice.specs.Dus.{own_tunnel, du_slice}
-use Rattle.law_run_slices.specs.Units.{units_slice}
-use Rattle.law_own_steps.specs.Own.{LeavesOthers}
+use Rattle.law_named_events.specs.law_run_slices.Units.{units_slice}
+use Rattle.law_named_events.specs.law_own_steps.Own.{LeavesOthers}
 use Rattle.law_teids.proofs.Placed.{find_mapped}
 
 -- ---- the open TEIDs of a terminal at a DU follow from its context

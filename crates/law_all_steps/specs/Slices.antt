@@ -10,8 +10,8 @@ use Rattle.run_defs.specs.Units.{up_of}
 use Rattle.run_defs.specs.States.{State, radio_of, book_of}
 use Rattle.law_slices.specs.Slices.{core_slice}
 use Rattle.law_up_slice.specs.CuUps.{up_slice}
-use Rattle.law_run_slices.specs.Units.{units_slice}
-use Rattle.law_others_stay.specs.Others.{letters_of, items_on}
+use Rattle.law_named_events.specs.law_run_slices.Units.{units_slice}
+use Rattle.law_named_events.specs.law_others_stay.Others.{letters_of, items_on}
 
 -- what all units keep of the terminal, which open TEIDs of CU-UPs are its, and what the core keeps; its control messages in the order
 -- in which they were put, its items on every tunnel and radio, its books, its connection and its plan

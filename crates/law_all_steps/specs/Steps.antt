@@ -15,8 +15,8 @@ use Rattle.run_defs.specs.Runs.{Reading, plain_world, tunnel_end}
 use Rattle.law_steps.specs.Causes.{Cause, by_tick, node_of, given_of}
 use Rattle.law_steps.specs.Made.{Made, stays, ends, then_made, sets_up, starts, acts, holds_item, holds_pdu, offers, core_takes, core_reads, lands, loses_letter, loses_item, remarks}
 use Rattle.law_slices.specs.Slices.{message_ue}
-use Rattle.law_run_slices.specs.Units.{given_ue}
-use Rattle.law_own_events.specs.Events.{RunState, RunOutcome}
+use Rattle.law_named_events.specs.law_run_slices.Units.{given_ue}
+use Rattle.law_named_events.specs.law_own_events.Events.{RunState, RunOutcome}
 use Rattle.law_named_events.specs.Named.{event_ue}
 
 -- after steps of events, one after another, from the first state; each event may have made only some of its steps

@@ -5,8 +5,8 @@
 ghost use Rattle.gnb_types.specs.declared.names.UeId.{UeId};
 ghost use Rattle.law_all_steps.specs.Slices.{ShareSlice};
 ghost use Rattle.law_all_steps.specs.Steps.{AfterSteps, IsNoBusiness, NoneFor};
-ghost use Rattle.law_own_events.specs.Events.{RunOutcome, RunState};
-ghost use Rattle.law_own_events.specs.Passed.{Passes};
+ghost use Rattle.law_named_events.specs.law_own_events.Events.{RunOutcome, RunState};
+ghost use Rattle.law_named_events.specs.law_own_events.Passed.{Passes};
 ghost use Rattle.law_steps.specs.Made.{Made};
 ghost use Rattle.law_steps.specs.Reached.{reached};
 ghost use Rattle.message_types.specs.declared.rrc.Token.{Token};

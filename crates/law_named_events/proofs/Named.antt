@@ -40,9 +40,9 @@ use Rattle.run_defs.specs.Events.{with_terminal, attach, offered, offer_on_path,
 use Rattle.run_defs.specs.Runs.{Reading, plain_world, happens, tunnel_end}
 use Rattle.law_steps.specs.Causes.{Cause, by_order, by_attach, by_release, by_offer, by_item, by_air, by_ack, by_letter, node_of, given_of, count_of, first_of, IsNoAttach, Stands}
 use Rattle.law_steps.specs.Made.{IsDone, Made, stays, ends, acts, holds_item, holds_pdu, offers, core_takes, lands, remarks}
-use Rattle.law_run_facts.proofs.Steps.{nth_has}
-use Rattle.law_run_slices.specs.Units.{given_ue}
-use Rattle.law_own_steps.proofs.Steps.{Sound}
+use Rattle.law_own_events.proofs.law_run_facts.Steps.{nth_has}
+use Rattle.law_own_events.specs.law_run_slices.Units.{given_ue}
+use Rattle.law_own_events.proofs.law_own_steps.Steps.{Sound}
 use Rattle.law_own_events.specs.Events.{RunState, RunOutcome, AllFor}
 use Rattle.law_named_events.specs.Named.{teid_ue, taker_ue, letter_ue, planned_ue, event_ue}
 

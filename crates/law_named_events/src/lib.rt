@@ -4,7 +4,7 @@
 ghost use Rattle.gnb_types.specs.declared.names.UeId.{UeId};
 ghost use Rattle.law_named_events.specs.Named.{event_ue};
 ghost use Rattle.law_own_events.specs.Events.{AllFor, RunState};
-ghost use Rattle.law_own_steps.specs.Own.{LeavesOthers};
+ghost use Rattle.law_own_events.specs.law_own_steps.Own.{LeavesOthers};
 ghost use Rattle.law_steps.specs.Made.{Made};
 ghost use Rattle.law_steps.specs.Reached.{reached};
 ghost use Rattle.message_types.specs.declared.rrc.Token.{Token};

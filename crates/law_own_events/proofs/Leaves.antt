@@ -24,14 +24,14 @@ use Rattle.run_defs.specs.Runs.{Reading, Plain, plain_way, core_done, plain_worl
 use Rattle.law_steps.specs.Causes.{by_item, node_of, count_of, first_of}
 use Rattle.law_steps.specs.Made.{Made, stays, ends, then_made, sets_up, starts, acts, holds_item, holds_pdu, offers, core_takes, core_reads, lands, loses_letter, loses_item, remarks}
 use Rattle.law_steps.proofs.Frames.{HasUnits, then_units, keep_checked as units_checked, keep_put_on_tunnel as units_on_tunnel, keep_put_all as units_put_all}
-use Rattle.law_run_facts.proofs.Within.{HoldsWith, then_holds, keep_checked as facts_checked, keep_put_on_tunnel as facts_on_tunnel, keep_put_all as facts_put_all}
+use Rattle.law_own_steps.proofs.law_run_facts.Within.{HoldsWith, then_holds, keep_checked as facts_checked, keep_put_on_tunnel as facts_on_tunnel, keep_put_all as facts_put_all}
 use Rattle.law_slices.specs.Slices.{core_slice}
 use Rattle.law_slices.specs.Steps.{IsFor, PutsFor, StaysFor}
 use Rattle.law_slices.proofs.Cores.{acts_steps}
 use Rattle.law_up_slice.specs.CuUps.{up_slice}
-use Rattle.law_run_slices.specs.Units.{units_slice}
-use Rattle.law_others_stay.specs.Others.{OthersStay}
-use Rattle.law_others_stay.proofs.Steps.{StayFrom, same, stay_same, stay_then, then_stay, then_from, keep_checked, keep_put_on_tunnel, keep_put_all, book_stays, first_stays}
+use Rattle.law_own_steps.specs.law_run_slices.Units.{units_slice}
+use Rattle.law_own_steps.specs.law_others_stay.Others.{OthersStay}
+use Rattle.law_own_steps.proofs.law_others_stay.Steps.{StayFrom, same, stay_same, stay_then, then_stay, then_from, keep_checked, keep_put_on_tunnel, keep_put_all, book_stays, first_stays}
 use Rattle.law_own_steps.specs.Own.{LeavesOthers}
 use Rattle.law_own_steps.proofs.Steps.{Sound, all_for}
 use Rattle.law_own_steps.proofs.Leaves.{has_core, core_fits, core_is, act_leaves}

@@ -10,7 +10,7 @@ use Rattle.run_defs.specs.Runs.{Reading, plain_world}
 use Rattle.law_steps.specs.Causes.{node_of, given_of}
 use Rattle.law_steps.specs.Made.{Made, stays, ends, then_made, sets_up, starts, acts, holds_item, holds_pdu, offers, core_takes, core_reads, lands, loses_letter, loses_item, remarks}
 use Rattle.law_slices.specs.Slices.{message_ue}
-use Rattle.law_run_slices.specs.Units.{given_ue}
+use Rattle.law_own_steps.specs.law_run_slices.Units.{given_ue}
 
 abbrev pub RunState : Type 0
 RunState = State (Message Token) Token (Written (Load Pdu)) (Written Pdu)

@@ -1,2 +1,8 @@
 pub mod Passed
 pub mod Events
+pub use Rattle.law_own_steps.specs.law_others_stay as law_others_stay
+pub use Rattle.law_own_steps.specs as law_own_steps
+pub use Rattle.law_own_steps.specs.law_run_facts as law_run_facts
+pub use Rattle.law_own_steps.specs.law_run_slices as law_run_slices
+pub use Rattle.law_own_steps.specs.law_run_tunnels as law_run_tunnels
+pub use Rattle.law_tunnel_book.specs as law_tunnel_book

@@ -3,15 +3,15 @@
 #![tactic(auto)]
 
 ghost use Rattle.gnb_types.specs.declared.names.UeId.{UeId};
-ghost use Rattle.law_others_stay.specs.Others.{IsOutputFor, IsStepFor};
+ghost use Rattle.law_own_steps.specs.law_others_stay.Others.{IsOutputFor, IsStepFor};
 ghost use Rattle.law_own_events.specs.Events.{AllFor, RunOutcome, RunState};
 ghost use Rattle.law_own_events.specs.Passed.{Passes};
 ghost use Rattle.law_own_steps.specs.Own.{IsActed, LeavesOthers};
 ghost use Rattle.law_open_tunnels.specs.Open.{StandWhereOpen};
 ghost use Rattle.law_owner_facts.specs.Owned.{AreOwned};
-ghost use Rattle.law_run_links.specs.Own.{HoldTheirOwn};
-ghost use Rattle.law_run_slices.specs.Units.{given_ue, AreThemselves};
-ghost use Rattle.law_run_tunnels.specs.Own.{TunnelsHoldTheirOwn};
+ghost use Rattle.law_own_steps.specs.law_run_links.Own.{HoldTheirOwn};
+ghost use Rattle.law_own_steps.specs.law_run_slices.Units.{given_ue, AreThemselves};
+ghost use Rattle.law_own_steps.specs.law_run_tunnels.Own.{TunnelsHoldTheirOwn};
 ghost use Rattle.law_steps.specs.Causes.{Cause, count_of, first_of, given_of, node_of};
 ghost use Rattle.law_steps.specs.Made.{Made};
 ghost use Rattle.law_steps.specs.Reached.{reached};

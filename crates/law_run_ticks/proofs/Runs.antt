@@ -20,11 +20,11 @@ use Rattle.run_defs.specs.Units.{cp_of}
 use Rattle.run_defs.specs.States.{goes}
 use Rattle.run_defs.specs.Runs.{Reading, Plain, plain_way, plain_world}
 use Rattle.law_answers.specs.After.{HoldsAfter}
-use Rattle.law_run_facts.specs.UnitFacts.{UnitFacts, UnitsKeep, written_facts}
-use Rattle.law_run_facts.specs.Facts.{Hold}
-use Rattle.law_run_facts.proofs.Alone.{alone, answers_alone}
-use Rattle.law_run_facts.proofs.Runs.{made_holds}
-use Rattle.law_run_facts.proofs.Plain.{plain_kept, first_holds}
+use Rattle.law_all_steps.specs.law_run_facts.UnitFacts.{UnitFacts, UnitsKeep, written_facts}
+use Rattle.law_all_steps.specs.law_run_facts.Facts.{Hold}
+use Rattle.law_all_steps.proofs.law_run_facts.Alone.{alone, answers_alone}
+use Rattle.law_all_steps.proofs.law_run_facts.Runs.{made_holds}
+use Rattle.law_all_steps.proofs.law_run_facts.Plain.{plain_kept, first_holds}
 use Rattle.law_channel.proofs.Kept.{good_of}
 use Rattle.law_channel_rows.proofs.Undated.{sorted_of}
 use Rattle.law_run_control.specs.Control.{IsKept, control_of}
@@ -32,7 +32,7 @@ use Rattle.law_run_control.proofs.Runs.{made_holds as control_holds}
 use Rattle.law_run_channels.specs.Tied.{PlainControl, run_talk, kept_by, IsPassed, at_first, by_answer, by_coming, by_placing, by_core as by_core_step}
 use Rattle.law_run_once.proofs.Joint.{Joint}
 use Rattle.law_run_once.proofs.Passed.{joint}
-use Rattle.law_own_events.specs.Events.{RunState}
+use Rattle.law_all_steps.specs.law_own_events.Events.{RunState}
 use Rattle.law_all_steps.specs.Steps.{AfterSteps, none_yet, one_more}
 use Rattle.law_run_ticks.proofs.Sorted.{cp_stays, placed_stays}
 

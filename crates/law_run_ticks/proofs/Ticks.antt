@@ -30,7 +30,7 @@ use Rattle.law_slice_arguments.specs.Views.{StayAlikeAt}
 use Rattle.law_tick_slices.specs.Ticks.{names_ue, outputs_of, ShowsOwn, cp_own_tick, du_own_tick, up_own_tick}
 use Rattle.law_tick_slices.proofs.CuCps.{cp_shows, cp_depends}
 use Rattle.law_tick_slices.proofs.Dus.{du_shows, du_depends, up_shows, up_depends}
-use Rattle.law_own_events.specs.Events.{RunState}
+use Rattle.law_all_steps.specs.law_own_events.Events.{RunState}
 use Rattle.law_all_steps.specs.Steps.{AfterSteps}
 use Rattle.law_run_ticks.specs.Ticks.{IsUnit, TickAlike}
 use Rattle.law_run_ticks.proofs.Runs.{terminals_on, requests_on}

@@ -15,12 +15,12 @@ use Rattle.run_defs.specs.States.{goes, new_state, RunStep}
 use Rattle.run_defs.specs.Runs.{Reading, plain_world}
 use Rattle.law_steps.specs.Causes.{node_of}
 use Rattle.law_steps.specs.Made.{Made}
-use Rattle.law_own_events.specs.Events.{RunState, RunOutcome}
-use Rattle.law_all_steps.specs.Slices.{ShareSlice}
-use Rattle.law_all_steps.specs.Steps.{AfterSteps, NoneFor}
-use Rattle.law_all_steps.proofs.Shared.{share_same, share_back, share_then}
-use Rattle.law_all_steps.proofs.Others.{SharesAt, made_shares}
-use Rattle.law_alike_steps.specs.Places.{Shared, shared_at, RunCause, Place, in_place}
+use Rattle.law_alike_states.specs.law_own_events.Events.{RunState, RunOutcome}
+use Rattle.law_alike_states.specs.law_all_steps.Slices.{ShareSlice}
+use Rattle.law_alike_states.specs.law_all_steps.Steps.{AfterSteps, NoneFor}
+use Rattle.law_alike_states.proofs.law_all_steps.Shared.{share_same, share_back, share_then}
+use Rattle.law_alike_states.proofs.law_all_steps.Others.{SharesAt, made_shares}
+use Rattle.law_alike_states.specs.law_alike_steps.Places.{Shared, shared_at, RunCause, Place, in_place}
 use Rattle.law_alike_states.specs.States.{shared_but_room, IsTicked}
 use Rattle.law_two_runs.specs.Acts.{TerminalAct, acts_by, is_offered, is_taken, is_lost, ticks_at, is_placed, hears, ActsItself, IsOffered, IsTaken, IsLost, IsPlaced, Heard, IsHeard, HasActed, not_yet, by_others, by_itself, by_offer, by_core, by_loss, by_ticking, by_static, by_hearing}
 use Rattle.law_two_runs.proofs.Alike.{acted_after, itself_shares, offer_shares, core_shares, loss_shares, tick_shares, placed_shares, heard_shares}

@@ -33,30 +33,30 @@ use Rattle.run_defs.specs.Runs.{Reading, Plain, plain_way, fault_of, core_done, 
 use Rattle.law_steps.specs.Causes.{by_order, by_tick, by_octets, by_octets_on, by_attach, by_release, by_offer as by_own_offer, by_item, by_air, by_ack, by_letter, node_of, given_of, count_of, first_of}
 use Rattle.law_steps.specs.Made.{Made, acts as acts_so, sets_up, offers, core_takes, loses_item}
 use Rattle.law_steps.proofs.Frames.{HasUnits, units_by, then_units, keep_checked as units_checked, keep_put_on_tunnel as units_on_tunnel, keep_put_all as units_put_all}
-use Rattle.law_run_facts.proofs.Within.{HoldsWith, then_holds, keep_checked as facts_checked, keep_put_on_tunnel as facts_on_tunnel, keep_put_all as facts_put_all}
+use Rattle.law_alike_states.proofs.law_run_facts.Within.{HoldsWith, then_holds, keep_checked as facts_checked, keep_put_on_tunnel as facts_on_tunnel, keep_put_all as facts_put_all}
 use Rattle.law_teids.specs.Given.{GiveOnce}
 use Rattle.law_owner_facts.specs.Owned.{AreOwned}
-use Rattle.law_tunnel_owners.proofs.Placed.{placed_owned}
+use Rattle.law_alike_states.proofs.law_tunnel_owners.Placed.{placed_owned}
 use Rattle.law_slices.specs.Slices.{core_slice}
 use Rattle.law_slices.specs.Steps.{IsFor, PutsFor, StaysFor, seen}
 use Rattle.law_slices.proofs.Cores.{acts_same, acts_steps}
-use Rattle.law_run_slices.specs.Units.{given_ue}
-use Rattle.law_others_stay.specs.Others.{IsNodeFor, IsCauseFor, IsStepFor}
-use Rattle.law_own_steps.proofs.Steps.{Sound, step_for}
-use Rattle.law_own_steps.proofs.Leaves.{has_core, core_fits, core_is, same_core, same_units}
-use Rattle.law_own_events.specs.Events.{RunState, RunOutcome}
-use Rattle.law_all_steps.specs.Slices.{ShareSlice}
-use Rattle.law_all_steps.specs.Steps.{AfterSteps, none_yet, one_more}
-use Rattle.law_all_steps.proofs.Statics.{from_same}
-use Rattle.law_all_steps.proofs.Paths.{step_gives, sound_on}
-use Rattle.law_alike_steps.specs.Places.{shared_at, RunCause, Place, in_place}
-use Rattle.law_alike_steps.specs.Alike.{Alike, AlikeFrom, Agree, Together}
+use Rattle.law_alike_states.specs.law_run_slices.Units.{given_ue}
+use Rattle.law_alike_states.specs.law_others_stay.Others.{IsNodeFor, IsCauseFor, IsStepFor}
+use Rattle.law_alike_states.proofs.law_own_steps.Steps.{Sound, step_for}
+use Rattle.law_alike_states.proofs.law_own_steps.Leaves.{has_core, core_fits, core_is, same_core, same_units}
+use Rattle.law_alike_states.specs.law_own_events.Events.{RunState, RunOutcome}
+use Rattle.law_alike_states.specs.law_all_steps.Slices.{ShareSlice}
+use Rattle.law_alike_states.specs.law_all_steps.Steps.{AfterSteps, none_yet, one_more}
+use Rattle.law_alike_states.proofs.law_all_steps.Statics.{from_same}
+use Rattle.law_alike_states.proofs.law_all_steps.Paths.{step_gives, sound_on}
+use Rattle.law_alike_states.specs.law_alike_steps.Places.{shared_at, RunCause, Place, in_place}
+use Rattle.law_alike_states.specs.law_alike_steps.Alike.{Alike, AlikeFrom, Agree, Together}
 use Rattle.law_alike_states.specs.States.{shared_but_room, IsTicked, Ticked}
 use Rattle.law_two_runs.specs.Acts.{TerminalAct, RunWithin, core_offers, core_does, ActsItself, IsOffered, IsTaken, IsLost, IsPlaced, Heard, heard_from, heard_on, heard_cause, IsHeard, HasActed, not_yet, by_others, by_itself, by_offer, by_core, by_loss, by_ticking, by_static, by_hearing}
-use Rattle.law_alike_steps.proofs.Beside.{then_alike, checks_alike, books_alike, put_on_tunnel_alike, all_alike}
-use Rattle.law_alike_steps.proofs.Steps.{same_in_place, carried_alike}
-use Rattle.law_alike_steps.proofs.Firsts.{firsts_alike}
-use Rattle.law_alike_steps.proofs.Units.{RunUnits, RunPuts, all_same, written_for, together}
+use Rattle.law_alike_states.proofs.law_alike_steps.Beside.{then_alike, checks_alike, books_alike, put_on_tunnel_alike, all_alike}
+use Rattle.law_alike_states.proofs.law_alike_steps.Steps.{same_in_place, carried_alike}
+use Rattle.law_alike_states.proofs.law_alike_steps.Firsts.{firsts_alike}
+use Rattle.law_alike_states.proofs.law_alike_steps.Units.{RunUnits, RunPuts, all_same, written_for, together}
 use Rattle.law_alike_states.proofs.Ticks.{unit_for, ticked_alike, units_tick}
 use Rattle.law_alike_states.proofs.Placed.{there, next_up, placed_agree}
 use Rattle.law_alike_states.proofs.Opens.{opens_at, stand_alike, items_alike}

@@ -16,16 +16,16 @@ use Rattle.run_defs.specs.Runs.{Reading, plain_world}
 use Rattle.law_steps.specs.Causes.{by_order, by_tick, by_octets, by_octets_on, by_attach, by_release, by_offer as by_own_offer, by_item, by_air, by_ack, by_letter, node_of, given_of, count_of, first_of}
 use Rattle.law_steps.specs.Made.{IsDone, Made, stays, ends, then_made, sets_up, starts, acts as acts_so, holds_item, holds_pdu, offers, core_takes, core_reads, lands, loses_letter, loses_item, remarks}
 use Rattle.law_slices.specs.Slices.{message_ue}
-use Rattle.law_run_slices.specs.Units.{given_ue}
-use Rattle.law_own_steps.specs.Own.{IsActed}
-use Rattle.law_own_steps.proofs.Steps.{Sound}
-use Rattle.law_own_events.specs.Events.{RunState, RunOutcome}
-use Rattle.law_all_steps.specs.Steps.{AfterSteps, none_yet, one_more, IsNoTick, IsNotMadeBy, IsNotFor, NoneFor}
-use Rattle.law_all_steps.proofs.Paths.{sound_on}
-use Rattle.law_all_steps.proofs.Nones.{item_never, air_never, ack_never}
-use Rattle.law_run_ticks.specs.Ticks.{IsUnit}
-use Rattle.law_alike_steps.specs.Places.{RunCause, Place, in_place}
-use Rattle.law_alike_steps.proofs.Units.{RunUnits, RunPuts}
+use Rattle.law_alike_states.specs.law_run_slices.Units.{given_ue}
+use Rattle.law_alike_states.specs.law_own_steps.Own.{IsActed}
+use Rattle.law_alike_states.proofs.law_own_steps.Steps.{Sound}
+use Rattle.law_alike_states.specs.law_own_events.Events.{RunState, RunOutcome}
+use Rattle.law_alike_states.specs.law_all_steps.Steps.{AfterSteps, none_yet, one_more, IsNoTick, IsNotMadeBy, IsNotFor, NoneFor}
+use Rattle.law_alike_states.proofs.law_all_steps.Paths.{sound_on}
+use Rattle.law_alike_states.proofs.law_all_steps.Nones.{item_never, air_never, ack_never}
+use Rattle.law_alike_states.specs.law_run_ticks.Ticks.{IsUnit}
+use Rattle.law_alike_states.specs.law_alike_steps.Places.{RunCause, Place, in_place}
+use Rattle.law_alike_states.proofs.law_alike_steps.Units.{RunUnits, RunPuts}
 use Rattle.law_two_runs.specs.Acts.{TerminalAct, RunWithin, core_does, ActsItself, IsOffered, Heard, heard_from, heard_on, heard_cause, HasActed, not_yet, by_others, by_itself, by_offer, by_core, by_loss, by_ticking, by_static, by_hearing}
 use Rattle.law_two_runs.proofs.Alike.{acted_after}
 

@@ -29,12 +29,12 @@ use Rattle.run_defs.specs.Runs.{Reading, plain_world}
 use Rattle.law_steps.specs.Causes.{by_octets, by_octets_on, node_of, given_of, count_of, first_of}
 use Rattle.law_steps.specs.Made.{IsDone, Made}
 use Rattle.law_slices.specs.Slices.{message_ue}
-use Rattle.law_run_slices.specs.Units.{given_ue}
-use Rattle.law_own_steps.specs.Own.{IsActed}
-use Rattle.law_own_events.specs.Events.{RunState, RunOutcome}
-use Rattle.law_all_steps.specs.Steps.{NoneFor}
+use Rattle.law_alike_states.specs.law_run_slices.Units.{given_ue}
+use Rattle.law_alike_states.specs.law_own_steps.Own.{IsActed}
+use Rattle.law_alike_states.specs.law_own_events.Events.{RunState, RunOutcome}
+use Rattle.law_alike_states.specs.law_all_steps.Steps.{NoneFor}
 use Rattle.law_alike_states.specs.States.{shared_but_room, IsTicked}
-use Rattle.law_alike_steps.specs.Places.{Shared, shared_at, RunCause, Place, in_place}
+use Rattle.law_alike_states.specs.law_alike_steps.Places.{Shared, shared_at, RunCause, Place, in_place}
 
 -- ---- octets from outside that come to the terminal's own node
 

@@ -2,10 +2,10 @@
 #![tactic(auto)]
 
 ghost use Rattle.gnb_types.specs.declared.names.UeId.{UeId};
-ghost use Rattle.law_alike_steps.specs.Places.{in_place, Place, RunCause, shared_at};
-ghost use Rattle.law_all_steps.specs.Slices.{ShareSlice};
-ghost use Rattle.law_all_steps.specs.Steps.{AfterSteps};
-ghost use Rattle.law_own_events.specs.Events.{RunState};
+ghost use Rattle.law_alike_states.specs.law_alike_steps.Places.{in_place, Place, RunCause, shared_at};
+ghost use Rattle.law_alike_states.specs.law_all_steps.Slices.{ShareSlice};
+ghost use Rattle.law_alike_states.specs.law_all_steps.Steps.{AfterSteps};
+ghost use Rattle.law_alike_states.specs.law_own_events.Events.{RunState};
 ghost use Rattle.law_steps.specs.Causes.{node_of};
 ghost use Rattle.law_two_runs.specs.Acts.{ActsItself, HasActed, TerminalAct};
 ghost use Rattle.run_defs.specs.Runs.{Reading};

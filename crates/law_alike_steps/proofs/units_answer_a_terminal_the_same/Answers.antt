@@ -1,5 +1,5 @@
 use Rattle.run_defs.specs.States.{sn_of}
-use Rattle.law_own_steps.proofs.Runs.{sound_in_run}
+use Rattle.law_own_events.proofs.law_own_steps.Runs.{sound_in_run}
 use Rattle.law_alike_steps.proofs.Units.{together}
 use Rattle.law_alike_steps.proofs.units_answer_a_terminal_the_same.Goals as goal
 

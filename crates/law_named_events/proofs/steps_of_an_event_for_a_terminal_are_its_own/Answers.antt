@@ -1,4 +1,4 @@
-use Rattle.law_own_steps.proofs.Runs.{sound_in_run}
+use Rattle.law_own_events.proofs.law_own_steps.Runs.{sound_in_run}
 use Rattle.law_named_events.proofs.Named.{named_for}
 use Rattle.law_named_events.proofs.steps_of_an_event_for_a_terminal_are_its_own.Goals as goal
 
