@@ -74,18 +74,6 @@ const ROWS: [Row; 3] = [
     },
 ];
 
-/// Whether the item that is taken next is this one.
-fn is_advanced(alloc: Global, tokens: &mut Tokens, want: Want) -> bool {
-    match tokens.advance(alloc) {
-        Ok(taken) => {
-            let is_it = want.is(&taken);
-            drop(taken);
-            is_it
-        }
-        Err(_) => false,
-    }
-}
-
 /// Whether the next item is this one, and is taken where another one may come after it.
 fn is_taken(alloc: Global, tokens: &mut Tokens, want: Want) -> bool {
     if !want.is(tokens.token()) {
@@ -93,7 +81,14 @@ fn is_taken(alloc: Global, tokens: &mut Tokens, want: Want) -> bool {
     }
     match tokens.token() {
         Token::OutOfProfile | Token::Nothing | Token::EndOfText => true,
-        _ => is_advanced(alloc, tokens, want),
+        _ => match tokens.advance(alloc) {
+            Ok(taken) => {
+                let is_it = want.is(&taken);
+                drop(taken);
+                is_it
+            }
+            Err(_) => false,
+        },
     }
 }
 
