@@ -3,10 +3,10 @@
 
 ghost use Rattle.codec_defs.specs.Reading.{ReadsItems, ReadsPdus};
 ghost use Rattle.gnb_types.specs.declared.names.NodeId.{NodeId};
-ghost use Rattle.law_cp_interfaces.specs.Interfaces.{IsOf};
-ghost use Rattle.law_octet_facts.specs.Ranges.{IsConfirmedDown, IsDown};
+ghost use Rattle.law_local_interfaces.specs.law_cp_interfaces.Interfaces.{IsOf};
+ghost use Rattle.law_octet_steady.specs.law_octet_facts.Ranges.{IsConfirmedDown, IsDown};
 ghost use Rattle.law_octet_local.specs.Spelt.{Spelt};
-ghost use Rattle.law_octet_runs.specs.Printed.{printed};
+ghost use Rattle.law_octet_steady.specs.law_octet_runs.Printed.{printed};
 ghost use Rattle.law_octet_steady.specs.Near.{StatusesAreNear};
 ghost use Rattle.message_types.specs.declared.rrc.Token.{Token};
 ghost use Rattle.run_defs.specs.Local.{Local};
