@@ -26,7 +26,8 @@ use Rattle.law_alike_states.proofs.law_all_steps.Nones.{item_never, air_never, a
 use Rattle.law_alike_states.specs.law_run_ticks.Ticks.{IsUnit}
 use Rattle.law_alike_states.specs.law_alike_steps.Places.{RunCause, Place, in_place}
 use Rattle.law_alike_states.proofs.law_alike_steps.Units.{RunUnits, RunPuts}
-use Rattle.law_two_runs.specs.Acts.{TerminalAct, RunWithin, core_does, ActsItself, IsOffered, Heard, heard_from, heard_on, heard_cause, HasActed, not_yet, by_others, by_itself, by_offer, by_core, by_loss, by_ticking, by_static, by_hearing}
+use Rattle.law_alike_states.specs.Cores.{RunWithin, core_does, IsOffered}
+use Rattle.law_two_runs.specs.Acts.{TerminalAct, ActsItself, Heard, heard_from, heard_on, heard_cause, HasActed, not_yet, by_others, by_itself, by_offer, by_core, by_loss, by_ticking, by_static, by_hearing}
 use Rattle.law_two_runs.proofs.Alike.{acted_after}
 
 -- ---- what outcomes say
