@@ -52,6 +52,14 @@ pub data TerminalAct : Type 0 where
   is_placed : (plan : Plan) (up du : Shared) → TerminalAct
   hears : (heard : Heard) → TerminalAct
 
+-- of what is taken, nothing is said of its place
+abbrev pub nowhere : Place
+nowhere = record { items = []; pdus = []; number = 0 }
+
+abbrev pub IsBare : TerminalAct → Type 0
+IsBare (acts_by cause shared) = in_place nowhere cause ≡ cause
+IsBare act = Unit {0}
+
 -- ---- one act, from a state to the next
 
 -- a unit makes a step for the terminal, with what stands in this place
