@@ -40,15 +40,18 @@ pub fn a_step_depends_on_the_slice()
         (s x t y : RunState) → AfterSteps reading s → AfterSteps reading t
         → ShareSlice ue s t → ActsItself reading ue cause place s x
         → ActsItself reading ue cause other t y
-        → shared_at s.units (node_of (in_place place cause)) ≡ shared_at t.units (node_of (in_place other cause))
+        → shared_at s.units (node_of (in_place place cause))
+        ≡ shared_at t.units (node_of (in_place other cause))
         → ShareSlice ue x y }
 {}
 
 /// The same events aren't enough: where another terminal is set up before it, one gets other TEIDs by the same event. So acts say what
 /// is shared at their units.
 pub fn the_same_events_are_not_enough()
-    ensures alone { (reading : Reading) → is_some (reached (plain_world reading) alone new_state) ≡ true }
-    ensures after { (reading : Reading) → is_some (reached (plain_world reading) after_another new_state) ≡ true }
+    ensures alone { (reading : Reading)
+        → is_some (reached (plain_world reading) alone new_state) ≡ true }
+    ensures after { (reading : Reading)
+        → is_some (reached (plain_world reading) after_another new_state) ≡ true }
     ensures differ { (reading : Reading) (s t : RunState)
         → reached (plain_world reading) after_another new_state ≡ Some s
         → reached (plain_world reading) alone new_state ≡ Some t → ShareSlice second s t → ⊥ }
