@@ -1,4 +1,5 @@
 pub mod States
+pub mod Cores
 pub use Rattle.law_alike_steps.specs as law_alike_steps
 pub use Rattle.law_run_ticks.specs.law_all_steps as law_all_steps
 pub use Rattle.law_alike_steps.specs.law_others_stay as law_others_stay

@@ -23,7 +23,8 @@ ghost use Rattle.unit_defs.specs.Ways.{Message};
 /// room: a tick of this unit puts the same for the terminal, control messages alone, and the slice is the same at all units then.
 pub fn a_tick_keeps_a_slice_the_same()
     ensures { (reading : Reading) (ue : UeId) (node : NodeId) (s x t y : RunState)
-        → AfterSteps reading s → AfterSteps reading t → Agree ue s.units t.units → sn_of s ue ≡ sn_of t ue
+        → AfterSteps reading s → AfterSteps reading t → Agree ue s.units t.units
+        → sn_of s ue ≡ sn_of t ue
         → (a : IsTicked reading node s x) → (b : IsTicked reading node t y)
         → shared_but_room s.units node ≡ shared_but_room t.units node
         → Ticked ue a.outputs b.outputs a.units b.units }
@@ -32,7 +33,8 @@ pub fn a_tick_keeps_a_slice_the_same()
 /// Of any two sets of units that have a terminal's slice in common: where the same is shared at the CU-UP and the DU of its plan but for
 /// room, so that the same TEIDs come next, it is set up without messages to the same slice. TEIDs have owners then.
 pub fn a_terminal_is_set_up_to_one_slice()
-    ensures { (plan : Plan) (ue : UeId) (u v : Units (Message Token) Token) → plan.ue ≡ ue → Agree ue u v
+    ensures { (plan : Plan) (ue : UeId) (u v : Units (Message Token) Token) → plan.ue ≡ ue
+        → Agree ue u v
         → shared_but_room u (CuUp plan.gnb plan.up) ≡ shared_but_room v (CuUp plan.gnb plan.up)
         → shared_but_room u (Du plan.gnb plan.du) ≡ shared_but_room v (Du plan.gnb plan.du)
         → AreOwned (all_set_up (units_placed plan u)) → AreOwned (all_set_up (units_placed plan v))

@@ -4,3 +4,9 @@ pub mod Does
 pub mod Gets
 pub mod Airs
 pub mod Acks
+pub use Rattle.law_link_items.proofs as law_link_items
+pub use Rattle.law_octet_runs.proofs as law_octet_runs
+pub use Rattle.law_run_facts.proofs as law_run_facts
+pub use Rattle.law_steady_facts.proofs as law_steady_facts
+pub use Rattle.law_steady_runs.proofs as law_steady_runs
+pub use Rattle.law_steady_steps.proofs as law_steady_steps

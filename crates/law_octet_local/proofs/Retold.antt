@@ -16,7 +16,7 @@ use Rattle.run_defs.specs.Said.{is_refusal, lines_in}
 use Rattle.run_defs.specs.States.{Lengths, RunStep}
 use Rattle.run_defs.specs.Runs.{Happened, Transcript}
 use Rattle.run_defs.specs.Local.{item_key, Act, WasOffered, IsGotWith, WasGot, WasAt, IsLocalLine, puts_something, IsLocalBy, LocalFrom, acts_of_event, acts_of, sn_by, sn_or, sn_in, Local}
-use Rattle.law_octet_runs.specs.Printed.{PrintedStep, PrintedEvent, Printed, printed_step, printed_event, printed}
+use Rattle.law_octet_steady.specs.law_octet_runs.Printed.{PrintedStep, PrintedEvent, Printed, printed_step, printed_event, printed}
 
 -- ---- lists
 

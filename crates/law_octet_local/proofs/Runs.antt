@@ -10,12 +10,12 @@ use Rattle.codec_defs.specs.Reading.{ReadsItems, ReadsPdus}
 use Rattle.run_defs.specs.Local.{Local}
 use Rattle.run_defs.specs.Runs.{Reading, Run}
 use Rattle.run_defs.specs.UnitRuns.{tables, UnitRun}
-use Rattle.law_octet_runs.specs.Printed.{printed}
-use Rattle.law_octet_facts.specs.Ranges.{IsDownWith, IsDown, IsConfirmedDown}
+use Rattle.law_octet_steady.specs.law_octet_runs.Printed.{printed}
+use Rattle.law_octet_steady.specs.law_octet_facts.Ranges.{IsDownWith, IsDown, IsConfirmedDown}
 use Rattle.law_octet_steady.specs.Near.{StatusesAreNear}
 use Rattle.law_octet_steady.proofs.Runs.{downs_print, confirmed_print}
-use Rattle.law_local.specs.Offered.{HasOctet, OffersHaveOctets}
-use Rattle.law_cp_interfaces.specs.Interfaces.{IsOf}
+use Rattle.law_local_interfaces.specs.law_local.Offered.{HasOctet, OffersHaveOctets}
+use Rattle.law_local_interfaces.specs.law_cp_interfaces.Interfaces.{IsOf}
 use Rattle.law_local_interfaces.proofs.Whole.{local_on_interfaces}
 use Rattle.law_octet_local.specs.Spelt.{Spelt}
 use Rattle.law_octet_local.proofs.Retold.{as_local}

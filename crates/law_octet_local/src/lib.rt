@@ -1,12 +1,13 @@
-//! Laws that units of any meaning act on what they got. Each function does nothing: its contract is the law.
+//! Laws that units over octets act on what they got, and which need not. Each function does nothing: its contract is the law.
 #![tactic(auto)]
 
 ghost use Rattle.codec_defs.specs.Reading.{ReadsItems, ReadsPdus};
 ghost use Rattle.gnb_types.specs.declared.names.NodeId.{NodeId};
-ghost use Rattle.law_cp_interfaces.specs.Interfaces.{IsOf};
-ghost use Rattle.law_octet_facts.specs.Ranges.{IsConfirmedDown, IsDown};
+ghost use Rattle.law_local_interfaces.specs.law_cp_interfaces.Interfaces.{IsOf};
+ghost use Rattle.law_octet_steady.specs.law_octet_facts.Ranges.{IsConfirmedDown, IsDown};
+ghost use Rattle.law_octet_local.specs.Example.{from_nothing, starting};
 ghost use Rattle.law_octet_local.specs.Spelt.{Spelt};
-ghost use Rattle.law_octet_runs.specs.Printed.{printed};
+ghost use Rattle.law_octet_steady.specs.law_octet_runs.Printed.{printed};
 ghost use Rattle.law_octet_steady.specs.Near.{StatusesAreNear};
 ghost use Rattle.message_types.specs.declared.rrc.Token.{Token};
 ghost use Rattle.run_defs.specs.Local.{Local};
@@ -39,7 +40,14 @@ pub fn packets_down_are_local_over_octets()
 
 /// The same where items are confirmed too, as far as a CU-UP finds the COUNTs of delivery statuses from their numbers.
 pub fn confirmed_packets_are_local_over_octets()
-    ensures { (codec : Codec) → ReadsItems codec → ReadsPdus codec → (reading : Reading) → StatusesAreNear reading
+    ensures { (codec : Codec) → ReadsItems codec → ReadsPdus codec
+        → (reading : Reading) → StatusesAreNear reading
         → (events : List Event) → AllByRecursion IsConfirmedDown events
         → Local (Spelt (spelled codec) IsOf) (UnitRun codec (tables codec) events).events }
+{}
+
+/// Of units of any meaning it isn't so: they may deliver, once they are started, what no one offered and nothing brought.
+pub fn units_of_any_meaning_need_not_be_local()
+    ensures { (codec : Codec)
+        → Local (λ from to octets. Unit {0}) (UnitRun codec from_nothing starting).events → ⊥ }
 {}

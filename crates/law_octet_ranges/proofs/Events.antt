@@ -43,13 +43,13 @@ use Rattle.law_teids.specs.Given.{below}
 use Rattle.law_teids.proofs.Placed.{up_grows, du_grows}
 use Rattle.law_open_tunnels.specs.Open.{StandWhereOpen}
 use Rattle.law_owner_facts.specs.Owned.{AreOwned}
-use Rattle.law_link_items.specs.Items.{ItemsShow}
-use Rattle.law_run_facts.specs.Facts.{Hold}
-use Rattle.law_run_facts.proofs.Units.{units_set_up}
-use Rattle.law_run_facts.proofs.Within.{then_holds, keep_checked, keep_put_on_tunnel, same_links}
-use Rattle.law_run_facts.proofs.Steps.{found_has}
-use Rattle.law_run_facts.proofs.Runs.{step_holds, statically_holds}
-use Rattle.law_steady_facts.proofs.Views.{PlainState, OnTunnel, AllStand}
+use Rattle.law_octet_facts.specs.law_link_items.Items.{ItemsShow}
+use Rattle.law_octet_facts.specs.law_run_facts.Facts.{Hold}
+use Rattle.law_octet_facts.proofs.law_run_facts.Units.{units_set_up}
+use Rattle.law_octet_facts.proofs.law_run_facts.Within.{then_holds, keep_checked, keep_put_on_tunnel, same_links}
+use Rattle.law_octet_facts.proofs.law_run_facts.Steps.{found_has}
+use Rattle.law_octet_facts.proofs.law_run_facts.Runs.{step_holds, statically_holds}
+use Rattle.law_octet_facts.proofs.law_steady_facts.Views.{PlainState, OnTunnel, AllStand}
 use Rattle.law_octet_facts.specs.Ranges.{IsDownWith}
 use Rattle.law_octet_facts.proofs.Facts.{IsGood, AreGood, UpIn, DuIn, CpIn, Parts, ranges, left_fit, teids_fit}
 use Rattle.law_octet_facts.proofs.Does.{Keeps}

@@ -30,20 +30,20 @@ use Rattle.law_open_tunnels.proofs.Runs.{stand_where_open, first_stands}
 use Rattle.law_owner_facts.specs.Owned.{AreOwned}
 use Rattle.law_tunnel_owners.proofs.Placed.{first_owned}
 use Rattle.law_tunnel_owners.proofs.Runs.{owned_later}
-use Rattle.law_link_items.specs.Items.{ItemsShow}
-use Rattle.law_link_items.proofs.Links.{items_in_run}
+use Rattle.law_octet_facts.specs.law_link_items.Items.{ItemsShow}
+use Rattle.law_octet_facts.proofs.law_link_items.Links.{items_in_run}
 use Rattle.law_plan_facts.proofs.Along.{holds_along}
-use Rattle.law_run_facts.specs.Facts.{Hold}
-use Rattle.law_run_facts.proofs.Units.{first_hold}
+use Rattle.law_octet_facts.specs.law_run_facts.Facts.{Hold}
+use Rattle.law_octet_facts.proofs.law_run_facts.Units.{first_hold}
 use Rattle.law_run_lengths.specs.Lengths.{IsWrittenBy, IsWrittenOnAirBy, NumbersAreOfPlans}
 use Rattle.law_run_lengths.proofs.Known.{length_is}
 use Rattle.law_run_lengths.proofs.Answers.{allows, lengths, lengths_kept}
 use Rattle.law_run_lengths.proofs.Runs.{first_lengths, planned}
-use Rattle.law_steady_facts.proofs.Views.{PlainState, OnTunnel, OnRadio, AllStand}
-use Rattle.law_steady_facts.proofs.Moves.{PlainStep, PlainOutcome, Fares}
-use Rattle.law_steady_runs.specs.Scripts.{IsSteady}
-use Rattle.law_steady_runs.proofs.First.{at_first}
-use Rattle.law_steady_runs.proofs.Runs.{reached_more, event_fares}
+use Rattle.law_octet_facts.proofs.law_steady_facts.Views.{PlainState, OnTunnel, OnRadio, AllStand}
+use Rattle.law_octet_facts.proofs.law_steady_facts.Moves.{PlainStep, PlainOutcome, Fares}
+use Rattle.law_octet_facts.specs.law_steady_runs.Scripts.{IsSteady}
+use Rattle.law_octet_facts.proofs.law_steady_runs.First.{at_first}
+use Rattle.law_octet_facts.proofs.law_steady_runs.Runs.{reached_more, event_fares}
 use Rattle.law_octet_facts.specs.Ranges.{IsDownWith, IsInRange, IsPduInRange, IsWrittenOn, IsWrittenAt, IsRanged, AreRanged}
 use Rattle.law_octet_facts.proofs.Facts.{IsOnLink, CpIn, Parts, ranges}
 use Rattle.law_octet_facts.proofs.Does.{Keeps}

@@ -17,13 +17,13 @@ use Rattle.run_defs.specs.Written.{Written, written_pdu}
 use Rattle.run_defs.specs.States.{confirmed_for, entity, radio_of, sn_of}
 use Rattle.run_defs.specs.Runs.{Reading}
 use Rattle.law_owner_facts.specs.Owned.{AreOwned}
-use Rattle.law_steady_facts.proofs.Views.{PlainState, OnRadio, View, Sees, Stage, comes, lacks, stands, AllStand}
-use Rattle.law_steady_facts.proofs.Keys.{DuFound, du_found}
-use Rattle.law_steady_runs.proofs.law_steady_events.Airs.{silent_up}
-use Rattle.law_steady_runs.proofs.law_steady_events.Acks.{at_the_du}
-use Rattle.law_octet_runs.specs.Faithful.{ReadsAlike}
+use Rattle.law_octet_ranges.proofs.law_steady_facts.Views.{PlainState, OnRadio, View, Sees, Stage, comes, lacks, stands, AllStand}
+use Rattle.law_octet_ranges.proofs.law_steady_facts.Keys.{DuFound, du_found}
+use Rattle.law_octet_ranges.proofs.law_steady_runs.law_steady_events.Airs.{silent_up}
+use Rattle.law_octet_ranges.proofs.law_steady_runs.law_steady_events.Acks.{at_the_du}
+use Rattle.law_octet_ranges.specs.law_octet_runs.Faithful.{ReadsAlike}
 use Rattle.law_octet_answers.proofs.Units.{du_reads_confirmed}
-use Rattle.law_octet_facts.specs.Ranges.{IsPduInRange, IsWrittenAt, IsRanged}
+use Rattle.law_octet_ranges.specs.law_octet_facts.Ranges.{IsPduInRange, IsWrittenAt, IsRanged}
 
 module _ (Acks : Type 0) (codec : Codec) (reads : ReadsPdus codec) (reading : Reading) (s : PlainState) (owned : AreOwned s.units) (all : AllStand s)
     (ranged : IsRanged Acks s) (ue : UeId) (bearer : BearerId) (home : NodeId) (item : OnRadio) (rest : List OnRadio) where

@@ -21,12 +21,12 @@ use Rattle.run_defs.specs.States.{carried_for, entity, radio_of, sn_of}
 use Rattle.run_defs.specs.Runs.{Reading}
 use Rattle.pdcp.proofs.NearLaws.{near_inverts}
 use Rattle.pdcp_entities.proofs.NearLemmas.{near_is}
-use Rattle.law_steady_facts.proofs.Views.{PlainState, OnRadio, View, pdu_of, pdus_from, Sees, IsInOrder, Stage, comes, lacks, stands, AllStand}
-use Rattle.law_steady_steps.proofs.Ues.{nth_after}
-use Rattle.law_steady_runs.proofs.law_steady_events.Airs.{silent_up}
-use Rattle.law_octet_runs.specs.Faithful.{ReadsAlike}
+use Rattle.law_octet_ranges.proofs.law_steady_facts.Views.{PlainState, OnRadio, View, pdu_of, pdus_from, Sees, IsInOrder, Stage, comes, lacks, stands, AllStand}
+use Rattle.law_octet_ranges.proofs.law_steady_steps.Ues.{nth_after}
+use Rattle.law_octet_ranges.proofs.law_steady_runs.law_steady_events.Airs.{silent_up}
+use Rattle.law_octet_ranges.specs.law_octet_runs.Faithful.{ReadsAlike}
 use Rattle.law_octet_answers.proofs.Units.{ue_reads}
-use Rattle.law_octet_facts.specs.Ranges.{IsPduInRange, IsWrittenAt, IsRanged}
+use Rattle.law_octet_ranges.specs.law_octet_facts.Ranges.{IsPduInRange, IsWrittenAt, IsRanged}
 
 -- the number of a COUNT stands for it where it is the one that is awaited
 near_itself : (sn : SnBits) (n : ℕ) → n ≤ last_count → near_count sn n (number_of sn n) ≡ Some n

@@ -30,13 +30,13 @@ use Rattle.law_owner_facts.specs.Owned.{ends_of as teids_of, AreOwned}
 use Rattle.law_run_tunnels.specs.Own.{IsOfKind, IsOwnAt, TunnelsHoldTheirOwn}
 use Rattle.law_context_orders.specs.Orders.{UpPart, part_of as up_part_of}
 use Rattle.law_steady_rows.specs.Steady.{TheEnds}
-use Rattle.law_steady_facts.proofs.Views.{PlainState, OnTunnel, Stage, comes, lacks, stands, AllStand}
-use Rattle.law_steady_facts.proofs.Keys.{up_found, du_found}
-use Rattle.law_steady_facts.proofs.Ends.{UpNamed, up_named, DuNamed, du_named}
-use Rattle.law_octet_runs.specs.Faithful.{ReadsAlike}
+use Rattle.law_octet_ranges.proofs.law_steady_facts.Views.{PlainState, OnTunnel, Stage, comes, lacks, stands, AllStand}
+use Rattle.law_octet_ranges.proofs.law_steady_facts.Keys.{up_found, du_found}
+use Rattle.law_octet_ranges.proofs.law_steady_facts.Ends.{UpNamed, up_named, DuNamed, du_named}
+use Rattle.law_octet_ranges.specs.law_octet_runs.Faithful.{ReadsAlike}
 use Rattle.law_octet_answers.proofs.Units.{up_reads, up_reads_status, du_reads}
-use Rattle.law_octet_facts.specs.Ranges.{IsInRange, IsRanged}
-use Rattle.law_octet_facts.proofs.Facts.{IsGood, AreGood}
+use Rattle.law_octet_ranges.specs.law_octet_facts.Ranges.{IsInRange, IsRanged}
+use Rattle.law_octet_ranges.proofs.law_octet_facts.Facts.{IsGood, AreGood}
 use Rattle.law_octet_steady.specs.Near.{AreNear}
 
 -- ---- delivery statuses

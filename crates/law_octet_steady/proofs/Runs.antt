@@ -13,14 +13,14 @@ use Rattle.run_defs.specs.States.{new_state}
 use Rattle.run_defs.specs.Runs.{Reading, Run}
 use Rattle.run_defs.specs.UnitRuns.{tables, UnitRun}
 use Rattle.law_owner_facts.specs.Owned.{AreOwned}
-use Rattle.law_steady_facts.proofs.Views.{PlainState}
-use Rattle.law_tunnel_owners.proofs.Placed.{first_owned}
-use Rattle.law_tunnel_owners.proofs.Runs.{owned_later}
+use Rattle.law_octet_ranges.proofs.law_steady_facts.Views.{PlainState}
+use Rattle.law_octet_ranges.proofs.law_tunnel_owners.Placed.{first_owned}
+use Rattle.law_octet_ranges.proofs.law_tunnel_owners.Runs.{owned_later}
 use Rattle.law_run_tunnels.proofs.Runs.{own_in_runs}
-use Rattle.law_octet_runs.specs.Printed.{printed}
-use Rattle.law_octet_runs.specs.Faithful.{IsOfPackets, IsFaithful}
-use Rattle.law_octet_runs.proofs.Runs.{runs_print}
-use Rattle.law_octet_facts.specs.Ranges.{IsDownWith, IsDown, IsConfirmedDown}
+use Rattle.law_octet_ranges.specs.law_octet_runs.Printed.{printed}
+use Rattle.law_octet_ranges.specs.law_octet_runs.Faithful.{IsOfPackets, IsFaithful}
+use Rattle.law_octet_ranges.proofs.law_octet_runs.Runs.{runs_print}
+use Rattle.law_octet_ranges.specs.law_octet_facts.Ranges.{IsDownWith, IsDown, IsConfirmedDown}
 use Rattle.law_octet_ranges.proofs.Runs.{Comes, begins, stands_open, comes_on, idle, ranged}
 use Rattle.law_octet_asks.proofs.Asks.{asks_alike}
 use Rattle.law_octet_steady.proofs.Gets.{gets_alike}

@@ -18,8 +18,8 @@ use Rattle.run_defs.specs.Written.{Written}
 use Rattle.run_defs.specs.States.{new_state}
 use Rattle.run_defs.specs.Runs.{Reading, plain_world}
 use Rattle.law_steps.specs.Reached.{reached}
-use Rattle.law_octet_runs.specs.Again.{PlainState}
-use Rattle.law_octet_facts.specs.Ranges.{IsConfirmedDown}
+use Rattle.law_octet_ranges.specs.law_octet_runs.Again.{PlainState}
+use Rattle.law_octet_ranges.specs.law_octet_facts.Ranges.{IsConfirmedDown}
 
 abbrev pub AreNear : PlainState → Type 0
 AreNear s =

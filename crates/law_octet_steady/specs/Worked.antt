@@ -6,7 +6,7 @@ use Rattle.gnb_types.specs.declared.names.Dir.TheVariants.{Dl}
 use Rattle.gnb_types.specs.declared.names.SnBits.TheVariants.{Len12}
 use Rattle.scenario_text.specs.declared.event.Event.{Event}
 use Rattle.scenario_text.specs.declared.event.Event.TheVariants as events
-use Rattle.law_steady_runs.specs.Worked.{downlink}
+use Rattle.law_octet_ranges.specs.law_steady_runs.Worked.{downlink}
 
 abbrev pub two_down : List Event
 two_down =

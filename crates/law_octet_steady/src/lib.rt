@@ -2,11 +2,11 @@
 #![tactic(auto)]
 
 ghost use Rattle.codec_defs.specs.Reading.{ReadsItems, ReadsPdus};
-ghost use Rattle.law_octet_runs.specs.Printed.{printed};
-ghost use Rattle.law_octet_facts.specs.Ranges.{IsConfirmedDown, IsDown};
+ghost use Rattle.law_octet_ranges.specs.law_octet_runs.Printed.{printed};
+ghost use Rattle.law_octet_ranges.specs.law_octet_facts.Ranges.{IsConfirmedDown, IsDown};
 ghost use Rattle.law_octet_steady.specs.Near.{StatusesAreNear};
 ghost use Rattle.law_octet_steady.specs.Worked.{two_down};
-ghost use Rattle.law_steady_runs.specs.Worked.{downlink, worked};
+ghost use Rattle.law_octet_ranges.specs.law_steady_runs.Worked.{downlink, worked};
 ghost use Rattle.run_defs.specs.Runs.{Reading, Run};
 ghost use Rattle.run_defs.specs.Said.{Delivered};
 ghost use Rattle.run_defs.specs.UnitRuns.{tables, UnitRun};

@@ -43,7 +43,8 @@ pub fn a_tick_in_a_run_is_each_terminals()
 /// puts the same for the terminal, in the same order and with the same octets, where it goes on in both, and leaves its slice and
 /// what is shared the same. Which of its requests are due follows from its slice.
 pub fn ticks_do_the_same_for_a_terminal()
-    ensures { (reading : Reading) (s t : RunState) (ue : UeId) (node : NodeId) → AfterSteps reading s
+    ensures { (reading : Reading) (s t : RunState) (ue : UeId) (node : NodeId)
+        → AfterSteps reading s
         → AfterSteps reading t → IsUnit node → StayAlikeAt node ue s.units t.units
         → sn_of s ue ≡ sn_of t ue
         → TickAlike node ue ((plain_world reading).answer (sn_of s) s.units node tick_for)
@@ -52,6 +53,7 @@ pub fn ticks_do_the_same_for_a_terminal()
 
 /// From every state: a tick of a unit puts no item on a tunnel or a radio, delivers nothing, and opens and closes no tunnel.
 pub fn ticks_put_messages_alone()
-    ensures { (reading : Reading) (lengths : Lengths) (units : Units (Message Token) Token) (node : NodeId) → IsUnit node
+    ensures { (reading : Reading) (lengths : Lengths) (units : Units (Message Token) Token)
+        (node : NodeId) → IsUnit node
         → AreTold ((plain_world reading).answer lengths units node tick_for) }
 {}

@@ -22,8 +22,10 @@ use Rattle.law_alike_states.proofs.law_all_steps.Shared.{share_same, share_back,
 use Rattle.law_alike_states.proofs.law_all_steps.Others.{SharesAt, made_shares}
 use Rattle.law_alike_states.specs.law_alike_steps.Places.{Shared, shared_at, RunCause, Place, in_place}
 use Rattle.law_alike_states.specs.States.{shared_but_room, IsTicked}
-use Rattle.law_two_runs.specs.Acts.{TerminalAct, acts_by, is_offered, is_taken, is_lost, ticks_at, is_placed, hears, ActsItself, IsOffered, IsTaken, IsLost, IsPlaced, Heard, IsHeard, HasActed, not_yet, by_others, by_itself, by_offer, by_core, by_loss, by_ticking, by_static, by_hearing}
-use Rattle.law_two_runs.proofs.Alike.{acted_after, itself_shares, offer_shares, core_shares, loss_shares, tick_shares, placed_shares, heard_shares}
+use Rattle.law_alike_states.specs.Cores.{IsOffered, IsTaken}
+use Rattle.law_alike_states.proofs.Shares.{offer_shares, core_shares}
+use Rattle.law_two_runs.specs.Acts.{TerminalAct, acts_by, is_offered, is_taken, is_lost, ticks_at, is_placed, hears, ActsItself, IsLost, IsPlaced, Heard, IsHeard, HasActed, not_yet, by_others, by_itself, by_offer, by_core, by_loss, by_ticking, by_static, by_hearing}
+use Rattle.law_two_runs.proofs.Alike.{acted_after, itself_shares, loss_shares, tick_shares, placed_shares, heard_shares}
 
 -- ---- what two acts have in common, where they are the same
 

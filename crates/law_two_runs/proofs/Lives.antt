@@ -1,6 +1,7 @@
 -- Whatever steps a run makes, those of a terminal are its acts.
 use Rattle.std.proofs.Common.{◌≡◌, ◌==◌, ℕ, Bool, true, false, List, [], ◌∷◌, ◌++◌, Option, Some, None, ◌⊎◌, inl, inr, refl, sym, ap, ◌∙◌, subst, eqb-true}
 use Rattle.std.proofs.lemmas.Bool.{eq-eqb}
+use Rattle.std.specs.List.{AllByRecursion}
 use Rattle.std.specs.Prelude.{◌≢◌, is_some}
 use Rattle.gnb_types.specs.declared.names.NodeId.{NodeId}
 use Rattle.gnb_types.specs.declared.names.NodeId.TheVariants.{CuCp, CuUp as up_id, Du as du_id, Core, Ue}
@@ -26,7 +27,8 @@ use Rattle.law_alike_states.proofs.law_all_steps.Nones.{item_never, air_never, a
 use Rattle.law_alike_states.specs.law_run_ticks.Ticks.{IsUnit}
 use Rattle.law_alike_states.specs.law_alike_steps.Places.{RunCause, Place, in_place}
 use Rattle.law_alike_states.proofs.law_alike_steps.Units.{RunUnits, RunPuts}
-use Rattle.law_two_runs.specs.Acts.{TerminalAct, RunWithin, core_does, ActsItself, IsOffered, Heard, heard_from, heard_on, heard_cause, HasActed, not_yet, by_others, by_itself, by_offer, by_core, by_loss, by_ticking, by_static, by_hearing}
+use Rattle.law_alike_states.specs.Cores.{RunWithin, core_does, IsOffered}
+use Rattle.law_two_runs.specs.Acts.{TerminalAct, nowhere, IsBare, ActsItself, Heard, heard_from, heard_on, heard_cause, HasActed, not_yet, by_others, by_itself, by_offer, by_core, by_loss, by_ticking, by_static, by_hearing}
 use Rattle.law_two_runs.proofs.Alike.{acted_after}
 
 -- ---- what outcomes say
@@ -71,7 +73,7 @@ place_of (by_ack key home item rest) = record { items = []; pdus = rest; number 
 place_of (by_letter number l to) = record { items = []; pdus = []; number = number }
 place_of cause = record { items = []; pdus = []; number = 0 }
 
-placed_so : (cause : RunCause) → in_place (place_of cause) cause ≡ cause
+placed_so : (cause : RunCause) → in_place (place_of cause) (in_place nowhere cause) ≡ cause
 unfolding place_of
 placed_so (by_order node order) = refl
 placed_so (by_tick node) = refl
@@ -84,6 +86,10 @@ placed_so (by_item end item rest) = refl
 placed_so (by_air key home item) = refl
 placed_so (by_ack key home item rest) = refl
 placed_so (by_letter number l to) = refl
+
+still_bare : (cause : RunCause) → in_place nowhere (in_place nowhere cause) ≡ in_place nowhere cause
+still_bare (by_item end item rest) = refl
+still_bare cause = refl
 
 module _ (reading : Reading) (ue : UeId) where
   -- ---- whose something is
@@ -120,19 +126,19 @@ module _ (reading : Reading) (ue : UeId) where
     pub goes_so : carried_out (plain_world reading) (node_of cause) (count_of cause) (first_of (plain_world reading) cause) outputs units s ≡ goes lines t
 
   abbrev Lives : RunState → Type 0
-  Lives s = (acts : List TerminalAct) × HasActed reading ue acts s
+  Lives s = (acts : List TerminalAct) × HasActed reading ue acts s × AllByRecursion IsBare acts
 
   others_live : (event : Event) (s t : RunState) (e : RunOutcome) (told : List (RunStep (Message Token))) → Lives s
       → (made : Made (plain_world reading) event s e) → NoneFor reading event ue s e made → e ≡ goes told t → Lives t
-  others_live event s t e told l made none goes_so = (l.0, by_others l.0 event s t e told l.1 made none goes_so)
+  others_live event s t e told l made none goes_so = (l.0, by_others l.0 event s t e told l.1 made none goes_so, l.2)
 
   its_lives : (cause : RunCause) (s t : RunState) → Lives s → given_ue reading s.units (node_of cause) (given_of cause) ≡ Some ue → StepBy cause s t → Lives t
-  its_lives cause s t l its step = (_, by_itself _ l.0 cause (place_of cause) s t l.1 own refl)
+  its_lives cause s t l its step = (_, by_itself _ l.0 (in_place nowhere cause) (place_of cause) s t l.1 own refl, (still_bare cause, l.2))
     where
-      abbrev_own : (c : RunCause) → given_ue reading s.units (node_of c) (given_of c) ≡ Some ue → StepBy c s t → c ≡ in_place (place_of cause) cause
-          → ActsItself reading ue cause (place_of cause) s t
+      abbrev_own : (c : RunCause) → given_ue reading s.units (node_of c) (given_of c) ≡ Some ue → StepBy c s t → c ≡ in_place (place_of cause) (in_place nowhere cause)
+          → ActsItself reading ue (in_place nowhere cause) (place_of cause) s t
       abbrev_own c is a same =
-          let b : StepBy (in_place (place_of cause) cause) s t = subst (λ (d : RunCause). StepBy d s t) same a in
+          let b : StepBy (in_place (place_of cause) (in_place nowhere cause)) s t = subst (λ (d : RunCause). StepBy d s t) same a in
           record {
             event = b.event;
             outputs = b.outputs;
@@ -144,7 +150,7 @@ module _ (reading : Reading) (ue : UeId) where
             goes_so = b.goes_so;
           }
 
-      own : ActsItself reading ue cause (place_of cause) s t
+      own : ActsItself reading ue (in_place nowhere cause) (place_of cause) s t
       own = abbrev_own cause its step (sym (placed_so cause))
 
   heard_lives : (heard : Heard) (s t : RunState) → Lives s → StepBy (heard_cause ue heard) s t → Lives t
@@ -159,6 +165,7 @@ module _ (reading : Reading) (ue : UeId) where
       done = a.done;
       goes_so = a.goes_so;
     }) refl,
+    (tt, l.2),
   )
 
   -- what is for no terminal, at the terminal's own node, is octets
@@ -207,6 +214,7 @@ module _ (reading : Reading) (ue : UeId) where
       done = a.done;
       goes_so = a.goes_so;
     }) refl,
+    (tt, l.2),
   )
 
   pub record IsUnitTick (cause : RunCause) : Type 0 where
@@ -273,7 +281,7 @@ module _ (reading : Reading) (ue : UeId) where
     where
       of : (plan.ue ≡ ue) ⊎ (plan.ue ≢ ue) → Lives t
       of (inr apart) = others_live event x t _ told l (sets_up x plan same free room teids) apart is
-      of (inl its) = (_, by_static _ l.0 plan x t l.1 (record { its = its; free = free; room = room; teids = teids; sets_up = sym (state_of [] told _ t is) }) refl)
+      of (inl its) = (_, by_static _ l.0 plan x t l.1 (record { its = its; free = free; room = room; teids = teids; sets_up = sym (state_of [] told _ t is) }) refl, (tt, l.2))
   made_lives event s e (starts x d p) l told t is =
       let y : RunState = record x { started = true } in
       made_lives event y d p (others_live event x y (goes_on y) [] l (starts x (goes_on y) (stays y)) tt refl) told t is
@@ -299,6 +307,7 @@ module _ (reading : Reading) (ue : UeId) where
             _,
             by_offer _ l.0 bearer p x t l.1
                 (subst (λ (u : UeId). IsOffered reading u bearer p x t) its (record { path = path; lines = step.lines; found = found; goes_so = step.goes_so })) refl,
+            (tt, l.2),
           )
   made_lives event s e (core_takes x number l outputs core found at is few) lives told t so = of (is_it (message_ue l.from l.message))
     where
@@ -320,6 +329,7 @@ module _ (reading : Reading) (ue : UeId) where
               few = few;
               goes_so = sym (ap (λ (k : Letter (Message Token)). core_does reading number k outputs core x) same) ∙ step.goes_so;
             }) refl,
+            (tt, lives.2),
           )
   made_lives event s e (core_reads x from octets outputs core is) l told t so = others_live event x t _ told l (core_reads x from octets outputs core is) tt so
   made_lives event s e (lands x number letter to found at) l told t so = others_live event x t _ told l (lands x number letter to found at) tt so
@@ -328,9 +338,9 @@ module _ (reading : Reading) (ue : UeId) where
     where
       of : (item.key.ue ≡ ue) ⊎ (item.key.ue ≢ ue) → Lives t
       of (inr apart) = others_live event x t _ told l (loses_item x end item rest found) apart so
-      of (inl its) = (_, by_loss _ l.0 end item x t l.1 (record { rest = rest; found = found; its = its; loses = sym (state_of _ told _ t so) }) refl)
+      of (inl its) = (_, by_loss _ l.0 end item x t l.1 (record { rest = rest; found = found; its = its; loses = sym (state_of _ told _ t so) }) refl, (tt, l.2))
   made_lives event s e (remarks x lines plain) l told t so = others_live event x t _ told l (remarks x lines plain) tt so
 
   pub each_lives : (t : RunState) → AfterSteps reading t → Lives t
-  each_lives t none_yet = ([], not_yet [] t refl refl)
+  each_lives t none_yet = ([], not_yet [] t refl refl, tt)
   each_lives t (one_more event x y told p made) = made_lives event x (goes told y) made (each_lives x p) told y refl

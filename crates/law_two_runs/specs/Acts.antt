@@ -1,38 +1,32 @@
 -- The acts of a terminal along the steps of a run, the newest first.
-use Rattle.std.specs.Prelude.{ℕ, ◌≡◌, true, false, ◌&&◌, ◌||◌, List, [], ◌∷◌, Some, None}
+use Rattle.std.specs.Prelude.{ℕ, ◌≡◌, true, false, ◌&&◌, ◌||◌, List, [], ◌∷◌, Some}
 use Rattle.gnb_types.specs.declared.names.NodeId.{NodeId}
-use Rattle.gnb_types.specs.declared.names.NodeId.TheVariants.{CuUp as up_id, Du as du_id, Core, Ue}
+use Rattle.gnb_types.specs.declared.names.NodeId.TheVariants.{CuUp as up_id, Du as du_id, Ue}
 use Rattle.gnb_types.specs.declared.names.UeId.{UeId}
 use Rattle.gnb_types.specs.declared.names.BearerId.{BearerId}
-use Rattle.gnb_types.specs.declared.names.Dir.TheVariants.{Dl}
 use Rattle.gnb_types.specs.declared.keys.TunnelEnd.{TunnelEnd}
 use Rattle.gnb_types.specs.declared.plans.Plan.{Plan}
-use Rattle.gnb_types.specs.Orders.{ue_cmp, tunnel_cmp}
+use Rattle.gnb_types.specs.Orders.{tunnel_cmp}
 use Rattle.tables.specs.Tables.{find, put}
 use Rattle.message_types.specs.declared.rrc.Token.{Token}
 use Rattle.scenario_text.specs.declared.event.Event.{Event}
 use Rattle.unit_defs.specs.Ways.{Message, Load, Pdu, Put}
-use Rattle.unit_defs.specs.Messages.{teid_of}
-use Rattle.unit_defs.specs.Core.{CorePath, CoreRecord}
 use Rattle.unit_defs.specs.Static.{up_has_room, up_has_teids, du_has_teids}
 use Rattle.transport_defs.specs.declared.Item.{Item}
-use Rattle.transport_defs.specs.declared.Letter.{Letter}
-use Rattle.transport_defs.specs.Links.{letter}
 use Rattle.run_defs.specs.Lines.{RunLine}
 use Rattle.run_defs.specs.Units.{Units, up_of, du_of}
 use Rattle.run_defs.specs.Written.{Written}
-use Rattle.run_defs.specs.States.{new_state, goes, ◌next◌, Within, RunStep, core_stepped, letter_for, sn_of, was_attached, entity}
-use Rattle.run_defs.specs.Steps.{check_spans, put_on_tunnel, put_out_all, too_many_letters, carried_out}
+use Rattle.run_defs.specs.States.{new_state, goes, RunStep, was_attached}
+use Rattle.run_defs.specs.Steps.{carried_out}
 use Rattle.run_defs.specs.Conditions.{is_held_by_units, statically}
-use Rattle.run_defs.specs.Events.{offered, landed_as}
 use Rattle.run_defs.specs.Runs.{Reading, plain_world}
 use Rattle.law_steps.specs.Causes.{by_octets, by_octets_on, node_of, given_of, count_of, first_of}
 use Rattle.law_steps.specs.Made.{IsDone, Made}
-use Rattle.law_slices.specs.Slices.{message_ue}
 use Rattle.law_alike_states.specs.law_run_slices.Units.{given_ue}
 use Rattle.law_alike_states.specs.law_own_steps.Own.{IsActed}
 use Rattle.law_alike_states.specs.law_own_events.Events.{RunState, RunOutcome}
 use Rattle.law_alike_states.specs.law_all_steps.Steps.{NoneFor}
+use Rattle.law_alike_states.specs.Cores.{IsOffered, IsTaken}
 use Rattle.law_alike_states.specs.States.{shared_but_room, IsTicked}
 use Rattle.law_alike_states.specs.law_alike_steps.Places.{Shared, shared_at, RunCause, Place, in_place}
 
@@ -58,22 +52,13 @@ pub data TerminalAct : Type 0 where
   is_placed : (plan : Plan) (up du : Shared) → TerminalAct
   hears : (heard : Heard) → TerminalAct
 
-abbrev pub RunWithin : Type 0
-RunWithin = Within (Message Token) Token (Written (Load Pdu)) (Written Pdu)
+-- of what is taken, nothing is said of its place
+abbrev pub nowhere : Place
+nowhere = record { items = []; pdus = []; number = 0 }
 
--- the core puts a packet that is offered, on the path of its terminal; and what it does with a message
-abbrev pub core_offers : Reading → UeId → BearerId → List ℕ → CorePath → RunState → RunWithin
-core_offers reading ue bearer packet path s =
-    let world = plain_world reading in
-    put_on_tunnel world (record { node = path.up; teid = teid_of path.n3 bearer })
-    (record { key = entity ue bearer Dl; count = None; content = world.lay_n3 (teid_of path.n3 bearer) packet })
-    (offered world (entity ue bearer Dl) s) next check_spans
-
-abbrev pub core_does : Reading → ℕ → Letter (Message Token) → List (Put (Message Token) (Written (Load Pdu)) (Written Pdu)) → CoreRecord (Message Token) Token
-    → RunState → RunWithin
-core_does reading number l outputs core s =
-    let world = plain_world reading in
-    landed_as world number l (record s { core = core }) next put_out_all world Core None outputs next check_spans
+abbrev pub IsBare : TerminalAct → Type 0
+IsBare (acts_by cause shared) = in_place nowhere cause ≡ cause
+IsBare act = Unit {0}
 
 -- ---- one act, from a state to the next
 
@@ -88,26 +73,6 @@ pub record ActsItself (reading : Reading) (ue : UeId) (cause : RunCause) (place 
   pub its : given_ue reading s.units (node_of (in_place place cause)) (given_of (in_place place cause)) ≡ Some ue
   pub goes_so : carried_out (plain_world reading) (node_of (in_place place cause)) (count_of (in_place place cause))
       (first_of (plain_world reading) (in_place place cause)) outputs units s ≡ goes lines t
-
--- the core puts a packet that is offered at the terminal
-pub record IsOffered (reading : Reading) (ue : UeId) (bearer : BearerId) (packet : List ℕ) (s t : RunState) : Type 0 where
-  pub path : CorePath
-  pub lines : List (RunLine (Message Token))
-  pub found : find ue_cmp s.core.paths ue ≡ Some path
-  pub goes_so : core_offers reading ue bearer packet path s ≡ goes lines t
-
--- the core takes a message of the terminal
-pub record IsTaken (reading : Reading) (ue : UeId) (from : NodeId) (message : Message Token) (s t : RunState) : Type 0 where
-  pub number : ℕ
-  pub owner : ℕ
-  pub outputs : List (Put (Message Token) (Written (Load Pdu)) (Written Pdu))
-  pub core : CoreRecord (Message Token) Token
-  pub lines : List (RunLine (Message Token))
-  pub found : letter s.bag number ≡ Some (record { from = from; to = Core; ue = owner; message = message })
-  pub its : message_ue from message ≡ ue
-  pub answers : (plain_world reading).core_answer (sn_of s) s.core (letter_for from message) ≡ core_stepped outputs core
-  pub few : too_many_letters (plain_world reading) outputs s ≡ false
-  pub goes_so : core_does reading number (record { from = from; to = Core; ue = owner; message = message }) outputs core s ≡ goes lines t
 
 -- an item of the terminal is lost
 pub record IsLost (ue : UeId) (end : TunnelEnd) (item : Item (Written (Load Pdu))) (s t : RunState) : Type 0 where

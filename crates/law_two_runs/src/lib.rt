@@ -7,9 +7,13 @@ ghost use Rattle.law_alike_states.specs.law_all_steps.Slices.{ShareSlice};
 ghost use Rattle.law_alike_states.specs.law_all_steps.Steps.{AfterSteps};
 ghost use Rattle.law_alike_states.specs.law_own_events.Events.{RunState};
 ghost use Rattle.law_steps.specs.Causes.{node_of};
-ghost use Rattle.law_two_runs.specs.Acts.{ActsItself, HasActed, TerminalAct};
-ghost use Rattle.run_defs.specs.Runs.{Reading};
-ghost use Rattle.std.specs.Prelude.{List, ◌≡◌};
+ghost use Rattle.law_two_runs.specs.Acts.{ActsItself, HasActed, IsBare, TerminalAct};
+ghost use Rattle.law_steps.specs.Reached.{reached};
+ghost use Rattle.law_two_runs.specs.Example.{after_another, alone, second};
+ghost use Rattle.run_defs.specs.Runs.{plain_world, Reading};
+ghost use Rattle.run_defs.specs.States.{new_state};
+ghost use Rattle.std.specs.List.{AllByRecursion};
+ghost use Rattle.std.specs.Prelude.{is_some, true, List, Some, ◌≡◌};
 
 /// Two runs, each with events of its own, whose acts for a terminal were the same, one after another, have its whole slice in
 /// common: what all units and the core keep of it, which open TEIDs are its, and its messages, items, books, connection and plan.
@@ -21,11 +25,12 @@ pub fn the_same_acts_leave_the_same_slice()
         → HasActed reading ue acts s → HasActed reading ue acts t → ShareSlice ue s t }
 {}
 
-/// And whatever steps a run makes, its acts for a terminal are a list of such: so its slice is what this list makes of it, and of all
-/// else nothing enters but what couples terminals at the units that act for it.
+/// And whatever steps a run makes, its acts for a terminal are a list of such, in which nothing is said of the places and numbers of
+/// what is taken: so its slice is what this list makes of it, and of all else nothing enters but what couples terminals at the units
+/// that act for it.
 pub fn each_run_has_acts_for_a_terminal()
     ensures { (reading : Reading) (ue : UeId) (t : RunState) → AfterSteps reading t
-        → (acts : List TerminalAct) × HasActed reading ue acts t }
+        → (acts : List TerminalAct) × HasActed reading ue acts t × AllByRecursion IsBare acts }
 {}
 
 /// So a unit's step for a terminal depends on the terminal's slice and on what is shared at the unit alone, over the whole state of a
@@ -35,6 +40,19 @@ pub fn a_step_depends_on_the_slice()
         (s x t y : RunState) → AfterSteps reading s → AfterSteps reading t
         → ShareSlice ue s t → ActsItself reading ue cause place s x
         → ActsItself reading ue cause other t y
-        → shared_at s.units (node_of (in_place place cause)) ≡ shared_at t.units (node_of (in_place other cause))
+        → shared_at s.units (node_of (in_place place cause))
+        ≡ shared_at t.units (node_of (in_place other cause))
         → ShareSlice ue x y }
+{}
+
+/// The same events aren't enough: where another terminal is set up before it, one gets other TEIDs by the same event. So acts say what
+/// is shared at their units.
+pub fn the_same_events_are_not_enough()
+    ensures alone { (reading : Reading)
+        → is_some (reached (plain_world reading) alone new_state) ≡ true }
+    ensures after { (reading : Reading)
+        → is_some (reached (plain_world reading) after_another new_state) ≡ true }
+    ensures differ { (reading : Reading) (s t : RunState)
+        → reached (plain_world reading) after_another new_state ≡ Some s
+        → reached (plain_world reading) alone new_state ≡ Some t → ShareSlice second s t → ⊥ }
 {}

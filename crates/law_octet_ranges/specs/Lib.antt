@@ -1,0 +1,3 @@
+pub use Rattle.law_octet_facts.specs as law_octet_facts
+pub use Rattle.law_octet_facts.specs.law_octet_runs as law_octet_runs
+pub use Rattle.law_octet_facts.specs.law_steady_runs as law_steady_runs
