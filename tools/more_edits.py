@@ -24,8 +24,8 @@ import tempfile
 
 ROOT = pathlib.Path(__file__).resolve().parents[1]
 CRATES = ROOT / "crates"
-# What the edited functions of one quick check lead to, in lines of bodies: some twelve seconds.
-QUICK_LINES = 90
+# What the edited functions of one quick check lead to, in lines of bodies: some ten seconds.
+QUICK_LINES = 45
 PARTS = ("src", "specs", "proofs")
 FUNCTION = re.compile(r"( *)(?:pub(?:\([a-z ]+\))? )?(?:const )?fn (\w+)")
 IMPLEMENTATION = re.compile(r"impl(?:<.*?>)? (?:(\w[\w:]*)(?:<(.*)>)? for )?&?(\w[\w:]*)")
