@@ -2,7 +2,7 @@
 use Rattle.std.specs.Prelude.{◌≡◌, [], List, ℕ, Some, Result, Ok, Err}
 use Rattle.std.specs.Str.{IsUtf8}
 use Rattle.serde_json.specs.Data.{Data}
-use Rattle.serde_json.specs.Read.{read_text}
+use Rattle.serde_json.specs.Read.{read as read_text}
 use Rattle.aper_defs.specs.Fields.{Path}
 use Rattle.aper_defs.specs.Values as seen
 use Rattle.aper_values.specs.declared.value.Value.{Value}
