@@ -24,9 +24,9 @@ pub fn integer_in(d: &Json) -> Option<i128>
 pub fn natural_in(d: &Json) -> Option<u64>
     ensures { result ≡ natural_in (view d.now) }
 {
-    match integer_in(d) {
-        Some(number) if number >= 0 => Some(number as u64),
-        _ => None,
+    match d.as_number() {
+        Some(number) => number.as_u64(),
+        None => None,
     }
 }
 
