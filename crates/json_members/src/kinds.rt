@@ -54,6 +54,7 @@ fn bit_of(digit: u8) -> Option<bool>
     }
 }
 
+#[tactic(auto, using(crate::proofs::Words::bits_none, crate::proofs::Words::bits_end))]
 fn read_bits(alloc: Global, text: &[u8]) -> Result<Option<Bits>, Memory>
     ensures { IfOk result (λ bits. bits ≡ read_bits text.now) }
 {
