@@ -54,7 +54,7 @@ pub fn range<'m>(alloc: Global) -> Refusal<'m>
 
 /// The same refusal, one step further out.
 pub fn under<'m>(refusal: Refusal<'m>, step: Step<'m>) -> Refusal<'m>
-    ensures { (of : Path → List Demand) → Tells (λ p. of (step_view step.entry ∷ p)) refusal.entry → Tells of result }
+    ensures { (of : Path → List Demand) → Tells of refusal.entry → Tells (λ p. of (step_view step.entry ∷ p)) result }
 {
     match refusal {
         Refusal::Fault { fault, path } => {
