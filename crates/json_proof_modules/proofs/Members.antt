@@ -6,7 +6,6 @@ use Rattle.aper_types.specs.asn1_module.Module.{IsModule}
 use Rattle.aper_defs.specs.Values.{Value}
 use Rattle.aper_defs.specs.Membership.{Has}
 use Rattle.aper_types.specs.Types.{tree}
-use Rattle.json_defs.specs.Named.{tree_of}
 use Rattle.json_defs.specs.Json.{Json}
 use Rattle.json_defs.specs.Readings.{value_of}
 use Rattle.json_defs.specs.Demands.{demands, first_fault}
