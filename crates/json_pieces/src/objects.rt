@@ -18,12 +18,7 @@ use std::alloc::Global;
 pub type Members = Map<String, Json>;
 
 /// Puts a member in its place, over one of the same name.
-pub fn put_member(
-    alloc: Global,
-    members: &mut Members,
-    key: &[u8],
-    d: Json,
-) -> Result<(), Memory>
+pub fn put_member(alloc: Global, members: &mut Members, key: &[u8], d: Json) -> Result<(), Memory>
     ensures { OnOk result (members_view members.new.entries
         ≡ put key.now (json d) (members_view members.old.entries)) }
 {

@@ -23,8 +23,8 @@ use json_pieces::objects::{
     Members, body_shown, element_shown, one_member, past_shown, put_member,
 };
 use json_pieces::simple::{
-    bit_string_shown, boolean_shown, enumerated_shown, octet_string_shown,
-    printable_string_shown, whole_number_shown,
+    bit_string_shown, boolean_shown, enumerated_shown, octet_string_shown, printable_string_shown,
+    whole_number_shown,
 };
 use json_pieces::texts::raw_shown;
 use json_types::{NamedForm, form_of};
@@ -196,12 +196,7 @@ fn list_shown(
 
 #[cycle(show)]
 #[tactic(auto, unfolding(json_shown_defs::specs::Printed::shown_as))]
-fn container_shown(
-    alloc: Global,
-    m: &Module,
-    rows: &[IeRow],
-    value: &Value,
-) -> Result<Json, Memory>
+fn container_shown(alloc: Global, m: &Module, rows: &[IeRow], value: &Value) -> Result<Json, Memory>
     requires { IesBelow (length m.now.nodes) rows.now }
     ensures { IfOk result
         (λ d. json d ≡ shown_as (container (rows_with (named m.now) rows.now)) (view value.now)) }

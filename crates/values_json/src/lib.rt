@@ -10,10 +10,9 @@ ghost use Rattle.values_json.specs.Texts.{IsNoJson, IsTextOf, HasFault, OnNotJso
 
 mod error;
 
-pub use error::JsonError;
-
 use aper_values::value::Value;
 use asn1_module::{Module, TypeId};
+pub use error::JsonError;
 use gnb_types::octets::{Memory, Octets};
 use json_printing::value_shown;
 use std::alloc::Global;
@@ -34,12 +33,7 @@ pub fn value_from_json(
 }
 
 /// The compact text of the JSON that a value of a type of a module is printed as.
-pub fn json_of_value(
-    alloc: Global,
-    m: &Module,
-    id: TypeId,
-    value: &Value,
-) -> Result<Octets, Memory>
+pub fn json_of_value(alloc: Global, m: &Module, id: TypeId, value: &Value) -> Result<Octets, Memory>
     requires { id.number < length m.now.nodes }
     ensures { IfOk result
         (λ text. text ≡ compact_text (shown_as (named m.now id.number) (view value.now))) }

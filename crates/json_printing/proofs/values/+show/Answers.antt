@@ -166,7 +166,7 @@ components_shown-loop-i-init t c = (
   omega (arith, c.min-i.ensures),
   omega (arith, c.min-i.ensures),
   ap members_view c.new-shown.ensures.empty
-  ∙ components_end (named c.args.m.now) c.args.parts.now c.args.values.now c.min-i.result c.min-i.ensures,
+      ∙ components_end (named c.args.m.now) c.args.parts.now c.args.values.now c.min-i.result c.min-i.ensures,
 )
 
 pub components_shown-loop-i-preserved-in_default : goal.components_shown-loop-i-preserved-in_default
@@ -179,8 +179,8 @@ components_shown-loop-i-preserved-in_default t c =
       omega (arith, l.invariant.0),
       omega (arith, l.invariant.1),
       l.invariant.2
-      ∙ absent_turn (named c.args.m.now) c.args.parts.now vs j l.i (omega (arith, c.loop-i-test.true))
-      (omega (arith, c.loop-i-test.true, l.invariant.0)) (omega (arith, c.loop-i-test.true, l.invariant.1)) here,
+          ∙ absent_turn (named c.args.m.now) c.args.parts.now vs j l.i (omega (arith, c.loop-i-test.true))
+          (omega (arith, c.loop-i-test.true, l.invariant.0)) (omega (arith, c.loop-i-test.true, l.invariant.1)) here,
     )
 
 pub components_shown-value_shown-requires : goal.components_shown-value_shown-requires
@@ -278,10 +278,10 @@ components_shown-loop-i-preserved t c =
       omega (arith, l.invariant.0),
       omega (arith, l.invariant.1),
       c.in_ok-put_member.ensures
-      ∙ ap (λ (n : List ℕ). put n (json c.in_ok-d.d) (members_view l.shown.entries)) name
-      ∙ ap (λ (d : Data). put q.name d (members_view l.shown.entries)) told
-      ∙ ap (put q.name (shown_as (of q.definition.number) (view v))) l.invariant.2
-      ∙ present_turn of ps vs j l.i q v e small c.index-parts-i.is within here,
+          ∙ ap (λ (n : List ℕ). put n (json c.in_ok-d.d) (members_view l.shown.entries)) name
+          ∙ ap (λ (d : Data). put q.name d (members_view l.shown.entries)) told
+          ∙ ap (put q.name (shown_as (of q.definition.number) (view v))) l.invariant.2
+          ∙ present_turn of ps vs j l.i q v e small c.index-parts-i.is within here,
     )
 
 pub message_shown-returns : goal.message_shown-returns
