@@ -1,3 +1,1 @@
-pub mod Forgotten
-pub mod Bounded
 pub mod Law
