@@ -31,7 +31,7 @@ use Rattle.law_json_modules.proofs.Words.{IsWord, HasWords, AllWords, items_word
 -- ---- names that differ
 
 differs : (a b : Text) → (b ≡ a → ⊥) → same_text a b ≡ false
-differs a b not = by_cases (same_text a b) (λ c. c ≡ false) (λ e. absurd (not (sym (texts_same a b e)))) (λ e. e)
+differs a b not = by_cases (same_text a b) (λ c. c ≡ false) (λ e. absurd (not (sym (texts_same a b e)))) (λ e. refl)
 
 new_is_other : (a : Text) (names : List Text) → IsNew a names → AllByRecursion (λ b. same_text a b ≡ false) names
 new_is_other a [] new = tt

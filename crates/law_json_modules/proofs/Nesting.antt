@@ -13,11 +13,13 @@ use Rattle.asn1_module.specs.asn1_assignments.declared.assignment.IeRow.{IeRow}
 use Rattle.asn1_module.specs.asn1_assignments.declared.assignment.ProcedureRow.{ProcedureRow}
 use Rattle.asn1_module.specs.asn1_assignments.declared.assignment.Assignment.{Assignment}
 use Rattle.asn1_module.specs.asn1_assignments.declared.assignment.Syntax.{Syntax}
+use Rattle.asn1_module.specs.asn1_graph.declared.graph.Edge.{Edge}
 use Rattle.asn1_module.specs.asn1_graph.Graph.{edge, range_edges, parts_edges, vertex_count, edges_of}
 use Rattle.asn1_module.specs.asn1_graph.Paths.{IsAmong, IsStep, Nests, alone, around}
 use Rattle.asn1_module.specs.Judgement.{weight_of, node_weights, weights_of}
 use Rattle.asn1_module.specs.Module.{find_type, ie_rows, procedure_rows, IsModule}
 use Rattle.asn1_module.specs.Targets.{definition_of, definition_at, all_of}
+use Rattle.asn1_value_laws.specs.Items.{start_of}
 use Rattle.asn1_value_laws.specs.Module as modules
 use Rattle.asn1_value_laws.specs.Module.{MeansAssignments, MeansModule}
 use Rattle.asn1_rank_laws.specs.Leading.{EachPart, OfOption, EachIe, EachProcedure, EachOf}
@@ -36,16 +38,34 @@ stands : {nodes all : List Node} {names : List Assignment} {end : ℕ} {ts : Lef
     → (vertex id : ℕ) → length nodes ≤ id → id < length all → Stands vertex (length nodes) names id
 unfolding parts_edges
 stands (modules.none a) vertex id least most = absurd (omega (arith, least, most))
-stands (modules.one {nodes} {inside} {all} {name} {body} {assignments} a means others) vertex id least most = go (cases_lt id (length inside))
+stands (modules.one {nodes} {inside} {all} {name} {body} {assignments} {ts} a means others) vertex id least most =
+    go (cases_lt id (length inside)) (λ later. stands others (vertex + 1) id later most)
   where
-    go : (id < length inside) ⊎ (length inside ≤ id) → Stands vertex (length nodes) (_ ∷ assignments) id
-    go (inl here) = (0, omega arith, subst (λ (v : ℕ). IsAmong (edge v id) (range_edges vertex (length nodes) (length inside - length nodes) ++ parts_edges (vertex + 1) (length inside) assignments)) (omega arith)
-        (among_left (edge vertex id) (range_edges vertex (length nodes) (length inside - length nodes)) (parts_edges (vertex + 1) (length inside) assignments)
-        (range_has vertex (length nodes) (length inside - length nodes) id least (omega (arith, least, here)))))
-    go (inr later) =
-        let inner = stands others (vertex + 1) id later most in
-        (suc inner.0, omega (arith, inner.1), among_right (edge (vertex + suc inner.0) id) (range_edges vertex (length nodes) (length inside - length nodes)) (parts_edges (vertex + 1) (length inside) assignments)
-        (subst (λ (v : ℕ). IsAmong (edge v id) (parts_edges (vertex + 1) (length inside) assignments)) (omega arith) inner.2))
+    one : Assignment
+    one = record { name = name; place = start_of ts; body = body; end = length inside }
+
+    front : List Edge
+    front = range_edges vertex (length nodes) (length inside - length nodes)
+
+    behind : List Edge
+    behind = parts_edges (vertex + 1) (length inside) assignments
+
+    go : (id < length inside) ⊎ (length inside ≤ id)
+        → (length inside ≤ id → Stands (vertex + 1) (length inside) assignments id) → Stands vertex (length nodes) (one ∷ assignments) id
+    go (inl here) on = (
+      0,
+      omega arith,
+      subst (λ (v : ℕ). IsAmong (edge v id) (front ++ behind)) (omega arith)
+          (among_left (edge vertex id) front behind
+          (range_has vertex (length nodes) (length inside - length nodes) id least (omega (arith, least, here)))),
+    )
+    go (inr later) on =
+        let inner = on later in (
+          suc inner.0,
+          omega (arith, inner.1),
+          among_right (edge (vertex + suc inner.0) id) front behind
+              (subst (λ (v : ℕ). IsAmong (edge v id) behind) (omega arith) inner.2),
+        )
 
 abbrev Holder : Syntax → ℕ → Type 0
 Holder m id = (k : ℕ) × (k < length m.assignments) × IsAmong (edge (length m.nodes + k) id) (parts_edges (length m.nodes) 0 m.assignments)

@@ -1,6 +1,6 @@
 -- Names of lower form in a text begin with a letter. So do the names of components and alternatives of the module that it means.
-use Rattle.std.proofs.Common.{◌≡◌, Bool, true, false, cond, ◌||◌, List, [], ◌∷◌, ◌++◌, Option, Some, None, subst, sym}
-use Rattle.asn1_lexical_laws.specs.Lexical.{IsName, IsItem, name, number, negative, assignment, ellipsis, range, left_brace, right_brace, left_parenthesis, right_parenthesis, comma, bar, left_out, nothing, at_end, AreItems}
+use Rattle.std.proofs.Common.{◌≡◌, ℕ, Bool, true, false, cond, ◌||◌, List, [], ◌∷◌, ◌++◌, Option, Some, None, subst}
+use Rattle.asn1_lexical_laws.specs.Lexical.{IsName, IsItem, AreItems}
 use Rattle.asn1_lexical_laws.specs.Lexical as lexical
 use Rattle.asn1_tokens.specs.declared.token.Word.{Word}
 use Rattle.asn1_tokens.specs.declared.token.Token.{Token}
@@ -68,21 +68,21 @@ name_word [] h = absurd h
 name_word (c ∷ cs) h = token_by (is_left_out (c ∷ cs)) (word_of (c ∷ cs)) (begins is_upper (c ∷ cs)) (c ∷ cs) h.0
 
 item_word : {text rest : List ℕ} {token : Token} → IsItem text token rest → HasWord token
-item_word (name found) = name_word found.front found.is
-item_word (number found) = tt
-item_word (negative found) = tt
-item_word assignment = tt
-item_word ellipsis = tt
-item_word (range no) = tt
-item_word left_brace = tt
-item_word right_brace = tt
-item_word left_parenthesis = tt
-item_word right_parenthesis = tt
-item_word comma = tt
-item_word bar = tt
-item_word left_out = tt
-item_word (nothing no) = tt
-item_word at_end = tt
+item_word (lexical.name found) = name_word found.front found.is
+item_word (lexical.number found) = tt
+item_word (lexical.negative found) = tt
+item_word lexical.assignment = tt
+item_word lexical.ellipsis = tt
+item_word (lexical.range without) = tt
+item_word lexical.left_brace = tt
+item_word lexical.right_brace = tt
+item_word lexical.left_parenthesis = tt
+item_word lexical.right_parenthesis = tt
+item_word lexical.comma = tt
+item_word lexical.bar = tt
+item_word lexical.left_out = tt
+item_word (lexical.nothing without) = tt
+item_word lexical.at_end = tt
 
 pub items_words : {total : ℕ} {text : List ℕ} {ps : List Placed} → AreItems total text ps → AreWords ps
 items_words (lexical.last gap item is) = (item_word item, tt)
@@ -98,16 +98,16 @@ past one h = (took one h).1
 
 extends_past : {extensible : Bool} {ts rest : Left} → Extends ts extensible rest → AreWords ts → AreWords rest
 extends_past (items.extends a b) h = past b (past a h)
-extends_past (items.doesn't no) h = h
+extends_past (items.doesn't without) h = h
 
 high_past : {low high : ℕ} {ts rest : Left} → HighBound low ts high rest → AreWords ts → AreWords rest
 high_past (items.given a b) h = past b (past a h)
-high_past (items.same no) h = h
+high_past (items.same without) h = h
 
 optional_size_past : {size : Option Size} {ts rest : Left} → OptionalSize ts size rest → AreWords ts → AreWords rest
-optional_size_past (items.sized (items.size a b c d high extends e f)) h =
-    past f (past e (extends_past extends (high_past high (past d (past c (past b (past a h)))))))
-optional_size_past (items.unsized no) h = h
+optional_size_past (items.sized (items.size a b c d high mark e f)) h =
+    past f (past e (extends_past mark (high_past high (past d (past c (past b (past a h)))))))
+optional_size_past (items.unsized without) h = h
 
 set_name_past : {set : List ℕ} {at : ℕ} {ts rest : Left} → SetName ts set at rest → AreWords ts → AreWords rest
 set_name_past (items.set_name a b c d e) h = past e (past d (past c (past b (past a h))))
@@ -155,7 +155,7 @@ put nodes new n h = each_put NodeWords nodes new n h
 plain_words : {word : Word} {place : ℕ} {new : Node} {ts rest : Left} → Plain word place ts new rest → AreWords ts
     → HasWords new.definition × AreWords rest
 plain_words means.boolean h = (tt, h)
-plain_words (means.integer a b c d extends e) h = (tt, past e (extends_past extends (past d (past c (past b (past a h))))))
+plain_words (means.integer a b c d mark e) h = (tt, past e (extends_past mark (past d (past c (past b (past a h))))))
 plain_words (means.enumerated a names) h = (tt, names_past names (past a h))
 plain_words (means.bit_string a size) h = (tt, optional_size_past size (past a h))
 plain_words (means.octet_string a size) h = (tt, optional_size_past size (past a h))
@@ -165,7 +165,7 @@ plain_words (means.pdu set) h = (tt, set_name_past set h)
 
 optional_past : {group : Group} {optional : Bool} {ts rest : Left} → MayBeOptional group ts optional rest → AreWords ts → AreWords rest
 optional_past (means.optional a) h = past a h
-optional_past (means.required no) h = h
+optional_past (means.required without) h = h
 optional_past means.alternative h = h
 
 abbrev ValueWords : (piece : Piece) → Value piece → Type 0
@@ -186,10 +186,10 @@ means_words (means.sequence_of {all} size a inner) n h =
 means_words (means.empty_sequence {nodes} a b) n h = (tt, put nodes _ n (tt, tt), past b (past a h))
 means_words (means.sequence {all} a inner) n h = let m = means_words inner n (past a h) in (tt, put all _ m.1 m.0, m.2)
 means_words (means.choice {all} a inner) n h = let m = means_words inner n (past a h) in (tt, put all _ m.1 m.0, m.2)
-means_words (means.member a inner optional) n h =
+means_words (means.member a inner marked) n h =
     let one = took a h in
     let m = means_words inner n one.1 in
-    (one.0, m.1, optional_past optional m.2)
+    (one.0, m.1, optional_past marked m.2)
 means_words (means.mark a inner) n h = let m = means_words inner n (past a h) in ((tt, m.0), m.1, m.2)
 means_words (means.last inner a) n h = let m = means_words inner n h in (((m.0, tt), tt), m.1, past a m.2)
 means_words (means.more inner a others) n h =
@@ -213,31 +213,30 @@ criticality_past (rows.criticality a is) h = past a h
 presence_past : {found : Presence} {ts rest : Left} → APresence ts found rest → AreWords ts → AreWords rest
 presence_past (rows.presence a is) h = past a h
 
-ie_words : {nodes all : List Node} {row : IeRow} {ts rest : Left} → AnIe nodes ts row all rest → AllWords nodes → AreWords ts
+ie_words : (nodes all : List Node) (row : IeRow) (ts rest : Left) → AnIe nodes ts row all rest → AllWords nodes → AreWords ts
     → After all rest
-ie_words (rows.ie a b c d critical e inner f presence g) n h =
+ie_words nodes all row ts rest (rows.ie a b c d critical e inner f told g) n h =
     let m = means_words inner n (past e (criticality_past critical (past d (past c (past b (past a h)))))) in
-    (m.1, past g (presence_past presence (past f m.2)))
+    (m.1, past g (presence_past told (past f m.2)))
 
 outcome_words : {word : Word} {nodes all : List Node} {found : Option _} {ts rest : Left} → Outcome word nodes ts found all rest
     → AllWords nodes → AreWords ts → After all rest
 outcome_words (rows.outcome a b inner) n h = let m = means_words inner n (past b (past a h)) in (m.1, m.2)
-outcome_words (rows.no_outcome no) n h = (n, h)
+outcome_words (rows.no_outcome without) n h = (n, h)
 
-procedure_words : {nodes all : List Node} {row : ProcedureRow} {ts rest : Left} → AProcedure nodes ts row all rest → AllWords nodes
+procedure_words : (nodes all : List Node) (row : ProcedureRow) (ts rest : Left) → AProcedure nodes ts row all rest → AllWords nodes
     → AreWords ts → After all rest
-procedure_words (rows.procedure a b c inner good bad d e f g critical i) n h =
+procedure_words nodes all row ts rest (rows.procedure a b c inner good bad d e f g critical i) n h =
     let m = means_words inner n (past c (past b (past a h))) in
     let s = outcome_words good m.1 m.2 in
     let u = outcome_words bad s.0 s.1 in
     (u.0, past i (criticality_past critical (past g (past f (past e (past d u.1))))))
 
-module _ {R : Type 0} (Row : List Node → Left → R → List Node → Left → Type 0)
-    (one : {nodes all : List Node} {row : R} {ts rest : Left} → Row nodes ts row all rest → AllWords nodes → AreWords ts → After all rest) where
-  rows_words : {nodes all : List Node} {rs : List R} {ts rest : Left} → Rows Row nodes ts rs all rest → AllWords nodes → AreWords ts
-      → After all rest
-  rows_words (rows.last row a b c) n h = let m = one row n h in (m.0, past c (past b (past a m.1)))
-  rows_words (rows.more row a others) n h = let m = one row n h in rows_words others m.0 (past a m.1)
+rows_words : {R : Type 0} (Row : List Node → Left → R → List Node → Left → Type 0)
+    → ((nodes all : List Node) (row : R) (ts rest : Left) → Row nodes ts row all rest → AllWords nodes → AreWords ts → After all rest)
+    → {nodes all : List Node} {rs : List R} {ts rest : Left} → Rows Row nodes ts rs all rest → AllWords nodes → AreWords ts → After all rest
+rows_words Row one (rows.last row a b c) n h = let m = one _ _ _ _ _ row n h in (m.0, past c (past b (past a m.1)))
+rows_words Row one (rows.more row a others) n h = let m = one _ _ _ _ _ row n h in rows_words Row one others m.0 (past a m.1)
 
 -- ---- modules
 
