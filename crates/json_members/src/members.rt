@@ -1,0 +1,91 @@
+//! Members of objects.
+
+ghost use Rattle.std.specs.Prelude.{◌≡◌, ℕ, option_map, IfSome};
+ghost use Rattle.serde_json.specs.Find.{get_member};
+ghost use Rattle.serde_json.specs.View.{view, members_view};
+ghost use Rattle.json_defs.specs.Named.{Named};
+ghost use Rattle.json_defs.specs.Members.{are_keys_among, is_among, criticality_in, member_of, criticality_key};
+ghost use Rattle.json_defs.specs.Shown.{names_of, keys_of};
+ghost use Rattle.json_type_defs.specs.Types.{parts_with};
+ghost use Rattle.json_members.specs.Texts.{texts};
+
+use crate::names::{criticality_of, same_text};
+use asn1_types::Component;
+use serde_json::{Map, Value as Json};
+use std::str;
+
+/// The members of an object.
+pub type Members = Map<String, Json>;
+
+/// The member with a name.
+pub fn member<'a>(members: &'a Members, name: &[u8]) -> Option<&'a Json>
+    ensures { option_map (λ d. view d.now) result
+        ≡ get_member name.now (members_view members.now.entries) }
+{
+    match str::from_utf8(name) {
+        Ok(name) => members.get(name),
+        Err(_) => None,
+    }
+}
+
+/// Whether a name is one of these parts'.
+fn is_part(parts: &[Component], name: &[u8]) -> bool
+    ensures { (of : ℕ → Named) → result ≡ is_among (names_of (parts_with of parts.now)) name.now }
+{
+    for part in parts {
+        if same_text(part.name.as_slice(), name) {
+            return true;
+        }
+    }
+    false
+}
+
+/// Whether a SEQUENCE of these components may have a member of this name: where it is extensible also `...`.
+fn is_key(extensible: bool, parts: &[Component], name: &[u8]) -> bool
+    ensures { (of : ℕ → Named) → result ≡ is_among (keys_of extensible (parts_with of parts.now)) name.now }
+{
+    extensible && same_text(b"...", name) || is_part(parts, name)
+}
+
+/// Whether each member of an object is one that a SEQUENCE of these components may have.
+pub fn are_keys(extensible: bool, parts: &[Component], members: &Members) -> bool
+    ensures { (of : ℕ → Named)
+        → result ≡ are_keys_among (keys_of extensible (parts_with of parts.now))
+        (members_view members.now.entries) }
+{
+    for (name, _) in members.iter() {
+        if !is_key(extensible, parts, name.as_bytes()) {
+            return false;
+        }
+    }
+    true
+}
+
+/// Whether a name is one of three.
+fn is_one_of(names: [&[u8]; 3], name: &[u8]) -> bool
+    ensures { result ≡ is_among (texts names) name.now }
+{
+    same_text(names[0], name) || same_text(names[1], name) || same_text(names[2], name)
+}
+
+/// Whether each member of an object has one of three names.
+pub fn are_keys_among(names: [&[u8]; 3], members: &Members) -> bool
+    ensures { result ≡ are_keys_among (texts names) (members_view members.now.entries) }
+{
+    for (name, _) in members.iter() {
+        if !is_one_of(names, name.as_bytes()) {
+            return false;
+        }
+    }
+    true
+}
+
+/// The criticality that an object has as a member.
+pub fn criticality_in(members: &Members) -> Option<u8>
+    ensures { result ≡ criticality_in (member_of criticality_key (members_view members.now.entries)) }
+{
+    match member(members, b"criticality") {
+        Some(Json::String(name)) => criticality_of(name.as_bytes()),
+        _ => None,
+    }
+}

@@ -1,0 +1,6 @@
+//! The types of a module as JSON takes them: each with its names followed, the names that JSON shows, and what its set holds.
+#![tactic(auto)]
+
+mod form;
+
+pub use form::{NamedForm, form_of};
