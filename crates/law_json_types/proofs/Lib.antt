@@ -1,3 +1,2 @@
-pub mod Forgotten
 pub mod Bounded
 pub mod Law

@@ -1,0 +1,4 @@
+pub mod Answered
+pub mod Written
+pub mod Turned
+pub mod Finished
