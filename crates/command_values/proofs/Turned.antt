@@ -17,9 +17,16 @@ use Rattle.input_lines.proofs.Stopped.{stops_at, going_at, takes_on}
 use Rattle.asn1_types.specs.declared.definition.TypeId.{TypeId}
 use Rattle.asn1_types.specs.declared.fault.ModuleReason.{ModuleReason}
 use Rattle.asn1_module.specs.asn1_assignments.declared.assignment.Syntax.{Syntax}
-use Rattle.asn1_module.specs.Module.{find_type}
+use Rattle.asn1_module.specs.Module.{Reads, find_type, type_ids}
+use Rattle.asn1_tokens.specs.Words.{is_text}
+use Rattle.profile.specs.declared.version.Version.{Version}
 use Rattle.profile.specs.declared.version.Version.TheVariants.{Two}
+use Rattle.profile.specs.Versions.{text_of}
+use Rattle.profile_defs.specs.Profile.{module_name}
+use Rattle.profile_defs.specs.Agreement.{Agrees}
+use Rattle.profile_module.specs.Profiles.{types_of, ProfileAt, IsBuiltin}
 use Rattle.input_module.specs.declared.module.GivenModule.{GivenModule}
+use Rattle.input_module.specs.declared.module.GivenModule.TheVariants as given
 use Rattle.input_module.specs.declared.stop.ModuleStop.{ModuleStop}
 use Rattle.input_module.specs.declared.stop.ModuleStop.TheVariants as stops
 use Rattle.input_module.specs.Module.{GivesModule, StopsModule, IsWrongModule, Empty, NoHeader, Unended, IsPart, Unfinished, Whole, AtHeader}
@@ -252,6 +259,7 @@ module _ {job : Job} {task : Task} {first : OutsideAt} {old : RunAt} (new : RunA
   }
 
   write_stops : (end : ValuesEnd) → WriteStops task old.sink new.sink line end → RunsTo job first (outside_of new) end
+  unfolding values_on
   write_stops end (Refused wrong is e same) =
       let refused : IsWrong job.way task.module.now task.id.number line.text wrong =
       subst (λ (way : Way). IsWrong way task.module.now task.id.number line.text wrong) s.way is in
@@ -420,11 +428,28 @@ typed job task m old new end same way has c first found h is = c job first (reco
   way = way;
 })
 
-pub given_module : (job : Job) (found : GivenModule) (m : Syntax) (old new : RunAt) (end : ValuesEnd) → IsModuleOf found m
-    → ContinuesModule job m old new end → ContinuesGiven job found old new end
-given_module job found m old new end is c first h = c first found h is
-
 pub ran : (job : Job) (source0 : SourceAt) (sink0 : SinkAt) (old new : RunAt) (found : GivenModule) (end : ValuesEnd)
     → HasModule Two source0 old.source old.reading found → old.sink ≡ sink0 → ContinuesGiven job found old new end
     → RunsTo job (outside source0 sink0) (outside_of new) end
 ran job source0 sink0 old new found end has same c = c (outside source0 sink0) (record { has = has; same = same })
+
+-- the module of a text
+pub given_text : (job : Job) (found : GivenModule) (m k : Syntax) (old new : RunAt) (end : ValuesEnd) → found ≡ given.Text m → k ≡ m
+    → ContinuesModule job k old new end → ContinuesGiven job found old new end
+given_text job found m k old new end e same c first h =
+    c first found h (subst (λ (x : GivenModule). IsModuleOf x k) (sym e) same)
+
+-- the profile in a version
+pub given_profile : (job : Job) (found : GivenModule) (version : Version) (read : ProfileAt) (k : Syntax) (old new : RunAt) (end : ValuesEnd)
+    → found ≡ given.Builtin version → IsBuiltin version read → k ≡ read.syntax
+    → ContinuesModule job k old new end → ContinuesGiven job found old new end
+given_profile job found version read k old new end e is same c first h =
+    let of_version : IsBuiltin version (record { syntax = k; version = version }) = record {
+      version-is = refl;
+      octets = is.octets;
+      reads = subst (λ (x : Syntax). Reads (text_of version) is.octets x) (sym same) is.reads;
+      agrees = subst (λ (x : Syntax). Agrees (types_of version) x) (sym same) is.agrees;
+      name = subst (λ (x : Syntax). is_text x.name module_name ≡ true) (sym same) is.name;
+      count = subst (λ (x : Syntax). length (type_ids x.assignments) ≡ 53) (sym same) is.count;
+    } in
+    c first found h (subst (λ (x : GivenModule). IsModuleOf x k) (sym e) of_version)

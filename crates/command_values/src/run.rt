@@ -1,6 +1,7 @@
 //! The words `encode` and `decode`.
 
 ghost use Rattle.std.specs.Prelude.{◌≡◌, ◌++◌, ◌∷◌, [], IfOk};
+ghost use Rattle.profile_module.specs.Profiles.{IsBuiltin};
 ghost use Rattle.scenario_text.specs.Print.{print};
 ghost use Rattle.command_defs.specs.Outside.{outside};
 ghost use Rattle.command_values.specs.Ends.{values_status, values_report, StopsAtValue};
@@ -20,7 +21,7 @@ use gnb_base::outside::{Sink, Source};
 use gnb_types::octets::{Memory, Octets};
 use input_module::{GivenModule, take_module};
 use profile::Version;
-use profile_module::{builtin, builtin_2};
+use profile_module::{Profile, builtin, builtin_2};
 use scenario_text::line::OutLine;
 use std::alloc::Global;
 
@@ -55,6 +56,16 @@ fn with_module<S: Source, K: Sink>(
     answer_lines(alloc, task, reader, input, output)
 }
 
+/// The profile in a version.
+fn profile_of(alloc: Global, version: Version) -> Result<Profile, Memory>
+    ensures { IfOk result (λ profile. IsBuiltin version profile) }
+{
+    match version {
+        Version::One => builtin(alloc),
+        Version::Two => builtin_2(alloc),
+    }
+}
+
 /// The same of the module that a header names; the profile is read of its text.
 fn with_given<S: Source, K: Sink>(
     alloc: Global,
@@ -68,16 +79,12 @@ fn with_given<S: Source, K: Sink>(
         (run_at reader.old (S.at input.old) (K.at output.old))
         (run_at reader.new (S.at input.new) (K.at output.new)) result }
 {
-    let profile = match given {
-        GivenModule::Text(module) => {
-            return with_module(alloc, words, module, reader, input, output);
-        }
-        GivenModule::Builtin(Version::One) => builtin(alloc),
-        GivenModule::Builtin(Version::Two) => builtin_2(alloc),
-    };
-    match profile {
-        Ok(profile) => with_module(alloc, words, profile.module(), reader, input, output),
-        Err(Memory) => ValuesEnd::Common(CommonEnd::Memory),
+    match given {
+        GivenModule::Text(module) => with_module(alloc, words, module, reader, input, output),
+        GivenModule::Builtin(version) => match profile_of(alloc, *version) {
+            Ok(profile) => with_module(alloc, words, profile.module(), reader, input, output),
+            Err(Memory) => ValuesEnd::Common(CommonEnd::Memory),
+        },
     }
 }
 
