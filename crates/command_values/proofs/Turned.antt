@@ -1,5 +1,5 @@
 -- The lines so far, one turn more, and each of its ends.
-use Rattle.std.proofs.Common.{◌≡◌, ℕ, ◌+◌, List, [], ◌∷◌, ◌++◌, length, Bool, true, false, Option, Some, None, Result, Ok, Err, refl, sym, ap, ◌∙◌, subst, inl, inr, append-nil, append_assoc}
+use Rattle.std.proofs.Common.{◌≡◌, ℕ, ◌+◌, List, [], ◌∷◌, ◌++◌, length, Bool, true, false, Option, Some, None, Ok, refl, sym, ap, ◌∙◌, subst, inl, inr, append-nil, append_assoc}
 use Rattle.gnb_base.specs.declared.lines.Line.{Line}
 use Rattle.gnb_base.specs.declared.lines.ReadPhase.TheVariants as phases
 use Rattle.gnb_base.specs.Outside.{SourceAt, SinkAt}
@@ -14,8 +14,6 @@ use Rattle.input_lines.specs.ReadsLine.{StopsReading}
 use Rattle.input_lines.proofs.Sources.{none_failed as no_read_failed, none_then_none as no_read_then}
 use Rattle.input_lines.proofs.Standing.{stands_first, takes_of, line_stands, comes_next, ends_at, both_nil, joined-more}
 use Rattle.input_lines.proofs.Stopped.{stops_at, going_at, takes_on}
-use Rattle.asn1_types.specs.declared.definition.TypeId.{TypeId}
-use Rattle.asn1_types.specs.declared.fault.ModuleReason.{ModuleReason}
 use Rattle.asn1_module.specs.asn1_assignments.declared.assignment.Syntax.{Syntax}
 use Rattle.asn1_module.specs.Module.{Reads, find_type, type_ids}
 use Rattle.asn1_tokens.specs.Words.{is_text}
@@ -33,23 +31,22 @@ use Rattle.input_module.specs.Module.{GivesModule, StopsModule, IsWrongModule, E
 use Rattle.input_module.specs.Taking.{FaultsOfStop, StillGives, StopsTaking, HasModule}
 use Rattle.input_module.proofs.Given.{gives_at_end}
 use Rattle.command_check.specs.Check.{IsModuleOf}
-use Rattle.command_defs.specs.declared.CommonEnd.TheVariants.{Memory, WriteFault}
+use Rattle.command_defs.specs.declared.CommonEnd.TheVariants.{Memory}
 use Rattle.command_defs.specs.Ends.{end_of_input}
 use Rattle.command_defs.specs.Outside.{OutsideAt, outside}
 use Rattle.command_defs.specs.Output.{PrintsFront}
 use Rattle.command_output.specs.Writes.{WritesAll}
-use Rattle.command_output.proofs.Written.{none_failed, none_then_last, all_none, all_more, front_none, front_more, front_of, front_all}
+use Rattle.command_output.proofs.Written.{none_failed, none_then_last, all_none, all_more, front_none, front_more, front_all}
 use Rattle.script_words.specs.declared.reason.TextReason.{TextReason}
 use Rattle.command_values.specs.declared.way.Way.{Way}
-use Rattle.command_values.specs.declared.answer.Wrong.{Wrong}
 use Rattle.command_values.specs.declared.end.Stop.TheVariants.{NoType, Value}
 use Rattle.command_values.specs.declared.end.ValuesEnd.{ValuesEnd}
 use Rattle.command_values.specs.declared.end.ValuesEnd.TheVariants.{Done, Stopped, Common}
 use Rattle.command_values.specs.declared.lines.Task.{Task}
 use Rattle.command_values.specs.Answers.{IsAnswered, IsWrong, AreAnswered}
-use Rattle.command_values.specs.Values.{Job, HasValues, IsFront, Part, Given, Passes, ValuesEndMeets}
+use Rattle.command_values.specs.Values.{Job, HasValues, Part, Given, Passes, ValuesEndMeets}
 use Rattle.command_values.specs.inside.Stops.{RunsTo, PrintsTo, ReadsUntil, WritesUntil, end_of_stop}
-use Rattle.command_values.specs.inside.Turns.{RunAt, run_at, outside_of, with_feed, TaskAnswers, Writes, WriteStops, Refused, Faulty, NoRoom, TakesLine, TakesEnd, TurnStops, Unread, Unanswered, TurnMeets, HasGiven, Begins, Continues, ContinuesModule, ContinuesGiven}
+use Rattle.command_values.specs.inside.Turns.{RunAt, outside_of, TaskAnswers, Writes, WriteStops, Refused, Faulty, NoRoom, TakesLine, TakesEnd, TurnStops, Unread, Unanswered, TurnMeets, HasGiven, Begins, Continues, ContinuesModule, ContinuesGiven}
 
 -- the lines that were handed out give the module, and then lines whose answers were written
 pub record SoFar (job : Job) (task : Task) (first : OutsideAt) (now : RunAt) : Type 0 where

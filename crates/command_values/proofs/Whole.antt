@@ -1,5 +1,5 @@
 -- Of a whole input each line is answered, unless memory runs out; and a stop at a line is near it.
-use Rattle.std.proofs.Common.{◌≡◌, ◌⊎◌, ◌+◌, ◌-◌, ℕ, List, [], ◌∷◌, ◌++◌, length, take, drop, Option, Some, None, Result, Ok, Err, refl, sym, ap, ◌∙◌, subst, inl, inr, append-nil, append_assoc, length-append, arith}
+use Rattle.std.proofs.Common.{◌≡◌, ◌⊎◌, ◌+◌, ◌-◌, ℕ, List, [], ◌∷◌, ◌++◌, length, take, drop, Option, Some, None, Ok, Err, refl, sym, ap, ◌∙◌, subst, inl, inr, append-nil, append_assoc, length-append, arith}
 use Rattle.std.specs.List.{AllByRecursion}
 use Rattle.std.specs.Io.KnownBytes.{Consumes}
 use Rattle.command_output.proofs.Faults.{no_read_fault, no_write_fault}
@@ -29,7 +29,7 @@ use Rattle.input_module.specs.Module.{IsUpToEnd, HasText, GivesModule, IsNoModul
 use Rattle.script_words.specs.declared.reason.TextReason.{TextReason}
 use Rattle.command_check.specs.Check.{IsModuleOf}
 use Rattle.command_defs.specs.declared.CommonEnd.TheVariants.{ReadFault, TooLong, WriteFault, Memory}
-use Rattle.command_defs.specs.Outside.{OutsideAt, NoneFailed}
+use Rattle.command_defs.specs.Outside.{OutsideAt}
 use Rattle.command_defs.specs.Output.{Prints}
 use Rattle.command_values.specs.declared.answer.Wrong.{Wrong}
 use Rattle.command_values.specs.declared.end.Stop.TheVariants.{NoModule, NoType, Script, Value}
@@ -38,7 +38,7 @@ use Rattle.command_values.specs.declared.end.ValuesEnd.TheVariants.{Done, Stoppe
 use Rattle.command_values.specs.Answers.{IsWrong, AreAnswered}
 use Rattle.command_values.specs.Ends.{values_status, StopsAtValue}
 use Rattle.command_values.specs.Values.{Job, HasValues, IsUntyped, IsWrongLine, ValuesEndMeets, ValuesMeet}
-use Rattle.command_values.specs.Whole.{text_line, NamesProfile, GivesText, AreAccepted, IsWhole, AnswersEach, AnswersWholly}
+use Rattle.command_values.specs.Whole.{text_line, NamesProfile, GivesText, AreAccepted, IsWhole, AnswersWholly}
 use Rattle.command_values.proofs.Texts.{cancel, same_body, not_open, lines_after, cut_same}
 
 -- the module that was found, and the lines after it, are those of the whole input
@@ -270,11 +270,14 @@ module _ (job : Job) (before after : OutsideAt) where
   complete Done r input m id lines known w none =
       let t = takes_known input known r.input in
       let e = meets_known job before after Done r input known in
-      inl (refl, record {
-        texts = r.texts;
-        are = of_done w t r.texts e.0 e.1;
-        prints = subst (λ (text : List ℕ). Prints before.sink after.sink text) (append-nil (joined r.texts)) r.prints;
-      })
+      inl (
+        refl,
+        record {
+          texts = r.texts;
+          are = of_done w t r.texts e.0 e.1;
+          prints = subst (λ (text : List ℕ). Prints before.sink after.sink text) (append-nil (joined r.texts)) r.prints;
+        },
+      )
   complete (Stopped (NoModule line column reason)) r input m id lines known w none =
       absurd (of_no_module w (takes_known input known r.input) line column reason
       (meets_known job before after (Stopped (NoModule line column reason)) r input known).1)

@@ -1,6 +1,6 @@
 -- What the words `encode` and `decode` answer a line with, or why they refuse it. `encode` reads JSON of a value of the type, and answers
 -- with the digits of the octets that spell it; `decode` reads digits of such octets, and answers with the compact JSON of their value.
-use Rattle.std.specs.Prelude.{◌≡◌, ◌<◌, ℕ, List, [], ◌∷◌, All, Option, Some, None, codes}
+use Rattle.std.specs.Prelude.{◌≡◌, ◌<◌, ℕ, List, [], ◌∷◌, All, Some, None, codes}
 use Rattle.gnb_types.specs.Hex.{hex_of, read_hex}
 use Rattle.serde_json.specs.Written.{compact_text}
 use Rattle.asn1_module.specs.asn1_assignments.declared.assignment.Syntax.{Syntax}

@@ -22,9 +22,13 @@ use values_json::{JsonError, json_of_value, value_from_json};
 const SPELLING_LIMIT: u64 = 131_072;
 
 const NO_HEX: u16 = 100;
+
 const NO_JSON: u16 = 101;
+
 const SHAPE: u16 = 102;
+
 const RANGE: u16 = 103;
+
 const TOO_LONG: u16 = 104;
 
 /// Why a line is refused: the first bit of the first wrong field, the number of the reason, and the way to the value whose type gives

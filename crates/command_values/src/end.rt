@@ -33,9 +33,15 @@ pub enum Stop {
     /// The module has no type of the name.
     NoType,
     /// The line at `place` is no header, or it is the last one of a text that goes on after its module.
-    Script { place: u64, reason: TextReason },
+    Script {
+        place: u64,
+        reason: TextReason,
+    },
     /// The line at `place` is no value of the type.
-    Value { place: u64, wrong: Wrong },
+    Value {
+        place: u64,
+        wrong: Wrong,
+    },
 }
 
 /// How the word ended.

@@ -1,12 +1,11 @@
 -- Internal: what reading, answering and writing one line does, and what the lines from a moment on come to.
-use Rattle.std.specs.Prelude.{◌≡◌, ◌++◌, ◌∷◌, [], ℕ, List, Bool, true, false, Option, Some, None, Result, Ok, Err}
+use Rattle.std.specs.Prelude.{◌≡◌, ◌++◌, ◌∷◌, [], ℕ, List, Bool, true, false, Some, None, Result, Ok, Err}
 use Rattle.gnb_base.specs.declared.lines.Line.{Line}
 use Rattle.gnb_base.specs.Lines.{line_feed}
 use Rattle.gnb_base.specs.Outside.{SourceAt, SinkAt}
 use Rattle.gnb_base.specs.Reading.{Reading, NextMeets}
 use Rattle.input_defs.specs.declared.InputEnd.{InputEnd}
 use Rattle.input_lines.specs.ReadsLine.{StopsReading}
-use Rattle.asn1_types.specs.declared.definition.TypeId.{TypeId}
 use Rattle.asn1_module.specs.asn1_assignments.declared.assignment.Syntax.{Syntax}
 use Rattle.asn1_module.specs.Module.{find_type}
 use Rattle.profile.specs.declared.version.Version.TheVariants.{Two}
@@ -17,7 +16,6 @@ use Rattle.command_defs.specs.declared.CommonEnd.TheVariants.{WriteFault, Memory
 use Rattle.command_defs.specs.Ends.{end_of_input}
 use Rattle.command_defs.specs.Outside.{OutsideAt, outside}
 use Rattle.command_output.specs.Writes.{WritesAll, WritesFront}
-use Rattle.command_values.specs.declared.way.Way.{Way}
 use Rattle.command_values.specs.declared.answer.Wrong.{Wrong}
 use Rattle.command_values.specs.declared.end.Stop.TheVariants.{Value}
 use Rattle.command_values.specs.declared.end.ValuesEnd.{ValuesEnd}

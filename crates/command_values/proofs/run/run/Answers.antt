@@ -1,5 +1,4 @@
-use Rattle.std.proofs.Common.{refl}
-use Rattle.command_values.proofs.Turned.{no_reader, no_module, ran}
+use Rattle.command_values.proofs.Turned.{no_reader, no_module}
 use Rattle.command_values.proofs.run.run.Goals as goal
 
 pub returns-in_default : goal.returns-in_default
