@@ -344,26 +344,18 @@ pub converts : {before after : OutsideAt} (form found : Form) (way : Way) (name 
 converts {before = before} {after = after} form found way name end status e f same meets near wholly =
     holds_at form found (Values way) status (values_status end) e f same (values_holds way name before after end meets near)
 
--- what is promised of the type that was named
-pub named : {before after : OutsideAt} (form found : Form) (way : Way) (name : List ℕ) (end : ValuesEnd) (status : Status) → found ≡ form
-    → found ≡ Values way → status ≡ values_status end → ValuesMeet (job_of way name) before after end
-    → StopsAtValue before.source after.source (values_status end) → AnswersWholly (job_of way name) before after (values_status end)
+-- what is promised of the type that was named, by the name that the code took
+pub named : {before after : OutsideAt} (form found : Form) (way : Way) (name taken : List ℕ) (end : ValuesEnd) (status : Status)
+    → taken ≡ name → found ≡ form
+    → found ≡ Values way → status ≡ values_status end → ValuesMeet (job_of way taken) before after end
+    → StopsAtValue before.source after.source (values_status end) → AnswersWholly (job_of way taken) before after (values_status end)
     → (other : Way) → form ≡ Values other → ValuesHold (job_of other name) before after status
-named {before = before} {after = after} form found way name end status e f same meets near wholly other g =
+named {before = before} {after = after} form found way name taken end status is e f same meets near wholly other g =
     let ways : way ≡ other = same_way (sym f ∙ e ∙ g) in
     subst (λ (w : Way). ValuesHold (job_of w name) before after status) ways
-    (subst (λ (s : Status). ValuesHold (job_of way name) before after s) (sym same)
-    (values_hold (job_of way name) before after end meets near wholly))
-
-pub by_name : {way : Way} {a b : List ℕ} {before after : OutsideAt} {status : Status} → a ≡ b → ConvertsValues (job_of way a) before after status
-    → ConvertsValues (job_of way b) before after status
-by_name {way = way} {before = before} {after = after} {status = status} e h =
-    subst (λ (name : List ℕ). ConvertsValues (job_of way name) before after status) e h
-
-pub by_name_wholly : {way : Way} {a b : List ℕ} {before after : OutsideAt} {status : Status} → a ≡ b
-    → AnswersWholly (job_of way a) before after status → AnswersWholly (job_of way b) before after status
-by_name_wholly {way = way} {before = before} {after = after} {status = status} e h =
-    subst (λ (name : List ℕ). AnswersWholly (job_of way name) before after status) e h
+    (subst (λ (n : List ℕ). ValuesHold (job_of way n) before after status) is
+    (subst (λ (s : Status). ValuesHold (job_of way taken) before after s) (sym same)
+    (values_hold (job_of way taken) before after end meets near wholly)))
 
 -- another form is none of these words
 abbrev pub IsNone : Form → Type 0

@@ -1,4 +1,4 @@
-use Rattle.scenario_cli.proofs.Joined.{runs, checks_at, prints_at, runs_bearer, timed, runs_legs, fitting, reports, converts, named, by_name, by_name_wholly, not_values, run_is_none, check_is_none, profile_is_none, um_is_none, dup_is_none, other_is_none}
+use Rattle.scenario_cli.proofs.Joined.{runs, checks_at, prints_at, runs_bearer, timed, runs_legs, fitting, reports, converts, named, not_values, run_is_none, check_is_none, profile_is_none, um_is_none, dup_is_none, other_is_none}
 use Rattle.scenario_cli.proofs.top.gnb.Goals as goal
 
 pub returns-in-Run : goal.returns-in-Run
@@ -46,9 +46,8 @@ returns-in-Dup g c =
 pub returns-in-Values : goal.returns-in-Values
 returns-in-Values g c =
     let h = converts _ _ _ _ _ _ c.form_of.ensures.exact c.in-Values.is c.status-in-Values.ensures c.run_values.ensures.meets c.run_values.ensures.near c.run_values.ensures.complete in
-    let v = named _ _ _ _ _ _ c.form_of.ensures.exact c.in-Values.is c.status-in-Values.ensures c.run_values.ensures.meets c.run_values.ensures.near c.run_values.ensures.complete in
-    let same = c.type_name.ensures in
-    record { headline = h.headline; read = h.read; write = h.write; calls = h.calls; near = h.near; complete = h.complete; bearer = h.bearer; near_event = h.near_event; legs = h.legs; near_leg_event = h.near_leg_event; checks = h.checks; writes = h.writes; values = λ way e. by_name same (v way e).meets; near_value = λ way e. (v way e).near; answers = λ way e. by_name_wholly same (v way e).wholly }
+    let v = named _ _ _ _ _ _ _ c.type_name.ensures c.form_of.ensures.exact c.in-Values.is c.status-in-Values.ensures c.run_values.ensures.meets c.run_values.ensures.near c.run_values.ensures.complete in
+    record { headline = h.headline; read = h.read; write = h.write; calls = h.calls; near = h.near; complete = h.complete; bearer = h.bearer; near_event = h.near_event; legs = h.legs; near_leg_event = h.near_leg_event; checks = h.checks; writes = h.writes; values = λ way e. (v way e).meets; near_value = λ way e. (v way e).near; answers = λ way e. (v way e).wholly }
 
 pub returns-in-Other : goal.returns-in-Other
 returns-in-Other g c =
