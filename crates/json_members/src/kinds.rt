@@ -24,9 +24,9 @@ pub fn integer_in(d: &Json) -> Option<i128>
 pub fn natural_in(d: &Json) -> Option<u64>
     ensures { result ≡ natural_in (view d.now) }
 {
-    match integer_in(d) {
-        Some(number) if number >= 0 => Some(number as u64),
-        _ => None,
+    match d.as_number() {
+        Some(number) => number.as_u64(),
+        None => None,
     }
 }
 
@@ -54,6 +54,7 @@ fn bit_of(digit: u8) -> Option<bool>
     }
 }
 
+#[tactic(auto, using(crate::proofs::Words::bits_none, crate::proofs::Words::bits_end))]
 fn read_bits(alloc: Global, text: &[u8]) -> Result<Option<Bits>, Memory>
     ensures { IfOk result (λ bits. bits ≡ read_bits text.now) }
 {

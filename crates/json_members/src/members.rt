@@ -1,13 +1,12 @@
 //! Members of objects.
 
-ghost use Rattle.std.specs.Prelude.{◌≡◌, ℕ, option_map, IfSome};
+ghost use Rattle.std.specs.Prelude.{◌≡◌, ◌∷◌, [], ℕ, option_map};
 ghost use Rattle.serde_json.specs.Find.{get_member};
 ghost use Rattle.serde_json.specs.View.{view, members_view};
 ghost use Rattle.json_defs.specs.Named.{Named};
 ghost use Rattle.json_defs.specs.Members.{are_keys_among, is_among, criticality_in, member_of, criticality_key};
 ghost use Rattle.json_defs.specs.Shown.{names_of, keys_of};
 ghost use Rattle.json_type_defs.specs.Types.{parts_with};
-ghost use Rattle.json_members.specs.Texts.{texts};
 
 use crate::names::{criticality_of, same_text};
 use asn1_types::Component;
@@ -29,6 +28,7 @@ pub fn member<'a>(members: &'a Members, name: &[u8]) -> Option<&'a Json>
 }
 
 /// Whether a name is one of these parts'.
+#[tactic(auto, using(crate::proofs::Words::parts_turn, crate::proofs::Words::parts_found))]
 fn is_part(parts: &[Component], name: &[u8]) -> bool
     ensures { (of : ℕ → Named) → result ≡ is_among (names_of (parts_with of parts.now)) name.now }
 {
@@ -41,10 +41,17 @@ fn is_part(parts: &[Component], name: &[u8]) -> bool
 }
 
 /// Whether a SEQUENCE of these components may have a member of this name: where it is extensible also `...`.
+#[tactic(auto, using(crate::proofs::Words::among_here, crate::proofs::Words::among_others))]
 fn is_key(extensible: bool, parts: &[Component], name: &[u8]) -> bool
     ensures { (of : ℕ → Named) → result ≡ is_among (keys_of extensible (parts_with of parts.now)) name.now }
 {
-    extensible && same_text(b"...", name) || is_part(parts, name)
+    if !extensible {
+        return is_part(parts, name);
+    }
+    if same_text(b"...", name) {
+        return true;
+    }
+    is_part(parts, name)
 }
 
 /// Whether each member of an object is one that a SEQUENCE of these components may have.
@@ -61,19 +68,27 @@ pub fn are_keys(extensible: bool, parts: &[Component], members: &Members) -> boo
     true
 }
 
-/// Whether a name is one of three.
-fn is_one_of(names: [&[u8]; 3], name: &[u8]) -> bool
-    ensures { result ≡ is_among (texts names) name.now }
+/// Whether a name is the one of contents, of a criticality, or of a number.
+#[tactic(auto, using(crate::proofs::Words::among_here, crate::proofs::Words::among_others))]
+fn is_body_key(contents: &[u8], number: &[u8], name: &[u8]) -> bool
+    ensures { result ≡ is_among (contents.now ∷ criticality_key ∷ number.now ∷ []) name.now }
 {
-    same_text(names[0], name) || same_text(names[1], name) || same_text(names[2], name)
+    if same_text(contents, name) {
+        return true;
+    }
+    if same_text(b"criticality", name) {
+        return true;
+    }
+    same_text(number, name)
 }
 
-/// Whether each member of an object has one of three names.
-pub fn are_keys_among(names: [&[u8]; 3], members: &Members) -> bool
-    ensures { result ≡ are_keys_among (texts names) (members_view members.now.entries) }
+/// Whether an object has, besides a criticality, at most the members of these two names.
+pub fn are_body_keys(contents: &[u8], number: &[u8], members: &Members) -> bool
+    ensures { result ≡ are_keys_among (contents.now ∷ criticality_key ∷ number.now ∷ [])
+        (members_view members.now.entries) }
 {
     for (name, _) in members.iter() {
-        if !is_one_of(names, name.as_bytes()) {
+        if !is_body_key(contents, number, name.as_bytes()) {
             return false;
         }
     }

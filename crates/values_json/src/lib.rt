@@ -15,6 +15,7 @@ pub use error::JsonError;
 use aper_values::value::Value;
 use asn1_module::{Module, TypeId};
 use gnb_types::octets::{Memory, Octets};
+use json_printing::value_shown;
 use std::alloc::Global;
 
 /// The value of a type of a module that a JSON text shows.
@@ -43,5 +44,7 @@ pub fn json_of_value(
     ensures { IfOk result
         (λ text. text ≡ compact_text (shown_as (named m.now id.number) (view value.now))) }
 {
-    Err(Memory)
+    let d = value_shown(alloc, m, id, value)?;
+    let text = d.to_string(alloc)?;
+    Ok(Octets::from_vec(text.into_bytes()))
 }
