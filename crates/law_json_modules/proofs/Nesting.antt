@@ -1,5 +1,5 @@
 -- The types of a module nest at most sixty levels.
-use Rattle.std.proofs.Common.{◌≡◌, ℕ, zero, suc, ◌+◌, ◌-◌, ◌<◌, ◌≤◌, List, [], ◌∷◌, ◌++◌, length, get_or, replicate, max, refl, sym, ap, subst, inl, inr, ◌⊎◌, arith, Option, Some, None}
+use Rattle.std.proofs.Common.{◌≡◌, ℕ, zero, suc, ◌+◌, ◌-◌, ◌<◌, ◌≤◌, List, [], ◌∷◌, ◌++◌, length, get_or, replicate, refl, ap, subst, inl, inr, ◌⊎◌, arith, Option, Some, None}
 use Rattle.std.specs.Prelude.{slice_get, slice_index}
 use Rattle.std.proofs.lemmas.Bool.{cases_lt}
 use Rattle.asn1_types.specs.declared.definition.TypeId.{TypeId}
@@ -15,7 +15,7 @@ use Rattle.asn1_module.specs.asn1_assignments.declared.assignment.Assignment.{As
 use Rattle.asn1_module.specs.asn1_assignments.declared.assignment.Syntax.{Syntax}
 use Rattle.asn1_module.specs.asn1_graph.declared.graph.Edge.{Edge}
 use Rattle.asn1_module.specs.asn1_graph.Graph.{edge, range_edges, parts_edges, vertex_count, edges_of}
-use Rattle.asn1_module.specs.asn1_graph.Paths.{IsAmong, IsStep, Nests, alone, around}
+use Rattle.asn1_module.specs.asn1_graph.Paths.{IsAmong, Nests, alone, around}
 use Rattle.asn1_module.specs.Judgement.{weight_of, node_weights, weights_of}
 use Rattle.asn1_module.specs.Module.{find_type, ie_rows, procedure_rows, IsModule}
 use Rattle.asn1_module.specs.Targets.{definition_of, definition_at, all_of}
