@@ -3,7 +3,9 @@
 
 ghost use Rattle.std.specs.Prelude.{◌≡◌, ◌↔◌, ◌<◌, ◌^◌, ◌-◌, IsTrue, [], length, min};
 ghost use Rattle.aper_defs.specs.Bits.{octet_count};
-ghost use Rattle.aper_defs.specs.Membership.{Has};
+ghost use Rattle.aper_defs.specs.Fields.{Path};
+ghost use Rattle.aper_defs.specs.Layouts.{layout};
+ghost use Rattle.aper_defs.specs.Membership.{FitsOpen, Has};
 ghost use Rattle.aper_defs.specs.Spelling.{whole_layout};
 ghost use Rattle.aper_types.specs.Types.{tree};
 ghost use Rattle.aper_values.specs.Views.{view};
@@ -15,6 +17,9 @@ use aper_values::value::Value;
 use aper_widths::place::octet_count;
 use asn1_module::Module;
 use asn1_types::TypeId;
+
+/// The most octets that an open type holds.
+const OPEN_LIMIT: u128 = 16383;
 
 /// Whether a value is one of a type.
 pub fn is_value(m: &Module, id: TypeId, value: &Value) -> bool
@@ -32,6 +37,19 @@ pub fn spelled_length(m: &Module, id: TypeId, value: &Value) -> u64
 {
     match value_end(m, id, value, 0) {
         Some(end) => octet_count(end).min(u128::from(u64::MAX)) as u64,
+        None => unreachable!(),
+    }
+}
+
+/// Whether an open type holds a value: whether its complete encoding has at most 16,383 octets.
+pub fn fits_open(m: &Module, id: TypeId, value: &Value) -> bool
+    requires inside { id.number < length m.now.nodes }
+    requires member { Has [] (tree m.now id.number) (view value.now) }
+    ensures { (p : Path) → IsTrue result
+        ↔ FitsOpen p (layout p (tree m.now id.number) (view value.now)) }
+{
+    match value_end(m, id, value, 0) {
+        Some(end) => octet_count(end) <= OPEN_LIMIT,
         None => unreachable!(),
     }
 }

@@ -7,7 +7,7 @@ use Rattle.aper_defs.specs.Membership.{Has}
 use Rattle.aper_types.specs.Types.{tree}
 use Rattle.json_defs.specs.declared.fault.JsonFault.TheVariants as faults
 use Rattle.json_type_defs.specs.Types.{named}
-use Rattle.json_proof_types.proofs.Forgotten.{forgotten}
+use Rattle.json_proof_modules.proofs.Forgotten.{forgotten}
 use Rattle.values_json.specs.declared.error.JsonError.{JsonError}
 use Rattle.values_json.specs.declared.error.JsonError.TheVariants as errors
 use Rattle.values_json.specs.Texts.{IsNoJson, IsTextOf, HasFault, OnNotJson, OnFault}

@@ -12,8 +12,7 @@ use Rattle.asn1_assignments.specs.declared.assignment.IeRow.{IeRow}
 use Rattle.asn1_assignments.specs.declared.assignment.ProcedureRow.{ProcedureRow}
 use Rattle.aper_defs.specs.Values as seen
 use Rattle.aper_values.specs.declared.value.Value.{Value}
-use Rattle.aper_values.specs.declared.value.Element.{Element}
-use Rattle.aper_values.specs.Views.{view, values_view, options_view, ies_view}
+use Rattle.aper_values.specs.Views.{view, options_view}
 use Rattle.aper_members.specs.Rows.{part_type, row_type, outcome_type, message_type}
 use Rattle.json_defs.specs.Named.{Named, NamedParts, NamedRows, NamedProcedures, sequence, sequence_of, container, pdu}
 use Rattle.json_defs.specs.Members.{dots, code_key, outcomes}

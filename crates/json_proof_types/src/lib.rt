@@ -1,3 +1,2 @@
-//! Steps of the laws of JSON: a type of a module with its names is what its definition says, and without them it is the tree that an
-//! encoding depends on.
+//! A step of the laws of JSON: a type of a module with its names is what its definition says.
 #![tactic(auto)]

@@ -15,8 +15,8 @@ use Rattle.json_shown_defs.specs.Printed.{shown_as}
 use Rattle.json_type_defs.specs.Types.{named}
 use Rattle.law_json_shown.proofs.Law.{printed_is, read_again}
 use Rattle.law_json_trees.proofs.Depth.{never_too_deep, printed_depth}
-use Rattle.json_proof_types.proofs.Forgotten.{forgotten}
-use Rattle.law_json_types.proofs.Bounded.{bounded}
+use Rattle.json_proof_modules.proofs.Forgotten.{forgotten}
+use Rattle.json_proof_modules.proofs.Bounded.{bounded}
 use Rattle.law_json_modules.proofs.Apart.{apart}
 use Rattle.law_json_modules.proofs.Nesting.{low}
 

@@ -8,7 +8,7 @@ use Rattle.json_defs.specs.Bounds.{IsBounded}
 use Rattle.json_defs.specs.Json.{Json}
 use Rattle.json_defs.specs.Readings.{value_of}
 use Rattle.json_defs.specs.Demands.{demands, first_fault}
-use Rattle.law_json.proofs.Law.{exact}
+use Rattle.json_proof_lawful.proofs.Law.{exact}
 use Rattle.json_shown_defs.specs.Names.{IsApart, ArePartsApart, AreRowsApart, AreProceduresApart, IsOutcomeApart}
 use Rattle.json_shown_defs.specs.Printed.{shown_as}
 use Rattle.law_json_shown.proofs.Words.{IsSound, boolean_read, integer_read, enumerated_read, bits_shown, octets_shown, text_shown}

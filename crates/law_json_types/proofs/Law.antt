@@ -12,9 +12,9 @@ use Rattle.json_defs.specs.Json.{Json}
 use Rattle.json_defs.specs.Readings.{value_of}
 use Rattle.json_defs.specs.Demands.{demands, first_fault}
 use Rattle.json_type_defs.specs.Types.{named}
-use Rattle.law_json.proofs.Law.{exact, value_or_fault}
-use Rattle.json_proof_types.proofs.Forgotten.{forgotten}
-use Rattle.law_json_types.proofs.Bounded.{bounded}
+use Rattle.json_proof_lawful.proofs.Law.{exact, value_or_fault}
+use Rattle.json_proof_modules.proofs.Forgotten.{forgotten}
+use Rattle.json_proof_modules.proofs.Bounded.{bounded}
 
 pub value_of_tree : (m : Syntax) (id : ℕ) (d : Data) (v : Value) → Json (named m id) d v → Has [] (tree m id) v
 value_of_tree m id d v h = subst (λ t. Has [] t v) (forgotten m id) h.1

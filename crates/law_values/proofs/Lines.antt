@@ -21,8 +21,8 @@ use Rattle.json_defs.specs.Readings.{value_of}
 use Rattle.json_defs.specs.Demands.{demands, first_fault}
 use Rattle.json_shown_defs.specs.Printed.{shown_as}
 use Rattle.json_type_defs.specs.Types.{named}
-use Rattle.law_json.proofs.Law.{exact, not_both}
-use Rattle.law_json_types.proofs.Bounded.{bounded}
+use Rattle.json_proof_lawful.proofs.Law.{exact, not_both}
+use Rattle.json_proof_modules.proofs.Bounded.{bounded}
 use Rattle.values_json.specs.Texts.{IsJson, IsTextOf}
 use Rattle.command_values.specs.declared.way.Way.{Way}
 use Rattle.command_values.specs.declared.way.Way.TheVariants.{Encode, Decode}

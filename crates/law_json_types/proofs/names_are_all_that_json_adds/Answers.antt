@@ -1,4 +1,4 @@
-use Rattle.json_proof_types.proofs.Forgotten.{forgotten}
+use Rattle.json_proof_modules.proofs.Forgotten.{forgotten}
 use Rattle.law_json_types.proofs.Law.{value_of_tree}
 use Rattle.law_json_types.proofs.names_are_all_that_json_adds.Goals as goal
 

@@ -1,4 +1,4 @@
-use Rattle.std.proofs.Common.{◌≡◌, List, ℕ, Vec, Global, ap, sym, ◌∙◌}
+use Rattle.std.proofs.Common.{ℕ, Vec, Global, ap, ◌∙◌}
 use Rattle.serde_json.specs.Written.{compact_text, has_float}
 use Rattle.aper_values.specs.Views.{view}
 use Rattle.json_type_defs.specs.Types.{named}

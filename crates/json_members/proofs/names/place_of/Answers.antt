@@ -1,4 +1,4 @@
-use Rattle.std.proofs.Common.{◌≡◌, List, length, Option, Some, None, refl, sym, ap, ◌∙◌}
+use Rattle.std.proofs.Common.{List, length, refl, sym, ap, ◌∙◌}
 use Rattle.asn1_types.specs.Members.{additions_of}
 use Rattle.json_defs.specs.Members.{Text, place_in}
 use Rattle.json_members.proofs.Places.{in_root, in_additions, in_neither}

@@ -1,8 +1,8 @@
-use Rattle.std.proofs.Common.{rules, ◌≡◌, ℕ, ◌+◌, ◌-◌, ◌<◌, ◌≤◌, length, get_or, List, [], ◌∷◌, ◌++◌, Option, Some, None, is_some, Bool, true, refl, sym, ap, subst, ◌∙◌, arith}
+use Rattle.std.proofs.Common.{rules, ◌≡◌, ℕ, ◌+◌, ◌-◌, ◌<◌, ◌≤◌, length, get_or, List, Option, Some, None, is_some, Bool, true, sym, ap, subst, ◌∙◌, arith}
 use Rattle.std.specs.Prelude.{nat_lt}
-use Rattle.serde_json.specs.Data.{Data, Items, array, object, put}
+use Rattle.serde_json.specs.Data.{Data, array, object, put}
 use Rattle.serde_json.specs.declared.value.Value as trees
-use Rattle.serde_json.specs.View.{view as json, items_view, members_view}
+use Rattle.serde_json.specs.View.{view as json, members_view}
 use Rattle.serde_json.proofs.Views.{view-Array, view-Object}
 use Rattle.asn1_types.specs.declared.definition.TypeId.{TypeId}
 use Rattle.asn1_types.specs.declared.definition.Component.{Component}
@@ -15,7 +15,7 @@ use Rattle.aper_defs.specs.Values.{Value as SeenValue, components, chosen, list,
 use Rattle.aper_values.specs.declared.value.Value.{Value, the_lemmas}
 use Rattle.aper_values.specs.declared.value.Element.{Element}
 use Rattle.aper_values.specs.Views.{view, values_view, options_view, ies_view}
-use Rattle.aper_members.specs.Rows.{part_type, row_type, message_type}
+use Rattle.aper_members.specs.Rows.{part_type}
 use Rattle.aper_members.specs.aper_types.Types.{is_extensible, tree}
 use Rattle.aper_members.proofs.Members.{part_below}
 use Rattle.aper_members.proofs.Turns.{below_at}
@@ -23,7 +23,7 @@ use Rattle.aper_members.proofs.MessageLemmas.{messages_below}
 use Rattle.aper_members.proofs.RowLemmas.{body_below}
 use Rattle.json_defs.specs.Named.{Named, NamedParts, choice}
 use Rattle.json_defs.specs.Members.{dots, code_key, outcomes}
-use Rattle.json_shown_defs.specs.Printed.{shown_as, items_shown, elements_shown, components_shown, added_shown, row_shown, contents_shown, one_member, past_shown, body_shown, name_at}
+use Rattle.json_shown_defs.specs.Printed.{shown_as, items_shown, elements_shown, components_shown, added_shown, row_shown, contents_shown, one_member, body_shown, name_at}
 use Rattle.json_type_defs.specs.Types.{named, parts_with, rows_with, procedures_with}
 use Rattle.json_proof_values.proofs.Words.{is_less}
 use Rattle.json_pieces.specs.Bodies.{contents_as}

@@ -15,7 +15,7 @@ use Rattle.json_proof_values.proofs.Holding.{Holds, IsOutcomeLawful, AreProcedur
 use Rattle.json_proof_values.proofs.Words.{found, missed}
 use Rattle.json_proof_choices.proofs.Places.{one}
 use Rattle.json_proof_choices.proofs.Bodies.{raw_member_one, raw_member_forth, raw_member_back, known_one, known_forth, known_back}
-use Rattle.law_json.proofs.Lists.{one_by, forth_by, back_by}
+use Rattle.json_proof_lawful.proofs.Lists.{one_by, forth_by, back_by}
 
 -- ---- what a message holds
 pub outcome_one : (o : NamedOutcome) → IsOutcomeLawful o → (ms : Members) (v : Value) → ShowsOutcome o ms v → v ≡ told_in o ms

@@ -14,7 +14,7 @@ use Rattle.json_defs.specs.Demands.{Demand, known_member, each_demand, is_within
 use Rattle.json_proof_values.proofs.Holding.{Holds, Lawful, AreRowsLawful, apart, both_true, first_true, second_true, front_holds, rest_holds, both_hold}
 use Rattle.json_proof_values.proofs.Words.{below, is_less, same, is_same, within, is_within_of}
 use Rattle.json_proof_choices.proofs.Bodies.{HasKnown, HasFitting, natural_told, natural_read, criticality_read, criticality_told, criticality_there, raw_member_forth, raw_member_back, known_forth, known_back}
-use Rattle.law_json.proofs.Lists.{row_one, forth_by, back_by}
+use Rattle.json_proof_lawful.proofs.Lists.{row_one, forth_by, back_by}
 
 row_forth : (p : Path) (rows : NamedRows) → AreRowsLawful rows → (id : ℕ) (ms : Members)
     → Holds (row_demands (ways.element id ∷ p) rows id ms)
@@ -48,10 +48,10 @@ by_next : (b : Bool) (x : Bool) (n : ℕ) → Either b ((x ≡ true) × (n ≡ 0
 by_next true x n h = both_true x (n == 0) h.0 (is_same n 0 h.1)
 by_next false x n h = refl
 
-next_is : (known left : List Slot) (id : ℕ) → is_next known left id ≡ true → IsInOrder known left id
+pub next_is : (known left : List Slot) (id : ℕ) → is_next known left id ≡ true → IsInOrder known left id
 next_is known left id h = next_by (has_slot id known) (has_slot id left) (mandatory_count (slots_before id left)) h
 
-is_next_of : (known left : List Slot) (id : ℕ) → IsInOrder known left id → is_next known left id ≡ true
+pub is_next_of : (known left : List Slot) (id : ℕ) → IsInOrder known left id → is_next known left id ≡ true
 is_next_of known left id h = by_next (has_slot id known) (has_slot id left) (mandatory_count (slots_before id left)) h
 
 module _ (rows : NamedRows) (l : AreRowsLawful rows) where

@@ -16,7 +16,7 @@ use Rattle.json_proof_values.proofs.Words.{is_less, is_not_less, not_below, same
 use Rattle.json_proof_choices.proofs.Places.{one}
 use Rattle.json_proof_choices.proofs.Choices.{dots_member, dots_is, has_dots}
 use Rattle.json_proof_choices.proofs.Bodies.{natural_told, natural_read, criticality_read, criticality_told, criticality_there}
-use Rattle.law_json.proofs.Messages.{body_one, body_forth, body_back, outcome_found, outcome_missed, dots_no_outcome}
+use Rattle.json_proof_lawful.proofs.Messages.{body_one, body_forth, body_back, outcome_found, outcome_missed, dots_no_outcome}
 
 within_there : (most : ℕ) (o : Option ℤ) → is_within most o ≡ true → is_some o ≡ true
 within_there most None h = absurd (apart h)

@@ -14,9 +14,9 @@ use Rattle.json_proof_values.proofs.Holding.{none_fails, all_hold, Lawful, AreLa
 use Rattle.json_proof_values.proofs.Simple.{boolean_lawful, integer_lawful, enumerated_lawful, bits_lawful, octets_lawful, text_lawful}
 use Rattle.json_proof_values.proofs.Sequences.{sequence_lawful}
 use Rattle.json_proof_choices.proofs.Choices.{choice_lawful}
-use Rattle.law_json.proofs.Lists.{list_lawful}
-use Rattle.law_json.proofs.Containers.{container_lawful}
-use Rattle.law_json.proofs.Pdus.{pdu_lawful}
+use Rattle.json_proof_lawful.proofs.Lists.{list_lawful}
+use Rattle.json_proof_lawful.proofs.Containers.{container_lawful}
+use Rattle.json_proof_lawful.proofs.Pdus.{pdu_lawful}
 
 mutual
   unfolding IsBounded ArePartsBounded AreRowsBounded AreProceduresBounded IsOutcomeBounded

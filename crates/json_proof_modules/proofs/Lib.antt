@@ -1,0 +1,3 @@
+pub mod Forgotten
+pub mod Bounded
+pub mod Members
