@@ -112,7 +112,8 @@ fn refused_json(alloc: Global, error: JsonError) -> Unanswered
 
 /// The digits of octets.
 fn digits(alloc: Global, octets: &[u8]) -> Result<Octets, Memory>
-    ensures { IfOk result (λ text. All (λ o. o < 256) octets.now × (text ≡ hex_of octets.now)) }
+    ensures { IfOk result
+        (λ text. All (λ o. o < 256) octets.now × (text ≡ hex_of octets.now)) }
 {
     hex_text(alloc, octets)
 }

@@ -95,7 +95,8 @@ fn run<S: Source, K: Sink>(
     input: &mut S,
     output: &mut K,
 ) -> ValuesEnd
-    ensures { RunsTo (job_of words.entry.way words.entry.name.now) (outside (S.at input.old) (K.at output.old))
+    ensures { RunsTo (job_of words.entry.way words.entry.name.now)
+        (outside (S.at input.old) (K.at output.old))
         (outside (S.at input.new) (K.at output.new)) result }
 {
     let Ok(mut reader) = LineReader::new(alloc) else {
@@ -151,7 +152,8 @@ pub fn run_values<S: Source, K: Sink>(
 
     // Each line of a whole input is answered, where its bytes are reported and no call fails, unless
     // memory runs out.
-    ensures complete { AnswersWholly (job_of way name.now) (outside (S.at input.old) (K.at output.old))
+    ensures complete { AnswersWholly (job_of way name.now)
+        (outside (S.at input.old) (K.at output.old))
         (outside (S.at input.new) (K.at output.new)) (values_status result) }
 {
     let end = run(alloc, Words { way, name }, input, output);

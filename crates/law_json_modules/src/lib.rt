@@ -26,7 +26,8 @@ pub fn names_of_a_module_can_be_told_apart()
 /// Types of a module nest at most sixty levels, so that what is printed of a value nests no deeper than JSON that is read.
 pub fn types_of_a_module_nest_sixty_levels()
     ensures levels { (m : Syntax) (id : ℕ) → IsModule m → levels (named m id) ≤ 60 }
-    ensures depth { (m : Syntax) (id : ℕ) (v : Value) → IsModule m → depth (shown_as (named m id) v) ≤ 121 }
+    ensures depth { (m : Syntax) (id : ℕ) (v : Value) → IsModule m
+        → depth (shown_as (named m id) v) ≤ 121 }
     ensures read { (m : Syntax) (id : ℕ) (v : Value) → IsModule m
         → depth (shown_as (named m id) v) ≤ max_depth }
 {}

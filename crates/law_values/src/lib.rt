@@ -16,6 +16,6 @@ pub fn a_line_has_one_answer()
 
 /// A line that has an answer is not refused, so that a whole input is one whose lines all have answers.
 pub fn a_line_with_an_answer_is_not_refused()
-    ensures { (way : Way) (m : Syntax) (id : ℕ) (line text : List ℕ) (wrong : Wrong) → IsModule m
-        → IsAnswered way m id line text → IsWrong way m id line wrong → ⊥ }
+    ensures { (way : Way) (m : Syntax) (id : ℕ) (line text : List ℕ) (wrong : Wrong)
+        → IsModule m → IsAnswered way m id line text → IsWrong way m id line wrong → ⊥ }
 {}
