@@ -1,6 +1,7 @@
 #!/usr/bin/env python3
 """Runs each example, and compares what the program prints with the transcript beside it (`NAME.script`, `NAME.check`, `NAME.um`,
-`NAME.dup` or `NAME.words`, and `NAME.out`). A script is the input of `run`, a check that of `check`; words are those of a call that reads nothing.
+`NAME.dup`, `NAME.TYPE.encode`, `NAME.TYPE.decode` or `NAME.words`, and `NAME.out`). A script is the input of `run`, a check that of `check`; words are
+those of a call that reads nothing. Values of a type are the input of `encode TYPE` or `decode TYPE`.
 A script of `um` or of `duplicate` has the words of its call in its first line, after `; gnb`.
 
 The last line of a transcript has the status: it is `stop STATUS ..`, or the status is 0. Standard error has one line that begins with `gnb: `
@@ -16,6 +17,7 @@ import sys
 TOP = pathlib.Path(__file__).resolve().parents[1]
 WORDS = {".script": "run", ".check": "check"}
 WITH_WORDS = (".um", ".dup")
+OF_TYPES = (".encode", ".decode")
 
 
 def status_of(transcript):
@@ -24,7 +26,7 @@ def status_of(transcript):
 
 
 def is_input(path):
-    return path.suffix in (*WORDS, *WITH_WORDS)
+    return path.suffix in (*WORDS, *WITH_WORDS, *OF_TYPES)
 
 
 def call_of(path):
@@ -34,6 +36,8 @@ def call_of(path):
     given = path.read_bytes()
     if path.suffix in WITH_WORDS:
         return given.decode().splitlines()[0].removeprefix("; gnb ").split(), given
+    if path.suffix in OF_TYPES:
+        return [path.suffix[1:], path.stem.rsplit(".", 1)[1]], given
     return [WORDS[path.suffix]], given
 
 

@@ -63,7 +63,7 @@ module _ (P Q : ℕ → Type 0) (more : (n : ℕ) → P n → Q n) where
 
 -- ---- steps from a name to the types in its assignment
 
-range_has : (from start count to : ℕ) → start ≤ to → to < start + count → IsAmong (edge from to) (range_edges from start count)
+pub range_has : (from start count to : ℕ) → start ≤ to → to < start + count → IsAmong (edge from to) (range_edges from start count)
 unfolding range_edges
 range_has from start zero to least most = absurd (omega arith)
 range_has from start (suc count) to least most = elim (cases_lt start to) [
@@ -152,7 +152,7 @@ type_step m id to lt inner h = record {
   to = inner;
 }
 
-name_step : (m : Syntax) (k to : ℕ) → k < length m.assignments → to < length m.nodes
+pub name_step : (m : Syntax) (k to : ℕ) → k < length m.assignments → to < length m.nodes
     → IsAmong (edge (length m.nodes + k) to) (parts_edges (length m.nodes) 0 m.assignments)
     → IsStep (vertex_count m) (edges_of m) (length m.nodes + k) to
 unfolding edges_of
@@ -164,30 +164,31 @@ name_step m k to lt inner h = record {
   to = omega arith;
 }
 
--- ---- ranks fall
+-- ---- what a type leads to, by a step from it, or by a step to a name and one from there
 
-falls_by : (m : Syntax) (a b : ℕ) → IsModule m → IsStep (vertex_count m) (edges_of m) a b → rank m b < rank m a
-falls_by m a b is step = rank_falls m a b step (finite m b is)
+-- a type of the module, of which this holds
+abbrev pub Among : Syntax → (ℕ → Type 0) → ℕ → Type 0
+Among m Q n = (n < length m.nodes) × Q n
 
-members_fall : (m : Syntax) (id : ℕ) (cs : List Component) → IsModule m → id < length m.nodes → AreBelow id cs
-    → ((n : ℕ) → n < length m.nodes → IsAmong (edge id n) (member_edges id cs) → rank m n < rank m id) → EachPart (Lesser m (rank m) id) cs
+members_each : (m : Syntax) (Q : ℕ → Type 0) (id : ℕ) (cs : List Component) → id < length m.nodes → AreBelow id cs
+    → ((n : ℕ) → n < length m.nodes → IsAmong (edge id n) (member_edges id cs) → Q n) → EachPart (Among m Q) cs
 unfolding member_edges
-members_fall m id [] is lt below step = tt
-members_fall m id (c ∷ cs) is lt below step = (
+members_each m Q id [] lt below step = tt
+members_each m Q id (c ∷ cs) lt below step = (
   (omega (arith, below.0), step c.definition.number (omega (arith, below.0)) (inl refl)),
-  members_fall m id cs is lt below.1 (λ n inner among. step n inner (inr among)),
+  members_each m Q id cs lt below.1 (λ n inner among. step n inner (inr among)),
 )
 
-all_members_fall : (m : Syntax) (id : ℕ) (cs ds : List Component) → IsModule m → id < length m.nodes → AreBelow id cs → AreBelow id ds
-    → ((n : ℕ) → n < length m.nodes → IsAmong (edge id n) (member_edges id cs ++ member_edges id ds) → rank m n < rank m id) → EachPart
-    (Lesser m (rank m) id) cs × EachPart (Lesser m (rank m) id) ds
-all_members_fall m id cs ds is lt below added step = (
-  members_fall m id cs is lt below (λ n inner among. step n inner (among_left (edge id n) (member_edges id cs) (member_edges id ds) among)),
-  members_fall m id ds is lt added
+all_members_each : (m : Syntax) (Q : ℕ → Type 0) (id : ℕ) (cs ds : List Component) → id < length m.nodes → AreBelow id cs → AreBelow id ds
+    → ((n : ℕ) → n < length m.nodes → IsAmong (edge id n) (member_edges id cs ++ member_edges id ds) → Q n)
+    → EachPart (Among m Q) cs × EachPart (Among m Q) ds
+all_members_each m Q id cs ds lt below added step = (
+  members_each m Q id cs lt below (λ n inner among. step n inner (among_left (edge id n) (member_edges id cs) (member_edges id ds) among)),
+  members_each m Q id ds lt added
       (λ n inner among. step n inner (among_right (edge id n) (member_edges id cs) (member_edges id ds) among)),
 )
 
--- what stands at a number is of lesser rank than a type that refers to it
+-- what stands at a number
 bodies_at : (n : ℕ) (names : List Assignment) (k : ℕ) (a : Assignment) → slice_get names k ≡ Some a → BodiesBelow n names
     → BodyBelow n a.body
 bodies_at n [] k a there ok = cc
@@ -197,7 +198,10 @@ bodies_at n (b ∷ names) zero a there ok = subst (λ (x : Assignment). BodyBelo
     same e = cc
 bodies_at n (b ∷ names) (suc k) a there ok = bodies_at n names k a there ok.1
 
-module _ (m : Syntax) (is : IsModule m) (id : ℕ) (lt : id < length m.nodes) where
+-- It holds of what a type leads to, where it goes on from a name to the types in its assignment.
+module _ (m : Syntax) (is : IsModule m) (Q : ℕ → Type 0)
+    (on : (k n : ℕ) → Q (length m.nodes + k) → IsStep (vertex_count m) (edges_of m) (length m.nodes + k) n → Q n)
+    (id : ℕ) (lt : id < length m.nodes) where
   both_of : (P Q : ℕ → Type 0) (body : Body) → EachOfBody P body → EachOfBody Q body → EachOfBody (λ n. P n × Q n) body
   both_of P Q (bodies.Type d) p q = (p, q)
   both_of P Q (bodies.IeSet rows) p q = ies rows p q
@@ -234,75 +238,72 @@ module _ (m : Syntax) (is : IsModule m) (id : ℕ) (lt : id < length m.nodes) wh
       procedures (row ∷ rows) ok = ((ok.0.0, option row.successful ok.0.1.0, option row.unsuccessful ok.0.1.1), procedures rows ok.1)
 
   -- what the name with this number stands for
-  body_falls : (k : ℕ) (a : Assignment) → slice_get m.assignments k ≡ Some a → rank m (length m.nodes + k) < rank m id
-      → EachOfBody (Lesser m (rank m) id) a.body
-  body_falls k a there less =
+  body_each : (k : ℕ) (a : Assignment) → slice_get m.assignments k ≡ Some a → Q (length m.nodes + k) → EachOfBody (Among m Q) a.body
+  body_each k a there at =
       let inner : k < length m.assignments = slice_get_within m.assignments k a there in
       body_more (λ n. (n < length m.nodes) × IsAmong (edge (length m.nodes + k) n) (parts_edges (length m.nodes) 0 m.assignments))
-      (Lesser m (rank m) id)
-      (λ n both. (both.0, omega (arith, falls_by m (length m.nodes + k) n is (name_step m k n inner both.0 both.1), less)))
+      (Among m Q)
+      (λ n both. (both.0, on k n at (name_step m k n inner both.0 both.1)))
       a.body
       (both_of (λ n. n < length m.nodes) (λ n. IsAmong (edge (length m.nodes + k) n) (parts_edges (length m.nodes) 0 m.assignments)) a.body
       (below_of (length m.nodes) a.body (bodies_at (length m.nodes) m.assignments k a there is.linked.assignments))
       (body_steps (length m.nodes) 0 m.assignments k a there is.linked.parts))
 
   -- what the name in a type stands for
-  named_falls : (name : List ℕ) (Q : Option Body → Type 0) → ((body : Body) → EachOfBody (Lesser m (rank m) id) body → Q (Some body))
-      → Q None
-      →
-      ((n : ℕ) → n < vertex_count m → IsAmong (edge id n)
-      (numbered_edges (length m.nodes) id (number_of name m.assignments)) → rank m n < rank m id)
-      → Q (body_at m.assignments (number_of name m.assignments))
-  named_falls name Q some none step = go (number_of name m.assignments) step
+  named_each : (name : List ℕ) (R : Option Body → Type 0) → ((body : Body) → EachOfBody (Among m Q) body → R (Some body))
+      → R None
+      → ((n : ℕ) → n < vertex_count m → IsAmong (edge id n) (numbered_edges (length m.nodes) id (number_of name m.assignments)) → Q n)
+      → R (body_at m.assignments (number_of name m.assignments))
+  named_each name R some none step = go (number_of name m.assignments) step
     where
       at : (k : ℕ) (o : Option Assignment) → slice_get m.assignments k ≡ o
-          → ((n : ℕ) → n < vertex_count m → IsAmong (edge id n) (numbered_edges (length m.nodes) id (Some k)) → rank m n < rank m id)
-          → Q (option_map (λ (a : Assignment). a.body) o)
+          → ((n : ℕ) → n < vertex_count m → IsAmong (edge id n) (numbered_edges (length m.nodes) id (Some k)) → Q n)
+          → R (option_map (λ (a : Assignment). a.body) o)
       at k None there step = none
       at k (Some a) there step =
           let inner : k < length m.assignments = slice_get_within m.assignments k a there in
-          some a.body (body_falls k a there (step (length m.nodes + k) (omega arith) (inl refl)))
+          some a.body (body_each k a there (step (length m.nodes + k) (omega arith) (inl refl)))
 
       go : (o : Option ℕ)
-          → ((n : ℕ) → n < vertex_count m → IsAmong (edge id n) (numbered_edges (length m.nodes) id o) → rank m n < rank m id)
-          → Q (body_at m.assignments o)
+          → ((n : ℕ) → n < vertex_count m → IsAmong (edge id n) (numbered_edges (length m.nodes) id o) → Q n)
+          → R (body_at m.assignments o)
       go None step = none
       go (Some k) step = at k (slice_get m.assignments k) refl step
 
   each_by : (d : Definition) → IsInside id d
-      → ((n : ℕ) → n < vertex_count m → IsAmong (edge id n) (node_edges (length m.nodes) m.assignments id d) → rank m n < rank m id)
-      → EachOf (Lesser m (rank m) id) m.assignments d
+      → ((n : ℕ) → n < vertex_count m → IsAmong (edge id n) (node_edges (length m.nodes) m.assignments id d) → Q n)
+      → EachOf (Among m Q) m.assignments d
   unfolding node_edges
   each_by (types.Sequence members) inside step =
-      all_members_fall m id members.root (additions_of members.additions) is lt inside.0 inside.1
+      all_members_each m Q id members.root (additions_of members.additions) lt inside.0 inside.1
       (λ n inner among. step n (omega arith) among)
   each_by (types.Choice members) inside step =
-      all_members_fall m id members.root (additions_of members.additions) is lt inside.0 inside.1
+      all_members_each m Q id members.root (additions_of members.additions) lt inside.0 inside.1
       (λ n inner among. step n (omega arith) among)
   each_by (types.SequenceOf size element) inside step = (omega (arith, inside), step element.number (omega (arith, inside)) (inl refl))
   each_by (types.Reference name) inside step =
-      subst (OfOption (Lesser m (rank m) id)) (sym (type_numbered name m.assignments))
-      (named_falls name (λ o. OfOption (Lesser m (rank m) id) (found_in type_of o)) type_is tt step)
+      subst (OfOption (Among m Q)) (sym (type_numbered name m.assignments))
+      (named_each name (λ o. OfOption (Among m Q) (found_in type_of o)) type_is tt step)
     where
-      type_is : (body : Body) → EachOfBody (Lesser m (rank m) id) body → OfOption (Lesser m (rank m) id) (type_of body)
+      type_is : (body : Body) → EachOfBody (Among m Q) body → OfOption (Among m Q) (type_of body)
       type_is (bodies.Type d) h = h
       type_is (bodies.IeSet rows) h = tt
       type_is (bodies.ProcedureSet rows) h = tt
   each_by (types.IeContainer set) inside step =
-      subst (λ (o : Option (List IeRow)). EachIe (Lesser m (rank m) id) (all_of o)) (sym (ies_numbered set m.assignments))
-      (named_falls set (λ o. EachIe (Lesser m (rank m) id) (all_of (found_in ie_rows_of o))) rows_are tt step)
+      subst (λ (o : Option (List IeRow)). EachIe (Among m Q) (all_of o)) (sym (ies_numbered set m.assignments))
+      (named_each set (λ o. EachIe (Among m Q) (all_of (found_in ie_rows_of o))) rows_are tt step)
     where
-      rows_are : (body : Body) → EachOfBody (Lesser m (rank m) id) body → EachIe (Lesser m (rank m) id) (all_of (ie_rows_of body))
+      rows_are : (body : Body) → EachOfBody (Among m Q) body → EachIe (Among m Q) (all_of (ie_rows_of body))
       rows_are (bodies.Type d) h = tt
       rows_are (bodies.IeSet rows) h = h
       rows_are (bodies.ProcedureSet rows) h = tt
   each_by (types.Pdu set) inside step =
-      subst (λ (o : Option (List ProcedureRow)). EachProcedure (Lesser m (rank m) id) (all_of o))
+      subst (λ (o : Option (List ProcedureRow)). EachProcedure (Among m Q) (all_of o))
       (sym (procedures_numbered set m.assignments))
-      (named_falls set (λ o. EachProcedure (Lesser m (rank m) id) (all_of (found_in procedure_rows_of o))) rows_are tt step)
+      (named_each set (λ o. EachProcedure (Among m Q) (all_of (found_in procedure_rows_of o))) rows_are tt step)
     where
-      rows_are : (body : Body) → EachOfBody (Lesser m (rank m) id) body
-          → EachProcedure (Lesser m (rank m) id) (all_of (procedure_rows_of body))
+      rows_are : (body : Body) → EachOfBody (Among m Q) body
+          → EachProcedure (Among m Q) (all_of (procedure_rows_of body))
       rows_are (bodies.Type d) h = tt
       rows_are (bodies.IeSet rows) h = tt
       rows_are (bodies.ProcedureSet rows) h = h
@@ -313,12 +314,13 @@ module _ (m : Syntax) (is : IsModule m) (id : ℕ) (lt : id < length m.nodes) wh
   each_by (types.OctetString size) inside step = tt
   each_by (types.PrintableString size) inside step = tt
 
-  -- the types inside a type, that of its name and those in its set have lesser ranks
-  pub ranks_fall : EachOf (Lesser m (rank m) id) m.assignments (definition_at m id)
-  ranks_fall =
+  -- the types inside a type, that of its name and those in its set
+  pub each_reached : ((n : ℕ) → IsStep (vertex_count m) (edges_of m) id n → Q n)
+      → EachOf (Among m Q) m.assignments (definition_at m id)
+  each_reached step =
       each_by (definition_at m id)
       (subst (λ (k : ℕ). IsInside k (definition_at m id)) (omega arith) (inside_of m.nodes id 0 lt is.linked.types))
-      (λ n inner among. falls_by m id n is (type_step m id n lt inner among))
+      (λ n inner among. step n (type_step m id n lt inner among))
     where
       inside_of : (nodes : List Node) (i n : ℕ) → i < length nodes → AreOrdered n nodes
           → IsInside (n + i) (definition_of (slice_get nodes i))
@@ -326,6 +328,18 @@ module _ (m : Syntax) (is : IsModule m) (id : ℕ) (lt : id < length m.nodes) wh
       inside_of (node ∷ nodes) zero n lt ok = subst (λ (k : ℕ). IsInside k node.definition) (omega arith) ok.0
       inside_of (node ∷ nodes) (suc i) n lt ok =
           subst (λ (k : ℕ). IsInside k (definition_of (slice_get nodes i))) (omega arith) (inside_of nodes i (suc n) (omega arith) ok.1)
+
+-- ---- ranks fall
+
+falls_by : (m : Syntax) (a b : ℕ) → IsModule m → IsStep (vertex_count m) (edges_of m) a b → rank m b < rank m a
+falls_by m a b is step = rank_falls m a b step (finite m b is)
+
+-- what a type leads to has lesser ranks
+pub ranks_fall : (m : Syntax) → IsModule m → (id : ℕ) → id < length m.nodes → EachOf (Lesser m (rank m) id) m.assignments (definition_at m id)
+ranks_fall m is id lt =
+    each_reached m is (λ n. rank m n < rank m id)
+    (λ k n less step. omega (arith, less, falls_by m (length m.nodes + k) n is step))
+    id lt (λ n step. falls_by m id n is step)
 
 pub is_rank : (m : Syntax) → IsModule m → IsRank m (rank m)
 is_rank m is = record { most = rank_most m; falls = ranks_fall m is }

@@ -1,5 +1,5 @@
 -- What each word promises, joined to what the program does.
-use Rattle.std.proofs.Common.{◌≡◌, ◌⊎◌, ℕ, [], ◌∷◌, refl, sym, ap, ◌∙◌, subst, inl, inr, arith, Err}
+use Rattle.std.proofs.Common.{◌≡◌, ◌⊎◌, ℕ, List, [], ◌∷◌, refl, sym, ap, ◌∙◌, subst, inl, inr, arith, Err}
 use Rattle.gnb_base.specs.Outside.{SourceAt, SinkAt, Rose}
 use Rattle.input_lines.proofs.Sources.{none_failed as no_read_failed}
 use Rattle.scenario_text.specs.declared.line.OutLine.{OutLine}
@@ -33,8 +33,13 @@ use Rattle.command_dup.specs.declared.end.ScriptEnd.{ScriptEnd as DupScriptEnd}
 use Rattle.command_dup.specs.Ends.{script_status as dup_script_status, StopsAtEvent as StopsAtDupEvent}
 use Rattle.command_dup.specs.Run.{DupMeets}
 use Rattle.command_dup.specs.Whole.{RunsWholly as RunsWhollyDup}
-use Rattle.scenario_cli.specs.declared.top.Form.TheVariants.{Run, Check, Profile, Um, Dup, Other}
-use Rattle.scenario_cli.specs.Gnb.{FormMeets, WritesProfile}
+use Rattle.command_values.specs.declared.way.Way.{Way}
+use Rattle.command_values.specs.declared.end.ValuesEnd.{ValuesEnd}
+use Rattle.command_values.specs.Ends.{values_status, StopsAtValue}
+use Rattle.command_values.specs.Values.{Job, job_of, ValuesMeet}
+use Rattle.command_values.specs.Whole.{AnswersWholly}
+use Rattle.scenario_cli.specs.declared.top.Form.TheVariants.{Run, Check, Profile, Um, Dup, Values, Other}
+use Rattle.scenario_cli.specs.Gnb.{FormMeets, WritesProfile, ConvertsValues}
 use Rattle.scenario_cli.specs.inside.Timed.{IsTimed}
 
 -- ---- with words that are no form
@@ -86,6 +91,12 @@ usage_calls before after status u = record {
 }
 
 -- ---- all that is promised
+
+-- of values of a type
+pub record ValuesHold (job : Job) (before after : OutsideAt) (status : Status) : Type 0 where
+  pub meets : ConvertsValues job before after status
+  pub near : StopsAtValue before.source after.source status
+  pub wholly : AnswersWholly job before after status
 
 pub record Holds (form : Form) (before after : OutsideAt) (status : Status) : Type 0 where
   pub headline : FormMeets form before after status
@@ -296,6 +307,80 @@ pub runs_legs : {before after : OutsideAt} (form found : Form) (config : DupConf
     → Holds form before after status
 runs_legs {before = before} {after = after} form found config end status e f same meets near complete =
     holds_at form found (Dup config) status (dup_script_status end) e f same (dup_holds config before after end meets near complete)
+
+-- ---- with the words `encode` and `decode`
+
+values_hold : (job : Job) (before after : OutsideAt) (end : ValuesEnd) → ValuesMeet job before after end
+    → StopsAtValue before.source after.source (values_status end) → AnswersWholly job before after (values_status end)
+    → ValuesHold job before after (values_status end)
+values_hold job before after end meets near wholly =
+    record { meets = record { end = end; status_is = refl; meets = meets }; near = near; wholly = wholly }
+
+values_holds : (way : Way) (name : List ℕ) (before after : OutsideAt) (end : ValuesEnd) → ValuesMeet (job_of way name) before after end
+    → StopsAtValue before.source after.source (values_status end)
+    → Holds (Values way) before after (values_status end)
+values_holds way name before after end meets near = record {
+  headline = (name, record { end = end; status_is = refl; meets = meets });
+  read = read_rose meets.calls.reads;
+  write = write_rose meets.calls.writes;
+  calls = meets.calls;
+  near = λ bytes known (stop : (values_status end).code ≡ 4). near bytes known (inl stop);
+  complete = λ (e : Values way ≡ Run). absurd (cc);
+  bearer = λ config (e : Values way ≡ Um config). absurd (cc);
+  near_event = λ config (e : Values way ≡ Um config). absurd (cc);
+  legs = λ config (e : Values way ≡ Dup config). absurd (cc);
+  near_leg_event = λ config (e : Values way ≡ Dup config). absurd (cc);
+  checks = λ (e : Values way ≡ Check). absurd (cc);
+  writes = tt;
+}
+
+same_way : {way other : Way} → Values way ≡ Values other → way ≡ other
+same_way e = cc
+
+pub converts : {before after : OutsideAt} (form found : Form) (way : Way) (name : List ℕ) (end : ValuesEnd) (status : Status) → found ≡ form
+    → found ≡ Values way → status ≡ values_status end → ValuesMeet (job_of way name) before after end
+    → StopsAtValue before.source after.source (values_status end) → AnswersWholly (job_of way name) before after (values_status end)
+    → Holds form before after status
+converts {before = before} {after = after} form found way name end status e f same meets near wholly =
+    holds_at form found (Values way) status (values_status end) e f same (values_holds way name before after end meets near)
+
+-- what is promised of the type that was named, by the name that the code took
+pub named : {before after : OutsideAt} (form found : Form) (way : Way) (name taken : List ℕ) (end : ValuesEnd) (status : Status)
+    → taken ≡ name → found ≡ form
+    → found ≡ Values way → status ≡ values_status end → ValuesMeet (job_of way taken) before after end
+    → StopsAtValue before.source after.source (values_status end) → AnswersWholly (job_of way taken) before after (values_status end)
+    → (other : Way) → form ≡ Values other → ValuesHold (job_of other name) before after status
+named {before = before} {after = after} form found way name taken end status is e f same meets near wholly other g =
+    let ways : way ≡ other = same_way (sym f ∙ e ∙ g) in
+    subst (λ (w : Way). ValuesHold (job_of w name) before after status) ways
+    (subst (λ (n : List ℕ). ValuesHold (job_of way n) before after status) is
+    (subst (λ (s : Status). ValuesHold (job_of way taken) before after s) (sym same)
+    (values_hold (job_of way taken) before after end meets near wholly)))
+
+-- another form is none of these words
+abbrev pub IsNone : Form → Type 0
+IsNone form = (way : Way) → form ≡ Values way → ⊥
+
+pub not_values : (form found kind : Form) → found ≡ form → found ≡ kind → IsNone kind → IsNone form
+not_values form found kind e f other way g = other way (sym f ∙ e ∙ g)
+
+pub run_is_none : IsNone Run
+run_is_none way e = cc
+
+pub check_is_none : IsNone Check
+check_is_none way e = cc
+
+pub profile_is_none : (version : Version) → IsNone (Profile version)
+profile_is_none version way e = cc
+
+pub um_is_none : (config : UmConfig) → IsNone (Um config)
+um_is_none config way e = cc
+
+pub dup_is_none : (config : DupConfig) → IsNone (Dup config)
+dup_is_none config way e = cc
+
+pub other_is_none : IsNone Other
+other_is_none way e = cc
 
 -- the timer of the form that was found has ticks
 pub timed : (found : Form) (config : UmConfig) → found ≡ Um config → IsTimed found → IsTimed (Um config)

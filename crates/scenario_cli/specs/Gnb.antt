@@ -21,6 +21,10 @@ use Rattle.command_dup.specs.declared.config.DupConfig.{DupConfig}
 use Rattle.command_dup.specs.declared.end.ScriptEnd.{ScriptEnd as DupScriptEnd}
 use Rattle.command_dup.specs.Ends.{script_status as dup_script_status}
 use Rattle.command_dup.specs.Run.{DupMeets}
+use Rattle.command_values.specs.declared.way.Way.TheVariants.{Encode, Decode}
+use Rattle.command_values.specs.declared.end.ValuesEnd.{ValuesEnd}
+use Rattle.command_values.specs.Ends.{values_status}
+use Rattle.command_values.specs.Values.{Job, job_of, ValuesMeet}
 use Rattle.scenario_cli.specs.declared.top.Form.{Form}
 use Rattle.scenario_cli.specs.declared.top.Form.TheVariants as forms
 
@@ -49,11 +53,21 @@ dup_form_with None quota = forms.Other
 abbrev pub dup_form : List ℕ → List ℕ → Form
 dup_form bits quota = dup_form_with (sn_bits_of bits) (number_of 4 4096 quota)
 
--- the words of a form: one, `profile 2`, `um N T`, or `duplicate N Q`
+-- the word before the name of a type: `encode` or `decode`
+abbrev pub values_form : List ℕ → Form
+values_form word = if bytes_eq word (codes "encode") then forms.Values Encode else (if bytes_eq word (codes "decode") then forms.Values Decode else forms.Other)
+
+-- the name of the type
+abbrev pub type_of : List (List ℕ) → List ℕ
+type_of [] = []
+type_of (word ∷ []) = []
+type_of (word ∷ name ∷ words) = name
+
+-- the words of a form: one, `profile 2`, `encode TYPE`, `decode TYPE`, `um N T`, or `duplicate N Q`
 abbrev pub form_of : List (List ℕ) → Form
 form_of (word ∷ []) = form_of_one word
 form_of (word ∷ number ∷ []) =
-    if bytes_eq word (codes "profile") && bytes_eq number (codes "2") then forms.Profile Two else forms.Other
+    if bytes_eq word (codes "profile") && bytes_eq number (codes "2") then forms.Profile Two else values_form word
 form_of (word ∷ bits ∷ last ∷ []) =
     if bytes_eq word (codes "um") then um_form bits last else (if bytes_eq word (codes "duplicate") then dup_form bits last else forms.Other)
 form_of words = forms.Other
@@ -82,12 +96,19 @@ pub record RunsLegs (config : DupConfig) (before after : OutsideAt) (status : St
   pub status_is : status ≡ dup_script_status end
   pub meets : DupMeets config before after end
 
+-- with the word `encode` or `decode`
+pub record ConvertsValues (job : Job) (before after : OutsideAt) (status : Status) : Type 0 where
+  pub end : ValuesEnd
+  pub status_is : status ≡ values_status end
+  pub meets : ValuesMeet job before after end
+
 abbrev pub FormMeets : Form → OutsideAt → OutsideAt → Status → Type 0
 FormMeets forms.Run before after status = RunsScript before after status
 FormMeets forms.Check before after status = ChecksModule before after status
 FormMeets (forms.Profile version) before after status = ProfileMeets version before after status
 FormMeets (forms.Um config) before after status = RunsBearer config before after status
 FormMeets (forms.Dup config) before after status = RunsLegs config before after status
+FormMeets (forms.Values way) before after status = (name : List ℕ) × ConvertsValues (job_of way name) before after status
 FormMeets forms.Other before after status = UsageMeets before after status
 
 -- with the word `profile` all of the text is written, where no write fails
@@ -97,4 +118,5 @@ WritesProfile forms.Run before after status = Unit {0}
 WritesProfile forms.Check before after status = Unit {0}
 WritesProfile (forms.Um config) before after status = Unit {0}
 WritesProfile (forms.Dup config) before after status = Unit {0}
+WritesProfile (forms.Values way) before after status = Unit {0}
 WritesProfile forms.Other before after status = Unit {0}

@@ -32,6 +32,31 @@ fn module_reason(reason: u16) -> &'static str {
     }
 }
 
+/// What was wrong with a value.
+fn value_reason(reason: u16) -> &'static str {
+    match reason {
+        1 => "a field passes the last octet",
+        2 => "a bit of a pad is 1",
+        3 => "a number is above its range",
+        4 => "a field has a shorter form",
+        5 => "an index of nothing",
+        6 => "a length that no value has",
+        7 => "a character that PrintableString doesn't have",
+        8 => "a field passes the end of its open type",
+        9 => "octets are left after the last field",
+        10 => "a mandatory information element is missing",
+        11 => "information elements are out of order",
+        12 => "the encoding is too long",
+        13 => "no addition is there",
+        100 => "not hexadecimal digits",
+        101 => "no JSON",
+        102 => "a member is not of the form of its type",
+        103 => "a member is outside the bounds of its type",
+        104 => "its encoding would be too long",
+        _ => "not what is awaited there",
+    }
+}
+
 /// Writes one line that says what a status other than 0 means.
 pub fn explain(rt: &impl Eprint, status: Status) -> io::Result<()> {
     let Status {
@@ -41,8 +66,9 @@ pub fn explain(rt: &impl Eprint, status: Status) -> io::Result<()> {
     } = status;
     match code {
         2 => eprintln!(rt;
-            "gnb: usage: gnb run < SCRIPT, or gnb check < MODULE, or gnb profile, or gnb profile 2, or gnb um N T < SCRIPT, or gnb duplicate N Q < SCRIPT"
+            "gnb: usage: gnb run < SCRIPT, or gnb check < MODULE, or gnb encode TYPE < VALUES, or gnb decode TYPE < VALUES, or gnb profile, or gnb profile 2, or gnb um N T < SCRIPT, or gnb duplicate N Q < SCRIPT"
         ),
+        3 if place == 0 && reason == 3 => eprintln!(rt; "gnb: the module has no type of this name"),
         3 if reason == 20 => eprintln!(rt; "gnb: the module is not the profile, version 1"),
         3 => {
             let words = module_reason(reason);
@@ -57,6 +83,10 @@ pub fn explain(rt: &impl Eprint, status: Status) -> io::Result<()> {
         }
         6 => eprintln!(rt; "gnb: a read failed after {place} bytes"),
         7 => eprintln!(rt; "gnb: a write failed"),
+        8 => {
+            let words = value_reason(reason);
+            eprintln!(rt; "gnb: the value of line {place} is refused: {words}")
+        }
         9 => eprintln!(rt; "gnb: out of memory"),
         10 => eprintln!(rt; "gnb: at line {place} counter {reason} would pass its last value"),
         11 => eprintln!(rt; "gnb: the input is longer than 16,777,216 bytes"),

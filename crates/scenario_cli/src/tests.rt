@@ -245,6 +245,44 @@ const CHECKS: [Row; 12] = [
     ),
 ];
 
+/// Values that are decoded.
+const VALUES: [Row; 9] = [
+    ("decode", MODULE, (2, 0, 0), "stop 2 0 0\n"),
+    ("decode T T", MODULE, (2, 0, 0), "stop 2 0 0\n"),
+    ("decode T", "", (4, 1, 1), "stop 4 1 1\n"),
+    ("decode T", MODULE, (0, 0, 0), ""),
+    (
+        "decode T",
+        "module builtin 2\n",
+        (3, 0, 3),
+        "module 0 0 3\nstop 3 0 3\n",
+    ),
+    (
+        "decode T",
+        "module text\nM DEFINITIONS AUTOMATIC TAGS ::= BEGIN\nT ::= REAL\nEND\n80\n",
+        (3, 3, 6),
+        "module 3 7 6\nstop 3 3 6\n",
+    ),
+    (
+        "decode T",
+        "module text\nM DEFINITIONS AUTOMATIC TAGS ::= BEGIN\nT ::= BOOLEAN\nEND\n81\n80\n",
+        (8, 5, 2),
+        "wrong 1 2 -\nstop 8 5 2\n",
+    ),
+    (
+        "decode T",
+        "module text\nM DEFINITIONS AUTOMATIC TAGS ::= BEGIN\nT ::= BOOLEAN\nEND\n8g\n",
+        (8, 5, 100),
+        "wrong 0 100 -\nstop 8 5 100\n",
+    ),
+    (
+        "decode T",
+        "module text\nM DEFINITIONS AUTOMATIC TAGS ::= BEGIN\nT ::= BOOLEAN\nEND\n\n80\n",
+        (8, 5, 1),
+        "wrong 0 1 -\nstop 8 5 1\n",
+    ),
+];
+
 /// Whether a call whose input comes in such pieces comes to this.
 fn comes_to(alloc: Global, row: Row, piece: usize) -> bool
     requires { 0 < piece }
@@ -286,6 +324,11 @@ fn whole_runs_of_a_bearer(rt: HostRuntime) {
 #[test]
 fn whole_checks(rt: HostRuntime) {
     come_to(&rt, rt.alloc(), &CHECKS);
+}
+
+#[test]
+fn whole_decodings(rt: HostRuntime) {
+    come_to(&rt, rt.alloc(), &VALUES);
 }
 
 /// Whether a call for which nothing is read ends with this code, and writes this.

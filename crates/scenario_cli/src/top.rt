@@ -13,7 +13,11 @@ ghost use Rattle.command_um.specs.Whole.{RunsWholly as RunsWhollyUm};
 ghost use Rattle.command_dup.specs.declared.config.DupConfig.{DupConfig as Legs};
 ghost use Rattle.command_dup.specs.Ends.{StopsAtEvent as StopsAtDupEvent};
 ghost use Rattle.command_dup.specs.Whole.{RunsWholly as RunsWhollyDup};
-ghost use Rattle.scenario_cli.specs.Gnb.{form_of_one, um_form as um_form_of, dup_form as dup_form_of, form_of as form_of_words, FormMeets, WritesProfile};
+ghost use Rattle.command_values.specs.declared.way.Way.{Way as Direction};
+ghost use Rattle.command_values.specs.Ends.{StopsAtValue};
+ghost use Rattle.command_values.specs.Values.{job_of};
+ghost use Rattle.command_values.specs.Whole.{AnswersWholly};
+ghost use Rattle.scenario_cli.specs.Gnb.{form_of_one, um_form as um_form_of, dup_form as dup_form_of, values_form as values_form_of, type_of, form_of as form_of_words, FormMeets, WritesProfile, ConvertsValues};
 ghost use Rattle.scenario_cli.specs.inside.Timed.{IsTimed};
 
 use command_check::check_input;
@@ -23,6 +27,7 @@ use command_output::{common_status, stop_line, write_lines};
 use command_profile::write_profile;
 use command_run::run_script;
 use command_um::{UmConfig, run_um};
+use command_values::{Way, run_values};
 use gnb_base::outside::{Sink, Source};
 use profile::Version;
 use script_words::forms::{number, sn_bits};
@@ -49,6 +54,8 @@ pub enum Form {
     Um(UmConfig),
     /// A script of one bearer with duplication is run.
     Dup(DupConfig),
+    /// Values of a type are encoded or decoded.
+    Values(Way),
     /// The words are no form.
     Other,
 }
@@ -98,6 +105,29 @@ fn dup_form(bits: &[u8], quota: &[u8]) -> Form
     Form::Dup(DupConfig { sn, quota })
 }
 
+/// The form of a word with the name of a type.
+fn values_form(word: &str) -> Form
+    ensures { result ≡ values_form_of word.now }
+{
+    if word == "encode" {
+        Form::Values(Way::Encode)
+    } else if word == "decode" {
+        Form::Values(Way::Decode)
+    } else {
+        Form::Other
+    }
+}
+
+/// The name of a type, the second word.
+fn type_name(words: &[String]) -> &[u8]
+    ensures { result.now ≡ type_of (map string_bytes words.now) }
+{
+    match words {
+        [_, name, ..] => name.as_bytes(),
+        _ => &[],
+    }
+}
+
 /// The form that the words are.
 fn form_of(words: &[String]) -> Form
     ensures exact { result ≡ form_of_words (map string_bytes words.now) }
@@ -108,6 +138,7 @@ fn form_of(words: &[String]) -> Form
         [word, number] if word.as_str() == "profile" && number.as_str() == "2" => {
             Form::Profile(Version::Two)
         }
+        [word, _] => values_form(word.as_str()),
         [word, bits, ticks] if word.as_str() == "um" => {
             um_form(bits.as_bytes(), ticks.as_bytes())
         }
@@ -175,6 +206,19 @@ pub fn gnb<S: Source, K: Sink>(
     ensures near_leg_event { (config : Legs) → form_of_words (map string_bytes words.now) ≡ Form.Dup config
         → StopsAtDupEvent (S.at input.old) (S.at input.new) result }
 
+    // Lines after a module are encoded, or decoded, as values of the type that the second word names.
+    // Each line of a whole input is answered, and a stop at one is near it too.
+    ensures values { (way : Direction) → form_of_words (map string_bytes words.now) ≡ Form.Values way
+        → ConvertsValues (job_of way (type_of (map string_bytes words.now)))
+        (outside (S.at input.old) (K.at output.old))
+        (outside (S.at input.new) (K.at output.new)) result }
+    ensures near_value { (way : Direction) → form_of_words (map string_bytes words.now) ≡ Form.Values way
+        → StopsAtValue (S.at input.old) (S.at input.new) result }
+    ensures answers { (way : Direction) → form_of_words (map string_bytes words.now) ≡ Form.Values way
+        → AnswersWholly (job_of way (type_of (map string_bytes words.now)))
+        (outside (S.at input.old) (K.at output.old))
+        (outside (S.at input.new) (K.at output.new)) result }
+
     // A whole module is reported, likewise.
     ensures checks { form_of_words (map string_bytes words.now) ≡ Form.Check
         → ChecksWholly (outside (S.at input.old) (K.at output.old))
@@ -191,6 +235,7 @@ pub fn gnb<S: Source, K: Sink>(
         Form::Profile(version) => write_profile(version, input, output),
         Form::Um(config) => run_um(alloc, config, input, output).status(),
         Form::Dup(config) => run_duplicate(alloc, config, input, output).status(),
+        Form::Values(way) => run_values(alloc, way, type_name(words), input, output).status(),
         Form::Other => report_usage(alloc, input, output),
     }
 }

@@ -6,6 +6,7 @@ use Rattle.scenario_cli.specs.declared.top.Form.TheVariants as forms
 abbrev pub IsTimed : Form → Type 0
 IsTimed (forms.Um config) = (1 ≤ config.ticks) × (config.ticks ≤ 1000)
 IsTimed (forms.Dup config) = (4 ≤ config.quota) × (config.quota ≤ 4096)
+IsTimed (forms.Values way) = Unit {0}
 IsTimed forms.Run = Unit {0}
 IsTimed forms.Check = Unit {0}
 IsTimed (forms.Profile version) = Unit {0}

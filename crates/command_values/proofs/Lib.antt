@@ -1,0 +1,6 @@
+pub mod Answered
+pub mod Written
+pub mod Turned
+pub mod Finished
+pub mod Texts
+pub mod Whole

@@ -1,0 +1,5 @@
+pub mod Answers
+pub mod Ends
+pub mod Values
+pub mod Whole
+pub mod inside

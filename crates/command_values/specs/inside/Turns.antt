@@ -1,0 +1,115 @@
+-- Internal: what reading, answering and writing one line does, and what the lines from a moment on come to.
+use Rattle.std.specs.Prelude.{◌≡◌, ◌++◌, ◌∷◌, [], ℕ, List, Bool, true, false, Some, None, Result, Ok, Err}
+use Rattle.gnb_base.specs.declared.lines.Line.{Line}
+use Rattle.gnb_base.specs.Lines.{line_feed}
+use Rattle.gnb_base.specs.Outside.{SourceAt, SinkAt}
+use Rattle.gnb_base.specs.Reading.{Reading, NextMeets}
+use Rattle.input_defs.specs.declared.InputEnd.{InputEnd}
+use Rattle.input_lines.specs.ReadsLine.{StopsReading}
+use Rattle.asn1_module.specs.asn1_assignments.declared.assignment.Syntax.{Syntax}
+use Rattle.asn1_module.specs.Module.{find_type}
+use Rattle.profile.specs.declared.version.Version.TheVariants.{Two}
+use Rattle.input_module.specs.declared.module.GivenModule.{GivenModule}
+use Rattle.input_module.specs.Taking.{HasModule}
+use Rattle.command_check.specs.Check.{IsModuleOf}
+use Rattle.command_defs.specs.declared.CommonEnd.TheVariants.{WriteFault, Memory}
+use Rattle.command_defs.specs.Ends.{end_of_input}
+use Rattle.command_defs.specs.Outside.{OutsideAt, outside}
+use Rattle.command_output.specs.Writes.{WritesAll, WritesFront}
+use Rattle.command_values.specs.declared.answer.Wrong.{Wrong}
+use Rattle.command_values.specs.declared.end.Stop.TheVariants.{Value}
+use Rattle.command_values.specs.declared.end.ValuesEnd.{ValuesEnd}
+use Rattle.command_values.specs.declared.end.ValuesEnd.TheVariants.{Stopped, Common}
+use Rattle.command_values.specs.declared.lines.Task.{Task}
+use Rattle.command_values.specs.Answers.{IsAnswered, IsWrong}
+use Rattle.command_values.specs.Values.{Job}
+use Rattle.command_values.specs.inside.Stops.{RunsTo}
+
+-- the parts of a run at one moment
+pub record RunAt : Type 0 where
+  pub reading : Reading
+  pub source : SourceAt
+  pub sink : SinkAt
+
+abbrev pub run_at : Reading → SourceAt → SinkAt → RunAt
+run_at reading source sink = record { reading = reading; source = source; sink = sink }
+
+abbrev pub outside_of : RunAt → OutsideAt
+outside_of r = outside r.source r.sink
+
+abbrev pub with_feed : List ℕ → List ℕ
+with_feed text = text ++ line_feed ∷ []
+
+-- ---- a line
+
+abbrev pub TaskAnswers : Task → List ℕ → List ℕ → Type 0
+TaskAnswers task line text = IsAnswered task.way task.module.now task.id.number line text
+
+abbrev pub TaskRefuses : Task → List ℕ → Wrong → Type 0
+TaskRefuses task line wrong = IsWrong task.way task.module.now task.id.number line wrong
+
+-- it was answered, and the answer written
+pub record Writes (task : Task) (before after : SinkAt) (line : List ℕ) : Type 0 where
+  pub text : List ℕ
+  pub answers : TaskAnswers task line text
+  pub all : WritesAll before after (with_feed text)
+
+-- it is refused; or a write failed after a front of the answer; or memory ran out before
+pub data WriteStops (task : Task) (before after : SinkAt) (line : Line) (end : ValuesEnd) : Type 0 where
+  Refused : (wrong : Wrong) → TaskRefuses task line.text wrong → end ≡ Stopped (Value line.number wrong) → after ≡ before
+      → WriteStops task before after line end
+  Faulty : (text : List ℕ) → TaskAnswers task line.text text → end ≡ Common WriteFault → WritesFront before after (with_feed text)
+      → WriteStops task before after line end
+  NoRoom : end ≡ Common Memory → after ≡ before → WriteStops task before after line end
+
+abbrev pub WriteMeets : Task → SinkAt → SinkAt → Line → Result (Unit {0}) ValuesEnd → Type 0
+WriteMeets task before after line (Ok done) = Writes task before after line.text
+WriteMeets task before after line (Err end) = WriteStops task before after line end
+
+-- ---- one turn
+
+pub record TakesLine (task : Task) (old new : RunAt) : Type 0 where
+  pub line : Line
+  pub meets : NextMeets old.reading new.reading old.source new.source (Ok (Some line))
+  pub writes : Writes task old.sink new.sink line.text
+
+pub record TakesEnd (old new : RunAt) : Type 0 where
+  pub meets : NextMeets old.reading new.reading old.source new.source (Ok None)
+  pub same : new.sink ≡ old.sink
+
+pub data TurnStops (task : Task) (old new : RunAt) (end : ValuesEnd) : Type 0 where
+  Unread : (why : InputEnd) → StopsReading old.reading new.reading old.source new.source why → end ≡ Common (end_of_input why)
+      → new.sink ≡ old.sink → TurnStops task old new end
+  Unanswered : (line : Line) → NextMeets old.reading new.reading old.source new.source (Ok (Some line))
+      → WriteStops task old.sink new.sink line end → TurnStops task old new end
+
+abbrev pub TurnMeets : Task → RunAt → RunAt → Result Bool ValuesEnd → Type 0
+TurnMeets task old new (Ok true) = TakesLine task old new
+TurnMeets task old new (Ok false) = TakesEnd old new
+TurnMeets task old new (Err end) = TurnStops task old new end
+
+-- ---- from the module on
+
+-- since that moment the lines gave this module, and nothing was written
+pub record HasGiven (first : OutsideAt) (now : RunAt) (found : GivenModule) : Type 0 where
+  pub has : HasModule Two first.source now.source now.reading found
+  pub same : now.sink ≡ first.sink
+
+-- and the module has the type that the task is about
+pub record Begins (job : Job) (task : Task) (first : OutsideAt) (now : RunAt) : Type 0 where
+  pub found : GivenModule
+  pub given : HasGiven first now found
+  pub is : IsModuleOf found task.module.now
+  pub has : find_type job.name task.module.now.assignments ≡ Some task.id
+  pub way : task.way ≡ job.way
+
+-- what the lines after it come to
+abbrev pub Continues : Task → RunAt → RunAt → ValuesEnd → Type 0
+Continues task old new end = (job : Job) (first : OutsideAt) → Begins job task first old → RunsTo job first (outside_of new) end
+
+abbrev pub ContinuesModule : Job → Syntax → RunAt → RunAt → ValuesEnd → Type 0
+ContinuesModule job m old new end =
+    (first : OutsideAt) (found : GivenModule) → HasGiven first old found → IsModuleOf found m → RunsTo job first (outside_of new) end
+
+abbrev pub ContinuesGiven : Job → GivenModule → RunAt → RunAt → ValuesEnd → Type 0
+ContinuesGiven job found old new end = (first : OutsideAt) → HasGiven first old found → RunsTo job first (outside_of new) end

@@ -1,0 +1,4 @@
+pub mod Words
+pub mod Apart
+pub mod Nesting
+pub mod Law
