@@ -88,8 +88,9 @@ impl Ground {
 
     /// The oldest item that isn't carried is carried.
     pub fn carry_off(&mut self, key: EntityKey, lines: &mut Lines) -> Result<(), Memory>
-        ensures { OnOk result ((item : Item (List ℕ)) → uncarried (at entity_cmp silent self.old.radios.radios key) ≡ Some item
+        ensures told { OnOk result ((item : Item (List ℕ)) → uncarried (at entity_cmp silent self.old.radios.radios key) ≡ Some item
             → Makes (λ world. carried_off world key item) self.old self.new lines.old lines.new) }
+        ensures bag { self.new.bag ≡ self.old.bag }
     {
         let link = radio_link(key, self.shown_epoch(key.ue));
         match self.radios.carry(key.ue, key.bearer, key.dir) {
@@ -104,10 +105,11 @@ impl Ground {
 
     /// The oldest carried item is confirmed.
     pub fn confirm_off(&mut self, key: EntityKey)
-        ensures { (item : Item (List ℕ)) (rest : List (Item (List ℕ))) (lines : List ShownLine)
+        ensures told { (item : Item (List ℕ)) (rest : List (Item (List ℕ))) (lines : List ShownLine)
             → (at entity_cmp silent self.old.radios.radios key).items ≡ item ∷ rest
             → ((at entity_cmp silent self.old.radios.radios key).carried == 0) ≡ false
             → Makes (λ world. confirmed_off world key rest) self.old self.new lines lines }
+        ensures bag { self.new.bag ≡ self.old.bag }
     {
         drop(self.radios.confirm(key.ue, key.bearer, key.dir));
     }
@@ -156,7 +158,8 @@ impl Ground {
 
     /// A terminal is released: what stands on its radios is lost, and it is gone.
     pub fn leave(&mut self, ue: UeId, lines: &mut Lines) -> Result<(), Memory>
-        ensures { OnOk result (Makes (λ world. leaves world ue) self.old self.new lines.old lines.new) }
+        ensures told { OnOk result (Makes (λ world. leaves world ue) self.old self.new lines.old lines.new) }
+        ensures bag { OnOk result (self.new.bag ≡ self.old.bag) }
     {
         self.lose_radios(ue, lines)?;
         self.radios.connect(ue, None);

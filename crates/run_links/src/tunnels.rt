@@ -102,9 +102,10 @@ impl Ground {
 
     /// The oldest item of a tunnel is taken.
     pub fn take_off(&mut self, end: TunnelEnd, lines: &mut Lines) -> Result<(), Memory>
-        ensures { OnOk result ((item : Item (List ℕ)) (rest : List (Item (List ℕ)))
+        ensures told { OnOk result ((item : Item (List ℕ)) (rest : List (Item (List ℕ)))
             → find tunnel_cmp self.old.tunnels.tunnels end ≡ Some (item ∷ rest)
             → Makes (λ world. taken_off world end item rest) self.old self.new lines.old lines.new) }
+        ensures bag { self.new.bag ≡ self.old.bag }
     {
         let link = tunnel_link(end);
         match self.tunnels.get(end.node, end.teid) {

@@ -7,8 +7,8 @@ use Rattle.run_links.proofs.Results.{ok_then}
 use Rattle.run_links.proofs.Carrying.{carry_makes}
 use Rattle.run_links.proofs.ground.Ground.carry_off.Goals as goal
 
-pub returns-in-Ok : goal.returns-in-Ok
-returns-in-Ok c =
+pub returns-in-Ok-clause-told : goal.returns-in-Ok-clause-told
+returns-in-Ok-clause-told c =
     ok_then c.push.result c.push.ensures.ok
     (λ told item is.
     carry_makes c.args.key c.args.self.now _ item c.in-Ok.item c.shown_epoch.result c.args.lines.now c.push.new.self c.in-Ok.ensures refl is

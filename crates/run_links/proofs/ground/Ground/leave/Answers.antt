@@ -6,8 +6,8 @@ use Rattle.run_links.proofs.Results.{ok_then}
 use Rattle.run_links.proofs.OnRadios.{leaves_makes}
 use Rattle.run_links.proofs.ground.Ground.leave.Goals as goal
 
-pub returns : goal.returns
-returns c =
+pub returns-clause-told : goal.returns-clause-told
+returns-clause-told c =
     let middle = c.lose_radios.new.self in
     ok_then c.push.result c.push.ensures.ok
     (λ told.
