@@ -1,1 +1,2 @@
+pub mod Aired
 pub mod Got

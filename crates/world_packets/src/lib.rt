@@ -2,3 +2,4 @@
 #![tactic(auto)]
 
 pub mod gets;
+pub mod radio;
