@@ -8,7 +8,7 @@ ghost use Rattle.ue_node.specs.Nodes.{HasPacket, new_node, IsNodeStep, IsPlaced,
 use crate::inputs::act;
 use gnb_types::inputs::Input;
 use gnb_types::items::Memory;
-use gnb_types::names::{BearerId, NodeId};
+use gnb_types::names::{BearerId, NodeId, UeId};
 use gnb_types::outputs::Outputs;
 use gnb_types::plans::Plan;
 use std::alloc::Global;
@@ -91,6 +91,13 @@ impl UeNode {
         }
         self.record.place_static();
         Ok(())
+    }
+
+    /// Its name.
+    pub fn ue(&self) -> UeId
+        ensures { result ≡ self.now.node.plan.ue }
+    {
+        self.record.plan.ue
     }
 
     /// Where it stands.

@@ -1,0 +1,13 @@
+pub mod Carrying
+pub mod Counting
+pub mod FirstRadios
+pub mod Goes
+pub mod Least
+pub mod Losses
+pub mod OnLetters
+pub mod OnRadios
+pub mod OnTunnels
+pub mod Outstanding
+pub mod Puts
+pub mod Results
+pub mod Standing

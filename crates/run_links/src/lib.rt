@@ -1,0 +1,13 @@
+//! What a run keeps beside its units and its core: control messages, tunnels, radios, plans and books; and what a part of a step does
+//! to them, with the lines that it prints.
+#![tactic(auto)]
+
+pub mod book;
+pub mod ground;
+mod letters;
+pub mod lines;
+mod outputs;
+mod plans;
+mod radios;
+pub mod spans;
+mod tunnels;

@@ -1,0 +1,5 @@
+//! Events of packets in a run of the whole base station.
+#![tactic(auto)]
+
+pub mod gets;
+pub mod radio;

@@ -1,0 +1,5 @@
+pub mod Carried
+pub mod Does
+pub mod OnAir
+pub mod Shown
+pub mod Sorted

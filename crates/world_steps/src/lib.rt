@@ -1,0 +1,8 @@
+//! Steps of the whole base station: a unit is asked, its answer is carried out, and what the events look at in units.
+#![tactic(auto)]
+
+pub mod asked;
+pub mod cause;
+mod looks;
+pub mod parts;
+mod steps;
