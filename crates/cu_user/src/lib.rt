@@ -5,3 +5,4 @@
 pub mod node;
 
 pub use node::CuUser;
+pub use up_rows::PlaceError;

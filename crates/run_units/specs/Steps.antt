@@ -14,8 +14,8 @@ use Rattle.run_defs.specs.Conditions.{units_placed, all_set_up}
 use Rattle.run_defs.specs.UnitRuns.{Records, Meaning, UnitAnswer, unit_gives, unit_spent}
 use Rattle.unit_steps.specs.declared.StepError.{StepError}
 use Rattle.unit_steps.specs.declared.StepError.TheVariants as errors
-use Rattle.up_contexts.specs.declared.placing.PlaceError.{PlaceError}
-use Rattle.up_contexts.specs.declared.placing.PlaceError.TheVariants as places
+use Rattle.cu_user.specs.up_rows.up_contexts.declared.placing.PlaceError.{PlaceError}
+use Rattle.cu_user.specs.up_rows.up_contexts.declared.placing.PlaceError.TheVariants as places
 
 -- this answer was given: these outputs, and these are the records then; or the spent counter. Out of memory nothing is said.
 abbrev pub StepGives : UnitAnswer → Records → Result (List Output) StepError → Type 0

@@ -10,10 +10,10 @@ ghost use Rattle.run_defs.specs.UnitRuns.{Records, Meaning};
 ghost use Rattle.plain_defs.specs.Plain.{IsPlanned, IsGiven, KeepRange, IsPlain};
 ghost use Rattle.run_defs.specs.Conditions.{is_held_by_units};
 ghost use Rattle.run_units.specs.Steps.{StepGives, PlacingGives, LeavesAll};
-ghost use Rattle.up_contexts.specs.declared.placing.PlaceError.TheVariants as errors;
+ghost use Rattle.cu_user.specs.up_rows.up_contexts.declared.placing.PlaceError.TheVariants as errors;
 
 use cu_control::CuControl;
-use cu_user::CuUser;
+use cu_user::{CuUser, PlaceError};
 use du_node::DuNode;
 use gnb_types::inputs::Input;
 use gnb_types::items::Memory;
@@ -24,7 +24,6 @@ use std::alloc::Global;
 use ue_node::UeNode;
 use unit_messages::MessageCodec;
 use unit_steps::StepError;
-use up_contexts::placing::PlaceError;
 
 /// The units of both gNBs and the terminals. What they are is `records`, and `answer` says what one of them makes of an input: it may
 /// be any function of the records, the unit and the input that leaves all where the unit holds its input or refuses an event.

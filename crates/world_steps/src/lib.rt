@@ -6,3 +6,5 @@ pub mod cause;
 mod looks;
 pub mod parts;
 mod steps;
+
+pub use run_units::units::Units;
