@@ -1,9 +1,9 @@
 #!/usr/bin/env python3
 """Compares Wireshark's reading of packets with the tables in crates/tests_packets.
 
-Each packet is put into a UDP datagram to port 2152. Of those of the tests `packets..` tshark is asked for the GTP-U
-header, and of those of `frames_in_packets` for the NR-U frame. Where tshark isn't installed this is said, and the check
-passes.
+Each packet is put into a UDP datagram to port 2152. Of those of the tables `PACKETS..` and of the test
+`packets_with_numbers` tshark is asked for the GTP-U header, and of those of `DATA_FRAMES` and `STATUSES` for the NR-U
+frame. Where tshark isn't installed this is said, and the check passes.
 
 Usage: tools/tshark_check.py
 """
@@ -36,27 +36,37 @@ def octets(text):
     return bytes.fromhex(text.replace("\\x", ""))
 
 
+def table(text, name, row):
+    """The rows of the tables with such a name; none is passed over, as each table says how many it has."""
+    found = []
+    for title, count, body in re.findall(rf"const ({name}): \[.*?; (\d+)\] = \[(.*?)\];", text):
+        rows = re.findall(row, body)
+        if len(rows) != int(count):
+            sys.exit(f"{len(rows)} rows of {count} were understood in {title}")
+        found += rows
+    return found
+
+
 def tables():
     """The rows of each table: a name, the octets, and the value that they stand for as tshark's fields."""
-    tests = [test for test in TABLE.read_text().split("#[test]") if re.match(r"\s*fn packets", test)]
-    for test in tests:
-        yield from table(re.sub(r"\s+", " ", test))
-
-
-def table(text):
-    named = {name: octets(body) for name, body in re.findall(r'let (\w+) = b"([^"]*)"', text)}
-    row = re.compile(
-        r"\( ?(?:(\w+)|b\"([^\"]*)\"\.as_slice\(\)), ?(?:Packet \{ (.*?)\.\.)?packet\( ?(\w+), ?(\w+), ?(\w+), ?b\"([^\"]*)\", ?b\"([^\"]*)\",? ?\)"
-    )
-    rows = row.findall(text)
-    # no row is passed over: each has its `packet(..)`
-    if len(rows) != text.count("packet("):
-        sys.exit(f"{len(rows)} rows of {text.count('packet(')} were understood in {TABLE}")
-    for name, literal, more, kind, teid, first, chain, _payload in rows:
-        data = named[name] if name else octets(literal)
+    text = re.sub(r"\s+", " ", TABLE.read_text())
+    row = r'\( ?b"([^"]*)", Kind::(\w+), (\w+), (\w+), b"([^"]*)", b"[^"]*",? ?\)'
+    for body, kind, teid, first, chain in table(text, r"PACKETS\w*", row):
+        yield of_packet(octets(body), kind, teid, {}, first, octets(chain))
+    test = text.split("fn packets_with_numbers(")[1].split("#[test]")[0]
+    named = dict(re.findall(r'let (\w+) = (b"[^"]*")', test))
+    row = r'Packet \{ (.*?)\.\.packet\( ?Kind::(\w+), (\w+), (\w+), (.*?), b"[^"]*" ?\) \}; let octets = b"([^"]*)"'
+    rows = re.findall(row, test)
+    if len(rows) != test.count("..packet("):
+        sys.exit(f"{len(rows)} rows of {test.count('..packet(')} were understood in packets_with_numbers")
+    for more, kind, teid, first, chain, body in rows:
         optional = {key: int(value, 0) for key, value in re.findall(r"(\w+): Some\((\w+)\)", more)}
-        value = fields(data, KINDS[kind], int(teid.replace("_", ""), 0), optional, int(first, 0), octets(chain))
-        yield name or data.hex(), data, value
+        yield of_packet(octets(body), kind, teid, optional, first, octets(named.get(chain, chain)[2:-1]))
+
+
+def of_packet(data, kind, teid, optional, first, chain):
+    value = fields(data, KINDS[kind], int(teid.replace("_", ""), 0), optional, int(first, 0), chain)
+    return data.hex(), data, value
 
 
 def fields(data, kind, teid, optional, first, chain):
@@ -90,19 +100,16 @@ def fields(data, kind, teid, optional, first, chain):
 
 
 def frames():
-    """The rows of the table of frames: the octets of a packet, and the frame in it as tshark's fields."""
+    """The rows of the tables of frames: the octets of a packet, and the frame in it as tshark's fields."""
     text = re.sub(r"\s+", " ", FRAMES.read_text())
     room = int(re.search(r"const ROOM: u32 = ([\d_]+);", text)[1])
-    test = text.split("fn frames_in_packets(")[1].split("#[test]")[0]
-    rows = re.findall(r'\( ?"([0-9A-F]+)", (data|status)\((.*?)\),? \)', test)
-    if len(rows) != test.count(" data(") + test.count(" status("):
-        sys.exit(f"only {len(rows)} rows were understood in {FRAMES}")
-    for data, kind, words in rows:
-        yield data, bytes.fromhex(data), data_fields(words) if kind == "data" else status_fields(words, room)
+    for data, *words in table(text, "DATA_FRAMES", r'\( ?"([0-9A-F]+)", (\w+), (\w+), (\d+),? ?\)'):
+        yield data, bytes.fromhex(data), data_fields(*words)
+    for data, *words in table(text, "STATUSES", r'\( ?"([0-9A-F]+)", &\[(.*?)\], (None|Some\(\d+\)),? ?\)'):
+        yield data, bytes.fromhex(data), status_fields(*words, room)
 
 
-def data_fields(words):
-    poll, restart, number = words.split(", ")
+def data_fields(poll, restart, number):
     return of_frame({
         "nrup.pdu_type": [0],
         "nrup.report_polling": [int(poll == "true")],
@@ -111,8 +118,7 @@ def data_fields(words):
     })
 
 
-def status_fields(words, room):
-    lost, delivered = re.fullmatch(r"&\[(.*)\], (.*)", words).groups()
+def status_fields(lost, delivered, room):
     ranges = [(int(start), int(end)) for start, end in re.findall(r"\((\d+), (\d+)\)", lost)]
     number = [int(text) for text in re.findall(r"Some\((\d+)\)", delivered)]
     return of_frame({

@@ -6,6 +6,7 @@ use gnb_types::octets::{Memory, Octets};
 use link_packets::*;
 use nr_user_plane::ranges::Ranges;
 use pdcp::pdu::Pdu;
+use std::process::Abort;
 use std::test::Fail;
 
 const N3_PACKET: &[u8] = b"\x30\xFF\x00\x01\x00\x00\x00\x01\x45";
@@ -30,6 +31,12 @@ const NUMBERED: &[u8] = b"\x34\xFF\x00\x09\x00\x00\x00\x03\x00\x00\x00\xC0\x01\x
 const LONG_NUMBER: &[u8] =
     b"\x34\xFF\x00\x0D\x00\x00\x00\x03\x00\x00\x00\x82\x02\x03\xFF\xFF\x00\x00\x00\x00\x03";
 
+fn are_of_n3(rt: &impl Abort, table: &[(&[u8], Option<N3>)]) {
+    for (octets, read) in table {
+        assert!(rt; read_n3(octets) == *read, "{octets:?}");
+    }
+}
+
 /// On N3 a packet and an End Marker; a sequence number, no packet, and a header of another link are none of its.
 #[test]
 fn octets_of_n3(rt: HostRuntime) {
@@ -43,8 +50,12 @@ fn octets_of_n3(rt: HostRuntime) {
         (b"\x30\xFF\x00\x00\x00\x00\x00\x01", None),
         (NUMBERED, None),
     ];
-    for (octets, read) in &table {
-        assert!(rt; read_n3(octets) == *read, "{octets:?}");
+    are_of_n3(&rt, &table);
+}
+
+fn are_to_a_du(rt: &impl Abort, table: &[(&[u8], Option<F1uDownlink>)]) {
+    for (octets, read) in table {
+        assert!(rt; read_f1u_downlink(Len12, octets) == *read, "{octets:?}");
     }
 }
 
@@ -79,15 +90,16 @@ fn octets_to_a_du(rt: HostRuntime) {
             None,
         ),
     ];
-    for (octets, read) in &table {
-        assert!(rt; read_f1u_downlink(Len12, octets) == *read, "{octets:?}");
-    }
+    are_to_a_du(&rt, &table);
 }
 
-/// From a DU a packet, a report, a status and an End Marker; a frame for the way down, and a status with a payload are none of
-/// its.
+fn is_from_a_du(sn: SnBits, octets: &[u8], read: &F1uUplink) -> bool {
+    read_f1u_uplink(sn, octets).as_ref() == Some(read)
+}
+
+/// From a DU a packet and a report.
 #[test]
-fn octets_from_a_du(rt: HostRuntime) {
+fn pdus_from_a_du(rt: HostRuntime) {
     let packet = F1uUplink::Pdu {
         content: Pdu::Packet {
             sn: 0,
@@ -95,6 +107,8 @@ fn octets_from_a_du(rt: HostRuntime) {
         },
         octets: b"\x80\x00\x45",
     };
+    assert!(rt; is_from_a_du(Len12, UPLINK, &packet));
+    drop(packet);
     let report = F1uUplink::Pdu {
         content: Pdu::Report {
             fmc: 5,
@@ -102,25 +116,37 @@ fn octets_from_a_du(rt: HostRuntime) {
         },
         octets: b"\x00\x00\x00\x00\x05\x60",
     };
+    assert!(rt; is_from_a_du(Len18, REPORT, &report));
+    drop(report);
+}
+
+/// From a DU a status and an End Marker.
+#[test]
+fn others_from_a_du(rt: HostRuntime) {
     let status = F1uUplink::Status {
         room: 65536,
         lost: Ranges::new(),
         delivered: Some(0),
     };
-    let table: [(SnBits, &[u8], Option<F1uUplink>); 6] = [
-        (Len12, UPLINK, Some(packet)),
-        (Len18, REPORT, Some(report)),
-        (Len12, STATUS, Some(status)),
-        (Len12, END, Some(F1uUplink::End)),
-        (Len12, DATA, None),
-        (
-            Len12,
-            b"\x34\xFF\x00\x0D\x00\x00\x00\x02\x00\x00\x00\x84\x02\x10\x00\x00\x01\x00\x00\x00\x45",
-            None,
-        ),
-    ];
-    for (sn, octets, read) in &table {
-        assert!(rt; read_f1u_uplink(*sn, octets) == *read, "{octets:?}");
+    assert!(rt; is_from_a_du(Len12, STATUS, &status));
+    drop(status);
+    assert!(rt; is_from_a_du(Len12, END, &F1uUplink::End));
+}
+
+/// A status with a payload.
+const STATUS_AND_PAYLOAD: &[u8] =
+    b"\x34\xFF\x00\x0D\x00\x00\x00\x02\x00\x00\x00\x84\x02\x10\x00\x00\x01\x00\x00\x00\x45";
+
+/// A frame for the way down, and a status with a payload don't come from a DU.
+#[test]
+fn none_from_a_du(rt: HostRuntime) {
+    assert!(rt; read_f1u_uplink(Len12, DATA).is_none());
+    assert!(rt; read_f1u_uplink(Len12, STATUS_AND_PAYLOAD).is_none());
+}
+
+fn are_forwarded_down(rt: &impl Abort, table: &[(SnBits, &[u8], Option<Forwarded>)]) {
+    for (sn, octets, read) in table {
+        assert!(rt; read_forwarding_down(*sn, octets) == *read, "{octets:?}");
     }
 }
 
@@ -142,8 +168,12 @@ fn octets_forwarded_down(rt: HostRuntime) {
             None,
         ),
     ];
-    for (sn, octets, read) in &table {
-        assert!(rt; read_forwarding_down(*sn, octets) == *read, "{octets:?}");
+    are_forwarded_down(&rt, &table);
+}
+
+fn are_forwarded_up(rt: &impl Abort, table: &[(SnBits, &[u8], Option<Forwarded>)]) {
+    for (sn, octets, read) in table {
+        assert!(rt; read_forwarding_up(*sn, octets) == *read, "{octets:?}");
     }
 }
 
@@ -160,9 +190,7 @@ fn octets_forwarded_up(rt: HostRuntime) {
         (Len12, LONG_NUMBER, None),
         (Len12, N3_PACKET, None),
     ];
-    for (sn, octets, read) in &table {
-        assert!(rt; read_forwarding_up(*sn, octets) == *read, "{octets:?}");
-    }
+    are_forwarded_up(&rt, &table);
 }
 
 #[test]
