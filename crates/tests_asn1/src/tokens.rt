@@ -1,7 +1,7 @@
 //! The items of texts, their places counted by hand.
 
 use asn1_tokens::*;
-use std::test::Fail;
+use std::alloc::Global;
 
 /// What an item is to be.
 #[derive(Clone, Copy)]
@@ -34,13 +34,13 @@ impl Want {
 
 /// A text, and its items with the offsets from which and up to which they stand.
 struct Row {
-    text: &'static [u8],
+    text: &'static str,
     items: &'static [(Want, usize, usize)],
 }
 
 const ROWS: [Row; 3] = [
     Row {
-        text: b"UE ::= a-1 -- c -- {01, -12..END [ x",
+        text: "UE ::= a-1 -- c -- {01, -12..END [ x",
         items: &[
             (Want::Upper(b"UE"), 0, 2),
             (Want::Sign(Sign::Assignment), 3, 6),
@@ -56,7 +56,7 @@ const ROWS: [Row; 3] = [
         ],
     },
     Row {
-        text: b"99999999999999999999-- -x\n ...a--$",
+        text: "99999999999999999999-- -x\n ...a--$",
         items: &[
             (Want::Number(1 << 64), 0, 20),
             (Want::Sign(Sign::Ellipsis), 27, 30),
@@ -65,7 +65,7 @@ const ROWS: [Row; 3] = [
         ],
     },
     Row {
-        text: b"\t}a-",
+        text: "\t}a-",
         items: &[
             (Want::Sign(Sign::RightBrace), 1, 2),
             (Want::Lower(b"a"), 2, 3),
@@ -74,21 +74,44 @@ const ROWS: [Row; 3] = [
     },
 ];
 
-#[test]
-fn items_stand_where_they_are_counted(rt: HostRuntime) -> Result<(), Fail> {
-    for row in &ROWS {
-        let mut tokens = Tokens::new(rt.alloc(), row.text).ok().ok_or("memory")?;
-        for &(want, start, end) in row.items {
-            assert!(rt; want.is(tokens.token()));
-            assert!(rt; tokens.place() == Place { start, end });
-            match tokens.token() {
-                Token::OutOfProfile | Token::Nothing | Token::EndOfText => {}
-                _ => {
-                    let taken = tokens.advance(rt.alloc()).ok().ok_or("memory")?;
-                    assert!(rt; want.is(&taken));
-                }
+/// Whether the next item is this one, and is taken where another one may come after it.
+fn is_taken(alloc: Global, tokens: &mut Tokens, want: Want) -> bool {
+    if !want.is(tokens.token()) {
+        return false;
+    }
+    match tokens.token() {
+        Token::OutOfProfile | Token::Nothing | Token::EndOfText => true,
+        _ => match tokens.advance(alloc) {
+            Ok(taken) => {
+                let is_it = want.is(&taken);
+                drop(taken);
+                is_it
             }
+            Err(_) => false,
+        },
+    }
+}
+
+/// Whether these are the items, at their places.
+fn are_items(alloc: Global, tokens: &mut Tokens, items: &[(Want, usize, usize)]) -> bool {
+    for &(want, start, end) in items {
+        if tokens.place() != (Place { start, end }) || !is_taken(alloc, tokens, want) {
+            return false;
         }
     }
-    Ok(())
+    true
+}
+
+fn has_items(alloc: Global, row: &Row) -> bool {
+    match Tokens::new(alloc, row.text.as_bytes()) {
+        Ok(mut tokens) => are_items(alloc, &mut tokens, row.items),
+        Err(_) => false,
+    }
+}
+
+#[test]
+fn items_stand_where_they_are_counted(rt: HostRuntime) {
+    for row in &ROWS {
+        assert!(rt; has_items(rt.alloc(), row), "{}", row.text);
+    }
 }
