@@ -7,8 +7,6 @@ use aper_cursor::{Cursor, Range, Role};
 use aper_defs::Reason;
 use asn1_types::Size;
 use std::alloc::Global;
-use std::process::Abort;
-use std::test::Fail;
 
 fn number(alloc: Global, octets: &[u8], span: u64) -> Result<u64, Reason>
     requires { length octets.now < 100 }
@@ -47,37 +45,45 @@ fn count(alloc: Global, octets: &[u8]) -> Result<u64, Reason>
     ask_count(&mut cursor, Some(size))
 }
 
-#[test]
-fn numbers(rt: HostRuntime) -> Result<(), Fail> {
-    let rows: [(&'static [u8], u64, Result<u64, Reason>); 8] = [
-        (&[], 0, Ok(0)),
-        (&[0x80], 1, Ok(1)),
-        (&[0xfe], 254, Ok(254)),
-        (&[0xff], 254, Err(Reason::Range)),
-        (&[0xff], 255, Ok(255)),
-        (&[0x01, 0x00], 65535, Ok(256)),
-        (&[0x80, 0x01, 0x00, 0x00], 65536, Ok(65536)),
-        (&[0x40, 0x00, 0x05], 65536, Err(Reason::NotMinimal)),
-    ];
-    for (octets, span, answer) in rows {
-        assert!(rt; octets.len() < 100);
-        assert!(rt; number(rt.alloc(), octets, span) == answer);
-    }
-    Ok(())
+/// Octets, the greatest number, and the number or why there is none.
+const NUMBERS: [(&[u8], u64, Result<u64, Reason>); 8] = [
+    (&[], 0, Ok(0)),
+    (&[0x80], 1, Ok(1)),
+    (&[0xfe], 254, Ok(254)),
+    (&[0xff], 254, Err(Reason::Range)),
+    (&[0xff], 255, Ok(255)),
+    (&[0x01, 0x00], 65535, Ok(256)),
+    (&[0x80, 0x01, 0x00, 0x00], 65536, Ok(65536)),
+    (&[0x40, 0x00, 0x05], 65536, Err(Reason::NotMinimal)),
+];
+
+fn is_number(alloc: Global, octets: &[u8], span: u64, answer: Result<u64, Reason>) -> bool {
+    octets.len() < 100 && number(alloc, octets, span) == answer
 }
 
 #[test]
-fn past_the_root(rt: HostRuntime) -> Result<(), Fail> {
+fn numbers(rt: HostRuntime) {
+    for &(octets, span, answer) in &NUMBERS {
+        assert!(rt; is_number(rt.alloc(), octets, span, answer), "{octets:?}");
+    }
+}
+
+#[test]
+fn integers_past_the_root(rt: HostRuntime) {
     let alloc = rt.alloc();
     assert!(rt; integer(alloc, &[0x78]) == Ok(10));
     assert!(rt; integer(alloc, &[0x80, 0x01, 0x0b]) == Ok(11));
     assert!(rt; integer(alloc, &[0x80, 0x01, 0xfa]) == Ok(-6));
     assert!(rt; integer(alloc, &[0x80, 0x01, 0x0a]) == Err(Reason::NotMinimal));
+}
+
+#[test]
+fn indices_and_counts_past_the_root(rt: HostRuntime) {
+    let alloc = rt.alloc();
     assert!(rt; index(alloc, &[0x40]) == Ok(2));
     assert!(rt; index(alloc, &[0x60]) == Err(Reason::Index));
     assert!(rt; index(alloc, &[0x80]) == Ok(3));
     assert!(rt; count(alloc, &[0x20]) == Ok(3));
     assert!(rt; count(alloc, &[0x80, 0x03]) == Err(Reason::NotMinimal));
     assert!(rt; count(alloc, &[0x80, 0x05]) == Ok(5));
-    Ok(())
 }

@@ -8,8 +8,6 @@ use aper_defs::Reason;
 use asn1_assignments::{Criticality, IeRow, Presence};
 use asn1_types::{Size, TypeId};
 use std::alloc::Global;
-use std::process::Abort;
-use std::test::Fail;
 
 fn is_askable(question: &Question) -> bool
     ensures { IsTrue result → IsAskable question.now }
@@ -32,14 +30,23 @@ fn first(alloc: Global, octets: &[u8], question: Question) -> Result<u64, Reason
     Cursor::new(alloc, octets).ask(question)
 }
 
-fn row(id: u16, presence: Presence) -> IeRow {
+const ROW: IeRow = IeRow {
+    id: 1,
+    criticality: Criticality::Reject,
+    definition: TypeId { number: 0 },
+    presence: Presence::Mandatory,
+};
+
+/// The first is mandatory, and so is the third.
+const KNOWN: [IeRow; 3] = [
+    ROW,
     IeRow {
-        id,
-        criticality: Criticality::Reject,
-        definition: TypeId { number: 0 },
-        presence,
-    }
-}
+        id: 2,
+        presence: Presence::Optional,
+        ..ROW
+    },
+    IeRow { id: 3, ..ROW },
+];
 
 fn id<'m>(known: &'m [IeRow], left: &'m [IeRow], after: u64) -> Question<'m>
     ensures { IsAskable result }
@@ -47,123 +54,192 @@ fn id<'m>(known: &'m [IeRow], left: &'m [IeRow], after: u64) -> Question<'m>
     Question::IeId { known, left, after }
 }
 
-fn number(role: Role, width: u32, most: u64) -> Question<'static>
-    requires { width ≤ 64 }
-    ensures { IsAskable result }
-{
-    Question::Constrained { role, width, most }
-}
+/// Numbers of so many octets up to 70,000.
+const TWO_DIGITS: Question<'static> = Question::Digits {
+    count: 2,
+    most: 70_000,
+};
 
-fn digits(count: u32) -> Question<'static> {
-    Question::Digits {
-        count,
-        most: 70_000,
-    }
-}
+const THREE_DIGITS: Question<'static> = Question::Digits {
+    count: 3,
+    most: 70_000,
+};
 
-/// A number outside the range from 0 to 10.
-fn signed(count: u32) -> Question<'static> {
-    Question::Signed {
-        count,
-        range: Range { low: 0, high: 10 },
-    }
-}
+/// Numbers outside the range from 0 to 10.
+const ONE_SIGNED: Question<'static> = Question::Signed {
+    count: 1,
+    range: Range { low: 0, high: 10 },
+};
 
-fn whole(outside: Option<Size>) -> Question<'static> {
-    Question::Extent(Extent::Whole {
-        least: 0,
-        most: 16383,
-        outside,
-    })
-}
+const TWO_SIGNED: Question<'static> = Question::Signed {
+    count: 2,
+    range: Range { low: 0, high: 10 },
+};
 
-fn part(previous: u64) -> Question<'static> {
-    Question::Extent(Extent::Part {
-        before: 0,
-        previous,
-        outside: None,
-    })
+const TWO_TO_FOUR: Size = Size {
+    low: 2,
+    high: 4,
+    extensible: true,
+};
+
+const WHOLE: Question<'static> = Question::Extent(Extent::Whole {
+    least: 0,
+    most: 16383,
+    outside: None,
+});
+
+const WHOLE_OUTSIDE: Question<'static> = Question::Extent(Extent::Whole {
+    least: 0,
+    most: 16383,
+    outside: Some(TWO_TO_FOUR),
+});
+
+/// A part after one of so many units.
+const PART_AFTER_16384: Question<'static> = Question::Extent(Extent::Part {
+    before: 0,
+    previous: 16384,
+    outside: None,
+});
+
+const PART_AFTER_65536: Question<'static> = Question::Extent(Extent::Part {
+    before: 0,
+    previous: 65536,
+    outside: None,
+});
+
+/// Octets, what is asked, and the answer.
+const FIELDS: [(&[u8], Question<'static>, Result<u64, Reason>); 26] = [
+    (&[0x80], Question::Flag, Ok(1)),
+    (&[], Question::Flag, Err(Reason::Truncated)),
+    (
+        &[0x60],
+        Question::Constrained {
+            role: Role::Value,
+            width: 3,
+            most: 6,
+        },
+        Ok(3),
+    ),
+    (
+        &[0xe0],
+        Question::Constrained {
+            role: Role::Value,
+            width: 3,
+            most: 6,
+        },
+        Err(Reason::Range),
+    ),
+    (
+        &[0xc0],
+        Question::Constrained {
+            role: Role::Index,
+            width: 2,
+            most: 2,
+        },
+        Err(Reason::Index),
+    ),
+    (
+        &[0xff],
+        Question::Constrained {
+            role: Role::Length,
+            width: 8,
+            most: 254,
+        },
+        Err(Reason::Length),
+    ),
+    (&[0x01, 0x11, 0x70], THREE_DIGITS, Ok(70_000)),
+    (&[0x00, 0x80], TWO_DIGITS, Err(Reason::NotMinimal)),
+    (&[0x01, 0x11, 0x71], THREE_DIGITS, Err(Reason::Range)),
+    (&[0xff], ONE_SIGNED, Ok(255)),
+    (&[0x0a], ONE_SIGNED, Err(Reason::NotMinimal)),
+    (&[0x00, 0x0b], TWO_SIGNED, Err(Reason::NotMinimal)),
+    (&[0x7e], Question::Small(Role::Index), Ok(63)),
+    (&[0x80], Question::Small(Role::Index), Err(Reason::Index)),
+    (&[0x7f], WHOLE, Ok(127)),
+    (&[0x80, 0x80], WHOLE, Ok(128)),
+    (&[0x80, 0x7f], WHOLE, Err(Reason::NotMinimal)),
+    (&[0xc1], WHOLE, Err(Reason::Length)),
+    (&[0x03], WHOLE_OUTSIDE, Err(Reason::NotMinimal)),
+    (&[0xc4], PART_AFTER_65536, Ok(65536)),
+    (&[0xc5], PART_AFTER_65536, Err(Reason::Length)),
+    (&[0xc1], PART_AFTER_16384, Err(Reason::NotMinimal)),
+    (
+        &[0x00],
+        Question::AdditionBits(3),
+        Err(Reason::EmptyAdditions),
+    ),
+    (b"A", Question::Character, Ok(65)),
+    (b"*", Question::Character, Err(Reason::Character)),
+    (&[0x00, 0x01], Question::IeCount(2), Err(Reason::Required)),
+];
+
+fn is_answered(
+    alloc: Global,
+    octets: &[u8],
+    question: Question,
+    answer: Result<u64, Reason>,
+) -> bool {
+    octets.len() < 100 && is_askable(&question) && first(alloc, octets, question) == answer
 }
 
 #[test]
-fn fields(rt: HostRuntime) -> Result<(), Fail> {
-    let two_to_four = Size {
-        low: 2,
-        high: 4,
-        extensible: true,
+fn fields(rt: HostRuntime) {
+    for &(octets, question, answer) in &FIELDS {
+        assert!(rt;
+            is_answered(rt.alloc(), octets, question, answer),
+            "{octets:?}"
+        );
+    }
+}
+
+/// What the id among rows of which these are left, with so many elements after it, is answered by.
+fn id_among(alloc: Global, octets: &[u8; 2], left: &[IeRow], after: u64) -> Result<u64, Reason> {
+    first(alloc, octets, id(&KNOWN, left, after))
+}
+
+#[test]
+fn ids(rt: HostRuntime) {
+    let (alloc, last) = (rt.alloc(), &KNOWN[2..]);
+    assert!(rt; id_among(alloc, &[0x00, 0x02], &KNOWN, 1) == Err(Reason::Required));
+    assert!(rt; id_among(alloc, &[0x00, 0x01], last, 1) == Err(Reason::Order));
+    assert!(rt; id_among(alloc, &[0x00, 0x03], last, 0) == Ok(3));
+    assert!(rt; id_among(alloc, &[0x00, 0x09], last, 0) == Err(Reason::Required));
+    assert!(rt; id_among(alloc, &[0x00, 0x09], last, 1) == Ok(9));
+}
+
+/// An open type of two octets with a flag, whose pad isn't zeros.
+fn is_padded(cursor: &mut Cursor) -> bool {
+    cursor.opening() == Ok(2)
+        && cursor.ask(Question::Flag) == Ok(1)
+        && cursor.ask(Question::Pad) == Err(Reason::Padding)
+        && cursor.closing() == Err(Reason::Padding)
+        && cursor.end() == Err(Reason::Tail)
+}
+
+/// A number of two octets passes the end of the open type, of which one is left.
+fn is_overrun(cursor: &mut Cursor) -> bool {
+    let question = Question::Constrained {
+        role: Role::Value,
+        width: 16,
+        most: 9,
     };
-    let rows: [(&'static [u8], Question<'static>, Result<u64, Reason>); 26] = [
-        (&[0x80], Question::Flag, Ok(1)),
-        (&[], Question::Flag, Err(Reason::Truncated)),
-        (&[0x60], number(Role::Value, 3, 6), Ok(3)),
-        (&[0xe0], number(Role::Value, 3, 6), Err(Reason::Range)),
-        (&[0xc0], number(Role::Index, 2, 2), Err(Reason::Index)),
-        (&[0xff], number(Role::Length, 8, 254), Err(Reason::Length)),
-        (&[0x01, 0x11, 0x70], digits(3), Ok(70_000)),
-        (&[0x00, 0x80], digits(2), Err(Reason::NotMinimal)),
-        (&[0x01, 0x11, 0x71], digits(3), Err(Reason::Range)),
-        (&[0xff], signed(1), Ok(255)),
-        (&[0x0a], signed(1), Err(Reason::NotMinimal)),
-        (&[0x00, 0x0b], signed(2), Err(Reason::NotMinimal)),
-        (&[0x7e], Question::Small(Role::Index), Ok(63)),
-        (&[0x80], Question::Small(Role::Index), Err(Reason::Index)),
-        (&[0x7f], whole(None), Ok(127)),
-        (&[0x80, 0x80], whole(None), Ok(128)),
-        (&[0x80, 0x7f], whole(None), Err(Reason::NotMinimal)),
-        (&[0xc1], whole(None), Err(Reason::Length)),
-        (&[0x03], whole(Some(two_to_four)), Err(Reason::NotMinimal)),
-        (&[0xc4], part(65536), Ok(65536)),
-        (&[0xc5], part(65536), Err(Reason::Length)),
-        (&[0xc1], part(16384), Err(Reason::NotMinimal)),
-        (
-            &[0x00],
-            Question::AdditionBits(3),
-            Err(Reason::EmptyAdditions),
-        ),
-        (b"A", Question::Character, Ok(65)),
-        (b"*", Question::Character, Err(Reason::Character)),
-        (&[0x00, 0x01], Question::IeCount(2), Err(Reason::Required)),
-    ];
-    for (octets, question, answer) in rows {
-        assert!(rt; octets.len() < 100);
-        assert!(rt; is_askable(&question));
-        assert!(rt; first(rt.alloc(), octets, question) == answer);
-    }
-    Ok(())
+    cursor.ask(question) == Err(Reason::Overrun) && cursor.place() == 9
 }
 
-/// The first is mandatory, and so is the third.
-#[test]
-fn ids(rt: HostRuntime) -> Result<(), Fail> {
-    let known = [
-        row(1, Presence::Mandatory),
-        row(2, Presence::Optional),
-        row(3, Presence::Mandatory),
-    ];
-    let last = &known[2..];
-    assert!(rt; first(rt.alloc(), &[0x00, 0x02], id(&known, &known, 1)) == Err(Reason::Required));
-    assert!(rt; first(rt.alloc(), &[0x00, 0x01], id(&known, last, 1)) == Err(Reason::Order));
-    assert!(rt; first(rt.alloc(), &[0x00, 0x03], id(&known, last, 0)) == Ok(3));
-    assert!(rt; first(rt.alloc(), &[0x00, 0x09], id(&known, last, 0)) == Err(Reason::Required));
-    assert!(rt; first(rt.alloc(), &[0x00, 0x09], id(&known, last, 1)) == Ok(9));
-    Ok(())
+/// An open type of an octet of zeros.
+fn is_empty(cursor: &mut Cursor) -> bool {
+    cursor.opening() == Ok(1)
+        && cursor.closing() == Ok(1)
+        && cursor.end() == Ok(0)
+        && cursor.is_at_end()
 }
 
 /// Pads, and the end of an open type.
 #[test]
-fn open_types(rt: HostRuntime) -> Result<(), Fail> {
+fn open_types(rt: HostRuntime) {
     let mut padded = Cursor::new(rt.alloc(), &[0x02, 0xc0, 0x00]);
-    assert!(rt; padded.opening() == Ok(2));
-    assert!(rt; padded.ask(Question::Flag) == Ok(1));
-    assert!(rt; padded.ask(Question::Pad) == Err(Reason::Padding));
-    assert!(rt; padded.closing() == Err(Reason::Padding));
-    assert!(rt; padded.end() == Err(Reason::Tail));
-    assert!(rt; padded.ask(number(Role::Value, 16, 9)) == Err(Reason::Overrun));
-    assert_eq!(rt; padded.place(), 9);
+    assert!(rt; is_padded(&mut padded));
+    assert!(rt; is_overrun(&mut padded));
     let mut empty = Cursor::new(rt.alloc(), &[0x01, 0x00]);
-    assert!(rt; empty.opening() == Ok(1));
-    assert!(rt; empty.closing() == Ok(1));
-    assert!(rt; empty.end() == Ok(0));
-    assert!(rt; empty.is_at_end());
-    Ok(())
+    assert!(rt; is_empty(&mut empty));
 }

@@ -14,8 +14,6 @@ use asn1_types::{Component, TypeId};
 use gnb_types::bits::Bits;
 use gnb_types::octets::Octets;
 use std::alloc::Global;
-use std::process::Abort;
-use std::test::Fail;
 
 fn component(alloc: Global, optional: bool) -> Component {
     Component {
@@ -45,15 +43,21 @@ fn marks(alloc: Global, octets: &[u8]) -> Result<Bits, Unanswered>
     ask_marks(alloc, &mut cursor, true)
 }
 
+/// Whether these bits were found.
+fn are_bits(found: Result<Bits, Unanswered>, bits: &[bool]) -> bool {
+    match found {
+        Ok(found) => found.as_slice() == bits,
+        Err(_) => false,
+    }
+}
+
 #[test]
-fn marked(rt: HostRuntime) -> Result<(), Fail> {
-    let there = flags(rt.alloc(), &[0x40]);
-    assert!(rt; there.is_ok_and(|there| there.as_slice() == [false, true, true].as_slice()));
-    let added = marks(rt.alloc(), &[0x05, 0x40]);
-    assert!(rt; added.is_ok_and(|added| added.as_slice() == [true, false, true].as_slice()));
-    let none = marks(rt.alloc(), &[0x04, 0x00]);
-    assert!(rt; none.is_err_and(|error| error == Unanswered::Wrong(Reason::EmptyAdditions)));
-    Ok(())
+fn marked(rt: HostRuntime) {
+    let alloc = rt.alloc();
+    assert!(rt; are_bits(flags(alloc, &[0x40]), &[false, true, true]));
+    assert!(rt; are_bits(marks(alloc, &[0x05, 0x40]), &[true, false, true]));
+    let none = marks(alloc, &[0x04, 0x00]).err();
+    assert!(rt; none == Some(Unanswered::Wrong(Reason::EmptyAdditions)));
 }
 
 fn head(alloc: Global, octets: &[u8]) -> Result<MessageHead, Reason>
@@ -64,7 +68,7 @@ fn head(alloc: Global, octets: &[u8]) -> Result<MessageHead, Reason>
 }
 
 #[test]
-fn messages(rt: HostRuntime) -> Result<(), Fail> {
+fn messages(rt: HostRuntime) {
     let known = MessageHead::Known {
         outcome: 1,
         code: 17,
@@ -73,37 +77,43 @@ fn messages(rt: HostRuntime) -> Result<(), Fail> {
     assert!(rt; head(rt.alloc(), &[0x20, 0x11, 0x80]) == Ok(known));
     assert!(rt; head(rt.alloc(), &[0x20, 0x11, 0xc0]) == Err(Reason::Index));
     assert!(rt; head(rt.alloc(), &[0x84]) == Ok(MessageHead::Past(7)));
-    Ok(())
 }
 
-fn row(id: u16, presence: Presence) -> IeRow {
-    IeRow {
-        id,
-        criticality: Criticality::Reject,
-        definition: TypeId { number: 0 },
-        presence,
-    }
-}
+const ROW: IeRow = IeRow {
+    id: 1,
+    criticality: Criticality::Reject,
+    definition: TypeId { number: 0 },
+    presence: Presence::Mandatory,
+};
 
 /// The first is mandatory, and so is the third.
-#[test]
-fn elements(rt: HostRuntime) -> Result<(), Fail> {
-    let known = [
-        row(1, Presence::Mandatory),
-        row(2, Presence::Optional),
-        row(3, Presence::Mandatory),
-    ];
-    let mut cursor = Cursor::new(rt.alloc(), &[0x00, 0x02, 0x00, 0x01, 0x40]);
-    assert!(rt; ask_element_count(&mut cursor, &known) == Ok(2));
+const KNOWN: [IeRow; 3] = [
+    ROW,
+    IeRow {
+        id: 2,
+        presence: Presence::Optional,
+        ..ROW
+    },
+    IeRow { id: 3, ..ROW },
+];
+
+/// Two elements, of which the first has id 1.
+fn are_two(cursor: &mut Cursor) -> bool {
     let first = ElementHead {
         id: 1,
         criticality: 1,
     };
-    assert!(rt; ask_element_head(&mut cursor, &known, &known, 1) == Ok(first));
-    assert_eq!(rt; rows_left(&known, &known, 1).len(), 2);
-    assert_eq!(rt; rows_left(&known, &known[2..], 9).len(), 1);
-    assert_eq!(rt; rows_left(&known, &known[2..], 1).len(), 0);
-    Ok(())
+    ask_element_count(cursor, &KNOWN) == Ok(2)
+        && ask_element_head(cursor, &KNOWN, &KNOWN, 1) == Ok(first)
+}
+
+#[test]
+fn elements(rt: HostRuntime) {
+    let mut cursor = Cursor::new(rt.alloc(), &[0x00, 0x02, 0x00, 0x01, 0x40]);
+    assert!(rt; are_two(&mut cursor));
+    assert!(rt; rows_left(&KNOWN, &KNOWN, 1).len() == 2);
+    assert!(rt; rows_left(&KNOWN, &KNOWN[2..], 9).len() == 1);
+    assert!(rt; rows_left(&KNOWN, &KNOWN[2..], 1).is_empty());
 }
 
 fn raw(alloc: Global, octets: &[u8]) -> Result<Value, RawError>
@@ -120,13 +130,35 @@ fn is_raw(value: &Value, octets: &[u8]) -> bool {
     }
 }
 
+fn is_read(found: Result<Value, RawError>, octets: &[u8]) -> bool {
+    match found {
+        Ok(value) => {
+            let is_it = is_raw(&value, octets);
+            drop(value);
+            is_it
+        }
+        Err(_) => false,
+    }
+}
+
+fn is_refused(found: Result<Value, RawError>, error: RawError) -> bool {
+    let is_it = match &found {
+        Ok(_) => false,
+        Err(reason) => *reason == error,
+    };
+    drop(found);
+    is_it
+}
+
 #[test]
-fn unknown(rt: HostRuntime) -> Result<(), Fail> {
-    let two = raw(rt.alloc(), &[0x02, 0xaa, 0xbb]);
-    assert!(rt; two.is_ok_and(|value| is_raw(&value, &[0xaa, 0xbb])));
-    let empty = raw(rt.alloc(), &[0x00]);
-    assert!(rt; empty.is_err_and(|error| error == RawError::Length(Reason::Length)));
-    let cut = raw(rt.alloc(), &[0x02, 0xaa]);
-    assert!(rt; cut.is_err_and(|error| error == RawError::Octets(Reason::Truncated)));
-    Ok(())
+fn unknown(rt: HostRuntime) {
+    let alloc = rt.alloc();
+    assert!(rt; is_read(raw(alloc, &[0x02, 0xaa, 0xbb]), &[0xaa, 0xbb]));
+    assert!(rt; is_refused(raw(alloc, &[0x00]), RawError::Length(Reason::Length)));
+    assert!(rt;
+        is_refused(
+            raw(alloc, &[0x02, 0xaa]),
+            RawError::Octets(Reason::Truncated)
+        )
+    );
 }

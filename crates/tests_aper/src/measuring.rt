@@ -12,7 +12,7 @@ use asn1_types::Size;
 use gnb_types::bits::Bits;
 use gnb_types::octets::Octets;
 use std::alloc::Global;
-use std::test::Fail;
+use std::process::Abort;
 
 /// 1 to 150, or another number.
 const SIZE: Option<Size> = Some(Size {
@@ -34,35 +34,52 @@ fn octets(end: Option<Place>) -> Option<u128> {
     }
 }
 
-/// Where numbers, truth values and names end from the first bit on, and how many octets that is.
+/// How many octets a value has as a truth value.
+fn boolean(value: Value) -> Option<u128> {
+    let end = boolean_end(&value, 0);
+    drop(value);
+    octets(end)
+}
+
+/// How many octets a number has as one of those from 0 on up to a greatest one.
+fn integer(most: u64, extensible: bool, number: i128) -> Option<u128> {
+    let value = Value::Int(number);
+    let end = integer_end(0, i128::from(most), extensible, &value, 0);
+    drop(value);
+    octets(end)
+}
+
+/// How many octets an index has as one of two names, or past them.
+fn enumerated(index: u32) -> Option<u128> {
+    let value = Value::Enum(index);
+    let end = enumerated_end(2, true, &value, 0);
+    drop(value);
+    octets(end)
+}
+
+/// Up to this number, maybe past it: how many octets a number has.
+const INTEGERS: [(u64, bool, i128, Option<u128>); 6] = [
+    (65536, false, 5, Some(2)),
+    (65536, false, 65536, Some(4)),
+    (68719476735, false, 5, Some(2)),
+    (10, true, 5, Some(1)),
+    (10, true, 65536, Some(5)),
+    (10, false, 65536, None),
+];
+
+/// Where numbers, truth values and names end from the first bit on, as how many octets that is.
 #[test]
 fn numbers(rt: HostRuntime) {
-    let (five, many) = (Value::Int(5), Value::Int(65536));
-    let ends = [
-        octets(boolean_end(&Value::Bool(true), 0)),
-        octets(boolean_end(&five, 0)),
-        octets(integer_end(0, 65536, false, &five, 0)),
-        octets(integer_end(0, 65536, false, &many, 0)),
-        octets(integer_end(0, 68719476735, false, &five, 0)),
-        octets(integer_end(0, 10, true, &five, 0)),
-        octets(integer_end(0, 10, true, &many, 0)),
-        octets(integer_end(0, 10, false, &many, 0)),
-        octets(enumerated_end(2, true, &Value::Enum(65), 0)),
-        octets(enumerated_end(2, true, &Value::Enum(66), 0)),
-    ];
-    let counts = [
-        Some(1),
-        None,
-        Some(2),
-        Some(4),
-        Some(2),
-        Some(1),
-        Some(5),
-        None,
-        Some(1),
-        None,
-    ];
-    assert!(rt; ends == counts);
+    for &(most, extensible, number, count) in &INTEGERS {
+        assert!(rt;
+            integer(most, extensible, number) == count,
+            "{number} up to {most}"
+        );
+    }
+    assert!(rt; boolean(Value::Bool(true)) == Some(1));
+    assert!(rt; boolean(Value::Int(5)) == None);
+    assert!(rt; enumerated(65) == Some(1));
+    assert!(rt; enumerated(66) == None);
 }
 
 /// How many octets a text has; none where memory lacks.
@@ -93,17 +110,21 @@ fn strings(rt: HostRuntime) {
     assert!(rt; bits_length(alloc) == Some(Some(3)));
 }
 
-/// How many octets a value has as one of the type with a name: none where there is no type, or the value isn't one of it. None at
-/// all where memory lacks.
+/// How many octets a value has as one of the type with a name: none where there is no type, or the value isn't one of it.
+fn length_in(m: &Module, name: &[u8], value: &Value) -> Option<u64> {
+    let id = m.find(name)?;
+    if !is_value(m, id, value) {
+        return None;
+    }
+    Some(spelled_length(m, id, value))
+}
+
+/// The same; none at all where memory lacks.
 fn length_of(m: &Module, name: &[u8], value: Option<Value>) -> Option<Option<u64>> {
     let value = value?;
-    let Some(id) = m.find(name) else {
-        return Some(None);
-    };
-    if !is_value(m, id, &value) {
-        return Some(None);
-    }
-    Some(Some(spelled_length(m, id, &value)))
+    let length = length_in(m, name, &value);
+    drop(value);
+    Some(length)
 }
 
 /// A Pair without additions.
@@ -134,34 +155,45 @@ fn raw(alloc: Global) -> Option<Value> {
     Some(Value::Raw(Octets::from_slice(alloc, &[1, 2]).ok()?))
 }
 
+/// A list of one Pair with this number.
+fn pairs(alloc: Global, a: i128) -> Option<Value> {
+    list(alloc, pair(alloc, Some(Value::Int(a)), None))
+}
+
+fn values_are_measured(rt: &impl Abort, alloc: Global, m: &Module) {
+    assert!(rt; length_of(m, b"Pair", pair(alloc, Some(Value::Int(5)), None)) == Some(Some(2)));
+    assert!(rt; length_of(m, b"Pair", pair(alloc, Some(Value::Int(256)), None)) == Some(None));
+    assert!(rt; length_of(m, b"Pair", pair(alloc, None, Some(Value::Bool(true)))) == Some(None));
+    assert!(rt; length_of(m, b"Other", Some(Value::Int(5))) == Some(None));
+    assert!(rt; length_of(m, b"Pairs", pairs(alloc, 5)) == Some(Some(3)));
+    assert!(rt; length_of(m, b"Pairs", pairs(alloc, 256)) == Some(None));
+}
+
 /// A Pair: the extension bit and the bit of `b`, a pad to the next octet, and `a`; a list has one octet more for its count.
 #[test]
-fn values_of_a_module(rt: HostRuntime) -> Result<(), Fail> {
-    let alloc = rt.alloc();
-    let (m, _) = read_module(alloc, MODULE).ok().ok_or("a module")?;
-    let (five, great) = (Value::Int(5), Value::Int(256));
-    assert!(rt; length_of(&m, b"Pair", pair(alloc, Some(five), None)) == Some(Some(2)));
-    assert!(rt; length_of(&m, b"Pair", pair(alloc, Some(great), None)) == Some(None));
-    assert!(rt; length_of(&m, b"Pair", pair(alloc, None, Some(Value::Bool(true)))) == Some(None));
-    assert!(rt; length_of(&m, b"Other", Some(Value::Int(5))) == Some(None));
-    let pairs = list(alloc, pair(alloc, Some(Value::Int(5)), None));
-    assert!(rt; length_of(&m, b"Pairs", pairs) == Some(Some(3)));
-    let pairs = list(alloc, pair(alloc, Some(Value::Int(256)), None));
-    assert!(rt; length_of(&m, b"Pairs", pairs) == Some(None));
-    Ok(())
+fn values_of_a_module(rt: HostRuntime) {
+    let read = read_module(rt.alloc(), MODULE);
+    assert!(rt; read.is_ok());
+    if let Ok((module, _)) = &read {
+        values_are_measured(&rt, rt.alloc(), module);
+    }
+    drop(read);
+}
+
+fn additions_are_measured(rt: &impl Abort, alloc: Global, m: &Module) {
+    assert!(rt; length_of(m, b"Pair", extended(alloc)) == Some(Some(5)));
+    assert!(rt; length_of(m, b"Either", choice(alloc, 0, extended(alloc))) == Some(Some(5)));
+    assert!(rt; length_of(m, b"Either", choice(alloc, 2, raw(alloc))) == Some(Some(4)));
+    assert!(rt; length_of(m, b"Either", choice(alloc, 2, Some(Value::Int(5)))) == Some(None));
 }
 
 /// An addition: 7 bits for their number and one for each, a pad, a length and an octet.
 #[test]
-fn additions_of_a_module(rt: HostRuntime) -> Result<(), Fail> {
-    let alloc = rt.alloc();
-    let (m, _) = read_module(alloc, MODULE).ok().ok_or("a module")?;
-    assert!(rt; length_of(&m, b"Pair", extended(alloc)) == Some(Some(5)));
-    let chosen = choice(alloc, 0, extended(alloc));
-    assert!(rt; length_of(&m, b"Either", chosen) == Some(Some(5)));
-    let unknown = choice(alloc, 2, raw(alloc));
-    assert!(rt; length_of(&m, b"Either", unknown) == Some(Some(4)));
-    let other = choice(alloc, 2, Some(Value::Int(5)));
-    assert!(rt; length_of(&m, b"Either", other) == Some(None));
-    Ok(())
+fn additions_of_a_module(rt: HostRuntime) {
+    let read = read_module(rt.alloc(), MODULE);
+    assert!(rt; read.is_ok());
+    if let Ok((module, _)) = &read {
+        additions_are_measured(&rt, rt.alloc(), module);
+    }
+    drop(read);
 }

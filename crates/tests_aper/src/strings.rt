@@ -9,8 +9,6 @@ use aper_strings::{Content, ask_string};
 use asn1_types::Size;
 use gnb_types::octets::Octets;
 use std::alloc::Global;
-use std::process::Abort;
-use std::test::Fail;
 
 fn string(
     alloc: Global,
@@ -52,34 +50,69 @@ fn is_string(
     }
 }
 
+/// A string's octets, its content, its size, and its units or why there are none.
+type Row = (
+    &'static [u8],
+    Content,
+    (u8, u8),
+    Result<&'static [u8], Reason>,
+);
+
+const STRINGS: [Row; 12] = [
+    (&[0x80, 0xa0], Content::Bits, (1, 4), Ok(&[1, 0, 1])),
+    (&[0x81, 0xa0], Content::Bits, (1, 4), Err(Reason::Padding)),
+    (&[0x03, 0xa0], Content::Bits, (0, 0), Ok(&[1, 0, 1])),
+    (&[0x80, 0x03, 0xa0], Content::Bits, (2, 2), Ok(&[1, 0, 1])),
+    (&[0x00], Content::Octets, (0, 0), Ok(&[])),
+    (
+        &[0x80, 0x03, 1, 2, 3],
+        Content::Octets,
+        (2, 2),
+        Ok(&[1, 2, 3]),
+    ),
+    (
+        &[0x80, 0x02, 1, 2],
+        Content::Octets,
+        (2, 2),
+        Err(Reason::NotMinimal),
+    ),
+    (
+        &[0x80, 0x7f],
+        Content::Octets,
+        (0, 0),
+        Err(Reason::NotMinimal),
+    ),
+    (&[0xc5], Content::Octets, (0, 0), Err(Reason::Length)),
+    (
+        b"\x0bit's 1+1=2?",
+        Content::Characters,
+        (0, 0),
+        Ok(b"it's 1+1=2?"),
+    ),
+    (
+        b"\x03A",
+        Content::Characters,
+        (0, 0),
+        Err(Reason::Truncated),
+    ),
+    (
+        b"\x02A\xff",
+        Content::Characters,
+        (0, 0),
+        Err(Reason::Character),
+    ),
+];
+
+fn is_row(alloc: Global, row: Row) -> bool {
+    let (octets, content, size, units) = row;
+    octets.len() < 100_000 && is_string(alloc, octets, content, size, units)
+}
+
 #[test]
-fn strings(rt: HostRuntime) -> Result<(), Fail> {
-    let (bits, octets, characters) = (Content::Bits, Content::Octets, Content::Characters);
-    let none = (0, 0);
-    let rows: [(
-        &'static [u8],
-        Content,
-        (u8, u8),
-        Result<&'static [u8], Reason>,
-    ); 12] = [
-        (&[0x80, 0xa0], bits, (1, 4), Ok(&[1, 0, 1])),
-        (&[0x81, 0xa0], bits, (1, 4), Err(Reason::Padding)),
-        (&[0x03, 0xa0], bits, none, Ok(&[1, 0, 1])),
-        (&[0x80, 0x03, 0xa0], bits, (2, 2), Ok(&[1, 0, 1])),
-        (&[0x00], octets, none, Ok(&[])),
-        (&[0x80, 0x03, 1, 2, 3], octets, (2, 2), Ok(&[1, 2, 3])),
-        (&[0x80, 0x02, 1, 2], octets, (2, 2), Err(Reason::NotMinimal)),
-        (&[0x80, 0x7f], octets, none, Err(Reason::NotMinimal)),
-        (&[0xc5], octets, none, Err(Reason::Length)),
-        (b"\x0bit's 1+1=2?", characters, none, Ok(b"it's 1+1=2?")),
-        (b"\x03A", characters, none, Err(Reason::Truncated)),
-        (b"\x02A\xff", characters, none, Err(Reason::Character)),
-    ];
-    for (octets, content, size, units) in rows {
-        assert!(rt; octets.len() < 100_000);
-        assert!(rt; is_string(rt.alloc(), octets, content, size, units));
+fn strings(rt: HostRuntime) {
+    for &row in &STRINGS {
+        assert!(rt; is_row(rt.alloc(), row), "{:?}", row.0);
     }
-    Ok(())
 }
 
 /// A part of 16,384 octets of zeros, and what comes after it.
@@ -90,11 +123,24 @@ fn parts(alloc: Global, next: u8) -> Result<Octets, Unanswered> {
     string(alloc, octets.as_slice(), Content::Octets, None)
 }
 
+/// Whether there is a string of so many octets.
+fn has_length(found: Result<Octets, Unanswered>, length: usize) -> bool {
+    match found {
+        Ok(octets) => octets.len() == length,
+        Err(_) => false,
+    }
+}
+
+/// Whether there is none for this reason.
+fn is_wrong(found: Result<Octets, Unanswered>, reason: Reason) -> bool {
+    match found {
+        Ok(_) => false,
+        Err(error) => error == Unanswered::Wrong(reason),
+    }
+}
+
 #[test]
-fn more_parts(rt: HostRuntime) -> Result<(), Fail> {
-    let whole = parts(rt.alloc(), 0);
-    assert!(rt; whole.is_ok_and(|octets| octets.len() == 16_384));
-    let further = parts(rt.alloc(), 0xc1);
-    assert!(rt; further.is_err_and(|error| error == Unanswered::Wrong(Reason::NotMinimal)));
-    Ok(())
+fn more_parts(rt: HostRuntime) {
+    assert!(rt; has_length(parts(rt.alloc(), 0), 16_384));
+    assert!(rt; is_wrong(parts(rt.alloc(), 0xc1), Reason::NotMinimal));
 }
