@@ -9,9 +9,8 @@ use asn1_module::{Module, TypeId, read_module};
 use gnb_types::hex::hex_bytes;
 use gnb_types::octets::Octets;
 use profile::PROFILE_TEXT;
-use std::alloc::Global;
+use std::alloc::{AllocError, Global};
 use std::process::Abort;
-use std::test::Fail;
 
 /// The octets that a value is written as.
 fn written(alloc: Global, m: &Module, id: TypeId, value: &Value) -> Option<Octets>
@@ -26,22 +25,38 @@ fn written(alloc: Global, m: &Module, id: TypeId, value: &Value) -> Option<Octet
     encode(alloc, m, id, value).ok()
 }
 
+fn is_written(alloc: Global, m: &Module, id: TypeId, value: &Value, octets: &[u8]) -> bool
+    requires { id.number < length m.now.nodes }
+{
+    match written(alloc, m, id, value) {
+        Some(found) => found.as_slice() == octets,
+        None => false,
+    }
+}
+
+fn is_shown(alloc: Global, value: &Value, shown: &str) -> bool {
+    match format!(in alloc; "{value:?}") {
+        Ok(text) => text.as_str() == shown,
+        Err(_) => false,
+    }
+}
+
 /// Whether these octets are read as a value that is shown so and is written as them.
 fn is_read_and_written(alloc: Global, m: &Module, id: TypeId, octets: &[u8], shown: &str) -> bool
     requires inside { id.number < length m.now.nodes }
     requires short { length octets.now < 2 ^ 61 }
 {
-    let Ok(value) = decode(alloc, m, id, octets) else {
-        return false;
-    };
-    let Ok(text) = format!(in alloc; "{value:?}") else {
-        return false;
-    };
-    let is_written = match written(alloc, m, id, &value) {
-        None => false,
-        Some(found) => found.as_slice() == octets,
-    };
-    text.as_str() == shown && is_written
+    match decode(alloc, m, id, octets) {
+        Ok(value) => {
+            let is_it = is_shown(alloc, &value, shown) && is_written(alloc, m, id, &value, octets);
+            drop(value);
+            is_it
+        }
+        Err(error) => {
+            drop(error);
+            false
+        }
+    }
 }
 
 fn is_spelling(alloc: Global, m: &Module, row: Row) -> bool {
@@ -49,56 +64,60 @@ fn is_spelling(alloc: Global, m: &Module, row: Row) -> bool {
     let Some(id) = m.find(name) else {
         return false;
     };
-    let Ok(octets) = hex_bytes(alloc, hex) else {
+    let Ok(octets) = hex_bytes(alloc, hex.as_bytes()) else {
         return false;
     };
     let octets = octets.as_slice();
     octets.len() < 1000 && is_read_and_written(alloc, m, id, octets, shown)
 }
 
-#[test]
-fn worked(rt: HostRuntime) -> Result<(), Fail> {
-    let (module, _) = read_module(rt.alloc(), TYPES)?;
-    for row in WORKED {
-        assert!(rt; is_spelling(rt.alloc(), &module, row));
+fn are_spellings(rt: &impl Abort, alloc: Global, m: &Module, rows: &[Row]) {
+    for &row in rows {
+        assert!(rt; is_spelling(alloc, m, row), "{}", row.1);
     }
-    Ok(())
+}
+
+/// Each of these is a spelling by the types of a text.
+fn are_spelled(rt: &impl Abort, alloc: Global, text: &[u8], rows: &[Row]) {
+    match read_module(alloc, text) {
+        Ok((module, _)) => are_spellings(rt, alloc, &module, rows),
+        Err(_) => assert!(rt; false),
+    }
 }
 
 #[test]
-fn numbers(rt: HostRuntime) -> Result<(), Fail> {
-    let (module, _) = read_module(rt.alloc(), TYPES)?;
-    for row in NUMBERS {
-        assert!(rt; is_spelling(rt.alloc(), &module, row));
-    }
-    Ok(())
+fn worked(rt: HostRuntime) {
+    are_spelled(&rt, rt.alloc(), TYPES, &WORKED);
 }
 
 #[test]
-fn strings(rt: HostRuntime) -> Result<(), Fail> {
-    let (module, _) = read_module(rt.alloc(), TYPES)?;
-    for row in STRINGS {
-        assert!(rt; is_spelling(rt.alloc(), &module, row));
-    }
-    Ok(())
+fn numbers(rt: HostRuntime) {
+    are_spelled(&rt, rt.alloc(), TYPES, &NUMBERS);
 }
 
 #[test]
-fn structures(rt: HostRuntime) -> Result<(), Fail> {
-    let (module, _) = read_module(rt.alloc(), TYPES)?;
-    for row in STRUCTURES {
-        assert!(rt; is_spelling(rt.alloc(), &module, row));
-    }
-    Ok(())
+fn strings(rt: HostRuntime) {
+    are_spelled(&rt, rt.alloc(), TYPES, &STRINGS);
 }
 
 #[test]
-fn messages(rt: HostRuntime) -> Result<(), Fail> {
-    let (module, _) = read_module(rt.alloc(), PROFILE_TEXT)?;
-    for row in MESSAGES {
-        assert!(rt; is_spelling(rt.alloc(), &module, row));
+fn structures(rt: HostRuntime) {
+    are_spelled(&rt, rt.alloc(), TYPES, &STRUCTURES);
+}
+
+#[test]
+fn messages(rt: HostRuntime) {
+    are_spelled(&rt, rt.alloc(), PROFILE_TEXT, &MESSAGES);
+}
+
+/// Whether a value is so many octets of zeros.
+fn has_zeros(value: &Value, count: usize) -> bool {
+    match value {
+        Value::Octets(zeros) => {
+            zeros.len() == count && zeros.as_slice().iter().all(|octet| *octet == 0)
+        }
+        _ => false,
     }
-    Ok(())
 }
 
 /// Whether these octets are read as so many octets of zeros, which are written as them.
@@ -106,29 +125,44 @@ fn is_zeros(alloc: Global, m: &Module, id: TypeId, octets: &[u8], count: usize) 
     requires inside { id.number < length m.now.nodes }
     requires short { length octets.now < 2 ^ 61 }
 {
-    let Ok(value) = decode(alloc, m, id, octets) else {
+    match decode(alloc, m, id, octets) {
+        Ok(value) => {
+            let is_it = has_zeros(&value, count) && is_written(alloc, m, id, &value, octets);
+            drop(value);
+            is_it
+        }
+        Err(error) => {
+            drop(error);
+            false
+        }
+    }
+}
+
+/// The head of a part of 16,384 octets, as many zeros, and an empty part.
+fn parts(alloc: Global) -> Result<Vec<u8>, AllocError> {
+    let mut octets = Vec::from_elem(alloc, 0u8, 16_386)?;
+    octets[0] = 0xc1;
+    Ok(octets)
+}
+
+fn are_zeros(alloc: Global, m: &Module, octets: &[u8]) -> bool {
+    let Some(id) = m.find(b"Any-Octets") else {
         return false;
     };
-    let is_written = match written(alloc, m, id, &value) {
-        None => false,
-        Some(found) => found.as_slice() == octets,
-    };
-    match &value {
-        Value::Octets(zeros) => {
-            zeros.len() == count && zeros.as_slice().iter().all(|octet| *octet == 0) && is_written
-        }
-        _ => false,
+    octets.len() == 16_386 && is_zeros(alloc, m, id, octets, 16_384)
+}
+
+fn is_in_parts(alloc: Global, octets: &[u8]) -> bool {
+    match read_module(alloc, TYPES) {
+        Ok((module, _)) => are_zeros(alloc, &module, octets),
+        Err(_) => false,
     }
 }
 
 /// 16,384 octets come in a part of so many and an empty one.
 #[test]
-fn in_parts(rt: HostRuntime) -> Result<(), Fail> {
-    let (module, _) = read_module(rt.alloc(), TYPES)?;
-    let id = module.find(b"Any-Octets").ok_or("a type")?;
-    let mut octets = Vec::from_elem(rt.alloc(), 0u8, 16_386)?;
-    octets[0] = 0xc1;
-    assert!(rt; octets.len() == 16_386);
-    assert!(rt; is_zeros(rt.alloc(), &module, id, octets.as_slice(), 16_384));
+fn in_parts(rt: HostRuntime) -> Result<(), AllocError> {
+    let octets = parts(rt.alloc())?;
+    assert!(rt; is_in_parts(rt.alloc(), octets.as_slice()));
     Ok(())
 }

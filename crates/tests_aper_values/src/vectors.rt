@@ -3,10 +3,10 @@
 use aper::Reason;
 
 /// The name of a type, the octets of a value of it in hex, and how the value is shown.
-pub type Row = (&'static [u8], &'static [u8], &'static str);
+pub type Row = (&'static [u8], &'static str, &'static str);
 
 /// The name of a type, octets in hex, the first wrong bit, the reason, and the way to it.
-pub type Refusal = (&'static [u8], &'static [u8], u64, Reason, &'static [u8]);
+pub type Refusal = (&'static [u8], &'static str, u64, Reason, &'static [u8]);
 
 /// The types of the tables.
 pub const TYPES: &[u8] = b"Vectors DEFINITIONS AUTOMATIC TAGS ::= BEGIN\n\
@@ -55,227 +55,219 @@ END\n";
 /// Worked spellings; the last two are of ITU-T X.691: its example A.4, whose extension addition group is an addition
 /// without a name here, and a number of A.3.
 pub const WORKED: [Row; 22] = [
-    (b"Truth", b"80", "Bool(true)"),
+    (b"Truth", "80", "Bool(true)"),
     (
         b"Pair",
-        b"80C8",
+        "80C8",
         "Seq { root: [Some(Bool(true)), Some(Int(200))], additions: [] }",
     ),
     (
         b"Packed",
-        b"E400",
+        "E400",
         "Seq { root: [Some(Bool(true)), Some(Int(200))], additions: [] }",
     ),
-    (b"Large", b"0000", "Int(0)"),
-    (b"Large", b"80010000", "Int(65536)"),
-    (b"Larger", b"0001", "Int(1)"),
-    (b"Larger", b"800FFFFFFFFF", "Int(68719476735)"),
+    (b"Large", "0000", "Int(0)"),
+    (b"Large", "80010000", "Int(65536)"),
+    (b"Larger", "0001", "Int(1)"),
+    (b"Larger", "800FFFFFFFFF", "Int(68719476735)"),
     (
         b"Text",
-        b"0100647531",
+        "0100647531",
         "Text(Items { items: [100, 117, 49] })",
     ),
-    (b"Nothing", b"00", "Seq { root: [], additions: [] }"),
-    (b"Colour", b"40", "Enum(1)"),
-    (b"Colour", b"82", "Enum(4)"),
-    (b"Small", b"28", "Int(5)"),
-    (b"Small", b"8002012C", "Int(300)"),
-    (b"Truths", b"0280", "List([Bool(true), Bool(false)])"),
-    (b"Either", b"4007", "Choice(1, Int(7))"),
+    (b"Nothing", "00", "Seq { root: [], additions: [] }"),
+    (b"Colour", "40", "Enum(1)"),
+    (b"Colour", "82", "Enum(4)"),
+    (b"Small", "28", "Int(5)"),
+    (b"Small", "8002012C", "Int(300)"),
+    (b"Truths", "0280", "List([Bool(true), Bool(false)])"),
+    (b"Either", "4007", "Choice(1, Int(7))"),
     (
         b"Either",
-        b"8101AA",
+        "8101AA",
         "Choice(3, Raw(Items { items: [170] }))",
     ),
     (
         b"Elements",
-        b"00010001000180",
+        "00010001000180",
         "Ies([Element { id: 1, criticality: 0, body: Bool(true) }])",
     ),
     (
         b"Named",
-        b"C0400180",
+        "C0400180",
         "Seq { root: [Some(Bool(true))], additions: [Some(Bool(true))] }",
     ),
     (
         b"Unnamed",
-        b"C0400180",
+        "C0400180",
         "Seq { root: [Some(Bool(true))], additions: [Some(Raw(Items { items: [128] }))] }",
     ),
     (
         b"Unnamed",
-        b"C0400181",
+        "C0400181",
         "Seq { root: [Some(Bool(true))], additions: [Some(Raw(Items { items: [129] }))] }",
     ),
     (
         b"Groups",
-        b"9E000180010291A4",
+        "9E000180010291A4",
         "Seq { root: [Some(Int(253)), Some(Bool(true)), Some(Choice(1, Bool(true))), None, None], \
          additions: [Some(Raw(Items { items: [145, 164] }))] }",
     ),
-    (b"Employee", b"000033", "Int(51)"),
+    (b"Employee", "000033", "Int(51)"),
 ];
 
 /// Truth values, numbers and names: the least and the greatest of each type, and past its root.
 pub const NUMBERS: [Row; 18] = [
-    (b"Truth", b"00", "Bool(false)"),
-    (b"Few", b"00", "Int(-5)"),
-    (b"Few", b"F0", "Int(10)"),
-    (b"Octet", b"00", "Int(0)"),
-    (b"Octet", b"FF", "Int(255)"),
-    (b"Word", b"0000", "Int(-32768)"),
-    (b"Word", b"FFFF", "Int(32767)"),
-    (b"Signed", b"0000", "Int(-9223372036854775808)"),
-    (b"Signed", b"E0FFFFFFFFFFFFFFFF", "Int(9223372036854775807)"),
-    (b"Unsigned", b"0000", "Int(0)"),
+    (b"Truth", "00", "Bool(false)"),
+    (b"Few", "00", "Int(-5)"),
+    (b"Few", "F0", "Int(10)"),
+    (b"Octet", "00", "Int(0)"),
+    (b"Octet", "FF", "Int(255)"),
+    (b"Word", "0000", "Int(-32768)"),
+    (b"Word", "FFFF", "Int(32767)"),
+    (b"Signed", "0000", "Int(-9223372036854775808)"),
+    (b"Signed", "E0FFFFFFFFFFFFFFFF", "Int(9223372036854775807)"),
+    (b"Unsigned", "0000", "Int(0)"),
     (
         b"Unsigned",
-        b"E0FFFFFFFFFFFFFFFF",
+        "E0FFFFFFFFFFFFFFFF",
         "Int(18446744073709551615)",
     ),
-    (b"One", b"00", "Int(5)"),
+    (b"One", "00", "Int(5)"),
     (
         b"Small",
-        b"80088000000000000000",
+        "80088000000000000000",
         "Int(-9223372036854775808)",
     ),
-    (
-        b"Small",
-        b"80087FFFFFFFFFFFFFFF",
-        "Int(9223372036854775807)",
-    ),
-    (b"Three", b"00", "Enum(0)"),
-    (b"Three", b"80", "Enum(2)"),
-    (b"Colour", b"00", "Enum(0)"),
-    (b"Colour", b"BF", "Enum(65)"),
+    (b"Small", "80087FFFFFFFFFFFFFFF", "Int(9223372036854775807)"),
+    (b"Three", "00", "Enum(0)"),
+    (b"Three", "80", "Enum(2)"),
+    (b"Colour", "00", "Enum(0)"),
+    (b"Colour", "BF", "Enum(65)"),
 ];
 
 /// Strings: the shortest and the longest of each type, and past its size.
 pub const STRINGS: [Row; 17] = [
-    (b"Some-Bits", b"0000", "Bits(Items { items: [false] })"),
+    (b"Some-Bits", "0000", "Bits(Items { items: [false] })"),
     (
         b"Some-Bits",
-        b"C0F0",
+        "C0F0",
         "Bits(Items { items: [true, true, true, true] })",
     ),
     (
         b"Sixteen",
-        b"0000",
+        "0000",
         "Bits(Items { items: [false, false, false, false, false, false, false, false, false, false, \
          false, false, false, false, false, false] })",
     ),
     (
         b"Sixteen",
-        b"FFFF",
+        "FFFF",
         "Bits(Items { items: [true, true, true, true, true, true, true, true, true, true, true, \
          true, true, true, true, true] })",
     ),
-    (b"Any-Bits", b"00", "Bits(Items { items: [] })"),
+    (b"Any-Bits", "00", "Bits(Items { items: [] })"),
     (
         b"Any-Bits",
-        b"09FF80",
+        "09FF80",
         "Bits(Items { items: [true, true, true, true, true, true, true, true, true] })",
     ),
-    (b"Two-Octets", b"0000", "Octets(Items { items: [0, 0] })"),
-    (
-        b"Two-Octets",
-        b"FFFF",
-        "Octets(Items { items: [255, 255] })",
-    ),
-    (b"Few-Octets", b"0000", "Octets(Items { items: [0] })"),
+    (b"Two-Octets", "0000", "Octets(Items { items: [0, 0] })"),
+    (b"Two-Octets", "FFFF", "Octets(Items { items: [255, 255] })"),
+    (b"Few-Octets", "0000", "Octets(Items { items: [0] })"),
     (
         b"Few-Octets",
-        b"40FFFF",
+        "40FFFF",
         "Octets(Items { items: [255, 255] })",
     ),
-    (b"Few-Octets", b"8000", "Octets(Items { items: [] })"),
+    (b"Few-Octets", "8000", "Octets(Items { items: [] })"),
     (
         b"Few-Octets",
-        b"8003010203",
+        "8003010203",
         "Octets(Items { items: [1, 2, 3] })",
     ),
-    (b"Any-Octets", b"00", "Octets(Items { items: [] })"),
+    (b"Any-Octets", "00", "Octets(Items { items: [] })"),
     (
         b"Any-Octets",
-        b"02FFFF",
+        "02FFFF",
         "Octets(Items { items: [255, 255] })",
     ),
-    (b"Word-Text", b"0020", "Text(Items { items: [32] })"),
+    (b"Word-Text", "0020", "Text(Items { items: [32] })"),
     (
         b"Word-Text",
-        b"807A7A7A",
+        "807A7A7A",
         "Text(Items { items: [122, 122, 122] })",
     ),
-    (b"Text", b"8000", "Text(Items { items: [] })"),
+    (b"Text", "8000", "Text(Items { items: [] })"),
 ];
 
 /// Types with types inside: with nothing that may be absent, and with all.
 pub const STRUCTURES: [Row; 15] = [
     (
         b"Options",
-        b"00",
+        "00",
         "Seq { root: [None, None], additions: [] }",
     ),
     (
         b"Options",
-        b"E0FF",
+        "E0FF",
         "Seq { root: [Some(Bool(true)), Some(Int(255))], additions: [] }",
     ),
-    (b"Third", b"00", "Choice(0, Bool(false))"),
-    (b"Third", b"80FF", "Choice(2, Int(255))"),
+    (b"Third", "00", "Choice(0, Bool(false))"),
+    (b"Third", "80FF", "Choice(2, Int(255))"),
     (
         b"Either",
-        b"BF01FF",
+        "BF01FF",
         "Choice(65, Raw(Items { items: [255] }))",
     ),
-    (b"Truths", b"00", "List([])"),
+    (b"Truths", "00", "List([])"),
     (
         b"Truths",
-        b"03A0",
+        "03A0",
         "List([Bool(true), Bool(false), Bool(true)])",
     ),
     (
         b"Some-Truths",
-        b"00",
+        "00",
         "List([Seq { root: [None, None], additions: [] }])",
     ),
     (
         b"Some-Truths",
-        b"F0FF4007",
+        "F0FF4007",
         "List([Seq { root: [Some(Bool(true)), Some(Int(255))], additions: [] }, Seq { root: [None, \
          Some(Int(7))], additions: [] }])",
     ),
     (
         b"Elements",
-        b"000200010001800002400107",
+        "000200010001800002400107",
         "Ies([Element { id: 1, criticality: 0, body: Bool(true) }, Element { id: 2, criticality: 1, \
          body: Raw(Items { items: [7] }) }])",
     ),
     (
         b"Ordered",
-        b"00020001000180FFFF8001AA",
+        "00020001000180FFFF8001AA",
         "Ies([Element { id: 1, criticality: 0, body: Bool(true) }, Element { id: 65535, \
          criticality: 2, body: Raw(Items { items: [170] }) }])",
     ),
     (
         b"Message",
-        b"0000000180",
+        "0000000180",
         "Pdu { outcome: 0, code: 0, criticality: 0, body: Bool(true) }",
     ),
     (
         b"Message",
-        b"2000400280FF",
+        "2000400280FF",
         "Pdu { outcome: 1, code: 0, criticality: 1, body: Seq { root: [Some(Bool(true)), \
          Some(Int(255))], additions: [] } }",
     ),
     (
         b"Message",
-        b"40FF8001AA",
+        "40FF8001AA",
         "Pdu { outcome: 2, code: 255, criticality: 2, body: Raw(Items { items: [170] }) }",
     ),
     (
         b"Message",
-        b"BF01FF",
+        "BF01FF",
         "Pdu { outcome: 66, code: 0, criticality: 0, body: Raw(Items { items: [255] }) }",
     ),
 ];
@@ -284,56 +276,56 @@ pub const STRUCTURES: [Row; 15] = [
 pub const MESSAGES: [Row; 11] = [
     (
         b"RrcToken",
-        b"200001",
+        "200001",
         "Choice(1, Seq { root: [Some(Int(1)), Some(Int(1))], additions: [] })",
     ),
     (
         b"RrcToken",
-        b"400002",
+        "400002",
         "Choice(2, Seq { root: [Some(Int(1)), Some(Int(2))], additions: [] })",
     ),
     (
         b"RrcToken",
-        b"600002",
+        "600002",
         "Choice(3, Seq { root: [Some(Int(1)), Some(Int(2))], additions: [] })",
     ),
     (
         b"RrcToken",
-        b"00000140",
+        "00000140",
         "Choice(0, Seq { root: [Some(Int(1)), Some(Int(1)), Some(Enum(0)), Some(Int(2))], \
          additions: [] })",
     ),
     (
         b"F1AP-PDU",
-        b"0006001000000200010001000007000403400002",
+        "0006001000000200010001000007000403400002",
         "Pdu { outcome: 0, code: 6, criticality: 0, body: Seq { root: [Some(Ies([Element { id: 1, \
          criticality: 0, body: Int(1) }, Element { id: 7, criticality: 0, body: Octets(Items { \
          items: [64, 0, 2] }) }]))], additions: [] } }",
     ),
     (
         b"F1AP-PDU",
-        b"0004000E0000020001000100000200020001",
+        "0004000E0000020001000100000200020001",
         "Pdu { outcome: 0, code: 4, criticality: 0, body: Seq { root: [Some(Ies([Element { id: 1, \
          criticality: 0, body: Int(1) }, Element { id: 2, criticality: 0, body: Int(1) }]))], \
          additions: [] } }",
     ),
     (
         b"F1AP-PDU",
-        b"0004001100000200010001F000020005C0FFFFFFFF",
+        "0004001100000200010001F000020005C0FFFFFFFF",
         "Pdu { outcome: 0, code: 4, criticality: 0, body: Seq { root: [Some(Ies([Element { id: 1, \
          criticality: 0, body: Int(16) }, Element { id: 2, criticality: 0, body: Int(4294967295) \
          }]))], additions: [] } }",
     ),
     (
         b"F1AP-PDU",
-        b"00010014000002000200020001001100070200412E647531",
+        "00010014000002000200020001001100070200412E647531",
         "Pdu { outcome: 0, code: 1, criticality: 0, body: Seq { root: [Some(Ies([Element { id: 2, \
          criticality: 0, body: Int(1) }, Element { id: 17, criticality: 0, body: Text(Items { \
          items: [65, 46, 100, 117, 49] }) }]))], additions: [] } }",
     ),
     (
         b"F1AP-PDU",
-        b"000600150000030001000100000700040340000200634001AA",
+        "000600150000030001000100000700040340000200634001AA",
         "Pdu { outcome: 0, code: 6, criticality: 0, body: Seq { root: [Some(Ies([Element { id: 1, \
          criticality: 0, body: Int(1) }, Element { id: 7, criticality: 0, body: Octets(Items { \
          items: [64, 0, 2] }) }, Element { id: 99, criticality: 1, body: Raw(Items { items: [170] \
@@ -341,7 +333,7 @@ pub const MESSAGES: [Row; 11] = [
     ),
     (
         b"F1AP-PDU",
-        b"000200250000060001000100000200020001000300020001000500030000020009000100000C000100",
+        "000200250000060001000100000200020001000300020001000500030000020009000100000C000100",
         "Pdu { outcome: 0, code: 2, criticality: 0, body: Seq { root: [Some(Ies([Element { id: 1, \
          criticality: 0, body: Int(1) }, Element { id: 2, criticality: 0, body: Int(1) }, Element { \
          id: 3, criticality: 0, body: Int(1) }, Element { id: 5, criticality: 0, body: List([Seq { \
@@ -351,7 +343,7 @@ pub const MESSAGES: [Row; 11] = [
     ),
     (
         b"F1AP-PDU",
-        b"20020015000003000100010000020002000100060003000001",
+        "20020015000003000100010000020002000100060003000001",
         "Pdu { outcome: 1, code: 2, criticality: 0, body: Seq { root: [Some(Ies([Element { id: 1, \
          criticality: 0, body: Int(1) }, Element { id: 2, criticality: 0, body: Int(1) }, Element { \
          id: 6, criticality: 0, body: List([Seq { root: [Some(Int(1)), Some(Int(1))], additions: [] \
@@ -361,59 +353,59 @@ pub const MESSAGES: [Row; 11] = [
 
 /// A refusal for each reason but the one that takes more than 131,072 octets, and for each kind of step.
 pub const REFUSED: [Refusal; 25] = [
-    (b"Truth", b"81", 1, Reason::Padding, b"-"),
-    (b"Large", b"400000", 8, Reason::NotMinimal, b"-"),
-    (b"Nothing", b"", 0, Reason::Truncated, b"-"),
-    (b"Elements", b"0000", 0, Reason::Required, b"-"),
-    (b"Elements", b"0001000100028000", 56, Reason::Tail, b"#1"),
-    (b"Wide", b"00010001000180", 48, Reason::Overrun, b"#1"),
-    (b"Named", b"C0400181", 25, Reason::Padding, b"b"),
-    (b"Truth", b"8000", 8, Reason::Tail, b"-"),
-    (b"Packed", b"FF80", 1, Reason::Range, b"b"),
-    (b"Three", b"C0", 0, Reason::Index, b"-"),
-    (b"Small", b"800900", 8, Reason::Length, b"-"),
-    (b"Small", b"80010A", 16, Reason::NotMinimal, b"-"),
-    (b"Text", b"01002A", 16, Reason::Character, b"-"),
-    (b"Unnamed", b"C000", 9, Reason::EmptyAdditions, b"-"),
-    (b"Ordered", b"00020002400107", 16, Reason::Required, b"-"),
+    (b"Truth", "81", 1, Reason::Padding, b"-"),
+    (b"Large", "400000", 8, Reason::NotMinimal, b"-"),
+    (b"Nothing", "", 0, Reason::Truncated, b"-"),
+    (b"Elements", "0000", 0, Reason::Required, b"-"),
+    (b"Elements", "0001000100028000", 56, Reason::Tail, b"#1"),
+    (b"Wide", "00010001000180", 48, Reason::Overrun, b"#1"),
+    (b"Named", "C0400181", 25, Reason::Padding, b"b"),
+    (b"Truth", "8000", 8, Reason::Tail, b"-"),
+    (b"Packed", "FF80", 1, Reason::Range, b"b"),
+    (b"Three", "C0", 0, Reason::Index, b"-"),
+    (b"Small", "800900", 8, Reason::Length, b"-"),
+    (b"Small", "80010A", 16, Reason::NotMinimal, b"-"),
+    (b"Text", "01002A", 16, Reason::Character, b"-"),
+    (b"Unnamed", "C000", 9, Reason::EmptyAdditions, b"-"),
+    (b"Ordered", "00020002400107", 16, Reason::Required, b"-"),
     (
         b"Ordered",
-        b"000300010001800002400107",
+        "000300010001800002400107",
         96,
         Reason::Truncated,
         b"-",
     ),
     (
         b"Ordered",
-        b"0003000100018000024001070001000180",
+        "0003000100018000024001070001000180",
         96,
         Reason::Order,
         b"-",
     ),
-    (b"Truths", b"03B0", 11, Reason::Padding, b"-"),
-    (b"Either", b"8102AA", 16, Reason::Truncated, b"-"),
+    (b"Truths", "03B0", 11, Reason::Padding, b"-"),
+    (b"Either", "8102AA", 16, Reason::Truncated, b"-"),
     (
         b"Message",
-        b"0000000181",
+        "0000000181",
         33,
         Reason::Padding,
         b"initiatingMessage",
     ),
     (
         b"Message",
-        b"2000400280",
+        "2000400280",
         40,
         Reason::Truncated,
         b"successfulOutcome.b",
     ),
     (
         b"Message",
-        b"40004001",
+        "40004001",
         32,
         Reason::Truncated,
         b"unsuccessfulOutcome",
     ),
-    (b"Groups", b"9E000181010291A4", 25, Reason::Padding, b"c.e"),
-    (b"Third", b"C0", 0, Reason::Index, b"-"),
-    (b"Some-Truths", b"F0FF6007", 18, Reason::Padding, b"[1].b"),
+    (b"Groups", "9E000181010291A4", 25, Reason::Padding, b"c.e"),
+    (b"Third", "C0", 0, Reason::Index, b"-"),
+    (b"Some-Truths", "F0FF6007", 18, Reason::Padding, b"[1].b"),
 ];
