@@ -20,7 +20,7 @@ const NUMBERS: [(&str, Option<u32>); 9] = [
 
 #[test]
 fn numbers(rt: HostRuntime) {
-    for (word, value) in NUMBERS {
+    for &(word, value) in &NUMBERS {
         assert!(rt; number(word.as_bytes(), 0, 65535) == value, "{word}");
     }
 }
