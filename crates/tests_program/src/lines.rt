@@ -1,27 +1,35 @@
 //! A line at a time, and each end.
 
-use gnb_base::lines::LineReader;
+use gnb_base::lines::{Line, LineReader};
 use gnb_base::memory::MemorySource;
+use gnb_types::octets::Memory;
 use input_defs::InputEnd;
 use input_lines::next_line;
-use std::process::Abort;
-use std::test::Fail;
+use std::alloc::{AllocError, Global};
+
+fn source_of(alloc: Global) -> Result<MemorySource, AllocError> {
+    let input = Vec::from_slice(alloc, b"one\ntwo")?;
+    let failing = Vec::from_slice(alloc, &[2])?;
+    Ok(MemorySource::new(input, 5, failing))
+}
+
+fn is_first(line: &Result<Option<Line>, InputEnd>) -> bool {
+    matches!(line, Ok(Some(line)) if line.text.as_slice() == b"one".as_slice())
+}
+
+fn is_fault(end: &Result<Option<Line>, InputEnd>) -> bool {
+    matches!(end, Err(InputEnd::ReadFault { taken: 5 }))
+}
+
+fn has_a_fault(reader: &mut LineReader, source: &mut MemorySource) -> bool {
+    is_first(&next_line(reader, source)) && is_fault(&next_line(reader, source))
+}
 
 /// The second read fails: the line before it was handed out, and the end names the bytes taken.
 #[test]
-fn a_read_fault(rt: HostRuntime) -> Result<(), Fail> {
-    let alloc = rt.alloc();
-    let mut source = MemorySource::new(
-        Vec::from_slice(alloc, b"one\ntwo")?,
-        5,
-        Vec::from_slice(alloc, &[2])?,
-    );
-    let mut reader = LineReader::new(alloc)?;
-    let first = next_line(&mut reader, &mut source);
-    let is_one = matches!(&first, Ok(Some(line)) if line.text.as_slice() == b"one".as_slice());
-    assert!(rt; is_one);
-    let end = next_line(&mut reader, &mut source);
-    let is_fault = matches!(&end, Err(InputEnd::ReadFault { taken: 5 }));
-    assert!(rt; is_fault);
+fn a_read_fault(rt: HostRuntime) -> Result<(), Memory> {
+    let mut source = source_of(rt.alloc())?;
+    let mut reader = LineReader::new(rt.alloc())?;
+    assert!(rt; has_a_fault(&mut reader, &mut source));
     Ok(())
 }
