@@ -4,7 +4,6 @@ use bits_core::reader::{BitError, BitReader};
 use bits_core::writer::BitWriter;
 use gnb_types::octets::{Memory, Octets};
 use std::alloc::Global;
-use std::test::Fail;
 
 /// Puts fields, each a width and a value, with a pad where the width is 0.
 fn put_fields(alloc: Global, fields: &[(u32, u64)]) -> Result<Option<Octets>, Memory> {
@@ -49,45 +48,47 @@ fn both_ways(alloc: Global, fields: &[(u32, u64)], octets: &[u8]) -> Result<bool
 }
 
 /// The personnel record as far as 'John P Smith': a flag, lengths in 6 bits, and characters of 8 or 6 bits.
+const ALIGNED: [(u32, u64); 15] = [
+    (1, 1),
+    (6, 3),
+    (0, 0),
+    (8, 0x4a),
+    (8, 0x6f),
+    (8, 0x68),
+    (8, 0x6e),
+    (8, 0x50),
+    (6, 4),
+    (0, 0),
+    (8, 0x53),
+    (8, 0x6d),
+    (8, 0x69),
+    (8, 0x74),
+    (8, 0x68),
+];
+
+const UNALIGNED: [(u32, u64); 14] = [
+    (1, 1),
+    (6, 3),
+    (6, 11),
+    (6, 42),
+    (6, 35),
+    (6, 41),
+    (6, 17),
+    (6, 4),
+    (6, 20),
+    (6, 40),
+    (6, 36),
+    (6, 47),
+    (6, 35),
+    (0, 0),
+];
+
 #[test]
-fn personnel_record(rt: HostRuntime) -> Result<(), Fail> {
-    let aligned = [
-        (1, 1),
-        (6, 3),
-        (0, 0),
-        (8, 0x4a),
-        (8, 0x6f),
-        (8, 0x68),
-        (8, 0x6e),
-        (8, 0x50),
-        (6, 4),
-        (0, 0),
-        (8, 0x53),
-        (8, 0x6d),
-        (8, 0x69),
-        (8, 0x74),
-        (8, 0x68),
-    ];
-    assert!(rt; both_ways(rt.alloc(), &aligned, b"\x86John\x50\x10Smith")?);
-    let unaligned = [
-        (1, 1),
-        (6, 3),
-        (6, 11),
-        (6, 42),
-        (6, 35),
-        (6, 41),
-        (6, 17),
-        (6, 4),
-        (6, 20),
-        (6, 40),
-        (6, 36),
-        (6, 47),
-        (6, 35),
-        (0, 0),
-    ];
+fn personnel_record(rt: HostRuntime) {
+    let alloc = rt.alloc();
+    assert!(rt; both_ways(alloc, &ALIGNED, b"\x86John\x50\x10Smith") == Ok(true));
     let octets = [0x86, 0x5d, 0x51, 0xd2, 0x88, 0x8a, 0x51, 0x25, 0xf1, 0x80];
-    assert!(rt; both_ways(rt.alloc(), &unaligned, &octets)?);
-    Ok(())
+    assert!(rt; both_ways(alloc, &UNALIGNED, &octets) == Ok(true));
 }
 
 /// Four bits, the widest field, no bits, and one bit.
@@ -98,6 +99,13 @@ fn widest_field(alloc: Global) -> Result<Octets, Memory> {
     writer.put_bits(0, 0)?;
     writer.put_bits(1, 1)?;
     Ok(writer.finish())
+}
+
+fn has_put(put: Result<Octets, Memory>, octets: &[u8]) -> bool {
+    match put {
+        Ok(put) => put.as_slice() == octets,
+        Err(_) => false,
+    }
 }
 
 /// Whether these are taken again, and what else is asked for is refused.
@@ -114,12 +122,10 @@ fn takes_widest_field(octets: &[u8; 9]) -> bool {
 }
 
 #[test]
-fn widest_field_and_refusals(rt: HostRuntime) -> Result<(), Fail> {
-    let put = [0xf0, 0x12, 0x34, 0x56, 0x78, 0x9a, 0xbc, 0xde, 0xf8];
-    assert!(rt; takes_widest_field(&put));
-    let octets = widest_field(rt.alloc())?;
-    assert!(rt; octets.as_slice() == put.as_slice());
-    Ok(())
+fn widest_field_and_refusals(rt: HostRuntime) {
+    let octets = [0xf0, 0x12, 0x34, 0x56, 0x78, 0x9a, 0xbc, 0xde, 0xf8];
+    assert!(rt; takes_widest_field(&octets));
+    assert!(rt; has_put(widest_field(rt.alloc()), &octets));
 }
 
 /// Octets put as a slice, then three bits.
@@ -151,11 +157,12 @@ fn takes_octets(octets: &[u8; 4], start: u64, count: usize, found: Option<&[u8]>
 }
 
 #[test]
-fn whole_octets(rt: HostRuntime) -> Result<(), Fail> {
-    for (start, count, found) in TAKEN {
-        assert!(rt; takes_octets(b"per\xa0", start, count, found));
+fn whole_octets(rt: HostRuntime) {
+    for &(start, count, found) in &TAKEN {
+        assert!(rt;
+            takes_octets(b"per\xa0", start, count, found),
+            "{count} at {start}"
+        );
     }
-    let octets = per_and_bits(rt.alloc())?;
-    assert!(rt; octets.as_slice() == b"per\xa0".as_slice());
-    Ok(())
+    assert!(rt; has_put(per_and_bits(rt.alloc()), b"per\xa0"));
 }

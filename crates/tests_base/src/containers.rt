@@ -2,17 +2,16 @@
 
 use gnb_types::octets::{Memory, Octets};
 use std::alloc::Global;
-use std::test::Fail;
 use tables::queue::Queue;
 use tables::shelf::Shelf;
 use tables::table::Table;
 
 /// The keys 1, 5 and 9, whose values are their octets, but for two: 1 has one more, 5 has 50.
 fn fill_table(alloc: Global, table: &mut Table<u8, Octets>) -> Result<(), Memory> {
-    for key in [5u8, 1, 9] {
-        table.put(key, Octets::one(alloc, key)?)?;
+    for &key in &[5u8, 1, 9] {
+        drop(table.put(key, Octets::one(alloc, key)?)?);
     }
-    table.put(5, Octets::one(alloc, 50)?)?;
+    drop(table.put(5, Octets::one(alloc, 50)?)?);
     if let Some(value) = table.get_mut(&1) {
         value.push(11)?;
     }
@@ -37,10 +36,10 @@ fn has_keys(table: &Table<u8, Octets>) -> bool {
 }
 
 #[test]
-fn a_table_is_filled(rt: HostRuntime) -> Result<(), Fail> {
+fn a_table_is_filled(rt: HostRuntime) -> Result<(), Memory> {
     let table = filled_table(rt.alloc())?;
     assert!(rt; has_keys(&table));
-    for (key, next) in [(0, 1), (1, 5), (4, 5), (5, 9)] {
+    for &(key, next) in &[(0, 1), (1, 5), (4, 5), (5, 9)] {
         assert!(rt; table.after(&key).is_some_and(|entry| *entry.0 == next));
     }
     Ok(())
@@ -57,7 +56,7 @@ fn shown(alloc: Global, table: &Table<u8, Octets>) -> Result<Octets, Memory> {
 }
 
 #[test]
-fn a_table_is_walked(rt: HostRuntime) -> Result<(), Fail> {
+fn a_table_is_walked(rt: HostRuntime) -> Result<(), Memory> {
     let table = filled_table(rt.alloc())?;
     let shown = shown(rt.alloc(), &table)?;
     assert!(rt; shown.as_slice() == [1, 1, 11, 5, 50, 9, 9].as_slice());
@@ -100,7 +99,7 @@ fn hands_out(alloc: Global, table: &mut Table<u8, Octets>) -> Result<bool, Memor
 
 /// What was there is handed out by `put` and `take`.
 #[test]
-fn a_table_hands_out(rt: HostRuntime) -> Result<(), Fail> {
+fn a_table_hands_out(rt: HostRuntime) -> Result<(), Memory> {
     let mut table = Table::new(rt.alloc());
     assert!(rt; hands_out(rt.alloc(), &mut table)?);
     Ok(())
@@ -137,7 +136,7 @@ fn goes_end_to_end(alloc: Global, queue: &mut Queue<Octets>) -> Result<bool, Mem
 }
 
 #[test]
-fn a_queue_from_end_to_end(rt: HostRuntime) -> Result<(), Fail> {
+fn a_queue_from_end_to_end(rt: HostRuntime) -> Result<(), Memory> {
     let mut queue = Queue::new(rt.alloc());
     assert!(rt; goes_end_to_end(rt.alloc(), &mut queue)?);
     Ok(())
@@ -145,14 +144,14 @@ fn a_queue_from_end_to_end(rt: HostRuntime) -> Result<(), Fail> {
 
 /// Puts the keys 1 and 9, whose values are their octets, and 2 in the slot of a key that was taken; key 1 has one more octet.
 fn fill_shelf(alloc: Global, shelf: &mut Shelf<u8, Octets>) -> Result<(), Memory> {
-    for key in [5u8, 1, 9] {
-        shelf.put(key, Octets::one(alloc, key)?)?;
+    for &key in &[5u8, 1, 9] {
+        drop(shelf.put(key, Octets::one(alloc, key)?)?);
     }
     if let Some(value) = shelf.get_mut(&1) {
         value.push(11)?;
     }
     drop(shelf.take(&5));
-    shelf.put(2, Octets::one(alloc, 2)?)?;
+    drop(shelf.put(2, Octets::one(alloc, 2)?)?);
     Ok(())
 }
 
@@ -170,7 +169,7 @@ fn holds(shelf: &Shelf<u8, Octets>, key: u8, octets: &[u8]) -> bool {
 }
 
 #[test]
-fn a_shelf_is_filled(rt: HostRuntime) -> Result<(), Fail> {
+fn a_shelf_is_filled(rt: HostRuntime) -> Result<(), Memory> {
     let shelf = filled_shelf(rt.alloc())?;
     assert!(rt; shelf.has(&9) && !shelf.has(&5) && shelf.get(&5).is_none());
     assert!(rt; holds(&shelf, 1, &[1, 11]) && holds(&shelf, 2, &[2]) && holds(&shelf, 9, &[9]));
@@ -204,7 +203,7 @@ fn shelf_hands_out(alloc: Global, shelf: &mut Shelf<u8, Octets>) -> Result<bool,
 
 /// What was there is handed out by `put` and `take`.
 #[test]
-fn a_shelf_hands_out(rt: HostRuntime) -> Result<(), Fail> {
+fn a_shelf_hands_out(rt: HostRuntime) -> Result<(), Memory> {
     let mut shelf = Shelf::new(rt.alloc());
     assert!(rt; shelf_hands_out(rt.alloc(), &mut shelf)?);
     Ok(())

@@ -8,7 +8,7 @@ use gnb_types::octets::{Memory, Octets};
 use gnb_types::plans::{SnStatus, StatusList, Tunnel, TunnelList};
 use gnb_types::reasons::{CauseName, DropReason, HeldReason, RefuseReason};
 use std::alloc::Global;
-use std::test::Fail;
+use std::fmt::{Debug, Display};
 
 /// RFC 4648, section 10.
 const VECTORS: [(&[u8], &[u8]); 7] = [
@@ -37,16 +37,25 @@ fn stands_for(alloc: Global, text: &[u8], bytes: &[u8]) -> Result<bool, HexError
 }
 
 #[test]
-fn hexadecimal_text(rt: HostRuntime) -> Result<(), Fail> {
-    for (bytes, text) in VECTORS {
-        assert!(rt; has_text(rt.alloc(), bytes, text)?);
-        assert!(rt; stands_for(rt.alloc(), text, bytes)?);
+fn hexadecimal_text(rt: HostRuntime) {
+    for &(bytes, text) in &VECTORS {
+        assert!(rt; has_text(rt.alloc(), bytes, text) == Ok(true), "{bytes:?}");
+        assert!(rt;
+            stands_for(rt.alloc(), text, bytes) == Ok(true),
+            "{bytes:?}"
+        );
     }
-    assert!(rt; stands_for(rt.alloc(), b"fFaA09", &[0xff, 0xaa, 0x09])?);
-    for text in NO_BYTES {
-        assert!(rt; stands_for(rt.alloc(), text, b"") == Err(HexError::NotHex));
+    assert!(rt; stands_for(rt.alloc(), b"fFaA09", &[0xff, 0xaa, 0x09]) == Ok(true));
+}
+
+#[test]
+fn no_hexadecimal_text(rt: HostRuntime) {
+    for &text in &NO_BYTES {
+        assert!(rt;
+            stands_for(rt.alloc(), text, b"") == Err(HexError::NotHex),
+            "{text:?}"
+        );
     }
-    Ok(())
 }
 
 /// The octets 1 to 4.
@@ -67,19 +76,27 @@ fn is_four(octets: &Octets) -> bool {
         && octets.get(4).is_none()
 }
 
-#[test]
-fn a_list_is_filled(rt: HostRuntime) -> Result<(), Fail> {
-    assert!(rt; Octets::new(rt.alloc()).is_empty());
-    assert!(rt; is_four(&four(rt.alloc())?));
-    Ok(())
+/// Whether this is a list of these octets, as one that is made of them.
+fn equals(alloc: Global, octets: &Octets, others: &[u8]) -> Result<bool, Memory> {
+    let others = Octets::from_slice(alloc, others)?;
+    Ok(*octets == others)
+}
+
+/// Whether it differs from a list that a vector of these octets makes.
+fn differs(alloc: Global, octets: &Octets, others: &[u8]) -> Result<bool, Memory> {
+    let others = Octets::from_vec(Vec::from_slice(alloc, others)?);
+    Ok(*octets != others)
 }
 
 #[test]
-fn lists_are_compared(rt: HostRuntime) -> Result<(), Fail> {
+fn a_list_is_filled(rt: HostRuntime) -> Result<(), Memory> {
+    assert!(rt; Octets::new(rt.alloc()).is_empty());
     let octets = four(rt.alloc())?;
-    assert!(rt; octets == Octets::from_slice(rt.alloc(), &[1, 2, 3, 4])?);
-    assert!(rt; octets != Octets::from_vec(vec![in rt.alloc(); 1, 2, 3]?));
-    assert_eq!(rt; octets.into_vec().as_slice(), [1, 2, 3, 4].as_slice());
+    assert!(rt; is_four(&octets));
+    assert!(rt; equals(rt.alloc(), &octets, &[1, 2, 3, 4]) == Ok(true));
+    assert!(rt; differs(rt.alloc(), &octets, &[1, 2, 3]) == Ok(true));
+    let octets = octets.into_vec();
+    assert!(rt; octets.as_slice() == [1, 2, 3, 4].as_slice());
     Ok(())
 }
 
@@ -103,7 +120,7 @@ fn sum_of(octets: Octets) -> u32 {
 
 /// A list is copied, walked, and taken apart.
 #[test]
-fn a_list_is_walked(rt: HostRuntime) -> Result<(), Fail> {
+fn a_list_is_walked(rt: HostRuntime) -> Result<(), Memory> {
     let copy = four(rt.alloc())?.clone()?;
     let shown = walked(rt.alloc(), &copy)?;
     let is_copy = shown == copy;
@@ -113,54 +130,56 @@ fn a_list_is_walked(rt: HostRuntime) -> Result<(), Fail> {
     Ok(())
 }
 
+/// Whether a value has this text.
+fn is_shown(alloc: Global, value: &impl Display, text: &str) -> bool {
+    match format!(in alloc; "{value}") {
+        Ok(shown) => shown.as_str() == text,
+        Err(_) => false,
+    }
+}
+
+fn is_debugged(alloc: Global, value: &impl Debug, text: &str) -> bool {
+    match format!(in alloc; "{value:?}") {
+        Ok(shown) => shown.as_str() == text,
+        Err(_) => false,
+    }
+}
+
 #[test]
-fn a_list_is_shown(rt: HostRuntime) -> Result<(), Fail> {
+fn a_list_is_shown(rt: HostRuntime) -> Result<(), Memory> {
     let bits = Bits::one(rt.alloc(), true)?;
-    let shown = format!(in rt.alloc(); "{bits:?}")?;
-    assert_eq!(rt; shown.as_str(), "Items { items: [true] }");
+    assert!(rt; is_debugged(rt.alloc(), &bits, "Items { items: [true] }"));
     Ok(())
 }
 
 /// How names of a transcript read.
 #[test]
-fn printed_names(rt: HostRuntime) -> Result<(), Fail> {
-    let gnb = Gnb::B;
-    let names = format!(in rt.alloc();
-        "{} {} {} {} {} {} {} {} {} {}",
-        Gnb::A,
-        UeId(16),
-        BearerId(8),
-        NodeId::CuCp(gnb),
-        NodeId::CuUp(gnb, 1),
-        NodeId::Du(gnb, 2),
-        NodeId::Core,
-        NodeId::Ue(1),
-        Dir::Dl,
-        Dir::Ul,
-    )?;
-    assert_eq!(rt; names.as_str(), "A u16 b8 B.cp B.up1 B.du2 core u1 dl ul");
-    Ok(())
+fn printed_names(rt: HostRuntime) {
+    let (alloc, gnb) = (rt.alloc(), Gnb::B);
+    assert!(rt; is_shown(alloc, &Gnb::A, "A"));
+    assert!(rt; is_shown(alloc, &UeId(16), "u16"));
+    assert!(rt; is_shown(alloc, &BearerId(8), "b8"));
+    assert!(rt; is_shown(alloc, &NodeId::CuCp(gnb), "B.cp"));
+    assert!(rt; is_shown(alloc, &NodeId::CuUp(gnb, 1), "B.up1"));
+    assert!(rt; is_shown(alloc, &NodeId::Du(gnb, 2), "B.du2"));
+    assert!(rt; is_shown(alloc, &NodeId::Core, "core"));
+    assert!(rt; is_shown(alloc, &NodeId::Ue(1), "u1"));
+    assert!(rt; is_shown(alloc, &Dir::Dl, "dl"));
+    assert!(rt; is_shown(alloc, &Dir::Ul, "ul"));
 }
 
 /// How reasons of a transcript read.
 #[test]
-fn printed_reasons(rt: HostRuntime) -> Result<(), Fail> {
-    let reasons = format!(in rt.alloc();
-        "{} {} {} {} {} {} {} {}",
-        DropReason::Undecodable,
-        DropReason::NoContext,
-        HeldReason::NoStatus,
-        HeldReason::Early,
-        CauseName::Quota,
-        CauseName::Timeout,
-        RefuseReason::NotStarted,
-        RefuseReason::NoUe,
-    )?;
-    assert_eq!(rt;
-        reasons.as_str(),
-        "Undecodable NoContext NoStatus Early quota timeout NotStarted NoUe"
-    );
-    Ok(())
+fn printed_reasons(rt: HostRuntime) {
+    let alloc = rt.alloc();
+    assert!(rt; is_shown(alloc, &DropReason::Undecodable, "Undecodable"));
+    assert!(rt; is_shown(alloc, &DropReason::NoContext, "NoContext"));
+    assert!(rt; is_shown(alloc, &HeldReason::NoStatus, "NoStatus"));
+    assert!(rt; is_shown(alloc, &HeldReason::Early, "Early"));
+    assert!(rt; is_shown(alloc, &CauseName::Quota, "quota"));
+    assert!(rt; is_shown(alloc, &CauseName::Timeout, "timeout"));
+    assert!(rt; is_shown(alloc, &RefuseReason::NotStarted, "NotStarted"));
+    assert!(rt; is_shown(alloc, &RefuseReason::NoUe, "NoUe"));
 }
 
 /// A status with one COUNT that was received after the first that is missing.
@@ -176,7 +195,7 @@ fn status(alloc: Global) -> Result<SnStatus, Memory> {
 
 /// Statuses are compared.
 #[test]
-fn statuses(rt: HostRuntime) -> Result<(), Fail> {
+fn statuses(rt: HostRuntime) -> Result<(), Memory> {
     let statuses = StatusList::one(rt.alloc(), status(rt.alloc())?)?;
     let others = StatusList::one(rt.alloc(), status(rt.alloc())?)?;
     assert!(rt; statuses == others);
@@ -184,7 +203,7 @@ fn statuses(rt: HostRuntime) -> Result<(), Fail> {
 }
 
 #[test]
-fn tunnels(rt: HostRuntime) -> Result<(), Fail> {
+fn tunnels(rt: HostRuntime) -> Result<(), Memory> {
     let tunnel = Tunnel {
         bearer: BearerId(1),
         teid: 7,
