@@ -6,9 +6,7 @@ use command_defs::Status;
 use command_um::{UmConfig, run_um};
 use gnb_base::memory::{MemorySink, MemorySource};
 use gnb_types::names::SnBits;
-use gnb_types::octets::Octets;
-use std::alloc::Global;
-use std::test::Fail;
+use std::alloc::{AllocError, Global};
 
 /// What a call is given, and the numbers of the reads and writes that fail.
 #[derive(Clone, Copy)]
@@ -21,30 +19,39 @@ pub(crate) struct Call<'a> {
     pub(crate) failing_writes: &'a [u64],
 }
 
+/// What a call answers, what the sink then holds, and how many writes there were.
+pub(crate) type Answer = (Status, Vec<u8>, u64);
+
+fn answer_of(
+    alloc: Global,
+    config: UmConfig,
+    source: &mut MemorySource,
+    sink: &mut MemorySink,
+) -> Result<Answer, AllocError>
+    requires least { 1 ≤ config.ticks }
+    requires most { config.ticks ≤ 1000 }
+{
+    let status = run_um(alloc, config, source, sink).status();
+    let held = Vec::from_slice(alloc, sink.bytes_held())?;
+    Ok((status, held, sink.calls()))
+}
+
 impl Call<'_> {
-    /// What it answers, what the sink then holds, and how many writes there were.
-    pub(crate) fn answer(&self, alloc: Global) -> Result<(Status, Octets, u64), Fail>
+    pub(crate) fn answer(&self, alloc: Global) -> Result<Answer, AllocError>
         requires piece { 0 < self.now.piece }
         requires least { 1 ≤ self.now.ticks }
         requires most { self.now.ticks ≤ 1000 }
     {
-        let mut source = MemorySource::new(
-            Vec::from_slice(alloc, self.input.as_bytes())?,
-            self.piece,
-            Vec::from_slice(alloc, self.failing_reads)?,
-        );
-        let mut sink = MemorySink::new(
-            alloc,
-            self.piece,
-            Vec::from_slice(alloc, self.failing_writes)?,
-        );
+        let input = Vec::from_slice(alloc, self.input.as_bytes())?;
+        let reads = Vec::from_slice(alloc, self.failing_reads)?;
+        let writes = Vec::from_slice(alloc, self.failing_writes)?;
+        let mut source = MemorySource::new(input, self.piece, reads);
+        let mut sink = MemorySink::new(alloc, self.piece, writes);
         let config = UmConfig {
             sn: self.sn,
             ticks: self.ticks,
         };
-        let status = run_um(alloc, config, &mut source, &mut sink).status();
-        let held = Octets::from_vec(Vec::from_slice(alloc, sink.bytes_held())?);
-        Ok((status, held, sink.calls()))
+        answer_of(alloc, config, &mut source, &mut sink)
     }
 }
 

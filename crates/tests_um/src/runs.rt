@@ -110,7 +110,7 @@ const LATE: [(Event, &[Line]); 9] = [
 fn a_late_packet(rt: HostRuntime) -> Result<(), Fail> {
     let alloc = rt.alloc();
     let mut world = UmWorld::new(alloc, SnBits::Len12, 2)?;
-    for (step, wanted) in LATE {
+    for &(step, wanted) in &LATE {
         assert!(rt; prints(alloc, &mut world, step, wanted));
     }
     Ok(())

@@ -109,7 +109,7 @@ fn refusals(rt: HostRuntime) -> Result<(), Fail> {
     assert!(rt;
         hands_up(alloc, &mut rx, (Some(0), &[0])) && hands_up(alloc, &mut rx, (Some(2), &[]))
     );
-    for (number, error) in REFUSED {
+    for &(number, error) in &REFUSED {
         assert!(rt; is_refused(alloc, &mut rx, number, error));
     }
     assert!(rt; rx.deliv() == 1 && rx.next() == 3 && rx.stored() == 1);
