@@ -4,7 +4,6 @@ use crate::steps::{Call, DU, HERE, OTHER, Put, THERE, UE, UP, is_as_told};
 use gnb_types::inputs::Order;
 use gnb_types::names::NodeId;
 use gnb_types::reasons::{CauseName, DropReason, RefuseReason};
-use std::test::Fail;
 use unit_defs::StateName;
 
 const NOTHING: &[Put] = &[];
@@ -167,22 +166,19 @@ const EXPIRED: [(Call, &[Put]); 16] = [
 ];
 
 #[test]
-fn a_terminal_attaches(rt: HostRuntime) -> Result<(), Fail> {
-    assert!(rt; is_as_told(rt.alloc(), &ATTACH)?);
-    Ok(())
+fn a_terminal_attaches(rt: HostRuntime) {
+    assert!(rt; is_as_told(rt.alloc(), &ATTACH));
 }
 
 #[test]
-fn a_terminal_misses_the_other_gnb(rt: HostRuntime) -> Result<(), Fail> {
-    assert!(rt; is_as_told(rt.alloc(), &MISSED_ACCESS)?);
-    Ok(())
+fn a_terminal_misses_the_other_gnb(rt: HostRuntime) {
+    assert!(rt; is_as_told(rt.alloc(), &MISSED_ACCESS));
 }
 
 #[test]
-fn a_handover_is_given_up(rt: HostRuntime) -> Result<(), Fail> {
+fn a_handover_is_given_up(rt: HostRuntime) {
     let alloc = rt.alloc();
-    assert!(rt; is_as_told(alloc, &CANCELLED)?);
-    assert!(rt; is_as_told(alloc, &DECLINED)?);
-    assert!(rt; is_as_told(alloc, &EXPIRED)?);
-    Ok(())
+    assert!(rt; is_as_told(alloc, &CANCELLED));
+    assert!(rt; is_as_told(alloc, &DECLINED));
+    assert!(rt; is_as_told(alloc, &EXPIRED));
 }

@@ -2,7 +2,7 @@
 
 use crate::few_messages::FewMessages;
 use cu_control::CuControl;
-use gnb_types::hex::hex_bytes;
+use gnb_types::hex::{HexError, hex_bytes};
 use gnb_types::inputs::{Input, Order};
 use gnb_types::names::{BearerId, Dir, Gnb, NodeId, SnBits, UeId};
 use gnb_types::octets::Octets;
@@ -10,7 +10,6 @@ use gnb_types::outputs::{Output, Outputs};
 use gnb_types::plans::Plan;
 use gnb_types::reasons::{CauseName, DropReason, RefuseReason};
 use std::alloc::Global;
-use std::test::Fail;
 use unit_defs::StateName;
 use unit_steps::StepError;
 
@@ -71,39 +70,45 @@ pub enum Put {
 }
 
 /// Octets by their digits. Where memory runs out they are asked for again: so the tests also pass where any one allocation fails.
-fn octets_of(alloc: Global, text: &str) -> Result<Octets, Fail> {
+fn octets_of(alloc: Global, text: &str) -> Result<Octets, HexError> {
     match hex_bytes(alloc, text.as_bytes()) {
         Ok(octets) => Ok(octets),
-        Err(_) => Ok(hex_bytes(alloc, text.as_bytes())?),
+        Err(_) => hex_bytes(alloc, text.as_bytes()),
     }
 }
 
-fn is_put(alloc: Global, output: &Output, put: &Put) -> Result<bool, Fail> {
+fn is_octets(alloc: Global, octets: &Octets, text: &str) -> bool {
+    match octets_of(alloc, text) {
+        Ok(wanted) => octets.as_slice() == wanted.as_slice(),
+        Err(_) => false,
+    }
+}
+
+fn is_put(alloc: Global, output: &Output, put: &Put) -> bool {
     match (output, put) {
         (Output::Control { to, ue, bytes }, Put::Say(wanted, whose, text)) => {
-            let octets = octets_of(alloc, text)?;
-            Ok(to == wanted && ue == whose && bytes.as_slice() == octets.as_slice())
+            to == wanted && ue == whose && is_octets(alloc, bytes, text)
         }
-        (Output::Drop(reason), Put::Drop(wanted)) => Ok(reason == wanted),
-        (Output::FailedUe { ue, cause }, Put::Failed(wanted)) => Ok(*ue == UE && cause == wanted),
-        (Output::No(reason), Put::No(wanted)) => Ok(reason == wanted),
-        _ => Ok(false),
+        (Output::Drop(reason), Put::Drop(wanted)) => reason == wanted,
+        (Output::FailedUe { ue, cause }, Put::Failed(wanted)) => *ue == UE && cause == wanted,
+        (Output::No(reason), Put::No(wanted)) => reason == wanted,
+        _ => false,
     }
 }
 
-fn are_puts(alloc: Global, outputs: &Outputs, puts: &[Put]) -> Result<bool, Fail> {
+fn are_puts(alloc: Global, outputs: &Outputs, puts: &[Put]) -> bool {
     if outputs.len() != puts.len() {
-        return Ok(false);
+        return false;
     }
     for (output, put) in outputs.as_slice().iter().zip(puts.iter()) {
-        if !is_put(alloc, output, put)? {
-            return Ok(false);
+        if !is_put(alloc, output, put) {
+            return false;
         }
     }
-    Ok(true)
+    true
 }
 
-fn input_of(alloc: Global, given: &Call) -> Result<Input, Fail> {
+fn input_of(alloc: Global, given: &Call) -> Result<Input, HexError> {
     let bearer = BearerId(1);
     let dir = Dir::Ul;
     let input = match given {
@@ -183,57 +188,58 @@ fn place(unit: &mut CuControl) -> Outcome {
     }
 }
 
-fn step_outcome(
-    alloc: Global,
-    unit: &mut CuControl,
-    given: &Call,
-    puts: &[Put],
-) -> Result<Outcome, Fail> {
+fn input_outcome(alloc: Global, unit: &mut CuControl, input: Input, puts: &[Put]) -> Outcome {
+    match unit.step(&FewMessages, input) {
+        Ok(outputs) => {
+            let are_told = are_puts(alloc, &outputs, puts);
+            drop(outputs);
+            outcome_if(are_told, Outcome::AsTold)
+        }
+        Err(error) => failure_outcome(unit, error),
+    }
+}
+
+fn step_outcome(alloc: Global, unit: &mut CuControl, given: &Call, puts: &[Put]) -> Outcome {
     if let Call::Place = given {
-        return Ok(place(unit));
+        return place(unit);
     }
     if let Call::Look(state, taken, rests) = given {
         let is_left = unit.state(UE) == *state && unit.taken(UE) == *taken;
-        return Ok(outcome_if(is_left && unit.rests(UE) == *rests, Outcome::AsTold));
+        return outcome_if(is_left && unit.rests(UE) == *rests, Outcome::AsTold);
     }
-    let input = input_of(alloc, given)?;
-    match unit.step(&FewMessages, input) {
-        Ok(outputs) => Ok(outcome_if(are_puts(alloc, &outputs, puts)?, Outcome::AsTold)),
-        Err(error) => Ok(failure_outcome(unit, error)),
+    match input_of(alloc, given) {
+        Ok(input) => input_outcome(alloc, unit, input, puts),
+        Err(_) => Outcome::Differs,
     }
 }
 
 /// Whether a CU-CP puts out what it should in these steps.
-fn outcome_of(
-    alloc: Global,
-    unit: &mut CuControl,
-    steps: &[(Call, &[Put])],
-) -> Result<Outcome, Fail> {
+fn outcome_of(alloc: Global, unit: &mut CuControl, steps: &[(Call, &[Put])]) -> Outcome {
     for (given, puts) in steps {
-        let outcome = step_outcome(alloc, unit, given, puts)?;
+        let outcome = step_outcome(alloc, unit, given, puts);
         if outcome != Outcome::AsTold {
-            return Ok(outcome);
+            return outcome;
         }
     }
-    Ok(Outcome::AsTold)
+    Outcome::AsTold
 }
 
-fn run(alloc: Global, steps: &[(Call, &[Put])]) -> Result<Outcome, Fail> {
+fn run(alloc: Global, steps: &[(Call, &[Put])]) -> Outcome {
     match CuControl::new(alloc, Gnb::A) {
         Ok(mut unit) => {
             let outcome = outcome_of(alloc, &mut unit, steps);
             drop(unit);
             outcome
         }
-        Err(_) => Ok(Outcome::OutOfMemory),
+        Err(_) => Outcome::OutOfMemory,
     }
 }
 
 /// Whether a new CU-CP of gNB A puts out what it should in these steps. Where memory runs out they are made again with another one.
-pub fn is_as_told(alloc: Global, steps: &[(Call, &[Put])]) -> Result<bool, Fail> {
-    let outcome = match run(alloc, steps)? {
-        Outcome::OutOfMemory => run(alloc, steps)?,
+pub fn is_as_told(alloc: Global, steps: &[(Call, &[Put])]) -> bool {
+    let outcome = match run(alloc, steps) {
+        Outcome::OutOfMemory => run(alloc, steps),
         other => other,
     };
-    Ok(outcome == Outcome::AsTold)
+    outcome == Outcome::AsTold
 }

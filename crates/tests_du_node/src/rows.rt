@@ -5,7 +5,6 @@ use gnb_types::inputs::Order;
 use gnb_types::names::{Dir, Gnb, NodeId};
 use gnb_types::outputs::Tag;
 use gnb_types::reasons::DropReason;
-use std::test::Fail;
 
 const NOTHING: &[Put] = &[];
 
@@ -318,55 +317,46 @@ const DROPPED: [(Call, &[Put]); 22] = [
 ];
 
 #[test]
-fn a_setup_that_comes_three_times(rt: HostRuntime) -> Result<(), Fail> {
-    assert!(rt; is_as_told(rt.alloc(), &SET_UP_THREE_TIMES)?);
-    Ok(())
+fn a_setup_that_comes_three_times(rt: HostRuntime) {
+    assert!(rt; is_as_told(rt.alloc(), &SET_UP_THREE_TIMES));
 }
 
 #[test]
-fn serves_an_attach(rt: HostRuntime) -> Result<(), Fail> {
-    assert!(rt; is_as_told(rt.alloc(), &ATTACH)?);
-    Ok(())
+fn serves_an_attach(rt: HostRuntime) {
+    assert!(rt; is_as_told(rt.alloc(), &ATTACH));
 }
 
 #[test]
-fn serves_a_return(rt: HostRuntime) -> Result<(), Fail> {
-    assert!(rt; is_as_told(rt.alloc(), &RETURN)?);
-    Ok(())
+fn serves_a_return(rt: HostRuntime) {
+    assert!(rt; is_as_told(rt.alloc(), &RETURN));
 }
 
 #[test]
-fn is_not_accessed(rt: HostRuntime) -> Result<(), Fail> {
-    assert!(rt; is_as_told(rt.alloc(), &MISSED_ACCESS)?);
-    Ok(())
+fn is_not_accessed(rt: HostRuntime) {
+    assert!(rt; is_as_told(rt.alloc(), &MISSED_ACCESS));
 }
 
 #[test]
-fn a_frame_is_lost(rt: HostRuntime) -> Result<(), Fail> {
-    assert!(rt; is_as_told(rt.alloc(), &LOST_FRAME)?);
-    Ok(())
+fn a_frame_is_lost(rt: HostRuntime) {
+    assert!(rt; is_as_told(rt.alloc(), &LOST_FRAME));
 }
 
 #[test]
-fn a_poll_shows_a_loss(rt: HostRuntime) -> Result<(), Fail> {
-    assert!(rt; is_as_told(rt.alloc(), &LOST_FRAME_AND_POLL)?);
-    Ok(())
+fn a_poll_shows_a_loss(rt: HostRuntime) {
+    assert!(rt; is_as_told(rt.alloc(), &LOST_FRAME_AND_POLL));
 }
 
 #[test]
-fn tells_what_is_confirmed(rt: HostRuntime) -> Result<(), Fail> {
-    assert!(rt; is_as_told(rt.alloc(), &CONFIRMED)?);
-    Ok(())
+fn tells_what_is_confirmed(rt: HostRuntime) {
+    assert!(rt; is_as_told(rt.alloc(), &CONFIRMED));
 }
 
 #[test]
-fn drops_without_a_context(rt: HostRuntime) -> Result<(), Fail> {
-    assert!(rt; is_as_told(rt.alloc(), &WITHOUT_CONTEXT)?);
-    Ok(())
+fn drops_without_a_context(rt: HostRuntime) {
+    assert!(rt; is_as_told(rt.alloc(), &WITHOUT_CONTEXT));
 }
 
 #[test]
-fn drops(rt: HostRuntime) -> Result<(), Fail> {
-    assert!(rt; is_as_told(rt.alloc(), &DROPPED)?);
-    Ok(())
+fn drops(rt: HostRuntime) {
+    assert!(rt; is_as_told(rt.alloc(), &DROPPED));
 }

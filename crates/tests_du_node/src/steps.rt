@@ -2,14 +2,13 @@
 
 use crate::few_messages::FewMessages;
 use du_node::DuNode;
-use gnb_types::hex::hex_bytes;
+use gnb_types::hex::{HexError, hex_bytes};
 use gnb_types::inputs::{Input, Order};
 use gnb_types::names::{BearerId, Dir, Gnb, NodeId, UeId};
 use gnb_types::octets::Octets;
 use gnb_types::outputs::{Output, Outputs, Tag};
 use gnb_types::reasons::DropReason;
 use std::alloc::Global;
-use std::test::Fail;
 use unit_steps::StepError;
 
 pub const UE: UeId = UeId(1);
@@ -50,16 +49,18 @@ pub enum Put {
 }
 
 /// Octets by their digits. Where memory runs out they are asked for again: so the tests also pass where any one allocation fails.
-fn octets_of(alloc: Global, text: &str) -> Result<Octets, Fail> {
+fn octets_of(alloc: Global, text: &str) -> Result<Octets, HexError> {
     match hex_bytes(alloc, text.as_bytes()) {
         Ok(octets) => Ok(octets),
-        Err(_) => Ok(hex_bytes(alloc, text.as_bytes())?),
+        Err(_) => hex_bytes(alloc, text.as_bytes()),
     }
 }
 
-fn is_octets(alloc: Global, octets: &Octets, text: &str) -> Result<bool, Fail> {
-    let wanted = octets_of(alloc, text)?;
-    Ok(octets.as_slice() == wanted.as_slice())
+fn is_octets(alloc: Global, octets: &Octets, text: &str) -> bool {
+    match octets_of(alloc, text) {
+        Ok(wanted) => octets.as_slice() == wanted.as_slice(),
+        Err(_) => false,
+    }
 }
 
 /// Whether this is an item of bearer 1 of terminal 1.
@@ -67,7 +68,7 @@ fn is_own(ue: UeId, bearer: BearerId) -> bool {
     ue == UE && bearer == BEARER
 }
 
-fn is_packet(alloc: Global, output: &Output, put: &Put) -> Result<bool, Fail> {
+fn is_packet(alloc: Global, output: &Output, put: &Put) -> bool {
     match (output, put) {
         (
             Output::Packet {
@@ -82,13 +83,13 @@ fn is_packet(alloc: Global, output: &Output, put: &Put) -> Result<bool, Fail> {
             Put::Packet(wanted, way, tag, text),
         ) => {
             let place = *to == UP && teid == wanted && is_own(*ue, *bearer);
-            Ok(place && dir == way && count == tag && is_octets(alloc, bytes, text)?)
+            place && dir == way && count == tag && is_octets(alloc, bytes, text)
         }
-        _ => Ok(false),
+        _ => false,
     }
 }
 
-fn is_radio(alloc: Global, output: &Output, put: &Put) -> Result<bool, Fail> {
+fn is_radio(alloc: Global, output: &Output, put: &Put) -> bool {
     match (output, put) {
         (
             Output::Radio {
@@ -102,38 +103,38 @@ fn is_radio(alloc: Global, output: &Output, put: &Put) -> Result<bool, Fail> {
             Put::Radio(wanted, text),
         ) => {
             let place = *dir == Dir::Dl && epoch == wanted && is_own(*ue, *bearer);
-            Ok(place && *count == Tag::Same && is_octets(alloc, bytes, text)?)
+            place && *count == Tag::Same && is_octets(alloc, bytes, text)
         }
-        _ => Ok(false),
+        _ => false,
     }
 }
 
-fn is_put(alloc: Global, output: &Output, put: &Put) -> Result<bool, Fail> {
+fn is_put(alloc: Global, output: &Output, put: &Put) -> bool {
     match (output, put) {
         (Output::Control { to, ue, bytes }, Put::Say(wanted, whose, text)) => {
-            Ok(to == wanted && ue == whose && is_octets(alloc, bytes, text)?)
+            to == wanted && ue == whose && is_octets(alloc, bytes, text)
         }
-        (Output::Opened(teid), Put::Opened(wanted)) => Ok(teid == wanted),
-        (Output::Closed(teid), Put::Closed(wanted)) => Ok(teid == wanted),
-        (Output::Drop(reason), Put::Drop(wanted)) => Ok(reason == wanted),
+        (Output::Opened(teid), Put::Opened(wanted)) => teid == wanted,
+        (Output::Closed(teid), Put::Closed(wanted)) => teid == wanted,
+        (Output::Drop(reason), Put::Drop(wanted)) => reason == wanted,
         (Output::Radio { .. }, _) => is_radio(alloc, output, put),
         _ => is_packet(alloc, output, put),
     }
 }
 
-fn are_puts(alloc: Global, outputs: &Outputs, puts: &[Put]) -> Result<bool, Fail> {
+fn are_puts(alloc: Global, outputs: &Outputs, puts: &[Put]) -> bool {
     if outputs.len() != puts.len() {
-        return Ok(false);
+        return false;
     }
     for (output, put) in outputs.as_slice().iter().zip(puts.iter()) {
-        if !is_put(alloc, output, put)? {
-            return Ok(false);
+        if !is_put(alloc, output, put) {
+            return false;
         }
     }
-    Ok(true)
+    true
 }
 
-fn input_of(alloc: Global, given: &Call) -> Result<Input, Fail> {
+fn input_of(alloc: Global, given: &Call) -> Result<Input, HexError> {
     let input = match given {
         Call::Give(from, text) => Input::Control {
             from: *from,
@@ -188,34 +189,35 @@ fn stays_failed(alloc: Global, node: &mut DuNode) -> bool {
     }
 }
 
-fn step_outcome(
-    alloc: Global,
-    node: &mut DuNode,
-    given: &Call,
-    puts: &[Put],
-) -> Result<Outcome, Fail> {
-    let input = input_of(alloc, given)?;
+fn step_outcome(alloc: Global, node: &mut DuNode, given: &Call, puts: &[Put]) -> Outcome {
+    let Ok(input) = input_of(alloc, given) else {
+        return Outcome::Differs;
+    };
     let stepped = node.step(alloc, &FewMessages, &input);
     drop(input);
     match stepped {
-        Ok(outputs) => Ok(outcome_if(are_puts(alloc, &outputs, puts)?, Outcome::AsTold)),
-        Err(StepError::Memory) => Ok(outcome_if(stays_failed(alloc, node), Outcome::OutOfMemory)),
-        Err(StepError::Spent { .. }) => Ok(Outcome::Differs),
+        Ok(outputs) => {
+            let are_told = are_puts(alloc, &outputs, puts);
+            drop(outputs);
+            outcome_if(are_told, Outcome::AsTold)
+        }
+        Err(StepError::Memory) => outcome_if(stays_failed(alloc, node), Outcome::OutOfMemory),
+        Err(StepError::Spent { .. }) => Outcome::Differs,
     }
 }
 
 /// Whether a DU puts out what it should in these steps.
-fn outcome_of(alloc: Global, node: &mut DuNode, steps: &[(Call, &[Put])]) -> Result<Outcome, Fail> {
+fn outcome_of(alloc: Global, node: &mut DuNode, steps: &[(Call, &[Put])]) -> Outcome {
     for (given, puts) in steps {
-        let outcome = step_outcome(alloc, node, given, puts)?;
+        let outcome = step_outcome(alloc, node, given, puts);
         if outcome != Outcome::AsTold {
-            return Ok(outcome);
+            return outcome;
         }
     }
-    Ok(Outcome::AsTold)
+    Outcome::AsTold
 }
 
-fn run(alloc: Global, steps: &[(Call, &[Put])]) -> Result<Outcome, Fail> {
+fn run(alloc: Global, steps: &[(Call, &[Put])]) -> Outcome {
     let mut node = DuNode::new(alloc, Gnb::A, 1);
     let outcome = outcome_of(alloc, &mut node, steps);
     drop(node);
@@ -223,10 +225,10 @@ fn run(alloc: Global, steps: &[(Call, &[Put])]) -> Result<Outcome, Fail> {
 }
 
 /// Whether a new DU 1 of gNB A puts out what it should in these steps. Where memory runs out they are made again with another one.
-pub fn is_as_told(alloc: Global, steps: &[(Call, &[Put])]) -> Result<bool, Fail> {
-    let outcome = match run(alloc, steps)? {
-        Outcome::OutOfMemory => run(alloc, steps)?,
+pub fn is_as_told(alloc: Global, steps: &[(Call, &[Put])]) -> bool {
+    let outcome = match run(alloc, steps) {
+        Outcome::OutOfMemory => run(alloc, steps),
         other => other,
     };
-    Ok(outcome == Outcome::AsTold)
+    outcome == Outcome::AsTold
 }

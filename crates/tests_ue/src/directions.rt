@@ -5,7 +5,6 @@ use gnb_types::keys::EntityKey;
 use gnb_types::names::{BearerId, Dir, SnBits, UeId};
 use gnb_types::octets::Octets;
 use std::alloc::Global;
-use std::test::Fail;
 use ue_bearers::{Downlink, Reception, Uplink};
 use unit_steps::StepError;
 
@@ -42,26 +41,26 @@ fn numbers_one(alloc: Global, uplink: &mut Uplink) -> Result<bool, StepError> {
 }
 
 #[test]
-fn packets_go_up(rt: HostRuntime) -> Result<(), Fail> {
+fn packets_go_up(rt: HostRuntime) -> Result<(), Memory> {
     let alloc = rt.alloc();
     let mut uplink = uplink_with_one(alloc)?;
     let numbered = numbers_one(alloc, &mut uplink);
     uplink.confirm_to(0);
     let rests = uplink.rests();
     drop(uplink);
-    assert!(rt; numbered? && rests);
+    assert!(rt; numbered == Ok(true) && rests);
     Ok(())
 }
 
 #[test]
-fn a_report_confirms(rt: HostRuntime) -> Result<(), Fail> {
+fn a_report_confirms(rt: HostRuntime) -> Result<(), Memory> {
     let alloc = rt.alloc();
     let mut uplink = uplink_with_one(alloc)?;
     let numbered = numbers(alloc, &mut uplink, 0, &[0x80, 0, 7]);
     uplink.confirm_report(1, &[]);
     let rests = uplink.rests();
     drop(uplink);
-    assert!(rt; numbered? && rests);
+    assert!(rt; numbered == Ok(true) && rests);
     Ok(())
 }
 
@@ -108,11 +107,11 @@ fn comes_down(alloc: Global, downlink: &mut Downlink) -> Result<bool, Memory> {
 }
 
 #[test]
-fn packets_come_down(rt: HostRuntime) -> Result<(), Fail> {
+fn packets_come_down(rt: HostRuntime) -> Result<(), Memory> {
     let alloc = rt.alloc();
     let mut downlink = Downlink::new(alloc, key(Dir::Dl), SnBits::Len12, 4)?;
     let came = comes_down(alloc, &mut downlink);
     drop(downlink);
-    assert!(rt; came?);
+    assert!(rt; came == Ok(true));
     Ok(())
 }

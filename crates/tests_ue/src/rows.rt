@@ -12,7 +12,6 @@ use gnb_types::names::{BearerId, Dir, Gnb, NodeId};
 use gnb_types::outputs::{Outputs, Tag};
 use gnb_types::reasons::{DropReason, HeldReason, RefuseReason};
 use std::alloc::Global;
-use std::test::Fail;
 use ue_node::UeNode;
 use ue_rows::UeRecord;
 use unit_defs::UeState;
@@ -273,57 +272,48 @@ const DROPPED_PDUS: [(Call, &[Put]); 13] = [
 ];
 
 #[test]
-fn attaches(rt: HostRuntime) -> Result<(), Fail> {
-    assert!(rt; is_as_told(rt.alloc(), &ATTACH)?);
-    Ok(())
+fn attaches(rt: HostRuntime) {
+    assert!(rt; is_as_told(rt.alloc(), &ATTACH));
 }
 
 #[test]
-fn returns_to_its_home(rt: HostRuntime) -> Result<(), Fail> {
-    assert!(rt; is_as_told(rt.alloc(), &RETURNED)?);
-    Ok(())
+fn returns_to_its_home(rt: HostRuntime) {
+    assert!(rt; is_as_told(rt.alloc(), &RETURNED));
 }
 
 #[test]
-fn misses_its_access(rt: HostRuntime) -> Result<(), Fail> {
-    assert!(rt; is_as_told(rt.alloc(), &MISSED_ACCESS)?);
-    Ok(())
+fn misses_its_access(rt: HostRuntime) {
+    assert!(rt; is_as_told(rt.alloc(), &MISSED_ACCESS));
 }
 
 #[test]
-fn moves_to_another_du(rt: HostRuntime) -> Result<(), Fail> {
-    assert!(rt; is_as_told(rt.alloc(), &MOVED)?);
-    Ok(())
+fn moves_to_another_du(rt: HostRuntime) {
+    assert!(rt; is_as_told(rt.alloc(), &MOVED));
 }
 
 #[test]
-fn delivers_in_order_after_a_loss(rt: HostRuntime) -> Result<(), Fail> {
-    assert!(rt; is_as_told(rt.alloc(), &LOSS)?);
-    Ok(())
+fn delivers_in_order_after_a_loss(rt: HostRuntime) {
+    assert!(rt; is_as_told(rt.alloc(), &LOSS));
 }
 
 #[test]
-fn uses_its_quota(rt: HostRuntime) -> Result<(), Fail> {
-    assert!(rt; is_as_told(rt.alloc(), &QUOTA)?);
-    Ok(())
+fn uses_its_quota(rt: HostRuntime) {
+    assert!(rt; is_as_told(rt.alloc(), &QUOTA));
 }
 
 #[test]
-fn refuses(rt: HostRuntime) -> Result<(), Fail> {
-    assert!(rt; is_as_told(rt.alloc(), &REFUSED)?);
-    Ok(())
+fn refuses(rt: HostRuntime) {
+    assert!(rt; is_as_told(rt.alloc(), &REFUSED));
 }
 
 #[test]
-fn drops_messages(rt: HostRuntime) -> Result<(), Fail> {
-    assert!(rt; is_as_told(rt.alloc(), &DROPPED_MESSAGES)?);
-    Ok(())
+fn drops_messages(rt: HostRuntime) {
+    assert!(rt; is_as_told(rt.alloc(), &DROPPED_MESSAGES));
 }
 
 #[test]
-fn drops_pdus(rt: HostRuntime) -> Result<(), Fail> {
-    assert!(rt; is_as_told(rt.alloc(), &DROPPED_PDUS)?);
-    Ok(())
+fn drops_pdus(rt: HostRuntime) {
+    assert!(rt; is_as_told(rt.alloc(), &DROPPED_PDUS));
 }
 
 /// Whether a terminal is in this state and epoch, with this home, and with nothing that waits.
@@ -340,11 +330,11 @@ fn reports(node: &mut UeNode) -> Result<bool, StepError> {
 }
 
 #[test]
-fn what_it_reports(rt: HostRuntime) -> Result<(), Fail> {
+fn what_it_reports(rt: HostRuntime) -> Result<(), Memory> {
     let mut node = new_node(rt.alloc())?;
     let reported = reports(&mut node);
     drop(node);
-    assert!(rt; reported?);
+    assert!(rt; reported == Ok(true));
     Ok(())
 }
 
@@ -385,10 +375,9 @@ fn spends_at_its_return(alloc: Global, out: &mut Outputs) -> Result<bool, Memory
 
 /// In the last epoch it neither arrives nor returns.
 #[test]
-fn epochs_are_spent(rt: HostRuntime) -> Result<(), Fail> {
+fn epochs_are_spent(rt: HostRuntime) {
     let alloc = rt.alloc();
     let mut out = Outputs::new(alloc);
-    assert!(rt; spends_at_its_arrival(alloc, &mut out)?);
-    assert!(rt; spends_at_its_return(alloc, &mut out)?);
-    Ok(())
+    assert!(rt; spends_at_its_arrival(alloc, &mut out) == Ok(true));
+    assert!(rt; spends_at_its_return(alloc, &mut out) == Ok(true));
 }

@@ -4,7 +4,7 @@ ghost use Rattle.std.specs.Prelude.{◌≡◌, true};
 ghost use Rattle.ue_node.specs.Nodes.{HasPacket};
 
 use crate::tokens::Tokens;
-use gnb_types::hex::hex_bytes;
+use gnb_types::hex::{HexError, hex_bytes};
 use gnb_types::inputs::{Input, Order};
 use gnb_types::items::Memory;
 use gnb_types::names::{BearerId, Dir, Gnb, NodeId, SnBits, UeId};
@@ -13,7 +13,6 @@ use gnb_types::outputs::{Output, Outputs, Tag};
 use gnb_types::plans::Plan;
 use gnb_types::reasons::{DropReason, HeldReason, RefuseReason};
 use std::alloc::Global;
-use std::test::Fail;
 use ue_node::UeNode;
 use unit_steps::StepError;
 
@@ -70,22 +69,24 @@ pub enum Put {
 }
 
 /// Octets by their digits. Where memory runs out they are asked for again: so the tests also pass where any one allocation fails.
-fn octets_of(alloc: Global, text: &str) -> Result<Octets, Fail> {
+fn octets_of(alloc: Global, text: &str) -> Result<Octets, HexError> {
     match hex_bytes(alloc, text.as_bytes()) {
         Ok(octets) => Ok(octets),
-        Err(_) => Ok(hex_bytes(alloc, text.as_bytes())?),
+        Err(_) => hex_bytes(alloc, text.as_bytes()),
     }
 }
 
-fn is_octets(alloc: Global, octets: &Octets, text: &str) -> Result<bool, Fail> {
-    let wanted = octets_of(alloc, text)?;
-    Ok(octets.as_slice() == wanted.as_slice())
+fn is_octets(alloc: Global, octets: &Octets, text: &str) -> bool {
+    match octets_of(alloc, text) {
+        Ok(wanted) => octets.as_slice() == wanted.as_slice(),
+        Err(_) => false,
+    }
 }
 
-fn is_put(alloc: Global, output: &Output, put: &Put) -> Result<bool, Fail> {
+fn is_put(alloc: Global, output: &Output, put: &Put) -> bool {
     match (output, put) {
         (Output::Control { to, ue, bytes }, Put::Say(wanted, text)) => {
-            Ok(to == wanted && *ue == UE.0 && is_octets(alloc, bytes, text)?)
+            to == wanted && *ue == UE.0 && is_octets(alloc, bytes, text)
         }
         (
             Output::Radio {
@@ -98,7 +99,7 @@ fn is_put(alloc: Global, output: &Output, put: &Put) -> Result<bool, Fail> {
             Put::Radio(on, tag, text),
         ) => {
             let place = *dir == Dir::Ul && epoch == on && count == tag;
-            Ok(place && is_octets(alloc, bytes, text)?)
+            place && is_octets(alloc, bytes, text)
         }
         (
             Output::Deliver {
@@ -108,28 +109,28 @@ fn is_put(alloc: Global, output: &Output, put: &Put) -> Result<bool, Fail> {
                 ..
             },
             Put::Deliver(wanted, text),
-        ) => Ok(*dir == Dir::Dl && count == wanted && is_octets(alloc, packet, text)?),
-        (Output::Drop(reason), Put::Drop(wanted)) => Ok(reason == wanted),
-        (Output::Held(reason), Put::Held(wanted)) => Ok(reason == wanted),
-        (Output::No(reason), Put::No(wanted)) => Ok(reason == wanted),
-        _ => Ok(false),
+        ) => *dir == Dir::Dl && count == wanted && is_octets(alloc, packet, text),
+        (Output::Drop(reason), Put::Drop(wanted)) => reason == wanted,
+        (Output::Held(reason), Put::Held(wanted)) => reason == wanted,
+        (Output::No(reason), Put::No(wanted)) => reason == wanted,
+        _ => false,
     }
 }
 
-fn are_puts(alloc: Global, outputs: &Outputs, puts: &[Put]) -> Result<bool, Fail> {
+fn are_puts(alloc: Global, outputs: &Outputs, puts: &[Put]) -> bool {
     if outputs.len() != puts.len() {
-        return Ok(false);
+        return false;
     }
     for (output, put) in outputs.as_slice().iter().zip(puts.iter()) {
-        if !is_put(alloc, output, put)? {
-            return Ok(false);
+        if !is_put(alloc, output, put) {
+            return false;
         }
     }
-    Ok(true)
+    true
 }
 
 /// So many octets, as a packet.
-fn long_packet(alloc: Global, count: usize) -> Result<Octets, Fail> {
+fn long_packet(alloc: Global, count: usize) -> Result<Octets, HexError> {
     let mut packet = Octets::new(alloc);
     for _ in 0..count {
         if packet.push(7).is_err() {
@@ -140,7 +141,7 @@ fn long_packet(alloc: Global, count: usize) -> Result<Octets, Fail> {
 }
 
 /// The input of a call, None where it is no step.
-fn input_of(alloc: Global, given: &Call) -> Result<Option<Input>, Fail> {
+fn input_of(alloc: Global, given: &Call) -> Result<Option<Input>, HexError> {
     let input = match given {
         Call::Static => return Ok(None),
         Call::Give(from, text) => Input::Control {
@@ -217,41 +218,47 @@ fn is_allowed(input: &Input) -> bool
     }
 }
 
-fn step_outcome(
-    alloc: Global,
-    node: &mut UeNode,
-    given: &Call,
-    puts: &[Put],
-) -> Result<Outcome, Fail> {
-    let Some(input) = input_of(alloc, given)? else {
-        return Ok(outcome_if(node.place_static().is_ok(), Outcome::AsTold));
-    };
+fn input_outcome(alloc: Global, node: &mut UeNode, input: Input, puts: &[Put]) -> Outcome {
     if let Input::Offer { packet, .. } = &input
         && packet.is_empty()
     {
         drop(input);
-        return Ok(Outcome::Differs);
+        return Outcome::Differs;
     }
     match node.step(alloc, &Tokens, input) {
-        Ok(outputs) => Ok(outcome_if(are_puts(alloc, &outputs, puts)?, Outcome::AsTold)),
-        Err(StepError::Memory) => Ok(outcome_if(stays_failed(alloc, node), Outcome::OutOfMemory)),
-        Err(StepError::Spent { .. }) => Ok(Outcome::Differs),
+        Ok(outputs) => {
+            let are_told = are_puts(alloc, &outputs, puts);
+            drop(outputs);
+            outcome_if(are_told, Outcome::AsTold)
+        }
+        Err(StepError::Memory) => outcome_if(stays_failed(alloc, node), Outcome::OutOfMemory),
+        Err(StepError::Spent { .. }) => Outcome::Differs,
+    }
+}
+
+fn step_outcome(alloc: Global, node: &mut UeNode, given: &Call, puts: &[Put]) -> Outcome {
+    match input_of(alloc, given) {
+        Ok(Some(input)) => input_outcome(alloc, node, input, puts),
+        Ok(None) => outcome_if(node.place_static().is_ok(), Outcome::AsTold),
+        Err(_) => Outcome::Differs,
     }
 }
 
 /// Whether a terminal puts out what it should in these steps.
-fn outcome_of(alloc: Global, node: &mut UeNode, steps: &[(Call, &[Put])]) -> Result<Outcome, Fail> {
+fn outcome_of(alloc: Global, node: &mut UeNode, steps: &[(Call, &[Put])]) -> Outcome {
     for (given, puts) in steps {
-        let outcome = step_outcome(alloc, node, given, puts)?;
+        let outcome = step_outcome(alloc, node, given, puts);
         if outcome != Outcome::AsTold {
-            return Ok(outcome);
+            return outcome;
         }
     }
-    Ok(Outcome::AsTold)
+    Outcome::AsTold
 }
 
-fn run(alloc: Global, steps: &[(Call, &[Put])]) -> Result<Outcome, Fail> {
-    let mut node = new_node(alloc)?;
+fn run(alloc: Global, steps: &[(Call, &[Put])]) -> Outcome {
+    let Ok(mut node) = new_node(alloc) else {
+        return Outcome::Differs;
+    };
     let outcome = outcome_of(alloc, &mut node, steps);
     drop(node);
     outcome
@@ -266,10 +273,10 @@ pub fn new_node(alloc: Global) -> Result<UeNode, Memory> {
 }
 
 /// Whether a new terminal puts out what it should in these steps. Where memory runs out they are made again with another one.
-pub fn is_as_told(alloc: Global, steps: &[(Call, &[Put])]) -> Result<bool, Fail> {
-    let outcome = match run(alloc, steps)? {
-        Outcome::OutOfMemory => run(alloc, steps)?,
+pub fn is_as_told(alloc: Global, steps: &[(Call, &[Put])]) -> bool {
+    let outcome = match run(alloc, steps) {
+        Outcome::OutOfMemory => run(alloc, steps),
         other => other,
     };
-    Ok(outcome == Outcome::AsTold)
+    outcome == Outcome::AsTold
 }
