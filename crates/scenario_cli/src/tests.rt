@@ -5,12 +5,10 @@ ghost use Rattle.std.specs.Prelude.{◌<◌};
 use crate::top::gnb;
 use command_defs::Status;
 use gnb_base::memory::{MemorySink, MemorySource};
-use gnb_types::octets::Octets;
 use profile::{PROFILE_TEXT, PROFILE_TEXT_2};
-use std::alloc::Global;
+use std::alloc::{AllocError, Global};
 use std::cmp::min;
 use std::process::Abort;
-use std::test::Fail;
 
 /// One packet goes from the core to the terminal.
 const SCRIPT: &str =
@@ -80,28 +78,40 @@ struct Call<'a> {
     failing_writes: &'a [u64],
 }
 
+/// What a call answers, what the sink then holds, and how many writes there were.
+type Answer = (Status, Vec<u8>, u64);
+
+/// The words of a text that has a space between two of them.
+fn words_of(alloc: Global, text: &str) -> Result<Vec<String>, AllocError> {
+    let mut words = Vec::new(alloc);
+    for word in text.split(' ') {
+        words.push(String::from_str(alloc, word)?)?;
+    }
+    Ok(words)
+}
+
+fn answer_of(
+    alloc: Global,
+    words: &[String],
+    source: &mut MemorySource,
+    sink: &mut MemorySink,
+) -> Result<Answer, AllocError> {
+    let status = gnb(alloc, words, source, sink);
+    let held = Vec::from_slice(alloc, sink.bytes_held())?;
+    Ok((status, held, sink.calls()))
+}
+
 impl Call<'_> {
-    /// What it answers, what the sink then holds, and how many writes there were.
-    fn answer(&self, alloc: Global) -> Result<(Status, Octets, u64), Fail>
+    fn answer(&self, alloc: Global) -> Result<Answer, AllocError>
         requires { 0 < self.now.piece }
     {
-        let mut words = Vec::new(alloc);
-        for word in self.word.split(' ') {
-            words.push(String::from_str(alloc, word)?)?;
-        }
-        let mut source = MemorySource::new(
-            Vec::from_slice(alloc, self.input.as_bytes())?,
-            self.piece,
-            Vec::from_slice(alloc, self.failing_reads)?,
-        );
-        let mut sink = MemorySink::new(
-            alloc,
-            self.piece,
-            Vec::from_slice(alloc, self.failing_writes)?,
-        );
-        let status = gnb(alloc, words.as_slice(), &mut source, &mut sink);
-        let held = Octets::from_vec(Vec::from_slice(alloc, sink.bytes_held())?);
-        Ok((status, held, sink.calls()))
+        let words = words_of(alloc, self.word)?;
+        let input = Vec::from_slice(alloc, self.input.as_bytes())?;
+        let reads = Vec::from_slice(alloc, self.failing_reads)?;
+        let writes = Vec::from_slice(alloc, self.failing_writes)?;
+        let mut source = MemorySource::new(input, self.piece, reads);
+        let mut sink = MemorySink::new(alloc, self.piece, writes);
+        answer_of(alloc, words.as_slice(), &mut source, &mut sink)
     }
 }
 
@@ -113,210 +123,233 @@ fn status(code: u8, place: u64, reason: u16) -> Status {
     }
 }
 
-#[test]
-fn whole_calls(rt: HostRuntime) -> Result<(), Fail> {
-    let rows = [
-        ("run", SCRIPT, status(0, 0, 0), TRANSCRIPT),
-        ("go", SCRIPT, status(2, 0, 0), "stop 2 0 0\n"),
-        ("profile 1", SCRIPT, status(2, 0, 0), "stop 2 0 0\n"),
-        ("profile 2 2", SCRIPT, status(2, 0, 0), "stop 2 0 0\n"),
-        ("run", "", status(4, 1, 1), "stop 4 1 1\n"),
-        ("run", "module builtin x", status(4, 1, 4), "stop 4 1 4\n"),
-        (
-            "run",
-            "module builtin\n\n; none\n\n",
-            status(0, 0, 0),
-            "end 0\n",
-        ),
-        (
-            "run",
-            "module builtin\n\nair u2 b1 dl\n; one\nget A.up1\n",
-            status(4, 5, 2),
-            "> air u2 b1 dl\nrefused NoBearer\nstop 4 5 2\n",
-        ),
-        (
-            "run",
-            "module builtin\nair u1 b1 dl",
-            status(0, 0, 0),
-            "> air u1 b1 dl\nrefused NoBearer\nend 1\n",
-        ),
-        ("run", REFUSALS, status(0, 0, 0), REFUSED),
-        ("run", FIVE_PACKETS, status(0, 0, 0), HELD),
-        ("run", "module builtin 2\n", status(4, 1, 4), "stop 4 1 4\n"),
-        (
-            "run",
-            "module text\n",
-            status(3, 2, 9),
-            "module 2 1 9\nstop 3 2 9\n",
-        ),
-        (
-            "run",
-            "module text\nM DEFINITIONS AUTOMATIC TAGS ::= BEGIN\nEND\nair u1 b1 dl\n",
-            status(3, 0, 20),
-            "differs Bearer\nstop 3 0 20\n",
-        ),
-        (
-            "run",
-            "module text\nM DEFINITIONS AUTOMATIC TAGS ::= BEGIN END x\nEND\nair u1 b1 dl\n",
-            status(4, 3, 4),
-            "stop 4 3 4\n",
-        ),
-        ("um 12 2", LATE_PACKET, status(0, 0, 0), LATE),
-        ("um 18 1000", "\n; none\n", status(0, 0, 0), "end 0\n"),
-        (
-            "um 12 2",
-            "tick\ngive 1\n",
-            status(4, 2, 2),
-            "> tick\nstop 4 2 2\n",
-        ),
-        ("um", LATE_PACKET, status(2, 0, 0), "stop 2 0 0\n"),
-        ("um 12", LATE_PACKET, status(2, 0, 0), "stop 2 0 0\n"),
-        ("um 13 2", LATE_PACKET, status(2, 0, 0), "stop 2 0 0\n"),
-        ("um 12 0", LATE_PACKET, status(2, 0, 0), "stop 2 0 0\n"),
-        ("um 12 1001", LATE_PACKET, status(2, 0, 0), "stop 2 0 0\n"),
-        ("um 12 2 2", LATE_PACKET, status(2, 0, 0), "stop 2 0 0\n"),
-        ("duplicate 12 4", TWO_LEGS, status(0, 0, 0), DUPLICATED),
-        ("duplicate 18 4096", "", status(0, 0, 0), "end 0\n"),
-        (
-            "duplicate 12 4",
-            "ask\ncarry 0\n",
-            status(4, 2, 2),
-            "> ask\nquiet 0\nstop 4 2 2\n",
-        ),
-        ("duplicate 12", TWO_LEGS, status(2, 0, 0), "stop 2 0 0\n"),
-        ("duplicate 12 3", TWO_LEGS, status(2, 0, 0), "stop 2 0 0\n"),
-        (
-            "duplicate 12 4097",
-            TWO_LEGS,
-            status(2, 0, 0),
-            "stop 2 0 0\n",
-        ),
-        ("check", "", status(4, 1, 1), "stop 4 1 1\n"),
-        ("check", "module", status(4, 1, 1), "stop 4 1 1\n"),
-        ("check", "module x\n", status(4, 1, 1), "stop 4 1 1\n"),
-        (
-            "check",
-            "module builtin\n",
-            status(0, 0, 0),
-            "module SplitGNB 53\n",
-        ),
-        (
-            "check",
-            "module builtin 2",
-            status(0, 0, 0),
-            "module SplitGNB 53\n",
-        ),
-        (
-            "check",
-            "module builtin\n\n",
-            status(4, 2, 4),
-            "stop 4 2 4\n",
-        ),
-        ("check", "module text x\n", status(4, 1, 4), "stop 4 1 4\n"),
-        ("check", MODULE, status(0, 0, 0), "module M 1\n"),
-        (
-            "check",
-            "module text\nM DEFINITIONS AUTOMATIC TAGS ::= BEGIN\nT ::= BOOLEAN END",
-            status(0, 0, 0),
-            "module M 1\n",
-        ),
-        (
-            "check",
-            "module text\nM DEFINITIONS AUTOMATIC TAGS ::= BEGIN\nT ::= REAL\nEND\nmore\n",
-            status(3, 3, 6),
-            "module 3 7 6\nstop 3 3 6\n",
-        ),
-        (
-            "check",
-            "module text\nM DEFINITIONS AUTOMATIC TAGS ::= BEGIN END x\n\n",
-            status(4, 3, 4),
-            "stop 4 3 4\n",
-        ),
-        (
-            "check",
-            "module text\nM DEFINITIONS AUTOMATIC TAGS ::= BEGIN\nEND\n\n",
-            status(4, 4, 4),
-            "stop 4 4 4\n",
-        ),
-    ];
-    for (word, input, answer, text) in rows {
-        for piece in [1, 4096] {
-            assert!(rt; piece > 0);
-            let call = Call {
-                word,
-                input,
-                piece,
-                failing_reads: &[],
-                failing_writes: &[],
-            };
-            let (status, held, _) = call.answer(rt.alloc())?;
-            assert_eq!(rt; status, answer);
-            assert_eq!(rt; held.as_slice(), text.as_bytes());
+/// The words and the input of a call, the code, the place and the reason of its status, and what it writes.
+type Row = (&'static str, &'static str, (u8, u64, u16), &'static str);
+
+/// Scripts that are run, and words that are no form.
+const RUNS: [Row; 15] = [
+    ("run", SCRIPT, (0, 0, 0), TRANSCRIPT),
+    ("go", SCRIPT, (2, 0, 0), "stop 2 0 0\n"),
+    ("profile 1", SCRIPT, (2, 0, 0), "stop 2 0 0\n"),
+    ("profile 2 2", SCRIPT, (2, 0, 0), "stop 2 0 0\n"),
+    ("run", "", (4, 1, 1), "stop 4 1 1\n"),
+    ("run", "module builtin x", (4, 1, 4), "stop 4 1 4\n"),
+    ("run", "module builtin\n\n; none\n\n", (0, 0, 0), "end 0\n"),
+    (
+        "run",
+        "module builtin\n\nair u2 b1 dl\n; one\nget A.up1\n",
+        (4, 5, 2),
+        "> air u2 b1 dl\nrefused NoBearer\nstop 4 5 2\n",
+    ),
+    (
+        "run",
+        "module builtin\nair u1 b1 dl",
+        (0, 0, 0),
+        "> air u1 b1 dl\nrefused NoBearer\nend 1\n",
+    ),
+    ("run", REFUSALS, (0, 0, 0), REFUSED),
+    ("run", FIVE_PACKETS, (0, 0, 0), HELD),
+    ("run", "module builtin 2\n", (4, 1, 4), "stop 4 1 4\n"),
+    (
+        "run",
+        "module text\n",
+        (3, 2, 9),
+        "module 2 1 9\nstop 3 2 9\n",
+    ),
+    (
+        "run",
+        "module text\nM DEFINITIONS AUTOMATIC TAGS ::= BEGIN\nEND\nair u1 b1 dl\n",
+        (3, 0, 20),
+        "differs Bearer\nstop 3 0 20\n",
+    ),
+    (
+        "run",
+        "module text\nM DEFINITIONS AUTOMATIC TAGS ::= BEGIN END x\nEND\nair u1 b1 dl\n",
+        (4, 3, 4),
+        "stop 4 3 4\n",
+    ),
+];
+
+/// Scripts of one bearer.
+const BEARERS: [Row; 15] = [
+    ("um 12 2", LATE_PACKET, (0, 0, 0), LATE),
+    ("um 18 1000", "\n; none\n", (0, 0, 0), "end 0\n"),
+    (
+        "um 12 2",
+        "tick\ngive 1\n",
+        (4, 2, 2),
+        "> tick\nstop 4 2 2\n",
+    ),
+    ("um", LATE_PACKET, (2, 0, 0), "stop 2 0 0\n"),
+    ("um 12", LATE_PACKET, (2, 0, 0), "stop 2 0 0\n"),
+    ("um 13 2", LATE_PACKET, (2, 0, 0), "stop 2 0 0\n"),
+    ("um 12 0", LATE_PACKET, (2, 0, 0), "stop 2 0 0\n"),
+    ("um 12 1001", LATE_PACKET, (2, 0, 0), "stop 2 0 0\n"),
+    ("um 12 2 2", LATE_PACKET, (2, 0, 0), "stop 2 0 0\n"),
+    ("duplicate 12 4", TWO_LEGS, (0, 0, 0), DUPLICATED),
+    ("duplicate 18 4096", "", (0, 0, 0), "end 0\n"),
+    (
+        "duplicate 12 4",
+        "ask\ncarry 0\n",
+        (4, 2, 2),
+        "> ask\nquiet 0\nstop 4 2 2\n",
+    ),
+    ("duplicate 12", TWO_LEGS, (2, 0, 0), "stop 2 0 0\n"),
+    ("duplicate 12 3", TWO_LEGS, (2, 0, 0), "stop 2 0 0\n"),
+    ("duplicate 12 4097", TWO_LEGS, (2, 0, 0), "stop 2 0 0\n"),
+];
+
+/// Modules that are checked.
+const CHECKS: [Row; 12] = [
+    ("check", "", (4, 1, 1), "stop 4 1 1\n"),
+    ("check", "module", (4, 1, 1), "stop 4 1 1\n"),
+    ("check", "module x\n", (4, 1, 1), "stop 4 1 1\n"),
+    (
+        "check",
+        "module builtin\n",
+        (0, 0, 0),
+        "module SplitGNB 53\n",
+    ),
+    (
+        "check",
+        "module builtin 2",
+        (0, 0, 0),
+        "module SplitGNB 53\n",
+    ),
+    ("check", "module builtin\n\n", (4, 2, 4), "stop 4 2 4\n"),
+    ("check", "module text x\n", (4, 1, 4), "stop 4 1 4\n"),
+    ("check", MODULE, (0, 0, 0), "module M 1\n"),
+    (
+        "check",
+        "module text\nM DEFINITIONS AUTOMATIC TAGS ::= BEGIN\nT ::= BOOLEAN END",
+        (0, 0, 0),
+        "module M 1\n",
+    ),
+    (
+        "check",
+        "module text\nM DEFINITIONS AUTOMATIC TAGS ::= BEGIN\nT ::= REAL\nEND\nmore\n",
+        (3, 3, 6),
+        "module 3 7 6\nstop 3 3 6\n",
+    ),
+    (
+        "check",
+        "module text\nM DEFINITIONS AUTOMATIC TAGS ::= BEGIN END x\n\n",
+        (4, 3, 4),
+        "stop 4 3 4\n",
+    ),
+    (
+        "check",
+        "module text\nM DEFINITIONS AUTOMATIC TAGS ::= BEGIN\nEND\n\n",
+        (4, 4, 4),
+        "stop 4 4 4\n",
+    ),
+];
+
+/// Whether a call whose input comes in such pieces comes to this.
+fn comes_to(alloc: Global, row: Row, piece: usize) -> bool
+    requires { 0 < piece }
+{
+    let (word, input, (code, place, reason), text) = row;
+    let call = Call {
+        word,
+        input,
+        piece,
+        failing_reads: &[],
+        failing_writes: &[],
+    };
+    match call.answer(alloc) {
+        Ok((answer, held, _)) => {
+            answer == status(code, place, reason) && held.as_slice() == text.as_bytes()
         }
+        Err(_) => false,
     }
-    Ok(())
 }
 
-/// The texts of the profile, for which nothing is read; a front of one stands where a write fails.
-#[test]
-fn profile_texts(rt: HostRuntime) -> Result<(), Fail> {
-    let rows = [
-        ("profile", PROFILE_TEXT, &[] as &[u64], status(0, 0, 0)),
-        ("profile 2", PROFILE_TEXT_2, &[], status(0, 0, 0)),
-        ("profile", &PROFILE_TEXT[..4096], &[2], status(7, 0, 0)),
-    ];
-    for (word, text, failing_writes, answer) in rows {
-        let call = Call {
-            word,
-            input: "not a header",
-            piece: 4096,
-            failing_reads: &[1],
-            failing_writes,
-        };
-        let (status, held, _) = call.answer(rt.alloc())?;
-        assert_eq!(rt; status, answer);
-        assert!(rt; held.as_slice() == text);
+fn come_to(rt: &impl Abort, alloc: Global, rows: &[Row]) {
+    for &row in rows {
+        let (word, input, ..) = row;
+        assert!(rt; comes_to(alloc, row, 1), "{word} of {input}");
+        assert!(rt; comes_to(alloc, row, 4096), "{word} of {input}");
     }
-    Ok(())
+}
+
+#[test]
+fn whole_runs(rt: HostRuntime) {
+    come_to(&rt, rt.alloc(), &RUNS);
+}
+
+#[test]
+fn whole_runs_of_a_bearer(rt: HostRuntime) {
+    come_to(&rt, rt.alloc(), &BEARERS);
+}
+
+#[test]
+fn whole_checks(rt: HostRuntime) {
+    come_to(&rt, rt.alloc(), &CHECKS);
+}
+
+/// Whether a call for which nothing is read ends with this code, and writes this.
+fn writes_text(alloc: Global, word: &str, failing: &[u64], code: u8, text: &[u8]) -> bool {
+    let call = Call {
+        word,
+        input: "not a header",
+        piece: 4096,
+        failing_reads: &[1],
+        failing_writes: failing,
+    };
+    match call.answer(alloc) {
+        Ok((answer, held, _)) => answer == status(code, 0, 0) && held.as_slice() == text,
+        Err(_) => false,
+    }
+}
+
+/// The texts of the profile; a front of one stands where a write fails.
+#[test]
+fn profile_texts(rt: HostRuntime) {
+    assert!(rt; writes_text(rt.alloc(), "profile", &[], 0, PROFILE_TEXT));
+    assert!(rt; writes_text(rt.alloc(), "profile 2", &[], 0, PROFILE_TEXT_2));
+    assert!(rt; writes_text(rt.alloc(), "profile", &[2], 7, &PROFILE_TEXT[..4096]));
+}
+
+/// A script of one event with this text as its module.
+fn script_with(alloc: Global, text: &[u8]) -> Result<Vec<u8>, AllocError> {
+    let mut input = Vec::from_slice(alloc, b"module text\n".as_slice())?;
+    input.extend_from_slice(text)?;
+    input.extend_from_slice(b"air u1 b1 dl\n".as_slice())?;
+    Ok(input)
+}
+
+fn answer_with(alloc: Global, text: &[u8]) -> Result<Answer, AllocError> {
+    let words = words_of(alloc, "run")?;
+    let input = script_with(alloc, text)?;
+    let mut source = MemorySource::new(input, 4096, Vec::new(alloc));
+    let mut sink = MemorySink::new(alloc, 4096, Vec::new(alloc));
+    answer_of(alloc, words.as_slice(), &mut source, &mut sink)
+}
+
+/// Whether a script with this text as its module comes to this.
+fn text_comes_to(alloc: Global, text: &[u8], wanted: Status, output: &str) -> bool {
+    match answer_with(alloc, text) {
+        Ok((answer, held, _)) => answer == wanted && held.as_slice() == output.as_bytes(),
+        Err(_) => false,
+    }
 }
 
 /// The profile's own text as a script's module, and that of version 2.
 #[test]
-fn scripts_with_a_text(rt: HostRuntime) -> Result<(), Fail> {
+fn scripts_with_a_text(rt: HostRuntime) {
     let alloc = rt.alloc();
-    let rows = [
-        (
-            PROFILE_TEXT,
-            status(0, 0, 0),
-            "> air u1 b1 dl\nrefused NoBearer\nend 1\n",
-        ),
-        (
-            PROFILE_TEXT_2,
-            status(3, 0, 20),
-            "differs HandoverRequest\nstop 3 0 20\n",
-        ),
-    ];
-    for (text, answer, output) in rows {
-        let mut input = Octets::from_slice(alloc, b"module text\n")?;
-        input.append(text)?;
-        input.append(b"air u1 b1 dl\n")?;
-        let mut words = Vec::new(alloc);
-        words.push(String::from_str(alloc, "run")?)?;
-        let octets = Vec::from_slice(alloc, input.as_slice())?;
-        let mut source = MemorySource::new(octets, 4096, Vec::new(alloc));
-        let mut sink = MemorySink::new(alloc, 4096, Vec::new(alloc));
-        let status = gnb(alloc, words.as_slice(), &mut source, &mut sink);
-        assert_eq!(rt; status, answer);
-        assert_eq!(rt; sink.bytes_held(), output.as_bytes());
-    }
-    Ok(())
+    let output = "> air u1 b1 dl\nrefused NoBearer\nend 1\n";
+    assert!(rt; text_comes_to(alloc, PROFILE_TEXT, status(0, 0, 0), output));
+    let output = "differs HandoverRequest\nstop 3 0 20\n";
+    assert!(rt; text_comes_to(alloc, PROFILE_TEXT_2, status(3, 0, 20), output));
 }
 
 /// Writes what the script's lines among its first bytes give, and then the stop line of a failed
 /// read.
-fn text_at(alloc: Global, taken: usize) -> Result<String, Fail> {
+fn text_at(alloc: Global, taken: usize) -> Result<String, AllocError> {
     let mut text = String::new(alloc);
-    for (end, lines) in STEPS {
+    for &(end, lines) in &STEPS {
         if end <= taken {
             text.push_str(lines)?;
         }
@@ -326,166 +359,243 @@ fn text_at(alloc: Global, taken: usize) -> Result<String, Fail> {
     Ok(text)
 }
 
+/// Whether the script of which the read with this number fails ends at so many octets, after what the lines before it gave.
+fn ends_with_read(alloc: Global, piece: usize, number: u64, taken: usize) -> bool
+    requires { 0 < piece }
+{
+    let call = Call {
+        word: "run",
+        input: SCRIPT,
+        piece,
+        failing_reads: &[number],
+        failing_writes: &[],
+    };
+    let Ok(text) = text_at(alloc, taken) else {
+        return false;
+    };
+    match call.answer(alloc) {
+        Ok((answer, held, _)) => {
+            answer == status(6, taken as u64, 0) && held.as_slice() == text.as_bytes()
+        }
+        Err(_) => false,
+    }
+}
+
 /// The read with each number fails in turn: what the lines before it gave stands, and then the stop
 /// line.
 #[test]
-fn failing_reads(rt: HostRuntime) -> Result<(), Fail> {
-    for (piece, reads) in [(1, 96), (16, 8), (4096, 3)] {
-        assert!(rt; piece > 0);
-        each_read_fails(&rt, rt.alloc(), piece, reads)?;
-    }
-    Ok(())
+fn failing_reads(rt: HostRuntime) {
+    each_read_fails(&rt, rt.alloc(), 1, 96);
+    each_read_fails(&rt, rt.alloc(), 16, 8);
+    each_read_fails(&rt, rt.alloc(), 4096, 3);
 }
 
-fn each_read_fails(rt: &impl Abort, alloc: Global, piece: usize, reads: u64) -> Result<(), Fail>
+fn each_read_fails(rt: &impl Abort, alloc: Global, piece: usize, reads: u64)
     requires { 0 < piece }
 {
     for number in 1..reads {
-        let call = Call {
-            word: "run",
-            input: SCRIPT,
-            piece,
-            failing_reads: &[number],
-            failing_writes: &[],
-        };
-        let (answer, held, _) = call.answer(alloc)?;
         let taken = min(SCRIPT.len(), ((number - 1) as usize).saturating_mul(piece));
-        let text = text_at(alloc, taken)?;
-        assert_eq!(rt; answer, status(6, taken as u64, 0));
-        assert_eq!(rt; held.as_slice(), text.as_bytes());
+        assert!(rt;
+            ends_with_read(alloc, piece, number, taken),
+            "{number} of {piece}"
+        );
     }
-    Ok(())
+}
+
+/// How the script ends of which a write fails.
+#[derive(Clone, Copy, PartialEq, Eq)]
+enum Written {
+    /// No write had the number that fails: the whole text stands.
+    Whole,
+    /// A front of it stands, and no write came after it.
+    Front,
+    Differs,
+}
+
+fn written_if(good: bool, written: Written) -> Written {
+    if good { written } else { Written::Differs }
+}
+
+/// What the script writes of which the write with this number fails.
+fn written_with(alloc: Global, piece: usize, number: u64) -> Written
+    requires { 0 < piece }
+{
+    let call = Call {
+        word: "run",
+        input: SCRIPT,
+        piece,
+        failing_reads: &[],
+        failing_writes: &[number],
+    };
+    match call.answer(alloc) {
+        Ok((answer, held, calls)) => written_as(answer, held.as_slice(), calls, piece, number),
+        Err(_) => Written::Differs,
+    }
+}
+
+fn written_as(answer: Status, held: &[u8], calls: u64, piece: usize, number: u64) -> Written {
+    if answer.code == 0 {
+        let is_whole = held == TRANSCRIPT.as_bytes() && calls.checked_add(1) == Some(number);
+        return written_if(is_whole, Written::Whole);
+    }
+    let is_front = answer == status(7, 0, 0) && TRANSCRIPT.as_bytes().starts_with(held);
+    let is_last = calls == number;
+    let is_long = piece > 1 || (held.len() as u64).checked_add(1) == Some(number);
+    written_if(is_front && is_last && is_long, Written::Front)
 }
 
 /// The write with each number fails in turn: a front of the text stands, and no write comes after
 /// it.
 #[test]
-fn failing_writes(rt: HostRuntime) -> Result<(), Fail> {
-    for piece in [1, 16, 4096] {
-        assert!(rt; piece > 0);
-        each_write_fails(&rt, rt.alloc(), piece)?;
-    }
-    Ok(())
+fn failing_writes(rt: HostRuntime) {
+    each_write_fails(&rt, rt.alloc(), 1);
+    each_write_fails(&rt, rt.alloc(), 16);
+    each_write_fails(&rt, rt.alloc(), 4096);
 }
 
-fn each_write_fails(rt: &impl Abort, alloc: Global, piece: usize) -> Result<(), Fail>
+fn each_write_fails(rt: &impl Abort, alloc: Global, piece: usize)
     requires { 0 < piece }
 {
     for number in 1..1000 {
-        let call = Call {
-            word: "run",
-            input: SCRIPT,
-            piece,
-            failing_reads: &[],
-            failing_writes: &[number],
-        };
-        let (answer, held, calls) = call.answer(alloc)?;
-        if answer.code == 0 {
-            assert_eq!(rt; held.as_slice(), TRANSCRIPT.as_bytes());
-            assert_eq!(rt; calls, number - 1);
-            return Ok(());
+        let written = written_with(alloc, piece, number);
+        if written == Written::Whole {
+            return;
         }
-        assert_eq!(rt; answer, status(7, 0, 0));
-        assert!(rt; TRANSCRIPT.as_bytes().starts_with(held.as_slice()));
-        assert_eq!(rt; calls, number);
-        assert!(rt; piece > 1 || held.as_slice().len() as u64 == number - 1);
+        assert!(rt; written == Written::Front, "{number} of {piece}");
     }
     assert!(rt; false);
-    Ok(())
+}
+
+/// A module that is none, and what a check of it writes.
+const WRONG: &str = "module text\nM END\nEND\n";
+
+const FAULT: &str = "module 2 3 2\nstop 3 2 2\n";
+
+/// Whether a check of which the write with this number fails comes to a front of the line of a fault and the `stop` line.
+fn writes_a_front(alloc: Global, number: u64) -> bool {
+    let call = Call {
+        word: "check",
+        input: WRONG,
+        piece: 1,
+        failing_reads: &[],
+        failing_writes: &[number],
+    };
+    let Ok((answer, held, calls)) = call.answer(alloc) else {
+        return false;
+    };
+    let length = FAULT.len() as u64;
+    let (wanted, count) = if number > length {
+        (status(3, 2, 2), length)
+    } else {
+        (status(7, 0, 0), number)
+    };
+    answer == wanted && calls == count && FAULT.as_bytes().starts_with(held.as_slice())
+}
+
+/// Whether a check of which the read with this number fails ends so.
+fn ends_at(alloc: Global, number: u64, wanted: Status) -> bool {
+    let call = Call {
+        word: "check",
+        input: WRONG,
+        piece: 1,
+        failing_reads: &[number],
+        failing_writes: &[],
+    };
+    match call.answer(alloc) {
+        Ok((answer, _, _)) => answer == wanted,
+        Err(_) => false,
+    }
 }
 
 /// A check whose reads or writes fail: of the line of a fault and the `stop` line a front was
 /// written.
 #[test]
-fn failing_checks(rt: HostRuntime) -> Result<(), Fail> {
-    let alloc = rt.alloc();
-    let wrong = "module text\nM END\nEND\n";
-    let wanted = "module 2 3 2\nstop 3 2 2\n";
+fn failing_checks(rt: HostRuntime) {
     for number in 1..28 {
-        let call = Call {
-            word: "check",
-            input: wrong,
-            piece: 1,
-            failing_reads: &[],
-            failing_writes: &[number],
-        };
-        let (answer, held, calls) = call.answer(alloc)?;
-        let all = number as usize > wanted.len();
-        assert_eq!(rt;
-            answer,
-            if all {
-                status(3, 2, 2)
-            } else {
-                status(7, 0, 0)
-            }
-        );
-        assert!(rt; wanted.as_bytes().starts_with(held.as_slice()));
-        assert_eq!(rt; calls, if all { wanted.len() as u64 } else { number });
+        assert!(rt; writes_a_front(rt.alloc(), number), "{number}");
     }
-    for number in 1..24 {
-        let call = Call {
-            word: "check",
-            input: wrong,
-            piece: 1,
-            failing_reads: &[number],
-            failing_writes: &[],
-        };
-        let (answer, _, _) = call.answer(alloc)?;
-        let taken = number - 1;
-        assert_eq!(rt;
-            answer,
-            if taken < 22 {
-                status(6, taken, 0)
-            } else {
-                status(3, 2, 2)
-            }
+    for taken in 0..22 {
+        assert!(rt;
+            ends_at(rt.alloc(), taken + 1, status(6, taken, 0)),
+            "{taken}"
         );
     }
-    Ok(())
+    assert!(rt; ends_at(rt.alloc(), 23, status(3, 2, 2)));
 }
 
-/// A packet of 2,048 octets is taken, and one of 2,049 is refused.
-#[test]
-fn sizes(rt: HostRuntime) -> Result<(), Fail> {
-    let alloc = rt.alloc();
-    let longest = "A5".repeat(alloc, 2048)?;
-    let (longest, set_up) = (longest.as_str(), "static u1 A 1 1 12 1 4");
-    let input = format!(in alloc;
-        "module builtin\n{set_up}\noffer u1 b1 dl {longest}\noffer u1 b1 dl {longest}00\n"
-    )?;
-    let text = format!(in alloc;
-        "> {set_up}\n> offer u1 b1 dl {longest}\nput A.up1/1 u1 b1 dl - 30FF080000000001{longest}\n> offer u1 b1 dl {longest}00\nrefused Size\nend 3\n"
-    )?;
+/// Offers of a packet, and of one that is longer by an octet.
+fn long_script(alloc: Global, longest: &str) -> Result<String, AllocError> {
+    format!(in alloc;
+        "module builtin\nstatic u1 A 1 1 12 1 4\noffer u1 b1 dl {longest}\noffer u1 b1 dl {longest}00\n"
+    )
+}
+
+/// What they give where the second one is too long.
+fn long_transcript(alloc: Global, longest: &str) -> Result<String, AllocError> {
+    format!(in alloc;
+        "> static u1 A 1 1 12 1 4\n> offer u1 b1 dl {longest}\nput A.up1/1 u1 b1 dl - 30FF080000000001{longest}\n> offer u1 b1 dl {longest}00\nrefused Size\nend 3\n"
+    )
+}
+
+/// Whether a call ends so, and what it wrote ends with this text or is all of it.
+fn ends_as(
+    alloc: Global,
+    word: &str,
+    input: &str,
+    wanted: Status,
+    text: &str,
+    whole: bool,
+) -> bool {
     let call = Call {
-        word: "run",
-        input: input.as_str(),
+        word,
+        input,
         piece: 4096,
         failing_reads: &[],
         failing_writes: &[],
     };
-    let (answer, held, _) = call.answer(alloc)?;
-    assert_eq!(rt; answer, status(0, 0, 0));
-    assert_eq!(rt; held.as_slice(), text.as_bytes());
+    match call.answer(alloc) {
+        Ok((answer, held, _)) => {
+            answer == wanted
+                && held.as_slice().ends_with(text.as_bytes())
+                && (!whole || held.len() == text.len())
+        }
+        Err(_) => false,
+    }
+}
+
+/// A packet of 2,048 octets is taken, and one of 2,049 is refused.
+#[test]
+fn sizes(rt: HostRuntime) -> Result<(), AllocError> {
+    let alloc = rt.alloc();
+    let longest = "A5".repeat(alloc, 2048)?;
+    let input = long_script(alloc, longest.as_str())?;
+    let text = long_transcript(alloc, longest.as_str())?;
+    let is_refused = ends_as(
+        alloc,
+        "run",
+        input.as_str(),
+        status(0, 0, 0),
+        text.as_str(),
+        true,
+    );
+    assert!(rt; is_refused);
     Ok(())
 }
 
 /// One offer more than half the space of numbers of an unacknowledged bearer, none of which is given.
 #[test]
-fn outstanding_counts(rt: HostRuntime) -> Result<(), Fail> {
+fn outstanding_counts(rt: HostRuntime) -> Result<(), AllocError> {
     let alloc = rt.alloc();
     let input = "offer 00\n".repeat(alloc, 2049)?;
-    let call = Call {
-        word: "um 12 2",
-        input: input.as_str(),
-        piece: 4096,
-        failing_reads: &[],
-        failing_writes: &[],
-    };
-    let (answer, held, _) = call.answer(alloc)?;
-    assert_eq!(rt; answer, status(5, 2049, 0));
+    let text = "> offer 00\nput #2049 2048 880000\noutstanding 2049 2048\nstop 5 2049 0\n";
     assert!(rt;
-        held.as_slice().ends_with(
-            b"> offer 00\nput #2049 2048 880000\noutstanding 2049 2048\nstop 5 2049 0\n",
+        ends_as(
+            alloc,
+            "um 12 2",
+            input.as_str(),
+            status(5, 2049, 0),
+            text,
+            false
         )
     );
     Ok(())
