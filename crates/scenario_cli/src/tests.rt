@@ -191,12 +191,13 @@ fn whole_calls(rt: HostRuntime) -> Result<(), Fail> {
             status(2, 0, 0),
             "stop 2 0 0\n",
         ),
-        ("encode", MODULE, status(2, 0, 0), "stop 2 0 0\n"),
+        ("decode", MODULE, status(2, 0, 0), "stop 2 0 0\n"),
+        ("encode T", MODULE, status(2, 0, 0), "stop 2 0 0\n"),
         ("decode T T", MODULE, status(2, 0, 0), "stop 2 0 0\n"),
         ("decode T", "", status(4, 1, 1), "stop 4 1 1\n"),
         ("decode T", MODULE, status(0, 0, 0), ""),
         (
-            "encode Z",
+            "decode Z",
             MODULE,
             status(3, 0, 3),
             "module 0 0 3\nstop 3 0 3\n",
@@ -212,6 +213,12 @@ fn whole_calls(rt: HostRuntime) -> Result<(), Fail> {
             "module text\nM DEFINITIONS AUTOMATIC TAGS ::= BEGIN\nT ::= REAL\nEND\n80\n",
             status(3, 3, 6),
             "module 3 7 6\nstop 3 3 6\n",
+        ),
+        (
+            "decode T",
+            "module text\nM DEFINITIONS AUTOMATIC TAGS ::= BEGIN\nT ::= BOOLEAN\nEND\n80\n00\n",
+            status(0, 0, 0),
+            "true\nfalse\n",
         ),
         (
             "decode T",
