@@ -1,4 +1,4 @@
-//! The words `encode` and `decode`.
+//! The word `decode`.
 
 ghost use Rattle.std.specs.Prelude.{◌≡◌, ◌++◌, ◌∷◌, [], IfOk};
 ghost use Rattle.profile_module.specs.Profiles.{IsBuiltin};

@@ -1,4 +1,4 @@
-//! Laws of the words `encode` and `decode`. Each function does nothing: its contract is the law.
+//! Laws of the word `decode`. Each function does nothing: its contract is the law.
 #![tactic(auto)]
 
 ghost use Rattle.std.specs.Prelude.{◌≡◌, ℕ, List};
