@@ -5,8 +5,9 @@
 a check of that function and of those that it calls alone (`rattle check --only`), over the libraries that `rt ci` left in crates/*/out. It is refused
 where that function is not proved. Edits of a crate whose functions don't call one another are tried in one check.
 
-Usage: tools/more_edits.py --quick | --list | NAME..
-    --quick: of each crate the edits of small functions, by the lines of what they lead to (QUICK_LINES); this stands behind the gate.
+Usage: tools/more_edits.py --quick MINUTES | --list | NAME..
+    --quick: of each crate the edits of small functions, by the lines of what they lead to (QUICK_LINES); this stands behind the gate. After these
+        minutes no further check is begun, and how many edits were left is said.
     NAME..: all edits of these crates, however much they lead to.
     --list: only says how many there are, and whether each text that they change stands exactly once in its file.
 Its exit status is 1 where an edit was not refused, or cannot be applied, and 2 where it was called wrongly.
@@ -21,6 +22,7 @@ import shutil
 import subprocess
 import sys
 import tempfile
+import time
 
 ROOT = pathlib.Path(__file__).resolve().parents[1]
 CRATES = ROOT / "crates"
@@ -221,13 +223,14 @@ def tried(crate, edits):
     return [f"{edits[0].name}: the check gave no verdict: {told[:200]}"]
 
 
-def all_tried(groups):
-    """Tries groups of edits side by side, one a processor."""
+def all_tried(groups, end=float("inf")):
+    """Tries groups of edits side by side, one a processor, those that can begin before the end."""
     with concurrent.futures.ThreadPoolExecutor(len(os.sched_getaffinity(0))) as pool:
-        faults = [fault for found in pool.map(lambda it: tried(*it), groups) for fault in found]
-    for fault in faults:
-        print(fault)
-    print(f"{sum(len(edits) for _, edits in groups)} edits tried in {len(groups)} checks, {len(faults)} not refused")
+        found = list(pool.map(lambda it: tried(*it) if time.monotonic() < end else None, groups))
+    faults = [fault for it in found if it for fault in it]
+    done = sum(len(edits) for (_, edits), it in zip(groups, found) if it is not None)
+    left = sum(len(edits) for _, edits in groups) - done
+    print("\n".join([*faults, f"{done} edits tried, {len(faults)} not refused, {left} left for want of time"]))
     return 1 if faults else 0
 
 
@@ -243,8 +246,8 @@ def main():
     crates = sorted(folder.parent.name for folder in CRATES.glob("*/more-edits"))
     if words == ["--list"]:
         return listed(crates)
-    if words == ["--quick"]:
-        return all_tried([(crate, quick_batch(crate)) for crate in crates if quick_batch(crate)])
+    if len(words) == 2 and words[0] == "--quick" and words[1].isdigit():
+        return all_tried([(crate, quick_batch(crate)) for crate in crates if quick_batch(crate)], time.monotonic() + 60 * int(words[1]))
     unknown = [word for word in words if word not in crates]
     if unknown or not words:
         print("\n".join([f"{word}: no such crate, or it has no more edits" for word in unknown] or [__doc__]))
