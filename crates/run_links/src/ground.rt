@@ -34,7 +34,7 @@ pub struct Ground {
 impl Ground {
     /// Nothing happened yet.
     pub fn new(alloc: Global) -> Result<Ground, Memory>
-        ensures { IfOk result (λ ground. ground ≡ new_ground) }
+        ensures { IfOk result (λ made. made ≡ new_ground) }
     {
         let bag = Bag::new(alloc)?;
         let tunnels = Tunnels::new(alloc)?;
