@@ -246,7 +246,14 @@ const CHECKS: [Row; 12] = [
 ];
 
 /// Values that are decoded.
-const VALUES: [Row; 9] = [
+const VALUES: [Row; 11] = [
+    (
+        "decode T",
+        "module text\nM DEFINITIONS AUTOMATIC TAGS ::= BEGIN\nT ::= BOOLEAN\nEND\n80\n00\n",
+        (0, 0, 0),
+        "true\nfalse\n",
+    ),
+    ("encode T", MODULE, (2, 0, 0), "stop 2 0 0\n"),
     ("decode", MODULE, (2, 0, 0), "stop 2 0 0\n"),
     ("decode T T", MODULE, (2, 0, 0), "stop 2 0 0\n"),
     ("decode T", "", (4, 1, 1), "stop 4 1 1\n"),
