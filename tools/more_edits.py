@@ -7,13 +7,14 @@ where that function is not proved. Edits of a crate whose functions don't call o
 
 Usage: tools/more_edits.py --quick MINUTES | --list | NAME..
     --quick: of each crate the edits of small functions, by the lines of what they lead to (QUICK_LINES); this stands behind the gate. After these
-        minutes no further check is begun, and how many edits were left is said.
+        minutes no further check is begun, and how many edits were left is said; each day begins at another crate.
     NAME..: all edits of these crates, however much they lead to.
     --list: only says how many there are, and whether each text that they change stands exactly once in its file.
 Its exit status is 1 where an edit was not refused, or cannot be applied, and 2 where it was called wrongly.
 """
 
 import concurrent.futures
+import datetime
 import functools
 import os
 import pathlib
@@ -28,6 +29,8 @@ ROOT = pathlib.Path(__file__).resolve().parents[1]
 CRATES = ROOT / "crates"
 # What the edited functions of one quick check lead to, in lines of bodies: some ten seconds.
 QUICK_LINES = 45
+# By how many crates each day's quick edits begin further on, so that a machine that can't try all of them tries others the next day.
+DAYS_STEP = 50
 PARTS = ("src", "specs", "proofs")
 FUNCTION = re.compile(r"( *)(?:pub(?:\([a-z ]+\))? )?(?:const )?fn (\w+)")
 IMPLEMENTATION = re.compile(r"impl(?:<.*?>)? (?:(\w[\w:]*)(?:<(.*)>)? for )?&?(\w[\w:]*)")
@@ -247,7 +250,9 @@ def main():
     if words == ["--list"]:
         return listed(crates)
     if len(words) == 2 and words[0] == "--quick" and words[1].isdigit():
-        return all_tried([(crate, quick_batch(crate)) for crate in crates if quick_batch(crate)], time.monotonic() + 60 * int(words[1]))
+        groups = [(crate, quick_batch(crate)) for crate in crates if quick_batch(crate)]
+        first = datetime.date.today().toordinal() * DAYS_STEP % len(groups)
+        return all_tried(groups[first:] + groups[:first], time.monotonic() + 60 * int(words[1]))
     unknown = [word for word in words if word not in crates]
     if unknown or not words:
         print("\n".join([f"{word}: no such crate, or it has no more edits" for word in unknown] or [__doc__]))
