@@ -6,7 +6,7 @@ a check of that function and of those that it calls alone (`rattle check --only`
 where that function is not proved. Edits of a crate whose functions don't call one another are tried in one check.
 
 Usage: tools/more_edits.py --quick MINUTES | --list | NAME..
-    --quick: of each crate the edits of small functions, by the lines of what they lead to (QUICK_LINES); this stands behind the gate. After these
+    --quick: of each crate the edits of small functions, by the lines of what they lead to (QUICK_LINES); `.ci/run` calls it after `rt ci`. After these
         minutes no further check is begun, and how many edits were left is said; each day begins at another crate.
     NAME..: all edits of these crates, however much they lead to.
     --list: only says how many there are, and whether each text that they change stands exactly once in its file.
@@ -233,7 +233,7 @@ def all_tried(groups, end=float("inf")):
     faults = [fault for it in found if it for fault in it]
     done = sum(len(edits) for (_, edits), it in zip(groups, found) if it is not None)
     left = sum(len(edits) for _, edits in groups) - done
-    print("\n".join([*faults, f"{done} edits tried, {len(faults)} not refused, {left} left for want of time"]))
+    print("\n".join([*faults, f"{done} edits tried, {len(faults)} not refused, {left} not begun in time"]))
     return 1 if faults else 0
 
 
