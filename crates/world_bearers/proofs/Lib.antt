@@ -1,0 +1,4 @@
+pub mod Offered
+pub mod Polled
+pub mod Standing
+pub mod Uplink
