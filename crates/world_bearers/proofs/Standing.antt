@@ -1,5 +1,5 @@
 -- Nothing of a bearer stands on links where nothing of either of its directions does.
-use Rattle.std.proofs.Common.{◌≡◌, ◌==◌, ℕ, Bool, true, false, not, ◌&&◌, ◌||◌, List, [], ◌∷◌, ◌++◌, length, refl, sym, ap, ◌∙◌, eq-eqb, eqb-true}
+use Rattle.std.proofs.Common.{◌≡◌, ◌==◌, ℕ, Bool, true, false, not, ◌&&◌, ◌||◌, List, [], ◌∷◌, ◌++◌, length, refl, sym, ap, ◌∙◌, eq-eqb, eqb-true, arith}
 use Rattle.std.specs.Prelude.{cond}
 use Rattle.std.specs.List.{list_all, list_any, flat_map}
 use Rattle.std.specs.Ordering.{is_eq, eq_by_cmp}
@@ -24,6 +24,13 @@ and_false false = refl
 or_true : (b : Bool) → (b || true) ≡ true
 or_true true = refl
 or_true false = refl
+
+not_empty : {X : Type 0} (x : X) (xs : List X) → (length (x ∷ xs) == 0) ≡ false
+not_empty x xs = by (length (x ∷ xs) == 0) refl
+  where
+    by : (b : Bool) → (length (x ∷ xs) == 0) ≡ b → b ≡ false
+    by true e = let none : length (x ∷ xs) ≡ 0 = eqb-true (length (x ∷ xs)) 0 e in absurd (omega arith)
+    by false e = refl
 
 both_true : (a b : Bool) → a ≡ true → b ≡ true → (a && b) ≡ true
 both_true true b p q = q
@@ -78,15 +85,22 @@ module _ (ue : UeId) (bearer : BearerId) where
           → not ((d || u) || list_any (is_of_bearer ue bearer) items)
           ≡ (length (cond d (item ∷ items_of downlink items) (items_of downlink items)) == 0
           && length (cond u (item ∷ items_of uplink items) (items_of uplink items)) == 0)
-      by true u again = refl
-      by false true again = sym (and_false (length (items_of downlink items) == 0))
+      by true u again =
+          ap (λ (b : Bool). b && length (cond u (item ∷ items_of uplink items) (items_of uplink items)) == 0) (sym (not_empty item (items_of downlink items)))
+      by false true again =
+          sym (and_false (length (items_of downlink items) == 0))
+          ∙ ap (λ (b : Bool). length (items_of downlink items) == 0 && b) (sym (not_empty item (items_of uplink items)))
       by false false again = again
 
-  gathered : {X : Type 0} (a b as bs : List X) → ((length a == 0 && length b == 0) && (length as == 0 && length bs == 0))
-      ≡ (length (a ++ as) == 0 && length (b ++ bs) == 0)
-  gathered [] [] as bs = refl
-  gathered [] (y ∷ b) as bs = sym (and_false (length as == 0))
-  gathered (x ∷ a) b as bs = refl
+  gathered : {X : Type 0} (a b more others : List X) → ((length a == 0 && length b == 0) && (length more == 0 && length others == 0))
+      ≡ (length (a ++ more) == 0 && length (b ++ others) == 0)
+  gathered [] [] more others = refl
+  gathered [] (y ∷ b) more others =
+      ap (λ (t : Bool). t && (length more == 0 && length others == 0)) (not_empty y b) ∙ sym (and_false (length more == 0))
+      ∙ ap (λ (t : Bool). length more == 0 && t) (sym (not_empty y (b ++ others)))
+  gathered (x ∷ a) b more others =
+      ap (λ (t : Bool). (t && length b == 0) && (length more == 0 && length others == 0)) (not_empty x a)
+      ∙ ap (λ (t : Bool). t && length (b ++ others) == 0) (sym (not_empty x (a ++ more)))
 
   none_on : {K V X : Type 0} (items_in : V → List (Item X)) (links : List (K × V))
       → list_all (λ (e : K × V). not (list_any (is_of_bearer ue bearer) (items_in e.1))) links

@@ -1,11 +1,11 @@
 //! Whether a bearer is quiet: all is at rest, and nothing of it stands anywhere.
 
-ghost use Rattle.std.specs.Prelude.{◌≡◌, ◌==◌, ◌&&◌, length};
+ghost use Rattle.std.specs.Prelude.{◌≡◌, ◌==◌, ◌&&◌, length, Some};
 ghost use Rattle.transport_defs.specs.Links.{tunnel_items, radio_items};
 ghost use Rattle.run_defs.specs.unit_defs.Ue.{is_connected};
 ghost use Rattle.run_defs.specs.Units.{is_attempt, has_attempt, requests_rest};
 ghost use Rattle.run_defs.specs.States.{entity};
-ghost use Rattle.run_defs.specs.Conditions.{is_at_rest, links_are_empty, rests};
+ghost use Rattle.run_defs.specs.Conditions.{is_at_rest, links_are_empty, is_quiet_with, rests};
 ghost use Rattle.run_defs.specs.UnitRuns.{Records};
 ghost use Rattle.run_links.specs.Grounds.{OctetCore, state_of};
 
@@ -79,6 +79,23 @@ fn links_are_empty(ground: &Ground, ue: UeId, bearer: BearerId) -> bool
     stands_nowhere(ground, ue, bearer, Dir::Dl) && stands_nowhere(ground, ue, bearer, Dir::Ul)
 }
 
+/// Whether a bearer of this terminal is quiet.
+fn is_quiet<U: Units<C> + Drop, C: MessageCodec + Drop>(
+    parts: &Parts<U, C>,
+    terminal: &UeNode,
+    ue: UeId,
+    bearer: BearerId,
+) -> bool
+    requires { U.ready parts.now.units }
+    ensures { result ≡ is_quiet_with (state_of (U.records parts.now.units) parts.now.core parts.now.ground) ue bearer
+        (Some terminal.now.node) }
+{
+    is_at_rest(parts, terminal)
+        && links_are_empty(&parts.ground, ue, bearer)
+        && terminal.rests(bearer)
+        && parts.units.cu_users_rest(ue, bearer)
+}
+
 /// Whether a bearer is quiet: its terminal is connected, nobody is at work for it, and nothing of the bearer is unconfirmed, waits, or
 /// stands on a tunnel or a radio.
 #[tactic(auto, unfolding(run_defs::specs::Conditions::rests))]
@@ -90,11 +107,8 @@ pub fn rests<U: Units<C> + Drop, C: MessageCodec + Drop>(
     requires { U.ready parts.now.units }
     ensures { result ≡ rests (state_of (U.records parts.now.units) parts.now.core parts.now.ground) ue bearer }
 {
-    let Some(terminal) = parts.units.ue_node(ue) else {
-        return false;
-    };
-    is_at_rest(parts, terminal)
-        && links_are_empty(&parts.ground, ue, bearer)
-        && terminal.rests(bearer)
-        && parts.units.cu_users_rest(ue, bearer)
+    match parts.units.ue_node(ue) {
+        Some(terminal) => is_quiet(parts, terminal, ue, bearer),
+        None => false,
+    }
 }

@@ -24,7 +24,7 @@ finish-requires-clause-room g c =
     let s = state_of (records c.args.parts.now.units) c.args.parts.now.core c.args.parts.now.ground in
     offer_has_room g.C.MessageCodec.codec g.U.Units.answer c.args.ue c.args.bearer c.args.packet.now s c.in_ok-input.input (records c.ask.new.self.units)
     c.in_ok-input.ensures c.in-Ok.asked c.in-Does.outputs c.offer.new.self.bag c.in-Does.is c.in-Ok.ensures.came
-    (ap (λ (x : Ground). x.bag) c.in_ok-offer.ensures ∙ ap (λ (x : Ground). x.bag) c.ask.ensures.ground)
+    (ap (λ (x : Ground). x.bag) c.in_ok-offer-in-Does.ensures ∙ ap (λ (x : Ground). x.bag) c.ask.ensures.ground)
 
 pub returns-in_ok-offer-in-Does-clause-gives : goal.returns-in_ok-offer-in-Does-clause-gives
 returns-in_ok-offer-in-Does-clause-gives g c =
@@ -38,7 +38,7 @@ returns-in_ok-offer-in-Does-clause-gives g c =
     (record { state = s; lines = c.args.lines.now }) (record { state = u; lines = c.finish.new.lines }) r) (sym c.moved_by.ensures)
     (offer_steps g.C.MessageCodec.codec g.U.Units.answer c.args.ue c.args.bearer c.args.packet.now s c.in_ok-input.input after c.in_ok-input.ensures
     c.in-Ok.asked c.in-Does.outputs c.ask.new.self.core c.ask.new.self.ground c.offer.new.self u c.args.lines.now c.finish.new.lines c.finish.result
-    c.in-Does.is c.in-Ok.ensures.came kept c.in_ok-offer.ensures c.finish.ensures.gives)
+    c.in-Does.is c.in-Ok.ensures.came kept c.in_ok-offer-in-Does.ensures c.finish.ensures.gives)
 
 pub returns-in-Holds-clause-gives : goal.returns-in-Holds-clause-gives
 returns-in-Holds-clause-gives g c =

@@ -14,12 +14,12 @@ returns-in-Ok-clause-gives g c =
     (state_of (records c.step.new.self.units) c.step.new.self.core c.step.new.self.ground) c.args.lines.now c.step.new.lines c.step.result
     c.in-Ok.ensures (c.step.ensures.gives (order_for (orders.Poll c.args.ue c.args.bearer)) refl)
 
-pub returns-in-Err-clause-gives : goal.returns-in-Err-clause-gives
-returns-in-Err-clause-gives g c =
+pub returns-in_ok-push-in-Err-clause-gives : goal.returns-in_ok-push-in-Err-clause-gives
+returns-in_ok-push-in-Err-clause-gives g c =
     let records = g.U.Units.records in
     polls_nothing (unit_world g.C.MessageCodec.codec g.U.Units.answer) c.args.ue c.args.bearer
     (state_of (records c.args.parts.now.units) c.args.parts.now.core c.args.parts.now.ground) c.in-Err.reason c.args.lines.now c.push.new.self
-    c.in-Err.ensures c.in_ok-push.ensures.ok
+    c.in-Err.ensures c.in_ok-push-in-Err.ensures.ok
 
 pub step-requires-clause-asked : goal.step-requires-clause-asked
 step-requires-clause-asked g c =
