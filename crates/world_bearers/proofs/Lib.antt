@@ -1,4 +1,5 @@
 pub mod Offered
 pub mod Polled
+pub mod Quiet
 pub mod Standing
 pub mod Uplink

@@ -90,10 +90,13 @@ fn is_quiet<U: Units<C> + Drop, C: MessageCodec + Drop>(
     ensures { result ≡ is_quiet_with (state_of (U.records parts.now.units) parts.now.core parts.now.ground) ue bearer
         (Some terminal.now.node) }
 {
-    is_at_rest(parts, terminal)
-        && links_are_empty(&parts.ground, ue, bearer)
-        && terminal.rests(bearer)
-        && parts.units.cu_users_rest(ue, bearer)
+    if !is_at_rest(parts, terminal) {
+        return false;
+    }
+    if !links_are_empty(&parts.ground, ue, bearer) {
+        return false;
+    }
+    terminal.rests(bearer) && parts.units.cu_users_rest(ue, bearer)
 }
 
 /// Whether a bearer is quiet: its terminal is connected, nobody is at work for it, and nothing of the bearer is unconfirmed, waits, or

@@ -19,7 +19,7 @@ pub(crate) fn is_message<U: Units<C> + Drop, C: MessageCodec + Drop>(
     to: NodeId,
     octets: &Octets,
 ) -> Result<bool, Memory>
-    ensures { IfOk result (λ b. b ≡ is_read (C.codec.read from to octets.now)) }
+    ensures { IfOk result (λ b. b ≡ is_read C.codec (C.codec.read from to octets.now)) }
 {
     match parts.codec.read(parts.alloc, from, to, octets.as_slice())? {
         Ok(message) => {

@@ -1,10 +1,10 @@
 //! `inject`: octets from outside that don't decode are given to a node, as a control message or as an item of a tunnel.
 
-ghost use Rattle.std.specs.Prelude.{◌≡◌, false, IfOk, OnOk};
+ghost use Rattle.std.specs.Prelude.{◌≡◌, IfOk, OnOk};
 ghost use Rattle.gnb_types.specs.declared.names.NodeId.TheVariants.{Core};
 ghost use Rattle.gnb_types.specs.declared.inputs.Input.TheVariants as ins;
 ghost use Rattle.run_defs.specs.Events.{inject_message, inject_item, inject_to};
-ghost use Rattle.run_defs.specs.UnitRuns.{is_read, unit_world};
+ghost use Rattle.run_defs.specs.UnitRuns.{unit_world};
 ghost use Rattle.run_links.specs.Grounds.{state_of};
 ghost use Rattle.world_steps.specs.Gives.{EventGives};
 
@@ -47,7 +47,6 @@ fn inject_to_core<U: Units<C> + Drop, C: MessageCodec + Drop>(
     octets: &Octets,
     lines: &mut Lines,
 ) -> Result<(), Cause>
-    requires { is_read (C.codec.read from Core octets.now) ≡ false }
     ensures units { parts.new.units ≡ parts.old.units }
     ensures gives { EventGives lines.old
         (inject_to (unit_world C.codec U.answer) from Core octets.now
@@ -55,11 +54,12 @@ fn inject_to_core<U: Units<C> + Drop, C: MessageCodec + Drop>(
         lines.new (state_of (U.records parts.new.units) parts.new.core parts.new.ground) result }
 {
     let mut outputs = Items::new(parts.alloc);
-    let stepped = parts
-        .core
-        .step(parts.alloc, &parts.codec, from, octets.as_slice(), &mut outputs);
-    // What can't be read spends no counter and is answered with no message, so that only memory is left.
-    if stepped.is_err() || parts.ground.too_many_letters(&outputs) {
+    let octets = octets.as_slice();
+    // What can't be read spends no counter, so that only memory is left; nor is a message put for it, so that there is room.
+    if let Err(_) = parts.core.step(parts.alloc, &parts.codec, from, octets, &mut outputs) {
+        return Err(Cause::Memory);
+    }
+    if parts.ground.too_many_letters(&outputs) {
         return Err(Cause::Memory);
     }
     parts.ground.put_out_all(NodeId::Core, None, outputs, lines)?;
@@ -74,21 +74,18 @@ fn inject_to<U: Units<C> + Drop, C: MessageCodec + Drop>(
     octets: &Octets,
     lines: &mut Lines,
 ) -> Result<(), Cause>
-    requires ready { U.ready parts.old.units }
-    requires unread { is_read (C.codec.read from to octets.now) ≡ false }
+    requires { U.ready parts.old.units }
     ensures ready { OnOk result (U.ready parts.new.units) }
     ensures gives { EventGives lines.old
         (inject_to (unit_world C.codec U.answer) from to octets.now
         (state_of (U.records parts.old.units) parts.old.core parts.old.ground))
         lines.new (state_of (U.records parts.new.units) parts.new.core parts.new.ground) result }
 {
-    match to {
-        NodeId::Core => inject_to_core(parts, from, octets, lines),
-        NodeId::CuCp(_) | NodeId::CuUp(_, _) | NodeId::Du(_, _) | NodeId::Ue(_) => {
-            let input = message_input(from, octets)?;
-            parts.step(to, input, lines)
-        }
+    if let NodeId::Core = to {
+        return inject_to_core(parts, from, octets, lines);
     }
+    let input = message_input(from, octets)?;
+    parts.step(to, input, lines)
 }
 
 /// `inject` of a control message.

@@ -1,6 +1,6 @@
 //! Which nodes share an interface.
 
-ghost use Rattle.std.specs.Prelude.{◌≡◌};
+ghost use Rattle.std.specs.Prelude.{◌≡◌, ℕ};
 ghost use Rattle.run_defs.specs.unit_defs.Messages.{is_same_gnb, shares_interface};
 ghost use Rattle.run_defs.specs.Conditions.{is_there, is_interface};
 ghost use Rattle.run_defs.specs.UnitRuns.{Records};
@@ -30,20 +30,38 @@ fn joins_cu_cp(gnb: Gnb, node: NodeId) -> bool
     }
 }
 
+/// Whether a unit of this gNB shares an interface with a node: with the CU-CP of its gNB.
+fn joins_unit(gnb: Gnb, node: NodeId) -> bool
+    ensures { (number : ℕ) → result ≡ shares_interface (NodeId.CuUp gnb number) node }
+{
+    match node {
+        NodeId::CuCp(other) => is_same_gnb(other, gnb),
+        NodeId::CuUp(_, _) | NodeId::Du(_, _) | NodeId::Core | NodeId::Ue(_) => false,
+    }
+}
+
+/// Whether a DU of this gNB does: with each terminal too.
+fn joins_du(gnb: Gnb, node: NodeId) -> bool
+    ensures { (number : ℕ) → result ≡ shares_interface (NodeId.Du gnb number) node }
+{
+    match node {
+        NodeId::CuCp(other) => is_same_gnb(other, gnb),
+        NodeId::Ue(_) => true,
+        NodeId::CuUp(_, _) | NodeId::Du(_, _) | NodeId::Core => false,
+    }
+}
+
 /// Whether two nodes share an interface (TS 38.401, 6.1.2): a CU-CP with its units, with the other CU-CP and with the core; a DU with
 /// a terminal.
 fn shares_interface(from: NodeId, to: NodeId) -> bool
     ensures { result ≡ shares_interface from to }
 {
-    match (from, to) {
-        (NodeId::CuCp(gnb), to) => joins_cu_cp(gnb, to),
-        (NodeId::CuUp(other, _) | NodeId::Du(other, _), NodeId::CuCp(gnb)) => {
-            is_same_gnb(gnb, other)
-        }
-        (NodeId::Core, NodeId::CuCp(_))
-        | (NodeId::Du(_, _), NodeId::Ue(_))
-        | (NodeId::Ue(_), NodeId::Du(_, _)) => true,
-        _ => false,
+    match from {
+        NodeId::CuCp(gnb) => joins_cu_cp(gnb, to),
+        NodeId::CuUp(gnb, _) => joins_unit(gnb, to),
+        NodeId::Du(gnb, _) => joins_du(gnb, to),
+        NodeId::Core => matches!(to, NodeId::CuCp(_)),
+        NodeId::Ue(_) => matches!(to, NodeId::Du(_, _)),
     }
 }
 
