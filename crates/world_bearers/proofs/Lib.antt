@@ -1,5 +1,5 @@
 pub mod Offered
 pub mod Polled
-pub mod Quiet
+pub mod Tests
 pub mod Standing
 pub mod Uplink

@@ -6,7 +6,7 @@ use Rattle.gnb_types.specs.declared.names.UeId.{UeId}
 use Rattle.gnb_types.specs.declared.names.BearerId.{BearerId}
 use Rattle.gnb_types.specs.declared.keys.TunnelEnd.{TunnelEnd}
 use Rattle.gnb_types.specs.declared.reasons.RefuseReason.{RefuseReason}
-use Rattle.gnb_types.specs.declared.reasons.RefuseReason.TheVariants.{NoPath, Size}
+use Rattle.gnb_types.specs.declared.reasons.RefuseReason.TheVariants.{Size}
 use Rattle.gnb_types.specs.Orders.{ue_cmp}
 use Rattle.tables.specs.Tables.{find}
 use Rattle.scenario_text.specs.declared.line.OutLine.{OutLine}

@@ -58,7 +58,7 @@ module _ (world : OctetWorld) (ue : UeId) (bearer : BearerId) (s : OctetState) w
   polls_nothing reason before lines there told =
       subst (λ (o : OctetOutcome). EventGives before o lines s (Ok tt)) (sym (poll_is ∙ ap by_node (sym there))) (told, refl)
 
--- ---- the CU-UP that polls is there
+  -- ---- the CU-UP that polls is there
 
   unconfirmed_is_there : (up : ℕ) → is_unconfirmed (up_of s.units (serving_gnb s ue) up) ue bearer ≡ true
       → is_some (find node_cmp s.units.ups (CuUp (serving_gnb s ue) up)) ≡ true

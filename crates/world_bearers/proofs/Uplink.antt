@@ -1,5 +1,5 @@
 -- A packet that is offered at a terminal: what comes of its answer.
-use Rattle.std.proofs.Common.{◌≡◌, ◌+◌, nat_lt, false, List, [], length, map, Option, Some, None, refl, sym, ap, ◌∙◌, subst}
+use Rattle.std.proofs.Common.{◌≡◌, ◌+◌, nat_lt, false, List, length, map, None, sym, ap, ◌∙◌, subst}
 use Rattle.std.specs.Prelude.{Result, Ok, Err}
 use Rattle.std.proofs.lemmas.List.{append-nil}
 use Rattle.gnb_types.specs.declared.names.Dir.TheVariants.{Ul}
@@ -21,7 +21,6 @@ use Rattle.run_defs.specs.Events.{offered}
 use Rattle.run_defs.specs.UnitRuns.{Records, Meaning, OctetGiven, unit_world, input_of, stepped_by, put_of}
 use Rattle.run_links.specs.declared.ground.Ground.{Ground}
 use Rattle.run_links.specs.Grounds.{Octets, OctetCore, OctetState, OctetWorld, OctetWithin, state_of, letters_in, offered_in}
-use Rattle.run_links.specs.Told.{GoesTo}
 use Rattle.world_steps.specs.declared.asked.Asked.{Asked}
 use Rattle.world_steps.specs.declared.asked.Asked.TheVariants as kinds
 use Rattle.world_steps.specs.declared.asked.Moved.TheVariants as moves

@@ -32,8 +32,16 @@ pub fn ask_line<U: Units<C> + Drop, C: MessageCodec + Drop>(
     if !rests(parts, ue, bearer) {
         return OutLine::Busy { ue, bearer };
     }
-    let downlink = EntityKey { ue, bearer, dir: Dir::Dl };
-    let uplink = EntityKey { ue, bearer, dir: Dir::Ul };
+    let downlink = EntityKey {
+        ue,
+        bearer,
+        dir: Dir::Dl,
+    };
+    let uplink = EntityKey {
+        ue,
+        bearer,
+        dir: Dir::Ul,
+    };
     OutLine::Quiet {
         ue,
         bearer,

@@ -56,13 +56,18 @@ fn inject_to_core<U: Units<C> + Drop, C: MessageCodec + Drop>(
     let mut outputs = Items::new(parts.alloc);
     let octets = octets.as_slice();
     // What can't be read spends no counter, so that only memory is left; nor is a message put for it, so that there is room.
-    if let Err(_) = parts.core.step(parts.alloc, &parts.codec, from, octets, &mut outputs) {
+    if let Err(_) = parts
+        .core
+        .step(parts.alloc, &parts.codec, from, octets, &mut outputs)
+    {
         return Err(Cause::Memory);
     }
     if parts.ground.too_many_letters(&outputs) {
         return Err(Cause::Memory);
     }
-    parts.ground.put_out_all(NodeId::Core, None, outputs, lines)?;
+    parts
+        .ground
+        .put_out_all(NodeId::Core, None, outputs, lines)?;
     parts.look_at_spans()
 }
 

@@ -1,4 +1,4 @@
-use Rattle.std.proofs.Common.{◌≡◌, sym, ap, subst}
+use Rattle.std.proofs.Common.{◌≡◌, ap, subst}
 use Rattle.run_defs.specs.Steps.{check_spans, put_on_tunnel}
 use Rattle.run_defs.specs.Events.{offered}
 use Rattle.run_defs.specs.UnitRuns.{unit_world}

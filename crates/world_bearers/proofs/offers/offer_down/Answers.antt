@@ -1,4 +1,3 @@
-use Rattle.std.proofs.Common.{sym}
 use Rattle.run_links.specs.Grounds.{state_of}
 use Rattle.world_bearers.proofs.Offered.{puts_down, puts_nothing}
 use Rattle.world_bearers.proofs.offers.offer_down.Goals as goal

@@ -1,10 +1,6 @@
 -- Four tests, one after another.
 use Rattle.std.proofs.Common.{◌≡◌, Bool, true, false, ◌&&◌, refl}
 
-pub first_fails : (a b c d : Bool) → a ≡ false → false ≡ (a && b && c && d)
-first_fails true b c d e = absurd cc
-first_fails false b c d e = refl
-
 pub second_fails : (a b c d : Bool) → a ≡ true → b ≡ false → false ≡ (a && b && c && d)
 second_fails true true c d e f = absurd cc
 second_fails true false c d e f = refl
