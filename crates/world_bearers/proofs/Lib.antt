@@ -1,0 +1,5 @@
+pub mod Offered
+pub mod Polled
+pub mod Tests
+pub mod Standing
+pub mod Uplink
