@@ -1,10 +1,11 @@
 -- Down: from what holds after every list of orders.
-use Rattle.std.proofs.Common.{◌≡◌, ◌≢◌, ℕ, Bool, true, false, List, [], ◌∷◌, refl}
+use Rattle.std.proofs.Common.{◌≡◌, ◌≢◌, ℕ, Bool, true, false, List, [], ◌∷◌, refl, subst}
 use Rattle.gnb_types.specs.declared.names.SnBits.{SnBits}
 use Rattle.pdcp_defs.specs.Senders.{window}
+use Rattle.chain_defs.specs.unit_defs.UpRecords.{SourceHop}
 use Rattle.chain_defs.specs.Parts.{Part, start, is_open, is_fed}
-use Rattle.chain_defs.specs.Orders.{Order, closes, run, offers_in}
-use Rattle.chain_defs.specs.Guards.{IsReady, IsOwed, AreKept}
+use Rattle.chain_defs.specs.Orders.{Order, freezes, closes, run, offers_in}
+use Rattle.chain_defs.specs.Guards.{IsUntouched, IsReady, IsOwed, AreKept}
 use Rattle.law_chain.proofs.Facts.{view, Own, Good}
 use Rattle.law_chain.proofs.Frames.{apart}
 use Rattle.law_chain.proofs.Runs.{stream, agrees, kept_run, good_start}
@@ -43,3 +44,9 @@ pub good_after : (sn : SnBits) (quota first teid : ℕ) (os : List Order) → Ar
 unfolding start
 good_after sn quota first teid os kept =
     kept_run (stream (offers_in os)) sn quota (start first teid) os (good_start (stream (offers_in os)) (window sn quota) first teid) kept (agrees (offers_in os))
+
+pub target_apart : (sn : SnBits) (quota : ℕ) (s : Part) (x to : ℕ) (hop : SourceHop) → IsReady sn quota s (freezes x to hop) → IsUntouched (s.members to)
+    → to ≢ x
+unfolding IsReady
+target_apart sn quota s x to hop ready untouched same =
+    apart ready.1 (subst (λ y. (s.members y).flags.has_status ≡ false) same untouched.status)

@@ -1,5 +1,5 @@
 -- A context that ends: nothing is left on its tunnels, and those that send on to it have ended.
-use Rattle.std.specs.Prelude.{◌≡◌, ◌≢◌, ℕ, Bool, true, false, List, [], Option, Some, None}
+use Rattle.std.specs.Prelude.{◌≡◌, ◌≢◌, ℕ, Bool, true, false, [], Option, Some, None}
 use Rattle.chain_defs.specs.unit_defs.UpRecords.{SourceHop}
 use Rattle.chain_defs.specs.unit_defs.UpBearers.{no_uplink}
 use Rattle.chain_defs.specs.Parts as down

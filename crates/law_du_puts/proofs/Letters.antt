@@ -1,6 +1,6 @@
 -- What each input of a DU puts: control messages, and all others.
 use Rattle.std.proofs.Common.{◌≡◌, ℕ, ◌==◌, Bool, true, false, cond, not, if◌then◌else◌, List, [], ◌∷◌, ◌++◌, map, Option, Some, None, refl, sym, ap, subst, ◌∙◌}
-use Rattle.std.specs.Prelude.{⊤, ◌&&◌}
+use Rattle.std.specs.Prelude.{◌&&◌}
 use Rattle.std.specs.Ordering.{is_eq, eq_by_cmp}
 use Rattle.std.specs.declared.cmp.Ordering.TheVariants.{Less}
 use Rattle.std.specs.List.{AllByRecursion}
@@ -23,12 +23,12 @@ use Rattle.tables.specs.Tables.{find, IsSorted}
 use Rattle.message_types.specs.declared.f1.F1.TheVariants as f1s
 use Rattle.transaction_defs.specs.Callers.{is_awaited}
 use Rattle.transaction_defs.specs.Callees.{Verdict, new, again, stale, verdict, taken, keep, kept_reply}
-use Rattle.unit_defs.specs.Ways.{Message, f1, e1, xn, core, rrc, Pdu, end_marker, Input, control_input, packet_input, radio_input, confirm_input, offer_input, tick_input, order_input, Output, control, packet, dropped, Way, Answer, gives, with_outputs, ◌then◌, drops}
+use Rattle.unit_defs.specs.Ways.{Message, f1, e1, xn, core, rrc, Pdu, end_marker, Input, control_input, packet_input, radio_input, confirm_input, offer_input, tick_input, order_input, Output, control, packet, Way, Answer, with_outputs, ◌then◌, drops}
 use Rattle.unit_defs.specs.Messages.{channel, is_same_gnb, bearers_of, are_first_bearers}
 use Rattle.unit_defs.specs.Transactions.{Kind, request, reply, transfer, kind_of, Transactions, replied, request_by, answered_again, on_request, on_reply}
-use Rattle.unit_defs.specs.Du.{Du, DuBearer, DuContext, context_of, with_transactions, context_with, closings, end_markers, released_on, release, relay_up, token_ue, set_up, asked, transferred, of_cp, of_terminal, control_came, setup, modify, du_acts}
+use Rattle.unit_defs.specs.Du.{Du, DuBearer, DuContext, context_of, with_transactions, context_with, closings, released_on, release, relay_up, token_ue, set_up, asked, transferred, of_cp, of_terminal, control_came, setup, modify, du_acts}
 use Rattle.law_du_inputs.specs.Changes.{DuPart, part_with, part_in, part_of, Change, stays, sets_up, ends, if_own, of_setup, of_modification, of_request, if_new, of_kind, of_letter, change_by}
-use Rattle.law_du_inputs.specs.Puts.{OnTunnel, tunnels_put, radio_put, on_uplink, of_part, of_change, carried_of, Puts, AreQuiet, IsQuiet}
+use Rattle.law_du_inputs.specs.Puts.{OnTunnel, tunnels_put, radio_put, of_part, of_change, carried_of, Puts, AreQuiet, IsQuiet}
 use Rattle.law_du_inputs.proofs.Contexts.{same_ue, same_bearer}
 use Rattle.law_du_inputs.proofs.Control.{setup_quiet}
 use Rattle.law_du_inputs.proofs.Ups.{take_puts, pass_puts, confirm_puts}

@@ -10,8 +10,8 @@ use Rattle.gnb_types.specs.Names.{node_text}
 use Rattle.message_types.specs.declared.f1.F1.{F1}
 use Rattle.message_types.specs.declared.f1.F1.TheVariants as f1s
 use Rattle.message_types.specs.declared.rrc.Token.{Token}
-use Rattle.transaction_defs.specs.Callers.{Begin, begun, running, spent as begins_no_more, begin, close, is_open, Due, repeats, expires, due, after_tick}
-use Rattle.unit_defs.specs.Ways.{f1, Pdu, Output, control, packet, radio, deliver, dropped, held, opened, closed, failed, no, Way, Answer, gives, spent, ◌then◌, nothing, drops, teids_spent}
+use Rattle.transaction_defs.specs.Callers.{Begin, begun, running, spent as begins_no_more, begin, close, is_open, Due, repeats, expires, due}
+use Rattle.unit_defs.specs.Ways.{f1, Pdu, Output, control, packet, radio, deliver, dropped, held, opened, closed, failed, no, Way, Answer, gives, spent, ◌then◌, nothing, teids_spent}
 use Rattle.unit_defs.specs.Messages.{channel}
 use Rattle.unit_defs.specs.Transactions.{no_instance, Transactions, Waiting, Asked, is_empty, waits_at, with_waiting, begun_as, begin_request, ask, advance_with, advance, replied}
 use Rattle.unit_defs.specs.Teids.{teids_are_left}
