@@ -5,7 +5,7 @@ use Rattle.gnb_types.specs.declared.names.SnBits.{SnBits}
 use Rattle.gnb_types.specs.declared.names.UeId.{UeId}
 use Rattle.gnb_types.specs.declared.names.BearerId.{BearerId}
 use Rattle.pdcp_defs.specs.Receivers.{Delivery, is_duplicate, stored, deliver}
-use Rattle.unit_defs.specs.UpRecords.{UpBearer, TunnelKind, n3, f1u_uplink, forwarding_up}
+use Rattle.unit_defs.specs.UpRecords.{UpBearer, TunnelKind, f1u_uplink, forwarding_up}
 use Rattle.unit_defs.specs.UpBearers.{with_uplink, switched, frozen_to, with_status, resumed, framed}
 use Rattle.unit_defs.specs.UpItems.{took}
 use Rattle.gnb_types.specs.declared.outputs.Tag.TheVariants.{Absent}

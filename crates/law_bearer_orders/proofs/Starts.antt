@@ -21,7 +21,6 @@ use Rattle.uplink_defs.specs.Parts as up_parts
 use Rattle.law_chain.proofs.Frames.{set_here}
 use Rattle.law_context_orders.specs.Orders.{UpPart, part_with, part_of_bearer, part_in}
 use Rattle.law_down_orders.specs.Down.{down_of, new_part}
-use Rattle.law_bearer_orders.specs.Happenings.{Contexts}
 use Rattle.law_bearer_orders.specs.Down as downs
 use Rattle.law_bearer_orders.specs.Up as ups
 use Rattle.law_bearer_orders.specs.Starts.{only, with_downlink, DownStarts, UpStarts}

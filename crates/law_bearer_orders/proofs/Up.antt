@@ -8,7 +8,7 @@ use Rattle.unit_defs.specs.UpBearers.{is_over}
 use Rattle.unit_defs.specs.Ways.{packet_content, report_content, Taken, fresh_item, numbered_item, uplink_item, status_item, end_item, Way, Answer, gives, spent}
 use Rattle.chain_defs.specs.Parts.{set}
 use Rattle.uplink_defs.specs.Parts.{Item, numbered, end_marker, Member, Part, new_member}
-use Rattle.uplink_defs.specs.Orders.{Order, offers, numbers, connects, leaves, arrives, carries, acknowledges, reports, marks, makes, freezes, knows, switches, resumes, closes, discards, after, run}
+use Rattle.uplink_defs.specs.Orders.{Order, offers, numbers, connects, leaves, arrives, carries, acknowledges, reports, marks, makes, freezes, knows, resumes, closes, discards, after, run}
 use Rattle.uplink_defs.specs.Guards.{IsReady, AreKept}
 use Rattle.law_chain.proofs.Frames.{set_far}
 use Rattle.law_context_orders.specs.Orders.{UpPart, UpOrder, begun, done, carried_out}
