@@ -33,3 +33,8 @@ pub fn things_are_orders_of_contexts()
         × (contexts_of n ue bearer (after_things u things)
         ≡ after_changes ue bearer (contexts_of n ue bearer u) (changes_over n ue bearer u things)) }
 {}
+
+/// Contexts can be numbered so, each place of one with a number of its own.
+pub fn places_can_be_numbered()
+    ensures { Numbering }
+{}
