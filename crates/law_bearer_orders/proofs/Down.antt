@@ -224,15 +224,7 @@ module _ {M C P : Type 0} (way : Way M C P) (ue : UeId) (bearer : BearerId) (sn 
           (made_down s x ue bearer instance its_sn its_quota target teid, e, f)
           (λ y far. like_same (s.members y) (set s.members x (new_member target teid) y) (set_far s.members x (new_member target teid) y far)),
     )
-    step_anew absent (ups.adds teid) asked = none_made absent
-    step_anew absent (ups.switches du teid) asked = none_made absent
-    step_anew absent (ups.freezes peer down up) asked = none_made absent
-    step_anew absent (ups.knows status) asked = none_made absent
-    step_anew absent ups.resumes asked = none_made absent
-    step_anew absent ups.releases asked = none_made absent
-    step_anew absent ups.closes asked = none_made absent
-    step_anew absent (ups.takes kind teid item) asked = none_made absent
-    step_anew absent ups.polls asked = none_made absent
+    step_anew absent _ asked = none_made absent
 
     step_in : (b : Beside) (order : UpOrder P) (o : Option UpPart) → IsIn sn quota (s.members x) o → IsGiven (carried_out way ue bearer order o)
         → AsksIn sn quota s x b o order

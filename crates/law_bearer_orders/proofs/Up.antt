@@ -195,15 +195,7 @@ module _ {M C P : Type 0} (way : Way M C P) (ue : UeId) (bearer : BearerId) wher
           (made_up s x ue bearer instance sn quota teid))
           (λ y far. like_same (s.members y) (set s.members x (new_member true teid) y) (set_far s.members x (new_member true teid) y far)),
     )
-    step_anew absent (ups.adds teid) asked = none_made absent
-    step_anew absent (ups.switches du teid) asked = none_made absent
-    step_anew absent (ups.freezes peer down up) asked = none_made absent
-    step_anew absent (ups.knows status) asked = none_made absent
-    step_anew absent ups.resumes asked = none_made absent
-    step_anew absent ups.releases asked = none_made absent
-    step_anew absent ups.closes asked = none_made absent
-    step_anew absent (ups.takes kind teid item) asked = none_made absent
-    step_anew absent ups.polls asked = none_made absent
+    step_anew absent _ asked = none_made absent
 
     step_in : (b : Beside) (order : UpOrder P) (o : Option UpPart) → IsIn (s.members x) o → IsGiven (carried_out way ue bearer order o) → AsksIn s x b o order
         → AreKept s (orders_in x b o order) × Has (run s (orders_in x b o order)) (set cs x (kept_of o (carried_out way ue bearer order o)))
@@ -293,15 +285,7 @@ module _ {M C P : Type 0} (way : Way M C P) (ue : UeId) (bearer : BearerId) wher
   silent_anew : (s : Part) (x : ℕ) (order : UpOrder P) → AreSilent s (orders_anew x order)
   unfolding AreSilent
   silent_anew s x (ups.makes instance sn quota target teid) = (tt, tt)
-  silent_anew s x (ups.adds teid) = tt
-  silent_anew s x (ups.switches du teid) = tt
-  silent_anew s x (ups.freezes peer down up) = tt
-  silent_anew s x (ups.knows status) = tt
-  silent_anew s x ups.resumes = tt
-  silent_anew s x ups.releases = tt
-  silent_anew s x ups.closes = tt
-  silent_anew s x (ups.takes kind teid item) = tt
-  silent_anew s x ups.polls = tt
+  silent_anew s x _ = tt
 
   silent_in : (s : Part) (x : ℕ) (b : Beside) (order : UpOrder P) (o : Option UpPart) → IsIn (s.members x) o → IsHushedIn o order
       → AreSilent s (orders_in x b o order)
@@ -343,11 +327,6 @@ released_hushed s x b p released (ups.takes kind teid item) asked = or_true p.at
     or_true : (f r : Bool) → r ≡ true → f || r ≡ true
     or_true true r e = refl
     or_true false r e = e
-released_hushed s x b p released (ups.freezes peer down up) asked = tt
-released_hushed s x b p released ups.closes asked = tt
-released_hushed s x b p released (ups.makes instance sn quota target teid) asked = tt
-released_hushed s x b p released ups.polls asked = tt
-released_hushed s x b p released (ups.adds teid) asked = tt
 released_hushed s x b p released (ups.switches du teid) asked = absurd (true≢false (sym released ∙ asked.0))
 released_hushed s x b p released (ups.knows status) asked = by p.at.flags.arrived refl
   where
@@ -355,4 +334,4 @@ released_hushed s x b p released (ups.knows status) asked = by p.at.flags.arrive
     by true e = absurd (true≢false (sym released ∙ (asked.1 e).1))
     by false e = refl
 released_hushed s x b p released ups.resumes asked = absurd (true≢false (sym released ∙ asked.0.1))
-released_hushed s x b p released ups.releases asked = tt
+released_hushed s x b p released _ asked = tt
