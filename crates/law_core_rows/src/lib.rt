@@ -13,6 +13,7 @@ ghost use Rattle.unit_defs.specs.Core.{CoreRecord, core_acts};
 ghost use Rattle.chain_defs.specs.Parts.{Part};
 ghost use Rattle.chain_defs.specs.Orders.{switches_path, run};
 ghost use Rattle.chain_defs.specs.Guards.{IsOwed, AreKept};
+ghost use Rattle.law_core_rows.specs.Lists.{Came, after_all, orders_over, AreOne};
 ghost use Rattle.law_core_rows.specs.Shown.{Places, IsPath, goal_by, orders_to, IsOne, Follows};
 
 /// Whatever message the core is given, its path of a bearer is afterwards that of the part after the orders that `orders_to`
@@ -27,4 +28,14 @@ pub fn messages_are_orders()
         (core_acts way r from message) }
     ensures kept { (sn : SnBits) (quota : ℕ) (s : Part) (to : ℕ) → IsOwed s (switches_path to)
         → AreKept sn quota s (switches_path to ∷ []) }
+{}
+
+/// So over a list of messages the core's path is that of the part after one list of orders.
+pub fn lists_are_orders()
+    ensures { (way : Way (Message Token) Token Pdu) (places : Places) (ue : UeId)
+        (bearer : BearerId) (r : CoreRecord (Message Token) Token) (s : Part)
+        (messages : List (Came Token)) → IsPath places r ue bearer s
+        → AreOne way ue bearer r messages
+        → IsPath places (after_all way r messages) ue bearer
+        (run s (orders_over way places ue bearer r messages)) }
 {}

@@ -25,9 +25,9 @@ handed_up : (r : Receiver (List ℕ)) (count : ℕ) (packet : List ℕ) → r.st
 unfolding deliver stored put
 handed_up r count packet none e = let t : (count == r.deliv) ≡ true = same count r.deliv e in rw (none, t)
 
-module _ (p : ℕ → List ℕ) (s : Path) (k : Kept p s) where
+module _ (p : ℕ → List ℕ) (base : ℕ) (s : Path) (k : Kept p base s) where
   first_packet : (count : ℕ) (packet : List ℕ) (rest : List (ℕ × List ℕ))
-      → Radio p s.comes s.terminal.deliv s.terminal.stored ((count, packet) ∷ rest) s.delivered
+      → Radio p (max base s.comes) s.terminal.deliv s.terminal.stored ((count, packet) ∷ rest) s.delivered
       → (count ≤ s.terminal.deliv) × (packet ≡ p count) × HasNoGap (max s.terminal.deliv (count + 1)) rest
       × AllByRecursion (λ (e : ℕ × List ℕ). e.1 ≡ p e.0) rest
       × (reach s.terminal.deliv ((count, packet) ∷ rest) ≡ reach (max s.terminal.deliv (count + 1)) rest)
@@ -36,8 +36,8 @@ module _ (p : ℕ → List ℕ) (s : Path) (k : Kept p s) where
 
   hears : (air : List (ℕ × List ℕ)) (terminal : Receiver (List ℕ)) (delivered : List (ℕ × List ℕ)) → s.terminal.deliv ≤ terminal.deliv
       → reach s.terminal.deliv s.air ≡ reach terminal.deliv air
-      → Radio p s.comes terminal.deliv terminal.stored air delivered
-      → Kept p (record s { air = air; terminal = terminal; delivered = delivered })
+      → Radio p (max base s.comes) terminal.deliv terminal.stored air delivered
+      → Kept p base (record s { air = air; terminal = terminal; delivered = delivered })
   hears air terminal delivered more reached radio = record {
     low = k.low;
     sent = k.sent;
@@ -55,11 +55,11 @@ module _ (p : ℕ → List ℕ) (s : Path) (k : Kept p s) where
   }
 
   pub kept_carries : (count : ℕ) (packet : List ℕ) (rest : List (ℕ × List ℕ)) → s.air ≡ (count, packet) ∷ rest
-      → Kept p (after s (carries count packet rest))
+      → Kept p base (after s (carries count packet rest))
   unfolding after
   kept_carries count packet rest stands = by (nat_lt count s.terminal.deliv) refl
     where
-      r : RadioOf p s
+      r : RadioOf p base s
       r = k.radio
 
       f : (count ≤ s.terminal.deliv) × (packet ≡ p count) × HasNoGap (max s.terminal.deliv (count + 1)) rest
@@ -68,18 +68,18 @@ module _ (p : ℕ → List ℕ) (s : Path) (k : Kept p s) where
       f = first_packet count packet rest (rw stands at r)
 
       by : (t : Bool) → nat_lt count s.terminal.deliv ≡ t
-          → Kept p (handed (record s { air = rest }) (is_duplicate s.terminal count) (deliver (stored s.terminal count packet)))
+          → Kept p base (handed (record s { air = rest }) (is_duplicate s.terminal count) (deliver (stored s.terminal count packet)))
       by true t =
           let l : count < s.terminal.deliv = grind arith in
           let e : max s.terminal.deliv (count + 1) ≡ s.terminal.deliv = omega arith in
           let reached : reach s.terminal.deliv s.air ≡ reach s.terminal.deliv rest = ap (reach s.terminal.deliv) stands ∙ f.4 ∙ ap
           (λ n. reach n rest) e in
-          subst (λ b. Kept p (handed (record s { air = rest }) b (deliver (stored s.terminal count packet))))
+          subst (λ b. Kept p base (handed (record s { air = rest }) b (deliver (stored s.terminal count packet))))
           (sym (taken_late s.terminal count r.none_stored l))
           (hears rest s.terminal s.delivered (omega arith) reached (record {
             no_gap = subst (λ n. HasNoGap n rest) e f.2;
             packets = f.3;
-            reached_comes = (let a = r.reached_comes in omega (arith, reached));
+            reached_limit = (let a = r.reached_limit in omega (arith, reached));
             delivered_are = r.delivered_are;
             none_stored = r.none_stored;
           }))
@@ -89,14 +89,14 @@ module _ (p : ℕ → List ℕ) (s : Path) (k : Kept p s) where
           let reached : reach s.terminal.deliv s.air ≡ reach (s.terminal.deliv + 1) rest = ap (reach s.terminal.deliv) stands ∙ f.4 ∙ ap
           (λ n. reach n rest) e in
           let low : 0 ≤ s.terminal.deliv = omega arith in
-          subst (λ b. Kept p (handed (record s { air = rest }) b (deliver (stored s.terminal count packet))))
+          subst (λ b. Kept p base (handed (record s { air = rest }) b (deliver (stored s.terminal count packet))))
           (sym (taken_next s.terminal count r.none_stored is))
-          (subst (λ d. Kept p (handed (record s { air = rest }) false d)) (sym (handed_up s.terminal count packet r.none_stored is))
+          (subst (λ d. Kept p base (handed (record s { air = rest }) false d)) (sym (handed_up s.terminal count packet r.none_stored is))
           (hears rest (record { deliv = s.terminal.deliv + 1; stored = [] }) (s.delivered ++ (count, packet) ∷ []) (omega arith) reached
           (record {
             no_gap = subst (λ n. HasNoGap n rest) e f.2;
             packets = f.3;
-            reached_comes = (let a = r.reached_comes in omega (arith, reached));
+            reached_limit = (let a = r.reached_limit in omega (arith, reached));
             delivered_are = rw (r.delivered_are, f.1, is) (sym (upto-snoc (pairs p) 0 s.terminal.deliv low));
             none_stored = refl;
           })))

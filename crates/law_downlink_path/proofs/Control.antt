@@ -32,11 +32,11 @@ unfolding Marked
 marked_low true low deliv needed l = l
 marked_low false low deliv needed l = omega arith
 
-module _ (p : ℕ → List ℕ) (s : Path) (k : Kept p s) where
+module _ (p : ℕ → List ℕ) (base : ℕ) (s : Path) (k : Kept p base s) where
   abbrev v : View
   v = view s
 
-  pub kept_freezes : (hop : SourceHop) → s.frozen ≡ false → Kept p (after s (freezes hop))
+  pub kept_freezes : (hop : SourceHop) → s.frozen ≡ false → Kept p base (after s (freezes hop))
   unfolding after
   kept_freezes hop unfrozen =
       let all = k.holds.all_sent unfrozen in
@@ -66,7 +66,7 @@ module _ (p : ℕ → List ℕ) (s : Path) (k : Kept p s) where
   resumes_from : (b : UpBearer) (cursor : ℕ) (items : List (ℕ × List ℕ)) → b.downlink ≡ s.bearer.downlink
       → b.loss_while_frozen ≡ false → b.sender ≡ s.bearer.sender → cursor ≤ s.comes → items ≡ upto (pairs p) cursor s.comes
       → Marked b.restart cursor v.deliv (k.speaks.need (k.speaks.downlink.next))
-      → Kept p (record (put s (packets_sent items b)) { frozen = false })
+      → Kept p base (record (put s (packets_sent items b)) { frozen = false })
   resumes_from b cursor items same_downlink no_loss same_sender l is marked =
       let h = k.speaks in
       let at : Speaks p v s.tunnel b cursor = record {
@@ -77,7 +77,7 @@ module _ (p : ℕ → List ℕ) (s : Path) (k : Kept p s) where
         marked = λ _. marked;
       } in
       let j = puts_upto p v cursor s.comes s.tunnel b at no_loss (omega arith) l in
-      kept_sent p s false s.comes b (packets_sent items b) k.low s.comes (omega arith)
+      kept_sent p base s false s.comes b (packets_sent items b) k.low s.comes (omega arith)
       (record {
         unconfirmed_are = ap (λ (x : Sender (List ℕ)). x.unconfirmed) same_sender ∙ k.holds.unconfirmed_are;
         low_comes = k.holds.low_comes;
@@ -89,7 +89,7 @@ module _ (p : ℕ → List ℕ) (s : Path) (k : Kept p s) where
       (subst (λ xs. Puts p v s.tunnel b s.comes (packets_sent xs b)) (sym is) j) k.radio
 
   resumes_by : (t : Bool) → s.bearer.loss_while_frozen ≡ t → s.frozen ≡ true
-      → Kept p (record
+      → Kept p base (record
       (put s (packets_sent
       (if t then s.bearer.sender.unconfirmed else filter (λ e. is_one_of s.bearer.taken_while_frozen e.0) s.bearer.sender.unconfirmed)
       (record (thawed s.bearer) { restart = s.bearer.restart || t }))) { frozen = false })
@@ -103,13 +103,13 @@ module _ (p : ℕ → List ℕ) (s : Path) (k : Kept p s) where
       (subst (λ t. Marked t (max k.low k.sent) v.deliv (k.speaks.need (k.speaks.downlink.next))) (sym (as_before s.bearer.restart))
       (marked_max s.bearer.restart k.low k.sent v.deliv (k.speaks.need (k.speaks.downlink.next)) k.holds.low_deliv (k.speaks.marked is)))
 
-  pub kept_resumes : s.frozen ≡ true → Kept p (after s resumes)
+  pub kept_resumes : s.frozen ≡ true → Kept p base (after s resumes)
   unfolding after
   kept_resumes is_frozen = resumes_by s.bearer.loss_while_frozen refl is_frozen
 
   -- ---- the radio fails, and there is a new one
 
-  pub kept_fails : Kept p (after s fails)
+  pub kept_fails : Kept p base (after s fails)
   unfolding after HasNoGap reach
   kept_fails =
       let h = k.speaks in
@@ -127,7 +127,7 @@ module _ (p : ℕ → List ℕ) (s : Path) (k : Kept p s) where
         radio = record {
           no_gap = tt;
           packets = tt;
-          reached_comes = (let a = k.radio.reached_comes in let c = reach-le s.terminal.deliv s.air in omega arith);
+          reached_limit = (let a = k.radio.reached_limit in let c = reach-le s.terminal.deliv s.air in omega arith);
           delivered_are = k.radio.delivered_are;
           none_stored = k.radio.none_stored;
         };
@@ -152,7 +152,7 @@ module _ (p : ℕ → List ℕ) (s : Path) (k : Kept p s) where
       same : s.terminal.deliv ≤ s.terminal.deliv
       same = omega arith
 
-  pub kept_begins_anew : (d : Downlink) (fmc : ℕ) (bits : List Bool) → Kept p (after s (begins_anew d fmc bits))
+  pub kept_begins_anew : (d : Downlink) (fmc : ℕ) (bits : List Bool) → Kept p base (after s (begins_anew d fmc bits))
   unfolding after HasNoGap reach IsQuiet
   kept_begins_anew d fmc bits =
       let b = anew s.bearer d in
@@ -178,7 +178,7 @@ module _ (p : ℕ → List ℕ) (s : Path) (k : Kept p s) where
         radio = record {
           no_gap = tt;
           packets = tt;
-          reached_comes = (let a = k.radio.reached_comes in let c = reach-le s.terminal.deliv s.air in omega arith);
+          reached_limit = (let a = k.radio.reached_limit in let c = reach-le s.terminal.deliv s.air in omega arith);
           delivered_are = k.radio.delivered_are;
           none_stored = k.radio.none_stored;
         };

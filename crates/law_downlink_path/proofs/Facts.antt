@@ -72,16 +72,17 @@ pub record Holds (p : ℕ → List ℕ) (is_frozen : Bool) (b : UpBearer) (deliv
   pub all_sent : is_frozen ≡ false → (sent ≡ comes) × (b.loss_while_frozen ≡ false)
   pub taken_are : is_frozen ≡ true → b.taken_while_frozen ≡ upto (λ i. i) sent comes
 
-pub record Radio (p : ℕ → List ℕ) (comes deliv : ℕ) (stored air delivered : List (ℕ × List ℕ)) : Type 0 where
+pub record Radio (p : ℕ → List ℕ) (limit deliv : ℕ) (stored air delivered : List (ℕ × List ℕ)) : Type 0 where
   pub no_gap : HasNoGap deliv air
   pub packets : AllByRecursion (λ (e : ℕ × List ℕ). e.1 ≡ p e.0) air
-  pub reached_comes : reach deliv air ≤ comes
+  pub reached_limit : reach deliv air ≤ limit
   pub delivered_are : delivered ≡ upto (pairs p) 0 deliv
   pub none_stored : stored ≡ []
 
-pub record Kept (p : ℕ → List ℕ) (s : Path) : Type 0 where
+-- base: what the terminal had received when the way began
+pub record Kept (p : ℕ → List ℕ) (base : ℕ) (s : Path) : Type 0 where
   pub low : ℕ
   pub sent : ℕ
   pub holds : Holds p s.frozen s.bearer s.terminal.deliv s.comes low sent
   pub speaks : Speaks p (view s) s.tunnel s.bearer sent
-  pub radio : Radio p s.comes s.terminal.deliv s.terminal.stored s.air s.delivered
+  pub radio : Radio p (max base s.comes) s.terminal.deliv s.terminal.stored s.air s.delivered

@@ -91,9 +91,9 @@ module _ (first : ℕ) (d : Downlink) (du : DuBearer) (os : List Step) (kept : A
   s : Path
   s = run (start first d du) os
 
-  good : Kept p s
+  good : Kept p 0 s
   unfolding start p s
-  good = kept_run p (start first d du) os (kept_start p first d du) kept
+  good = kept_run p 0 (start first d du) os (kept_start p first d du) kept
       (λ i. (let e : 0 + i ≡ i = omega arith in ap (stream (packets_in os)) e))
 
   come : s.comes ≡ length (packets_in os)
@@ -105,7 +105,7 @@ module _ (first : ℕ) (d : Downlink) (du : DuBearer) (os : List Step) (kept : A
   delivers_in_order =
       let r = good.radio in
       let few : s.terminal.deliv ≤ length (packets_in os) =
-      (let a = r.reached_comes in let b = reach-le s.terminal.deliv s.air in let c = come in omega arith) in
+      (let a = r.reached_limit in let b = reach-le s.terminal.deliv s.air in let c = come in omega arith) in
       let as_many : length s.delivered ≡ s.terminal.deliv = ap length r.delivered_are ∙ upto-length (pairs p) 0 s.terminal.deliv ∙ omega
       arith in
       let from : (i : ℕ) → p (0 + i) ≡ stream (packets_in os) i = λ i. (let e : 0 + i ≡ i = omega arith in ap p e) in

@@ -26,28 +26,28 @@ agrees_first p n x xs h =
     (sym (h 0) ∙ ap p e, λ i. (let f : n + 1 + i ≡ n + suc i = omega arith in ap p f ∙ h (suc i)))
 
 -- the packets that a step brings are those of p
-Comes : (ℕ → List ℕ) → Path → Step → Type 0
+unfoldable pub Comes : (ℕ → List ℕ) → Path → Step → Type 0
 Comes p s (numbers packet) = packet ≡ p s.comes
 Comes p s (sends count packet) = packet ≡ p s.comes
 Comes p s (keeps count packet) = packet ≡ p s.comes
 Comes p s o = ⊤
 
-kept_step : (p : ℕ → List ℕ) (s : Path) (k : Kept p s) (o : Step) → IsReady s o → IsOwed s o → Comes p s o → Kept p (after s o)
+pub kept_step : (p : ℕ → List ℕ) (base : ℕ) (s : Path) (k : Kept p base s) (o : Step) → IsReady s o → IsOwed s o → Comes p s o → Kept p base (after s o)
 unfolding IsReady IsOwed Comes
-kept_step p s k (numbers packet) r d is = kept_numbers p s k packet r d is
-kept_step p s k (sends count packet) r d is = kept_sends p s k count packet r d is
-kept_step p s k (keeps count packet) r d is = kept_keeps p s k count packet r d is
-kept_step p s k polls r d is = kept_polls p s k
-kept_step p s k (reports fmc bits) r d is = kept_reports p s k fmc bits
-kept_step p s k (status lost delivered) r d is = kept_status p s k lost delivered d
-kept_step p s k (confirms fmc bits) r d is = kept_confirms p s k fmc bits d.0 d.1
-kept_step p s k (freezes hop) r d is = kept_freezes p s k hop r
-kept_step p s k resumes r d is = kept_resumes p s k r
-kept_step p s k fails r d is = kept_fails p s k
-kept_step p s k (begins_anew downlink fmc bits) r d is = kept_begins_anew p s k downlink fmc bits
-kept_step p s k (loses before frame rest) r d is = kept_loses p s k before frame rest r
-kept_step p s k (takes frame rest) r d is = kept_takes p s k frame rest r
-kept_step p s k (carries count packet rest) r d is = kept_carries p s k count packet rest r
+kept_step p base s k (numbers packet) r d is = kept_numbers p base s k packet r d is
+kept_step p base s k (sends count packet) r d is = kept_sends p base s k count packet r d is
+kept_step p base s k (keeps count packet) r d is = kept_keeps p base s k count packet r d is
+kept_step p base s k polls r d is = kept_polls p base s k
+kept_step p base s k (reports fmc bits) r d is = kept_reports p base s k fmc bits
+kept_step p base s k (status lost delivered) r d is = kept_status p base s k lost delivered d
+kept_step p base s k (confirms fmc bits) r d is = kept_confirms p base s k fmc bits d.0 d.1
+kept_step p base s k (freezes hop) r d is = kept_freezes p base s k hop r
+kept_step p base s k resumes r d is = kept_resumes p base s k r
+kept_step p base s k fails r d is = kept_fails p base s k
+kept_step p base s k (begins_anew downlink fmc bits) r d is = kept_begins_anew p base s k downlink fmc bits
+kept_step p base s k (loses before frame rest) r d is = kept_loses p base s k before frame rest r
+kept_step p base s k (takes frame rest) r d is = kept_takes p base s k frame rest r
+kept_step p base s k (carries count packet rest) r d is = kept_carries p base s k count packet rest r
 
 heard : (s : Path) (rest : List (ℕ × List ℕ)) (b : Bool) (d : Delivery (List ℕ)) → (handed (record s { air = rest }) b d).comes ≡ s.comes
 heard s rest true d = refl
@@ -82,15 +82,15 @@ unfolding run packets_in
 all_come s [] = omega arith
 all_come s (o ∷ os) = all_come (after s o) os ∙ counts_after s o os
 
-pub kept_run : (p : ℕ → List ℕ) (s : Path) (os : List Step) → Kept p s → AreKept s os → Agrees p s.comes (packets_in os)
-    → Kept p (run s os)
+pub kept_run : (p : ℕ → List ℕ) (base : ℕ) (s : Path) (os : List Step) → Kept p base s → AreKept s os → Agrees p s.comes (packets_in os)
+    → Kept p base (run s os)
 unfolding run AreKept
-kept_run p s [] k a h = k
-kept_run p s (o ∷ os) k a h =
+kept_run p base s [] k a h = k
+kept_run p base s (o ∷ os) k a h =
     let e = comes_after p s o os h in
-    kept_run p (after s o) os (kept_step p s k o a.0 a.1 e.0) a.2 e.1
+    kept_run p base (after s o) os (kept_step p base s k o a.0 a.1 e.0) a.2 e.1
 
-pub kept_start : (p : ℕ → List ℕ) (first : ℕ) (d : Downlink) (du : DuBearer) → Kept p (start first d du)
+pub kept_start : (p : ℕ → List ℕ) (first : ℕ) (d : Downlink) (du : DuBearer) → Kept p 0 (start first d du)
 unfolding start made reach HasNoGap upto segment Stands Marked
 kept_start p first d du = record {
   low = 0;
@@ -110,7 +110,7 @@ kept_start p first d du = record {
     line = record { stands = none; taken = λ _ _. none };
     marked = λ _. none;
   };
-  radio = record { no_gap = tt; packets = tt; reached_comes = none; delivered_are = refl; none_stored = refl };
+  radio = record { no_gap = tt; packets = tt; reached_limit = omega arith; delivered_are = refl; none_stored = refl };
 }
   where
     none : 0 ≤ 0

@@ -37,15 +37,15 @@ speaks_later p v tunnel b cursor later more reached l m n h = record {
   marked = λ u. marked_later b.restart cursor v.deliv later (h.need (h.downlink.next)) l (h.marked u);
 }
 
-abbrev pub RadioOf : (ℕ → List ℕ) → Path → Type 0
-RadioOf p s = Radio p s.comes s.terminal.deliv s.terminal.stored s.air s.delivered
+abbrev pub RadioOf : (ℕ → List ℕ) → ℕ → Path → Type 0
+RadioOf p base s = Radio p (max base s.comes) s.terminal.deliv s.terminal.stored s.air s.delivered
 
-radio_more : (p : ℕ → List ℕ) (comes more deliv : ℕ) (stored air delivered : List (ℕ × List ℕ)) → comes ≤ more
-    → Radio p comes deliv stored air delivered → Radio p more deliv stored air delivered
-radio_more p comes more deliv stored air delivered l r = record {
+radio_more : (p : ℕ → List ℕ) (limit more deliv : ℕ) (stored air delivered : List (ℕ × List ℕ)) → limit ≤ more
+    → Radio p limit deliv stored air delivered → Radio p more deliv stored air delivered
+radio_more p limit more deliv stored air delivered l r = record {
   no_gap = r.no_gap;
   packets = r.packets;
-  reached_comes = (let a = r.reached_comes in omega arith);
+  reached_limit = (let a = r.reached_limit in omega arith);
   delivered_are = r.delivered_are;
   none_stored = r.none_stored;
 }
@@ -62,15 +62,15 @@ holds_alike p f b c deliv comes low sent a h = record {
 }
 
 -- a bearer sends
-pub kept_sent : (p : ℕ → List ℕ) (s : Path) (f : Bool) (more : ℕ) (b : UpBearer) (sent : Sending) (low cursor : ℕ) → s.comes ≤ more
-    → Holds p f b s.terminal.deliv more low cursor → Puts p (record (view s) { comes = more }) s.tunnel b cursor sent → RadioOf p s
-    → Kept p (record (put s sent) { comes = more; frozen = f })
-kept_sent p s f more b sent low cursor l h j r = record {
+pub kept_sent : (p : ℕ → List ℕ) (base : ℕ) (s : Path) (f : Bool) (more : ℕ) (b : UpBearer) (sent : Sending) (low cursor : ℕ) → s.comes ≤ more
+    → Holds p f b s.terminal.deliv more low cursor → Puts p (record (view s) { comes = more }) s.tunnel b cursor sent → RadioOf p base s
+    → Kept p base (record (put s sent) { comes = more; frozen = f })
+kept_sent p base s f more b sent low cursor l h j r = record {
   low = low;
   sent = cursor;
   holds = holds_alike p f b sent.bearer s.terminal.deliv more low cursor j.1 h;
   speaks = j.0;
-  radio = radio_more p s.comes more s.terminal.deliv s.terminal.stored s.air s.delivered l r;
+  radio = radio_more p (max base s.comes) (max base more) s.terminal.deliv s.terminal.stored s.air s.delivered (omega arith) r;
 }
 
 one_pair : (p : ℕ → List ℕ) (i j : ℕ) (packet : List ℕ) → j ≡ i → packet ≡ p i → upto (pairs p) i (i + 1) ≡ (j, packet) ∷ []
@@ -99,7 +99,7 @@ taken_of_all p low held sent h = upto-filter (pairs p) (λ e. is_one_of (upto (�
     within : (i : ℕ) → sent ≤ i → i < held → (nat_le sent i && nat_lt i held) ≡ true
     within i l o = grind arith
 
-module _ (p : ℕ → List ℕ) (s : Path) (k : Kept p s) where
+module _ (p : ℕ → List ℕ) (base : ℕ) (s : Path) (k : Kept p base s) where
   abbrev v : View
   v = view s
 
@@ -115,7 +115,7 @@ module _ (p : ℕ → List ℕ) (s : Path) (k : Kept p s) where
   sends_one : (b : UpBearer) (count : ℕ) (packet : List ℕ) → s.frozen ≡ false → count ≡ s.comes → packet ≡ p s.comes
       → b.downlink ≡ s.bearer.downlink → b.restart ≡ s.bearer.restart → b.loss_while_frozen ≡ s.bearer.loss_while_frozen
       → b.sender.unconfirmed ≡ s.bearer.sender.unconfirmed ++ (count, packet) ∷ []
-      → Kept p (record (put s (packets_sent ((count, packet) ∷ []) b)) { comes = s.comes + 1 })
+      → Kept p base (record (put s (packets_sent ((count, packet) ∷ []) b)) { comes = s.comes + 1 })
   sends_one b count packet unfrozen number is same_downlink same_restart same_loss un =
       let all = k.holds.all_sent unfrozen in
       let h = more_come in
@@ -130,7 +130,7 @@ module _ (p : ℕ → List ℕ) (s : Path) (k : Kept p s) where
       let j = puts_upto p (record v { comes = s.comes + 1 }) s.comes (s.comes + 1) s.tunnel b at (same_loss ∙ all.1) (omega arith)
       (omega arith) in
       let one = one_pair p s.comes count packet number is in
-      kept_sent p s s.frozen (s.comes + 1) b (packets_sent ((count, packet) ∷ []) b) k.low (s.comes + 1) (omega arith)
+      kept_sent p base s s.frozen (s.comes + 1) b (packets_sent ((count, packet) ∷ []) b) k.low (s.comes + 1) (omega arith)
       (record {
         unconfirmed_are = un ∙ ap (λ xs. xs ++ (count, packet) ∷ []) k.holds.unconfirmed_are
             ∙ rw (number, is) (sym (upto-snoc (pairs p) k.low s.comes k.holds.low_comes));
@@ -143,21 +143,21 @@ module _ (p : ℕ → List ℕ) (s : Path) (k : Kept p s) where
       (subst (λ xs. Puts p (record v { comes = s.comes + 1 }) s.tunnel b (s.comes + 1) (packets_sent xs b)) one j) k.radio
 
   pub kept_numbers : (packet : List ℕ) → s.frozen ≡ false → s.bearer.sender.next ≡ s.comes → packet ≡ p s.comes
-      → Kept p (after s (numbers packet))
+      → Kept p base (after s (numbers packet))
   unfolding after with_next
   kept_numbers packet unfrozen number is =
       sends_one (record s.bearer { sender = with_next s.bearer.sender packet }) s.bearer.sender.next packet unfrozen number is refl refl
       refl refl
 
   pub kept_sends : (count : ℕ) (packet : List ℕ) → s.frozen ≡ false → count ≡ s.comes → packet ≡ p s.comes
-      → Kept p (after s (sends count packet))
+      → Kept p base (after s (sends count packet))
   unfolding after restored
   kept_sends count packet unfrozen number is =
       sends_one (holds s.bearer count packet) count packet unfrozen number is refl refl refl refl
 
   -- or it is held while frozen
   pub kept_keeps : (count : ℕ) (packet : List ℕ) → s.frozen ≡ true → count ≡ s.comes → packet ≡ p s.comes
-      → Kept p (after s (keeps count packet))
+      → Kept p base (after s (keeps count packet))
   unfolding after restored
   kept_keeps count packet is_frozen number is =
       let h = more_come in
@@ -175,19 +175,19 @@ module _ (p : ℕ → List ℕ) (s : Path) (k : Kept p s) where
               ∙ rw number (sym (upto-snoc (λ i. i) k.sent s.comes k.holds.sent_comes));
         };
         speaks = record { need = h.need; downlink = h.downlink; there = h.there; line = h.line; marked = h.marked };
-        radio = radio_more p s.comes (s.comes + 1) s.terminal.deliv s.terminal.stored s.air s.delivered (omega arith) k.radio;
+        radio = radio_more p (max base s.comes) (max base (s.comes + 1)) s.terminal.deliv s.terminal.stored s.air s.delivered (omega arith) k.radio;
       }
 
   -- ---- frames that carry no packet
 
-  pub kept_polls : Kept p (after s polls)
+  pub kept_polls : Kept p base (after s polls)
   unfolding after IsQuiet
-  kept_polls = kept_sent p s s.frozen s.comes s.bearer (frame_on true false None s.bearer s.bearer.downlink) k.low k.sent (omega arith)
+  kept_polls = kept_sent p base s s.frozen s.comes s.bearer (frame_on true false None s.bearer s.bearer.downlink) k.low k.sent (omega arith)
       k.holds (puts_quiet p v true None tt s.tunnel s.bearer k.sent k.speaks) k.radio
 
-  pub kept_reports : (fmc : ℕ) (bits : List Bool) → Kept p (after s (reports fmc bits))
+  pub kept_reports : (fmc : ℕ) (bits : List Bool) → Kept p base (after s (reports fmc bits))
   unfolding after IsQuiet
-  kept_reports fmc bits = kept_sent p s s.frozen s.comes s.bearer
+  kept_reports fmc bits = kept_sent p base s s.frozen s.comes s.bearer
       (frame_on false false (Some (report_pdu fmc bits)) s.bearer s.bearer.downlink) k.low k.sent (omega arith) k.holds
       (puts_quiet p v false (Some (report_pdu fmc bits)) tt s.tunnel s.bearer k.sent k.speaks) k.radio
 
@@ -210,7 +210,7 @@ module _ (p : ℕ → List ℕ) (s : Path) (k : Kept p s) where
           ap (λ a. upto (pairs p) a s.comes) o
 
   confirmed : (n : ℕ) (un : List (ℕ × List ℕ)) → n ≤ s.terminal.deliv → un ≡ upto (pairs p) (max k.low n) s.comes
-      → Kept p (record s { bearer = record s.bearer { sender = record s.bearer.sender { unconfirmed = un } } })
+      → Kept p base (record s { bearer = record s.bearer { sender = record s.bearer.sender { unconfirmed = un } } })
   confirmed n un received are =
       let h = k.speaks in
       record {
@@ -229,7 +229,7 @@ module _ (p : ℕ → List ℕ) (s : Path) (k : Kept p s) where
       }
 
   confirmed_up_to : (delivered : Option ℕ) → is_received delivered s.terminal.deliv
-      → Kept p (record s { bearer = confirmed_if delivered s.bearer })
+      → Kept p base (record s { bearer = confirmed_if delivered s.bearer })
   unfolding confirmed_to
   confirmed_up_to None received = k
   confirmed_up_to (Some count) received = confirmed (count + 1) (filter (λ u. nat_lt count u.0) s.bearer.sender.unconfirmed)
@@ -237,7 +237,7 @@ module _ (p : ℕ → List ℕ) (s : Path) (k : Kept p s) where
       (rw k.holds.unconfirmed_are
       (upto-filter (pairs p) (λ u. nat_lt count u.0) (count + 1) (λ i l. grind arith) k.low s.comes (λ i l _. grind arith)))
 
-  pub kept_confirms : (fmc : ℕ) (bits : List Bool) → fmc ≤ s.terminal.deliv → bits ≡ [] → Kept p (after s (confirms fmc bits))
+  pub kept_confirms : (fmc : ℕ) (bits : List Bool) → fmc ≤ s.terminal.deliv → bits ≡ [] → Kept p base (after s (confirms fmc bits))
   unfolding after confirmed_by
   kept_confirms fmc bits received none = confirmed fmc (filter (λ u. not (is_reported fmc bits u.0)) s.bearer.sender.unconfirmed) received
       (rw (k.holds.unconfirmed_are, none)
@@ -271,7 +271,7 @@ module _ (p : ℕ → List ℕ) (s : Path) (k : Kept p s) where
       marked_here : (n : ℕ) → Marked true k.low v.deliv n
       marked_here n = k.holds.low_deliv
 
-  sends_all : (f : Bool) → s.frozen ≡ f → (lost : List (ℕ × ℕ)) → Kept p (put s (sent_again f lost s.bearer))
+  sends_all : (f : Bool) → s.frozen ≡ f → (lost : List (ℕ × ℕ)) → Kept p base (put s (sent_again f lost s.bearer))
   sends_all f is [] = rw (append-nil s.tunnel) k
   sends_all true is (range ∷ ranges) =
       let h = k.speaks in
@@ -293,7 +293,7 @@ module _ (p : ℕ → List ℕ) (s : Path) (k : Kept p s) where
       let all = k.holds.all_sent is in
       let b : UpBearer = record s.bearer { restart = true } in
       let j = puts_upto p v k.low s.comes s.tunnel b again_from all.1 (omega arith) k.holds.low_comes in
-      kept_sent p s s.frozen s.comes b (packets_sent s.bearer.sender.unconfirmed b) k.low s.comes (omega arith)
+      kept_sent p base s s.frozen s.comes b (packets_sent s.bearer.sender.unconfirmed b) k.low s.comes (omega arith)
       (record {
         unconfirmed_are = k.holds.unconfirmed_are;
         low_comes = k.holds.low_comes;
@@ -304,8 +304,8 @@ module _ (p : ℕ → List ℕ) (s : Path) (k : Kept p s) where
       })
       (subst (λ xs. Puts p v s.tunnel b s.comes (packets_sent xs b)) (sym k.holds.unconfirmed_are) j) k.radio
 
-pub kept_status : (p : ℕ → List ℕ) (s : Path) (k : Kept p s) (lost : List (ℕ × ℕ)) (delivered : Option ℕ)
-    → is_received delivered s.terminal.deliv → Kept p (after s (status lost delivered))
+pub kept_status : (p : ℕ → List ℕ) (base : ℕ) (s : Path) (k : Kept p base s) (lost : List (ℕ × ℕ)) (delivered : Option ℕ)
+    → is_received delivered s.terminal.deliv → Kept p base (after s (status lost delivered))
 unfolding after
-kept_status p s k lost delivered received =
-    sends_all p (record s { bearer = confirmed_if delivered s.bearer }) (confirmed_up_to p s k delivered received) s.frozen refl lost
+kept_status p base s k lost delivered received =
+    sends_all p base (record s { bearer = confirmed_if delivered s.bearer }) (confirmed_up_to p base s k delivered received) s.frozen refl lost

@@ -21,12 +21,12 @@ no_gap_or false false h = (refl, refl)
 no_gap_or true late h = absurd (true≢false h)
 no_gap_or false true h = absurd (true≢false h)
 
-module _ (p : ℕ → List ℕ) (s : Path) (k : Kept p s) where
+module _ (p : ℕ → List ℕ) (base : ℕ) (s : Path) (k : Kept p base s) where
   abbrev v : View
   v = view s
 
   pub kept_loses : (before : List Frame) (f : Frame) (rest : List Frame) → s.tunnel ≡ before ++ f ∷ rest
-      → Kept p (after s (loses before f rest))
+      → Kept p base (after s (loses before f rest))
   unfolding after
   kept_loses before f rest is =
       let h = k.speaks in
@@ -52,7 +52,7 @@ module _ (p : ℕ → List ℕ) (s : Path) (k : Kept p s) where
 
   -- a packet that fits goes to the radio
   goes_on : (count : ℕ) (packet : List ℕ) → count ≤ v.reached → count < s.comes → packet ≡ p count
-      → Radio p s.comes s.terminal.deliv s.terminal.stored (s.air ++ (count, packet) ∷ []) s.delivered
+      → Radio p (max base s.comes) s.terminal.deliv s.terminal.stored (s.air ++ (count, packet) ∷ []) s.delivered
       × (reach s.terminal.deliv (s.air ++ (count, packet) ∷ []) ≡ max v.reached (count + 1))
   unfolding HasNoGap reach
   goes_on count packet fits before is =
@@ -61,7 +61,7 @@ module _ (p : ℕ → List ℕ) (s : Path) (k : Kept p s) where
         record {
           no_gap = HasNoGap-append s.terminal.deliv s.air ((count, packet) ∷ []) r.no_gap (fits, tt);
           packets = all_append (λ (e : ℕ × List ℕ). e.1 ≡ p e.0) s.air ((count, packet) ∷ []) r.packets (is, tt);
-          reached_comes = (let a = r.reached_comes in rw reached (omega arith));
+          reached_limit = (let a = r.reached_limit in rw reached (omega arith));
           delivered_are = r.delivered_are;
           none_stored = r.none_stored;
         },
@@ -70,7 +70,7 @@ module _ (p : ℕ → List ℕ) (s : Path) (k : Kept p s) where
 
   abbrev Took : ℕ → ℕ → Bool → Option Pdu → Type 0
   Took needed n g pdu = let air = s.air ++ carried_by g pdu in
-      Radio p s.comes s.terminal.deliv s.terminal.stored air s.delivered × (g ≡ false → needed ≤ reach s.terminal.deliv air)
+      Radio p (max base s.comes) s.terminal.deliv s.terminal.stored air s.delivered × (g ≡ false → needed ≤ reach s.terminal.deliv air)
 
   -- the number is the awaited one, where no gap is seen
   awaited_is : (n : ℕ) → v.awaited ≤ n → nat_lt v.awaited n ≡ false → n ≡ v.awaited
@@ -120,7 +120,7 @@ module _ (p : ℕ → List ℕ) (s : Path) (k : Kept p s) where
       → Stands p k.speaks.need v.deliv v.comes (f.number + 1) rest (k.speaks.downlink.next)
       → (s.listens ≡ true → Took (k.speaks.need (f.number + 1)) f.number (gap_after s.du f f.pdu) f.pdu)
       → (t : Bool) → s.listens ≡ t
-      → Kept p (record s
+      → Kept p base (record s
       { tunnel = rest; du = taken_by s.du f; air = s.air ++ carried_by (not t || gap_after s.du f f.pdu) f.pdu })
   takes_by f rest stands took_it true is =
       let h = k.speaks in
@@ -154,7 +154,7 @@ module _ (p : ℕ → List ℕ) (s : Path) (k : Kept p s) where
         radio = k.radio;
       })
 
-  pub kept_takes : (f : Frame) (rest : List Frame) → s.tunnel ≡ f ∷ rest → Kept p (after s (takes f rest))
+  pub kept_takes : (f : Frame) (rest : List Frame) → s.tunnel ≡ f ∷ rest → Kept p base (after s (takes f rest))
   unfolding after Stands
   kept_takes f rest is =
       let h = k.speaks in

@@ -57,7 +57,7 @@ cp_keeps u B r = (refl, refl)
 
 -- ---- a terminal is set up without messages
 
-set_up_go : (u : PlainUnits) (plan : Plan) → UnitsGo u (all_set_up (units_placed plan u))
+pub set_up_go : (u : PlainUnits) (plan : Plan) → UnitsGo u (all_set_up (units_placed plan u))
 set_up_go u plan =
     then_go u placed_there (all_set_up placed_there) (
       one_goes after_up up_id up_exact new_cu_up u.ups placed_there.ups plan.gnb plan.up (up_placed up plan du.next_teid) (places plan du.next_teid)

@@ -1,0 +1,30 @@
+-- The first context of a bearer, and what a part has of it.
+use Rattle.std.specs.Prelude.{ℕ, false, List, [], ◌∷◌, Some, None}
+use Rattle.gnb_types.specs.declared.names.SnBits.{SnBits}
+use Rattle.unit_defs.specs.UpRecords.{UpBearer, Downlink}
+use Rattle.unit_defs.specs.UpBearers.{made}
+use Rattle.chain_defs.specs.Parts.{set}
+use Rattle.chain_defs.specs.Parts as down_parts
+use Rattle.chain_defs.specs.Orders as down
+use Rattle.chain_defs.specs.Guards as down_guards
+use Rattle.uplink_defs.specs.Parts as up_parts
+use Rattle.law_context_orders.specs.Orders.{UpPart}
+use Rattle.law_bearer_orders.specs.Happenings.{Contexts}
+use Rattle.law_bearer_orders.specs.Down as downs
+use Rattle.law_bearer_orders.specs.Up as ups
+
+-- one context alone
+abbrev pub only : ℕ → UpPart → Contexts
+only first p = set (λ q. None) first (Some p)
+
+abbrev pub with_downlink : ℕ → Downlink → UpBearer
+with_downlink teid d = record (made false teid) { downlink = Some d }
+
+-- after a switch at the start, which is kept, the part has this context
+abbrev pub DownStarts : SnBits → ℕ → ℕ → ℕ → Downlink → UpPart → Type 0
+DownStarts sn quota first teid d p =
+    let orders : List down.Order = down.switches first d 0 ∷ [] in
+    down_guards.AreKept sn quota (down_parts.start first teid) orders × downs.Has sn quota (down.run (down_parts.start first teid) orders) (only first p)
+
+abbrev pub UpStarts : ℕ → ℕ → UpPart → Type 0
+UpStarts first teid p = ups.Has (up_parts.start first teid) (only first p)

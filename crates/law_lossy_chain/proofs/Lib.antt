@@ -1,0 +1,4 @@
+pub mod Hears
+pub mod Moves
+pub mod Runs
+pub mod Lost
