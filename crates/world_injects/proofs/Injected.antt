@@ -1,23 +1,23 @@
--- Octets from outside are given to a node: to the core, and to a unit.
-use Rattle.std.proofs.Common.{◌≡◌, ℕ, ◌+◌, nat_lt, false, List, [], length, map, Option, Some, None, refl, sym, ap, ◌∙◌, subst}
+-- Octets from outside are given to the core.
+use Rattle.std.proofs.Common.{◌≡◌, ◌≤◌, ℕ, ◌+◌, nat_lt, ltb-false, false, List, [], length, map, Some, None, sym, ap, ◌∙◌, subst}
 use Rattle.std.specs.Prelude.{Result}
 use Rattle.gnb_types.specs.declared.names.NodeId.{NodeId}
-use Rattle.gnb_types.specs.declared.names.NodeId.TheVariants.{CuCp, CuUp, Du, Core, Ue}
+use Rattle.gnb_types.specs.declared.names.NodeId.TheVariants.{Core}
 use Rattle.gnb_types.specs.declared.outputs.Output.{Output}
 use Rattle.scenario_text.specs.declared.line.OutLine.{OutLine}
-use Rattle.transport_defs.specs.Links.{most_letters}
+use Rattle.run_defs.specs.transport_defs.Links.{most_letters}
 use Rattle.run_defs.specs.unit_defs.Ways.{gives, spent}
 use Rattle.run_defs.specs.unit_octet_defs.Codec.{Codec}
 use Rattle.run_defs.specs.unit_octet_defs.Units.{OctetAnswer, core_steps}
 use Rattle.run_defs.specs.unit_octet_defs.Writing.{outputs_of}
-use Rattle.run_defs.specs.States.{octets_from, core_stepped, as_step, ◌next◌}
-use Rattle.run_defs.specs.Steps.{put_out_all, check_spans, step, too_many_letters}
+use Rattle.run_defs.specs.States.{core_stepped, ◌next◌}
+use Rattle.run_defs.specs.Steps.{put_out_all, check_spans, too_many_letters}
 use Rattle.run_defs.specs.Events.{inject_to, core_injected}
 use Rattle.run_defs.specs.UnitRuns.{Meaning, unit_world, put_of, core_done}
 use Rattle.run_links.specs.Grounds.{Octets, OctetCore, OctetWorld, OctetState, OctetOutcome, letters_in}
 use Rattle.run_links.specs.Told.{GoesTo}
 use Rattle.run_links.proofs.Counting.{letters_put}
-use Rattle.unit_steps.specs.Steps.{stepped, stopped, step_after}
+use Rattle.unit_steps.specs.Steps.{stepped, step_after}
 use Rattle.world_steps.specs.declared.cause.Cause.{Cause}
 use Rattle.world_steps.specs.Gives.{Gives, EventGives}
 use Rattle.world_steps.proofs.Carried.{then_gives, as_event}
@@ -45,15 +45,9 @@ module _ (codec : Codec) (answer : Meaning) (from : NodeId) (octets : Octets) (s
       (as_event (Some Core) (put_out_all world Core None (map put_of outputs) (record s { core = after }) next check_spans) before lines t result
       (then_gives (put_out_all world Core None (map put_of outputs) (record s { core = after })) check_spans before lines lines t t result puts ends))
 
-  pub unit_is_given : (to : NodeId) (t : OctetState) (before lines : List OutLine) (result : Result (Unit {0}) Cause) → (to ≡ Core → ⊥)
-      → EventGives before (step world to (octets_from from octets) s) lines t result → EventGives before (inject_to world from to octets s) lines t result
-  unit_is_given (CuCp gnb) t before lines result elsewhere h = h
-  unit_is_given (CuUp gnb number) t before lines result elsewhere h = h
-  unit_is_given (Du gnb number) t before lines result elsewhere h = h
-  unit_is_given (Ue ue) t before lines result elsewhere h = h
-  unit_is_given Core t before lines result elsewhere h = absurd (elsewhere refl)
-
 -- there is room for control messages
 pub has_room : (world : OctetWorld) (s : OctetState) (outputs : List Output) → too_many_letters world (map put_of outputs) s ≡ false
-    → nat_lt most_letters (length s.bag.letters + letters_in outputs) ≡ false
-has_room world s outputs few = ap (λ (n : ℕ). nat_lt most_letters (length s.bag.letters + n)) (sym (letters_put world outputs)) ∙ few
+    → length s.bag.letters + letters_in outputs ≤ most_letters
+has_room world s outputs few =
+    ltb-false most_letters (length s.bag.letters + letters_in outputs)
+    (ap (λ (n : ℕ). nat_lt most_letters (length s.bag.letters + n)) (sym (letters_put world outputs)) ∙ few)
