@@ -1,0 +1,5 @@
+use Rattle.world_attaches.proofs.Keeping.{keeps_so}
+use Rattle.world_attaches.proofs.keeping.keep_terminal.Goals as goal
+
+pub returns : goal.returns
+returns c = ?
