@@ -1,3 +1,3 @@
 pub mod Begun
-pub mod Keeping
+pub mod Kept
 pub mod Placed

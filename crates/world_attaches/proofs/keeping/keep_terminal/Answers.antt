@@ -1,4 +1,4 @@
-use Rattle.world_attaches.proofs.Keeping.{keeps_so}
+use Rattle.world_attaches.proofs.Kept.{keeps_so}
 use Rattle.world_attaches.proofs.keeping.keep_terminal.Goals as goal
 
 pub returns : goal.returns

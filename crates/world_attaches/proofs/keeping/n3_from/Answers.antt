@@ -1,7 +1,7 @@
 use Rattle.std.proofs.Common.{◌++◌, ap, ◌∙◌, arith}
 use Rattle.gnb_types.specs.declared.plans.Tunnel.{Tunnel}
 use Rattle.run_defs.specs.Conditions.{n3_from}
-use Rattle.world_attaches.proofs.Keeping.{n3_begins, n3_turn, n3_ends}
+use Rattle.world_attaches.proofs.Kept.{n3_begins, n3_turn, n3_ends}
 use Rattle.world_attaches.proofs.keeping.n3_from.Goals as goal
 
 pub loop-before-init : goal.loop-before-init

@@ -1,5 +1,5 @@
 use Rattle.std.proofs.Common.{arith}
-use Rattle.world_attaches.proofs.Keeping.{open_begins, open_turn, open_ends}
+use Rattle.world_attaches.proofs.Kept.{open_begins, open_turn, open_ends}
 use Rattle.world_attaches.proofs.keeping.open_from.Goals as goal
 
 pub loop-before-init : goal.loop-before-init

@@ -1,7 +1,7 @@
 use Rattle.std.proofs.Common.{◌+◌, ◌-◌, List}
 use Rattle.scenario_text.specs.declared.line.OutLine.{OutLine}
 use Rattle.run_links.specs.declared.ground.Ground.{Ground}
-use Rattle.world_attaches.proofs.Keeping.{Opens}
+use Rattle.world_attaches.proofs.Kept.{Opens}
 use Rattle.world_attaches.proofs.keeping.open_from.Given as goal
 
 abbrev pub invariant-loop-before : goal.invariant-loop-before

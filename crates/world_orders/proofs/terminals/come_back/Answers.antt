@@ -3,7 +3,7 @@ use Rattle.run_defs.specs.UnitRuns.{unit_world}
 use Rattle.run_links.specs.Grounds.{OctetOutcome, state_of}
 use Rattle.world_steps.specs.Gives.{EventGives}
 use Rattle.world_orders.specs.Orders.{ordered}
-use Rattle.world_orders.proofs.Ordering.{come_back_is}
+use Rattle.world_orders.proofs.AsOrders.{come_back_is}
 use Rattle.world_orders.proofs.terminals.come_back.Goals as goal
 
 pub returns-clause-gives : goal.returns-clause-gives
