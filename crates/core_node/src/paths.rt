@@ -2,11 +2,12 @@
 
 ghost use Rattle.std.specs.Prelude.{◌≡◌, ◌++◌, map, OnOk};
 ghost use Rattle.unit_defs.specs.Core.{end_of};
+ghost use Rattle.unit_defs.specs.Messages.{teid_of};
 ghost use Rattle.unit_octet_defs.specs.Codec.{Codec, octet_way};
 ghost use Rattle.unit_octet_defs.specs.Writing.{outputs_of};
 
 use gnb_types::items::Memory;
-use gnb_types::names::{Dir, NodeId, UeId};
+use gnb_types::names::{BearerId, Dir, NodeId, UeId};
 use gnb_types::outputs::{Output, Outputs, Tag};
 use gnb_types::plans::TunnelList;
 use link_packets::write_end_marker;
@@ -29,6 +30,18 @@ impl Model for CorePath {
 }
 
 impl CorePath {
+    /// The N3 tunnel of a bearer, 0 where it has none.
+    pub fn teid(&self, bearer: BearerId) -> u32
+        ensures { result ≡ teid_of self.now.n3 bearer }
+    {
+        for tunnel in self.n3.as_slice() {
+            if tunnel.bearer.0 == bearer.0 {
+                return tunnel.teid;
+            }
+        }
+        0
+    }
+
     /// An End Marker goes on each of its tunnels.
     pub(crate) fn end(&self, alloc: Global, ue: UeId, outputs: &mut Outputs) -> Result<(), Memory>
         ensures { (codec : Codec) → OnOk result (outputs.new

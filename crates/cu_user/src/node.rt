@@ -1,12 +1,15 @@
 //! A CU-UP, and its steps.
 
-ghost use Rattle.std.specs.Prelude.{◌≡◌, ◌≤◌, [], Some, None, Err, IfSome};
+ghost use Rattle.std.specs.Prelude.{◌≡◌, ◌≤◌, [], Some, None, Err, IfSome, is_some};
+ghost use Rattle.std.specs.Option.{option_and_then};
 ghost use Rattle.gnb_types.specs.Orders.{ue_cmp};
 ghost use Rattle.tables.specs.Tables.{find};
 ghost use Rattle.codec_defs.specs.Reading.{ReadsItems};
 ghost use Rattle.codec_range_defs.specs.Ranges.{ReadsInRange};
 ghost use Rattle.unit_defs.specs.Accessors.{up_has_context, is_unconfirmed, up_rests};
 ghost use Rattle.unit_defs.specs.Static.{up_set_up};
+ghost use Rattle.unit_octet_defs.specs.Codec.{Codec};
+ghost use Rattle.unit_octet_defs.specs.Reading.{up_link};
 ghost use Rattle.unit_octet_defs.specs.Units.{cu_up_steps};
 ghost use Rattle.unit_steps.specs.Steps.{IsStep, step_after};
 ghost use Rattle.up_rows.specs.up_contexts.declared.placing.PlaceError.TheVariants as errors;
@@ -139,5 +142,13 @@ impl CuUser {
         ensures { result ≡ up_rests self.now.up ue bearer }
     {
         self.record.rests(ue, bearer)
+    }
+
+    /// Whether octets decode as an item of this tunnel.
+    pub fn decodes(&self, teid: u32, octets: &[u8]) -> bool
+        ensures { (codec : Codec) → ReadsItems codec → result
+            ≡ is_some (option_and_then (λ on. codec.read_item on.0 on.1 octets.now) (up_link self.now.up teid)) }
+    {
+        self.record.decodes(teid, octets)
     }
 }

@@ -1,6 +1,6 @@
 //! The radio of a bearer and direction.
 
-ghost use Rattle.std.specs.Prelude.{◌≡◌, IfOk, OnOk, OnErr, option_copied, slice_get};
+ghost use Rattle.std.specs.Prelude.{◌≡◌, length, IfOk, OnOk, OnErr, option_copied, slice_get};
 ghost use Rattle.transport_defs.specs.Links.{silent};
 ghost use Rattle.links.specs.Radios.{with_item, uncarried, carried_on, oldest_carried, Confirms};
 
@@ -43,6 +43,13 @@ impl RadioQueue {
             items: VecDeque::new(alloc),
             carried: 0,
         }
+    }
+
+    /// How many items stand there.
+    pub fn len(&self) -> u64
+        ensures { result ≡ length self.now.items }
+    {
+        self.items.len() as u64
     }
 
     pub fn put(&mut self, item: Item) -> Result<(), Memory>

@@ -118,6 +118,17 @@ impl Radios {
         }
     }
 
+    /// How many items stand on a radio.
+    #[tactic(auto, unfolding(tables::specs::Tables::at))]
+    pub fn length(&self, ue: UeId, bearer: BearerId, dir: Dir) -> u64
+        ensures { result ≡ length (radio_of self.now (entity ue bearer dir)).items }
+    {
+        match self.radios.get(&EntityKey { ue, bearer, dir }) {
+            Some(radio) => radio.len(),
+            None => 0,
+        }
+    }
+
     /// Carries the oldest item that isn't carried, and gives a copy: the item stands there until it is confirmed.
     #[tactic(auto, unfolding(crate::specs::Radios::carry, tables::specs::Tables::at))]
     pub fn carry(&mut self, ue: UeId, bearer: BearerId, dir: Dir) -> Result<Item, LinkError>

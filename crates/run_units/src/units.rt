@@ -1,11 +1,12 @@
 //! The ten units of both gNBs and the terminals, of any meaning.
 
-ghost use Rattle.std.specs.Prelude.{◌≡◌, ◌⊎◌, Bool, false, IsTrue, OnOk, Ok, Err};
+ghost use Rattle.std.specs.Prelude.{◌≡◌, ◌⊎◌, Bool, false, IsTrue, IfOk, OnOk, Ok, Err};
+ghost use Rattle.std.specs.Map.{keys_of};
 ghost use Rattle.std.specs.Option.{option_map};
 ghost use Rattle.gnb_types.specs.Orders.{node_cmp, ue_cmp};
 ghost use Rattle.tables.specs.Tables.{find};
 ghost use Rattle.run_defs.specs.unit_defs.Ue.{new_ue};
-ghost use Rattle.run_defs.specs.Units.{new_units, cp_of, ue_of, with_ue};
+ghost use Rattle.run_defs.specs.Units.{new_units, cp_of, ue_of, with_ue, ups_rest};
 ghost use Rattle.run_defs.specs.UnitRuns.{Records, Meaning};
 ghost use Rattle.plain_defs.specs.Plain.{IsPlanned, IsGiven, KeepRange, IsPlain};
 ghost use Rattle.run_defs.specs.Conditions.{is_held_by_units};
@@ -16,8 +17,8 @@ use cu_control::CuControl;
 use cu_user::{CuUser, PlaceError};
 use du_node::DuNode;
 use gnb_types::inputs::Input;
-use gnb_types::items::Memory;
-use gnb_types::names::{Gnb, NodeId, UeId};
+use gnb_types::items::{Items, Memory};
+use gnb_types::names::{BearerId, Gnb, NodeId, UeId};
 use gnb_types::outputs::Outputs;
 use gnb_types::plans::Plan;
 use std::alloc::Global;
@@ -26,7 +27,7 @@ use unit_messages::MessageCodec;
 use unit_steps::StepError;
 
 /// The units of both gNBs and the terminals. What they are is `records`, and `answer` says what one of them makes of an input: it may
-/// be any function of the records, the unit and the input that leaves all where the unit holds its input or refuses an event.
+/// be any function of the records, the unit and the input that leaves all where the unit holds what a run asks of it, or refuses an event.
 /// `ready` holds once `begin` was called, as long as no call gave an error.
 pub trait Units<C: MessageCodec> {
     ghost records: { Self → Records };
@@ -94,7 +95,17 @@ pub trait Units<C: MessageCodec> {
         requires { ready self.now }
         ensures { option_map (λ u. u.now.node) result ≡ ue_of (records self.now) ue };
 
-    ghost leaves: { LeavesAll answer };
+    /// The terminals that ever came, in order.
+    fn terminals(&self, alloc: Global) -> Result<Items<UeId>, Memory>
+        requires { ready self.now }
+        ensures { IfOk result (λ ues. ues ≡ keys_of (records self.now).ues) };
+
+    /// Whether all CU-UPs are at rest as far as this bearer goes.
+    fn cu_users_rest(&self, ue: UeId, bearer: BearerId) -> bool
+        requires { ready self.now }
+        ensures { result ≡ ups_rest (records self.now) ue bearer };
+
+    ghost leaves: { (units : Self) → ready units → LeavesAll answer (records units) };
 
     ghost keeps: { KeepRange answer in_range };
 

@@ -1,12 +1,14 @@
 //! Items of tunnels, and polls.
 
-ghost use Rattle.std.specs.Prelude.{◌≡◌, drop};
+ghost use Rattle.std.specs.Prelude.{◌≡◌, drop, is_some};
+ghost use Rattle.std.specs.Option.{option_and_then};
 ghost use Rattle.std.specs.Ordering.{nat_cmp};
 ghost use Rattle.gnb_types.specs.declared.inputs.Input.TheVariants as ins;
 ghost use Rattle.tables.specs.Tables.{find};
 ghost use Rattle.unit_defs.specs.CuUp.{poll};
 ghost use Rattle.codec_defs.specs.Reading.{ReadsItems};
 ghost use Rattle.unit_octet_defs.specs.Codec.{Codec, octet_way};
+ghost use Rattle.unit_octet_defs.specs.Reading.{up_link};
 ghost use Rattle.unit_octet_defs.specs.Units.{cu_up_steps};
 ghost use Rattle.unit_steps.specs.Steps.{IsStep, step_after};
 ghost use Rattle.up_contexts.specs.Tables.{OctetUp, with_tables};
@@ -20,6 +22,7 @@ use gnb_types::reasons::{DropReason, RefuseReason};
 use std::alloc::Global;
 use unit_steps::StepError;
 use up_items::Kind;
+use up_items::items::read_item;
 
 /// Whose a tunnel is, and its kind.
 #[derive(Clone, Copy)]
@@ -95,6 +98,20 @@ impl Contexts {
         }
         close_shown(&mut self.tunnels, shown_after(out.as_slice(), before));
         self.end_where_over(alloc, place.ue, out)
+    }
+
+    /// Whether octets decode as an item of this tunnel.
+    pub fn decodes(&self, teid: u32, octets: &[u8]) -> bool
+        ensures { (codec : Codec) (r : OctetUp) → ReadsItems codec → result
+            ≡ is_some (option_and_then (λ on. codec.read_item on.0 on.1 octets.now) (up_link (with_tables r self.now) teid)) }
+    {
+        let Some(place) = self.place_of(teid) else {
+            return false;
+        };
+        match self.contexts.get(&place.ue) {
+            Some(context) => read_item(place.kind, context.sn(), octets).is_some(),
+            None => false,
+        }
     }
 
     /// A poll: refused where nothing is unconfirmed, and where no downlink is served.

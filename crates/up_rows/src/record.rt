@@ -1,11 +1,15 @@
 //! What a CU-UP keeps.
 
-ghost use Rattle.std.specs.Prelude.{◌≡◌, ◌≤◌, None};
+ghost use Rattle.std.specs.Prelude.{◌≡◌, ◌≤◌, None, is_some};
+ghost use Rattle.std.specs.Option.{option_and_then};
 ghost use Rattle.gnb_types.specs.Orders.{ue_cmp};
 ghost use Rattle.tables.specs.Tables.{find};
 ghost use Rattle.unit_defs.specs.CuUp.{new_cu_up, up_node};
 ghost use Rattle.unit_defs.specs.Accessors.{up_has_context, is_unconfirmed, up_rests};
 ghost use Rattle.unit_defs.specs.Static.{up_set_up};
+ghost use Rattle.codec_defs.specs.Reading.{ReadsItems};
+ghost use Rattle.unit_octet_defs.specs.Codec.{Codec};
+ghost use Rattle.unit_octet_defs.specs.Reading.{up_link};
 ghost use Rattle.up_contexts.specs.Placing.{IsPlaced};
 
 use gnb_types::names::{BearerId, Gnb, NodeId, UeId};
@@ -89,6 +93,14 @@ impl UpRecord {
         ensures { result ≡ up_rests self.now ue bearer }
     {
         self.contexts.rests(ue, bearer)
+    }
+
+    /// Whether octets decode as an item of this tunnel.
+    pub fn decodes(&self, teid: u32, octets: &[u8]) -> bool
+        ensures { (codec : Codec) → ReadsItems codec → result
+            ≡ is_some (option_and_then (λ on. codec.read_item on.0 on.1 octets.now) (up_link self.now teid)) }
+    {
+        self.contexts.decodes(teid, octets)
     }
 
     /// A terminal without a context gets the one of this plan, as if it had been attached. Its downlinks go to the TEIDs of the DU from

@@ -3,6 +3,7 @@
 ghost use Rattle.std.specs.Prelude.{◌≡◌, false, nat_lt, ◌+◌, List, length, map, None, OnOk};
 ghost use Rattle.transport_defs.specs.Links.{most_letters};
 ghost use Rattle.plain_defs.specs.Plain.{IsGiven};
+ghost use Rattle.run_units.specs.Steps.{IsAsked};
 ghost use Rattle.run_defs.specs.States.{goes_on};
 ghost use Rattle.run_defs.specs.Steps.{reconnect_node, check_spans, does, step};
 ghost use Rattle.scenario_text.specs.declared.line.OutLine.{OutLine as ShownLine};
@@ -42,6 +43,7 @@ impl<U: Units<C> + Drop, C: MessageCodec + Drop> Parts<U, C> {
     pub fn ask(&mut self, node: NodeId, input: Input) -> Result<Asked, Cause>
         requires ready { U.ready self.old.units }
         requires given { IsGiven input }
+        requires asked { IsAsked (U.records self.old.units) node input }
         ensures ready { OnOk result (U.ready self.new.units) }
         ensures came { ComesOf (record {
           world = unit_world C.codec U.answer;
@@ -121,6 +123,7 @@ impl<U: Units<C> + Drop, C: MessageCodec + Drop> Parts<U, C> {
     ) -> Result<Moved, Cause>
         requires ready { U.ready self.old.units }
         requires given { IsGiven input }
+        requires asked { IsAsked (U.records self.old.units) node input }
         ensures ready { OnOk result (U.ready self.new.units) }
         ensures gives { (given : OctetGiven) → input_of given ≡ input → DoneGives
             (does (unit_world C.codec U.answer) node given None goes_on (state_of (U.records self.old.units) self.old.core self.old.ground))
@@ -142,6 +145,7 @@ impl<U: Units<C> + Drop, C: MessageCodec + Drop> Parts<U, C> {
     pub fn step(&mut self, node: NodeId, input: Input, lines: &mut Lines) -> Result<(), Cause>
         requires ready { U.ready self.old.units }
         requires given { IsGiven input }
+        requires asked { IsAsked (U.records self.old.units) node input }
         ensures ready { OnOk result (U.ready self.new.units) }
         ensures gives { (given : OctetGiven) → input_of given ≡ input → EventGives lines.old
             (step (unit_world C.codec U.answer) node given (state_of (U.records self.old.units) self.old.core self.old.ground))

@@ -1,0 +1,16 @@
+//! Codecs that units rest on.
+#![tactic(auto)]
+
+ghost use Rattle.codec_defs.specs.Reading.{ReadsItems, ReadsPdus};
+ghost use Rattle.codec_range_defs.specs.Ranges.{ReadsInRange};
+
+use unit_messages::MessageCodec;
+
+/// A codec that reads items of tunnels and PDUs of radios as the layouts of links say, and messages in the ranges of the profile.
+pub trait LawfulCodec: MessageCodec {
+    ghost reads_items: { ReadsItems Self.MessageCodec.codec };
+
+    ghost reads_pdus: { ReadsPdus Self.MessageCodec.codec };
+
+    ghost reads_in_range: { ReadsInRange Self.MessageCodec.codec };
+}
