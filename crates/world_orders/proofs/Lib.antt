@@ -1,2 +1,3 @@
 pub mod AsOrders
+pub mod Known
 pub mod Released

@@ -6,7 +6,7 @@ ghost use Rattle.run_defs.specs.Events.{handover, cancel};
 ghost use Rattle.run_defs.specs.UnitRuns.{unit_world};
 ghost use Rattle.run_links.specs.Grounds.{state_of};
 ghost use Rattle.world_steps.specs.Gives.{EventGives};
-ghost use Rattle.world_orders.specs.Orders.{handover_order, cancel_order};
+ghost use Rattle.world_orders.specs.Orders.{handover_order, names, cancel_order};
 
 use crate::looks::{is_busy_with, is_source};
 use crate::ordering::{Ordered, give_order};
@@ -79,6 +79,16 @@ fn handover_order<U: Units<C> + Drop, C: MessageCodec + Drop>(
     }
 }
 
+/// Whether a handover is one of this terminal.
+fn names(order: Ordered, ue: UeId) -> bool
+    ensures { result ≡ names order ue }
+{
+    match order {
+        Ok((_, Order::Handover(goal))) => goal.ue.0 == ue.0,
+        _ => true,
+    }
+}
+
 fn cancel_order<U: Units<C> + Drop, C: MessageCodec + Drop>(
     parts: &Parts<U, C>,
     ue: UeId,
@@ -114,6 +124,10 @@ pub fn handover<U: Units<C> + Drop, C: MessageCodec + Drop>(
         lines.new (state_of (U.records parts.new.units) parts.new.core parts.new.ground) result }
 {
     let order = handover_order(parts, ue, gnb, up, du);
+    if !names(order, ue) {
+        // A plan is kept under its own terminal, so that this doesn't happen.
+        return Err(Cause::Memory);
+    }
     give_order(parts, order, lines)
 }
 

@@ -4,7 +4,7 @@ ghost use Rattle.std.specs.Prelude.{OnOk};
 ghost use Rattle.run_defs.specs.UnitRuns.{unit_world};
 ghost use Rattle.run_links.specs.Grounds.{state_of};
 ghost use Rattle.world_steps.specs.Gives.{EventGives};
-ghost use Rattle.world_orders.specs.Orders.{ordered};
+ghost use Rattle.world_orders.specs.Orders.{MayBeGiven, ordered};
 
 use gnb_types::inputs::{Input, Order};
 use gnb_types::names::NodeId;
@@ -25,7 +25,8 @@ pub fn give_order<U: Units<C> + Drop, C: MessageCodec + Drop>(
     order: Ordered,
     lines: &mut Lines,
 ) -> Result<(), Cause>
-    requires { U.ready parts.old.units }
+    requires ready { U.ready parts.old.units }
+    requires asked { MayBeGiven (U.records parts.old.units) order }
     ensures ready { OnOk result (U.ready parts.new.units) }
     ensures gives { EventGives lines.old
         (ordered (unit_world C.codec U.answer) (state_of (U.records parts.old.units) parts.old.core parts.old.ground) order)

@@ -3,11 +3,13 @@
 ghost use Rattle.std.specs.Prelude.{◌≡◌, OnOk, None};
 ghost use Rattle.gnb_types.specs.declared.names.NodeId.TheVariants.{CuCp};
 ghost use Rattle.gnb_types.specs.declared.inputs.Order.TheVariants as orders;
+ghost use Rattle.run_defs.specs.Units.{cp_of};
 ghost use Rattle.run_defs.specs.States.{order_for};
 ghost use Rattle.run_defs.specs.Steps.{does};
 ghost use Rattle.run_defs.specs.Events.{leaves, release};
 ghost use Rattle.run_defs.specs.UnitRuns.{unit_world};
 ghost use Rattle.run_links.specs.Grounds.{state_of};
+ghost use Rattle.world_steps.specs.run_units.Steps.{knows};
 ghost use Rattle.world_steps.specs.Gives.{EventGives};
 ghost use Rattle.world_steps.specs.Moves.{DoneGives};
 ghost use Rattle.world_orders.specs.Orders.{releaser_of};
@@ -48,7 +50,8 @@ fn let_go<U: Units<C> + Drop, C: MessageCodec + Drop>(
     ue: UeId,
     lines: &mut Lines,
 ) -> Result<Moved, Cause>
-    requires { U.ready parts.old.units }
+    requires ready { U.ready parts.old.units }
+    requires known { knows ue (cp_of (U.records parts.old.units) gnb) }
     ensures ready { OnOk result (U.ready parts.new.units) }
     ensures gives { DoneGives
         (does (unit_world C.codec U.answer) (CuCp gnb) (order_for (orders.Release ue)) None (leaves (unit_world C.codec U.answer) ue)

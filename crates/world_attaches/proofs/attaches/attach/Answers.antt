@@ -7,7 +7,7 @@ pub returns-in-Some-clause-gives : goal.returns-in-Some-clause-gives
 returns-in-Some-clause-gives g c =
     attach_refuses (unit_world g.C.MessageCodec.codec g.U.Units.answer) c.args.plan
     (state_of (g.U.Units.records c.args.parts.now.units) c.args.parts.now.core c.args.parts.now.ground) c.in-Some.reason c.args.lines.now c.push.new.self
-    c.in-Some.ensures c.in_ok-push.ensures.ok
+    c.in-Some.ensures c.in_ok-push-in-Some.ensures.ok
 
 pub returns-in-Err-clause-gives : goal.returns-in-Err-clause-gives
 returns-in-Err-clause-gives g c =

@@ -46,11 +46,11 @@ finish-requires-clause-room g c =
     }) (records c.ask.new.self.units) (Ok a))
     c.in-Does.is c.in-Ok.ensures.came in
     let bag : c.seat.new.parts.ground.bag ≡ c.args.parts.now.ground.bag =
-    ap (λ (x : OctetState). x.bag) c.in_ok-seat.ensures.seats ∙ ap (λ (x : Ground). x.bag) c.ask.ensures.ground in
+    ap (λ (x : OctetState). x.bag) c.in_ok-seat-in-Does.ensures.seats ∙ ap (λ (x : Ground). x.bag) c.ask.ensures.ground in
     subst (λ (b : Bag Octets). nat_lt most_letters (length b.letters + letters_in c.in-Does.outputs) ≡ false) (sym bag) came.0
 
-pub returns-in-Does-clause-gives : goal.returns-in-Does-clause-gives
-returns-in-Does-clause-gives g c =
+pub returns-in_ok-seat-in-Does-clause-gives : goal.returns-in_ok-seat-in-Does-clause-gives
+returns-in_ok-seat-in-Does-clause-gives g c =
     let codec = g.C.MessageCodec.codec in
     let answer = g.U.Units.answer in
     let world = unit_world codec answer in
@@ -68,7 +68,7 @@ returns-in-Does-clause-gives g c =
     let t = state_of (records c.seat.new.parts.units) c.seat.new.parts.core c.seat.new.parts.ground in
     let u = state_of (records c.finish.new.self.units) c.finish.new.self.core c.finish.new.self.ground in
     let goes_so : GoesTo c.args.lines.now (first (record s { units = after })) c.args.lines.now t =
-    (sym (append-nil c.args.lines.now), ap (λ (x : OctetState). with_seat c.args.plan x) kept ∙ sym c.in_ok-seat.ensures.seats) in
+    (sym (append-nil c.args.lines.now), ap (λ (x : OctetState). with_seat c.args.plan x) kept ∙ sym c.in_ok-seat-in-Does.ensures.seats) in
     subst (λ (r : Result Moved Cause). DoneGives (does world node given None first s) (record { state = s; lines = c.args.lines.now })
     (record { state = u; lines = c.finish.new.lines }) r) (sym c.moved_by.ensures)
     (does_step codec answer s node given None first c.in-Does.outputs after t u c.args.lines.now c.args.lines.now c.finish.new.lines

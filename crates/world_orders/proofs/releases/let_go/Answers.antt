@@ -44,11 +44,11 @@ finish-requires-clause-room g c =
     }) (records c.ask.new.self.units) (Ok a))
     c.in-Does.is c.in-Ok.ensures.came in
     let bag : c.leave.new.self.bag ≡ c.args.parts.now.ground.bag =
-    c.in_ok-leave.ensures.bag ∙ ap (λ (x : Ground). x.bag) c.ask.ensures.ground in
+    c.in_ok-leave-in-Does.ensures.bag ∙ ap (λ (x : Ground). x.bag) c.ask.ensures.ground in
     subst (λ (b : Bag Octets). nat_lt most_letters (length b.letters + letters_in c.in-Does.outputs) ≡ false) (sym bag) came.0
 
-pub returns-in-Does-clause-gives : goal.returns-in-Does-clause-gives
-returns-in-Does-clause-gives g c =
+pub returns-in_ok-leave-in-Does-clause-gives : goal.returns-in_ok-leave-in-Does-clause-gives
+returns-in_ok-leave-in-Does-clause-gives g c =
     let codec = g.C.MessageCodec.codec in
     let answer = g.U.Units.answer in
     let world = unit_world codec answer in
@@ -67,7 +67,7 @@ returns-in-Does-clause-gives g c =
     let u = state_of (records c.finish.new.self.units) c.finish.new.self.core c.finish.new.self.ground in
     let goes_so : GoesTo c.args.lines.now (first (record s { units = after })) c.leave.new.lines t =
     subst (λ (x : OctetState). GoesTo c.args.lines.now (first x) c.leave.new.lines t) (sym kept)
-    (c.in_ok-leave.ensures.told codec answer after c.ask.new.self.core) in
+    (c.in_ok-leave-in-Does.ensures.told codec answer after c.ask.new.self.core) in
     subst (λ (r : Result Moved Cause). DoneGives (does world node given None first s) (record { state = s; lines = c.args.lines.now })
     (record { state = u; lines = c.finish.new.lines }) r) (sym c.moved_by.ensures)
     (does_step codec answer s node given None first c.in-Does.outputs after t u c.args.lines.now c.leave.new.lines c.finish.new.lines
