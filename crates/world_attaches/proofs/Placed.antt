@@ -1,13 +1,15 @@
 -- A terminal that is set up without messages: the event, by what its units say.
-use Rattle.std.proofs.Common.{◌≡◌, ℕ, Bool, true, false, not, ◌&&◌, ◌||◌, if◌then◌else◌, List, [], ◌∷◌, ◌++◌, refl, sym, ◌∙◌, ap, subst}
+use Rattle.std.proofs.Common.{◌≡◌, ◌≤◌, ℕ, ◌+◌, ◌*◌, ◌^◌, Bool, true, false, not, ◌&&◌, ◌||◌, if◌then◌else◌, List, [], ◌∷◌, ◌++◌, refl, sym, ◌∙◌, ap, subst}
 use Rattle.std.specs.Prelude.{Ok, Err}
 use Rattle.std.proofs.lemmas.List.{append-nil}
 use Rattle.gnb_types.specs.declared.plans.Plan.{Plan}
 use Rattle.gnb_types.specs.declared.reasons.RefuseReason.TheVariants.{Attached, Quota}
+use Rattle.gnb_types.proofs.Choices.{both}
 use Rattle.scenario_text.specs.declared.line.OutLine.{OutLine}
 use Rattle.scenario_text.specs.declared.line.OutLine.TheVariants as outs
 use Rattle.unit_steps.specs.declared.StepError.{StepError}
 use Rattle.unit_steps.specs.declared.StepError.TheVariants as errors
+use Rattle.run_defs.specs.unit_defs.Static.{up_has_teids, du_has_teids}
 use Rattle.run_defs.specs.unit_defs.Ways.{teids_spent}
 use Rattle.run_defs.specs.unit_octet_defs.Codec.{Codec}
 use Rattle.run_defs.specs.Units.{up_of, du_of}
@@ -24,6 +26,7 @@ use Rattle.world_steps.specs.declared.cause.Cause.TheVariants as causes
 use Rattle.world_steps.specs.Gives.{EventGives, cause_of}
 use Rattle.cu_user.specs.up_rows.up_contexts.declared.placing.PlaceError.TheVariants as places
 use Rattle.world_attaches.specs.Comings.{with_path, kept, keeps}
+use Rattle.world_attaches.proofs.Kept.{teids_fit}
 
 abbrev pub is_known : Plan → OctetState → Bool
 is_known plan s = was_attached s plan.ue || is_held_by_units plan s.units
@@ -65,8 +68,8 @@ pub static_stops : (world : OctetWorld) (plan : Plan) (s t : OctetState) (after 
 static_stops world plan s t after errors.Memory before known h = tt
 static_stops world plan s t after (errors.Spent counter) before known h =
     subst (λ (o : OctetOutcome). EventGives before o before t (Err (causes.Spent counter)))
-    (sym (static_is world plan s false true false (sym known) (sym h.0) (sym h.1.0)))
-    (sym (append-nil before), ap spent_counter (sym h.1.1))
+    (sym (static_is world plan s false true false (sym known) (sym h.0) (sym h.1)))
+    (sym (append-nil before), ap spent_counter (sym h.2))
 
 -- ---- the state with the terminal
 
@@ -83,3 +86,27 @@ keeps_all codec answer plan up du units after core core_after old new lines up_i
     ∙ ap (λ (r : Records). kept plan up du (state_of r (with_path plan up core) old)) (sym units_are)
     ∙ ap (λ (c : OctetCore). kept plan up du (state_of after c old)) (sym core_is)
     ∙ (makes codec answer after core_after).1
+
+-- ---- there are TEIDs for it
+
+pub up_fits : (plan : Plan) (r : Records) (up : ℕ) → up ≡ (up_of r plan.gnb plan.up).next_teid → has_teids plan r ≡ true
+    → up + 2 * plan.bearers ≤ 2 ^ 32
+up_fits plan r up is h =
+    subst (λ (n : ℕ). n + 2 * plan.bearers ≤ 2 ^ 32) (sym is)
+    (teids_fit (up_of r plan.gnb plan.up).next_teid (2 * plan.bearers)
+    (both (up_has_teids (up_of r plan.gnb plan.up) plan) (du_has_teids (du_of r plan.gnb plan.du) plan) h).0)
+
+pub du_fits : (plan : Plan) (r : Records) (du : ℕ) → du ≡ (du_of r plan.gnb plan.du).next_teid → has_teids plan r ≡ true
+    → du + plan.bearers ≤ 2 ^ 32
+du_fits plan r du is h =
+    subst (λ (n : ℕ). n + plan.bearers ≤ 2 ^ 32) (sym is)
+    (teids_fit (du_of r plan.gnb plan.du).next_teid plan.bearers
+    (both (up_has_teids (up_of r plan.gnb plan.up) plan) (du_has_teids (du_of r plan.gnb plan.du) plan) h).1)
+
+-- a terminal that isn't known is held by no unit
+pub not_held : (plan : Plan) (s : OctetState) → is_known plan s ≡ false → is_held_by_units plan s.units ≡ false
+not_held plan s h = by (was_attached s plan.ue) (is_held_by_units plan s.units) h
+  where
+    by : (a b : Bool) → (a || b) ≡ false → b ≡ false
+    by true b e = cc
+    by false b e = e

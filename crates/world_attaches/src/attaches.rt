@@ -4,12 +4,14 @@ ghost use Rattle.std.specs.Prelude.{◌≡◌, OnOk, None};
 ghost use Rattle.gnb_types.specs.declared.names.NodeId.TheVariants.{CuCp};
 ghost use Rattle.gnb_types.specs.declared.inputs.Order.TheVariants as orders;
 ghost use Rattle.plain_defs.specs.Plain.{IsPlanned};
+ghost use Rattle.run_defs.specs.Units.{cp_of};
 ghost use Rattle.run_defs.specs.States.{order_for};
 ghost use Rattle.run_defs.specs.Steps.{does};
 ghost use Rattle.run_defs.specs.Conditions.{has_started};
 ghost use Rattle.run_defs.specs.Events.{with_terminal, attach};
 ghost use Rattle.run_defs.specs.UnitRuns.{unit_world};
 ghost use Rattle.run_links.specs.Grounds.{state_of};
+ghost use Rattle.world_steps.specs.run_units.Steps.{has_units};
 ghost use Rattle.world_steps.specs.Gives.{EventGives};
 ghost use Rattle.world_steps.specs.Moves.{DoneGives};
 ghost use Rattle.world_attaches.specs.Comings.{attach_refusal, with_seat};
@@ -76,6 +78,7 @@ fn bring<U: Units<C> + Drop, C: MessageCodec + Drop>(
 ) -> Result<Moved, Cause>
     requires ready { U.ready parts.old.units }
     requires planned { IsPlanned plan }
+    requires started { has_units plan (cp_of (U.records parts.old.units) plan.gnb) }
     ensures ready { OnOk result (U.ready parts.new.units) }
     ensures gives { DoneGives
         (does (unit_world C.codec U.answer) (CuCp plan.gnb) (order_for (orders.Attach plan)) None
