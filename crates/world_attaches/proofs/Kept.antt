@@ -70,8 +70,7 @@ open_turn node first count i old middle new lines some one rest codec answer uni
     let o = one codec answer units core in
     let r = rest codec answer units core in
     let s = state_of units core old in
-    let end : TunnelEnd = record { node = node; teid = first + i } in
-    (
+    let end : TunnelEnd = record { node = node; teid = first + i } in (
       sym (append-nil lines),
       ap (λ (k : ℕ). record s { tunnels = tunnels_from node (first + i) k s.tunnels }) left
           ∙ ap (λ (x : OctetState). record x { tunnels = tunnels_from node (first + i + 1) (count - (i + 1)) x.tunnels }) o.1
@@ -82,8 +81,7 @@ open_turn node first count i old middle new lines some one rest codec answer uni
 pub open_ends : (node : NodeId) (first count : ℕ) (old : Ground) (lines : List OutLine) → Opens node (first + count) (count - count) old old lines
 open_ends node first count old lines codec answer units core =
     let none : count - count ≡ 0 = omega arith in
-    let s = state_of units core old in
-    (
+    let s = state_of units core old in (
       sym (append-nil lines),
       ap (λ (k : ℕ). record s { tunnels = tunnels_from node (first + count) k s.tunnels }) none,
     )
@@ -96,8 +94,7 @@ pub keeps_so : (plan : Plan) (up du : ℕ) (old first second new : Ground) (line
     → Makes (keeps plan up du) old new lines lines
 keeps_so plan up du old first second new lines ups dus same codec answer units core =
     let u = ups codec answer units core in
-    let d = dus codec answer units core in
-    (
+    let d = dus codec answer units core in (
       sym (append-nil lines),
       ap (λ (x : OctetState). record (seated plan x) {
         tunnels = tunnels_from (Du plan.gnb plan.du) du plan.bearers x.tunnels;

@@ -40,9 +40,9 @@ static_is : (world : OctetWorld) (plan : Plan) (s : OctetState) (known room teid
     → teids ≡ has_teids plan s.units → static world plan s ≡ by_units plan s known room teids
 unfolding static
 static_is world plan s known room teids k r t = sym (
-  ap (λ (b : Bool). by_units plan s b room teids) k ∙ ap (λ (b : Bool). by_units plan s (is_known plan s) b teids) r
-      ∙ ap (λ (b : Bool). by_units plan s (is_known plan s) (has_room plan s.units) b) t
-)
+    ap (λ (b : Bool). by_units plan s b room teids) k ∙ ap (λ (b : Bool). by_units plan s (is_known plan s) b teids) r
+    ∙ ap (λ (b : Bool). by_units plan s (is_known plan s) (has_room plan s.units) b) t
+    )
 
 pub static_known : (world : OctetWorld) (plan : Plan) (s : OctetState) (before lines : List OutLine) → is_known plan s ≡ true
     → lines ≡ before ++ outs.Refused Attached ∷ [] → EventGives before (static world plan s) lines s (Ok tt)

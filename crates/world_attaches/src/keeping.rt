@@ -62,12 +62,7 @@ fn open_from(ground: &mut Ground, node: NodeId, first: u32, count: u8) -> Result
 }
 
 /// The run keeps the tunnels of a terminal, from these TEIDs of its CU-UP and its DU on, that it is connected, and its plan.
-pub(crate) fn keep_terminal(
-    ground: &mut Ground,
-    plan: Plan,
-    up: u32,
-    du: u32,
-) -> Result<(), Memory>
+pub(crate) fn keep_terminal(ground: &mut Ground, plan: Plan, up: u32, du: u32) -> Result<(), Memory>
     requires few { plan.bearers ≤ 8 }
     requires above { up + 2 * plan.bearers ≤ 2 ^ 32 }
     requires below { du + plan.bearers ≤ 2 ^ 32 }

@@ -1,4 +1,4 @@
-use Rattle.std.proofs.Common.{◌≡◌, ℕ, ◌+◌, ◌-◌, sym, subst, arith}
+use Rattle.std.proofs.Common.{◌≡◌, ℕ, ◌+◌, ◌-◌, subst, arith}
 use Rattle.run_defs.specs.Steps.{opens}
 use Rattle.run_links.specs.Told.{Makes}
 use Rattle.world_attaches.proofs.Kept.{Opens, open_begins, open_turn, open_ends}

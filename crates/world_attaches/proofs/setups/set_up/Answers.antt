@@ -37,7 +37,7 @@ returns-in_ok-push-in-Err-NoQuota-clause-gives g c =
     let t = state_of (records c.place_static.new.self) c.args.parts.now.core c.args.parts.now.ground in
     let old = records c.args.parts.now.units in
     let after = records c.place_static.new.self in
-    let places = subst (λ (e : PlaceError). PlacingGives c.args.plan old after (Err e)) c.in-Err-NoQuota.is c.in-Err-NoQuota.ensures.places in
+    let places = subst (λ (e : PlaceError). PlacingGives c.args.plan old after (Err e)) c.in-Err-NoQuota.field-0-is c.in-Err-NoQuota.ensures.places in
     static_full (unit_world g.C.MessageCodec.codec g.U.Units.answer) c.args.plan s t c.args.lines.now c.push-in-Err-NoQuota.new.self
     (sym c.is_known.ensures ∙ c.if-is_known.false) places.0
     (ap (λ (r : Records). state_of r c.args.parts.now.core c.args.parts.now.ground) (sym places.1))
@@ -51,7 +51,8 @@ returns-in-Err-Step-clause-gives g c =
     let t = state_of (records c.place_static.new.self) c.args.parts.now.core c.args.parts.now.ground in
     let old = records c.args.parts.now.units in
     let after = records c.place_static.new.self in
-    let places = subst (λ (e : PlaceError). PlacingGives c.args.plan old after (Err e)) c.in-Err-Step.is c.in-Err-Step.ensures.places in
-    subst (λ (x : Cause). EventGives c.args.lines.now (static world c.args.plan s) c.args.lines.now t (Err x)) (sym c.cause_of.ensures)
+    let places = subst (λ (e : PlaceError). PlacingGives c.args.plan old after (Err e)) c.in-Err-Step.field-0-is c.in-Err-Step.ensures.places in
+    let is = rw c.in-Err-Step.field-0-is at c.cause_of.ensures in
+    subst (λ (x : Cause). EventGives c.args.lines.now (static world c.args.plan s) c.args.lines.now t (Err x)) (sym is)
     (static_stops world c.args.plan s t after c.in-Err-Step.error c.args.lines.now
     (sym c.is_known.ensures ∙ c.if-is_known.false) places)
