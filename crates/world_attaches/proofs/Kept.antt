@@ -1,5 +1,5 @@
 -- What a run keeps of a terminal that is set up without messages, tunnel by tunnel.
-use Rattle.std.proofs.Common.{◌≡◌, ◌<◌, ◌≤◌, ℕ, suc, ◌+◌, ◌-◌, ◌*◌, ◌^◌, Bool, true, not, ◌==◌, nat_le, List, [], ◌∷◌, ◌++◌, Some, refl, sym, ◌∙◌, ap, subst, append_assoc, arith}
+use Rattle.std.proofs.Common.{◌≡◌, ◌<◌, ◌≤◌, ℕ, suc, ◌+◌, ◌-◌, ◌*◌, ◌^◌, true, not, ◌==◌, nat_le, List, [], ◌∷◌, ◌++◌, Some, sym, ◌∙◌, ap, subst, append_assoc, arith}
 use Rattle.std.proofs.lemmas.List.{append-nil}
 use Rattle.gnb_types.specs.declared.names.NodeId.{NodeId}
 use Rattle.gnb_types.specs.declared.names.NodeId.TheVariants.{CuUp, Du}
@@ -11,13 +11,11 @@ use Rattle.gnb_types.proofs.Choices.{both}
 use Rattle.tables.specs.Tables.{put}
 use Rattle.links.specs.Radios.{connected_in}
 use Rattle.scenario_text.specs.declared.line.OutLine.{OutLine}
-use Rattle.run_defs.specs.unit_octet_defs.Codec.{Codec}
 use Rattle.run_defs.specs.unit_defs.Teids.{teids_are_left}
 use Rattle.run_defs.specs.Conditions.{n3_from, tunnels_from, seated}
-use Rattle.run_defs.specs.Steps.{with_tunnel, opens}
-use Rattle.run_defs.specs.UnitRuns.{Records, Meaning, unit_world}
+use Rattle.run_defs.specs.Steps.{opens}
 use Rattle.run_links.specs.declared.ground.Ground.{Ground}
-use Rattle.run_links.specs.Grounds.{OctetCore, OctetState, state_of}
+use Rattle.run_links.specs.Grounds.{OctetState, state_of}
 use Rattle.run_links.specs.Told.{Makes}
 use Rattle.world_attaches.specs.Comings.{opens_from, keeps}
 

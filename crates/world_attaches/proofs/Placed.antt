@@ -1,5 +1,5 @@
 -- A terminal that is set up without messages: the event, by what its units say.
-use Rattle.std.proofs.Common.{◌≡◌, ◌≤◌, ℕ, ◌+◌, ◌*◌, ◌^◌, Bool, true, false, not, ◌&&◌, ◌||◌, if◌then◌else◌, List, [], ◌∷◌, ◌++◌, refl, sym, ◌∙◌, ap, subst}
+use Rattle.std.proofs.Common.{◌≡◌, ◌≤◌, ℕ, ◌+◌, ◌*◌, ◌^◌, Bool, true, false, not, ◌||◌, if◌then◌else◌, List, [], ◌∷◌, ◌++◌, refl, sym, ◌∙◌, ap, subst}
 use Rattle.std.specs.Prelude.{Ok, Err}
 use Rattle.std.proofs.lemmas.List.{append-nil}
 use Rattle.gnb_types.specs.declared.plans.Plan.{Plan}
@@ -16,12 +16,11 @@ use Rattle.run_defs.specs.Units.{up_of, du_of}
 use Rattle.run_defs.specs.States.{goes_on, spent_counter, stops, refused, was_attached}
 use Rattle.run_defs.specs.Conditions.{is_held_by_units, units_placed, all_set_up, statically}
 use Rattle.run_defs.specs.Events.{static}
-use Rattle.run_defs.specs.UnitRuns.{Records, Meaning, unit_world}
+use Rattle.run_defs.specs.UnitRuns.{Records, Meaning}
 use Rattle.run_links.specs.declared.ground.Ground.{Ground}
 use Rattle.run_links.specs.Grounds.{OctetWorld, OctetCore, OctetState, OctetOutcome, state_of}
 use Rattle.run_links.specs.Told.{Makes}
 use Rattle.world_steps.specs.run_units.Steps.{has_room, has_teids, PlacingGives}
-use Rattle.world_steps.specs.declared.cause.Cause.{Cause}
 use Rattle.world_steps.specs.declared.cause.Cause.TheVariants as causes
 use Rattle.world_steps.specs.Gives.{EventGives, cause_of}
 use Rattle.cu_user.specs.up_rows.up_contexts.declared.placing.PlaceError.TheVariants as places

@@ -1,6 +1,6 @@
 -- A run may give these orders: the CU-CP that is asked knows the terminal, since it has a state other than none.
-use Rattle.std.proofs.Common.{◌≡◌, ◌==◌, ℕ, Bool, true, false, not, ◌||◌, if◌then◌else◌, Option, Some, None, is_some, refl, sym, ◌∙◌, ap, subst}
-use Rattle.std.specs.Prelude.{Result, Ok, Err}
+use Rattle.std.proofs.Common.{◌≡◌, ℕ, Bool, true, false, not, ◌||◌, if◌then◌else◌, Option, Some, None, is_some, refl, sym, subst}
+use Rattle.std.specs.Prelude.{Ok, Err}
 use Rattle.std.proofs.lemmas.Bool.{eqb-true}
 use Rattle.gnb_types.specs.declared.names.Gnb.{Gnb}
 use Rattle.gnb_types.specs.declared.names.Gnb.TheVariants.{A, B}
@@ -8,7 +8,6 @@ use Rattle.gnb_types.specs.declared.names.NodeId.TheVariants.{CuCp, Ue}
 use Rattle.gnb_types.specs.declared.names.UeId.{UeId}
 use Rattle.gnb_types.specs.declared.plans.Plan.{Plan}
 use Rattle.gnb_types.specs.declared.inputs.Order.TheVariants as orders
-use Rattle.gnb_types.specs.declared.reasons.RefuseReason.{RefuseReason}
 use Rattle.gnb_types.specs.declared.reasons.RefuseReason.TheVariants.{Empty, NoRadio, NotAllowed, NoUe, NotAccessing, NoHome, Busy, Same}
 use Rattle.gnb_types.specs.Orders.{ue_cmp}
 use Rattle.tables.specs.Tables.{find}
@@ -20,7 +19,6 @@ use Rattle.run_defs.specs.unit_defs.Accessors.{state_in, state_of, ue_home}
 use Rattle.run_defs.specs.Units.{cp_of, ue_of, is_serving, is_source_state, is_source, has_attempt}
 use Rattle.run_defs.specs.States.{is_attached}
 use Rattle.run_defs.specs.Conditions.{serving_gnb, serving_place, state_at, goal_of, is_same_place, is_other_up, is_busy_with}
-use Rattle.run_defs.specs.UnitRuns.{Records}
 use Rattle.run_links.specs.Grounds.{Octets, OctetState}
 use Rattle.world_steps.specs.run_units.Steps.{knows}
 use Rattle.world_orders.specs.Orders.{MayBeGiven, fail_order, arrive_order, return_order, goal_order, handover_order, names, cancel_order, releaser_of}

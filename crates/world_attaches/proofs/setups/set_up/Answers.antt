@@ -1,4 +1,4 @@
-use Rattle.std.proofs.Common.{◌≡◌, false, sym, ◌∙◌, ap, subst}
+use Rattle.std.proofs.Common.{sym, ◌∙◌, ap, subst}
 use Rattle.std.specs.Prelude.{Err}
 use Rattle.run_defs.specs.Events.{static}
 use Rattle.run_defs.specs.UnitRuns.{Records, unit_world}
@@ -7,7 +7,7 @@ use Rattle.cu_user.specs.up_rows.up_contexts.declared.placing.PlaceError.{PlaceE
 use Rattle.world_steps.specs.run_units.Steps.{PlacingGives}
 use Rattle.world_steps.specs.declared.cause.Cause.{Cause}
 use Rattle.world_steps.specs.Gives.{EventGives}
-use Rattle.world_attaches.proofs.Placed.{is_known, static_known, static_full, static_done, static_stops, keeps_all}
+use Rattle.world_attaches.proofs.Placed.{static_known, static_full, static_done, static_stops, keeps_all}
 use Rattle.world_attaches.proofs.setups.set_up.Goals as goal
 
 pub returns-then-is_known-clause-gives : goal.returns-then-is_known-clause-gives
