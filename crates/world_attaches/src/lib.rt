@@ -1,0 +1,6 @@
+//! Events of a run of the whole base station by which a terminal comes.
+#![tactic(auto)]
+
+pub mod attaches;
+mod keeping;
+pub mod setups;

@@ -1,0 +1,3 @@
+pub mod AsOrders
+pub mod Known
+pub mod Released
