@@ -8,9 +8,9 @@ use unit_messages::MessageCodec;
 
 /// A codec that reads items of tunnels and PDUs of radios as the layouts of links say, and messages in the ranges of the profile.
 pub trait LawfulCodec: MessageCodec {
-    ghost reads_items: { ReadsItems codec };
+    ghost reads_items: { ReadsItems Self.MessageCodec.codec };
 
-    ghost reads_pdus: { ReadsPdus codec };
+    ghost reads_pdus: { ReadsPdus Self.MessageCodec.codec };
 
-    ghost reads_in_range: { ReadsInRange codec };
+    ghost reads_in_range: { ReadsInRange Self.MessageCodec.codec };
 }
