@@ -1,0 +1,4 @@
+mod Alone
+mod Steps
+pub mod Leaves
+pub mod Keeping
