@@ -1,3 +1,4 @@
 pub mod Stays
 pub mod Plain
 pub mod Told
+pub mod Shut

@@ -22,8 +22,10 @@ module _ (m : Syntax) (id : TypeId) (form : Form) (is : tree m id.number ≡ for
     (old new : Cursor) where
   pub read_on : (next : Pending) → Resumes (λ of. asks (path_of before) (form_tree of form) (next_of of before)) old new fs (Ok next)
       → TurnsBy (tree m) (pendings.Read id) old new before fs (Ok next)
-  read_on next h = λ more.
-      ap (λ (t : Tree). run (asks (path_of before) t (next_of (tree m) before)) (onto more old)) is ∙ h (tree m) more
+  read_on next h = (
+    h.0,
+    λ more. ap (λ (t : Tree). run (asks (path_of before) t (next_of (tree m) before)) (onto more old)) is ∙ h.1 (tree m) more,
+  )
 
   pub read_refused : (e : Unanswered) → Resumes (λ of. asks (path_of before) (form_tree of form) (next_of of before)) old new fs (Err e)
       → Keeps before fs (Err e) → TurnsBy (tree m) (pendings.Read id) old new before fs (Err (handed_back e (pendings.Read id)))

@@ -19,14 +19,13 @@ use Rattle.aper_frames.specs.declared.frame.Frame.{Frame}
 use Rattle.aper_frames.specs.Frames.{ies_before, elements_by, elements_left, path_of, next_of}
 use Rattle.aper_elements.proofs.ContainerLemmas.{container_as}
 use Rattle.aper_resuming.specs.declared.pending.Pending.{Pending}
-use Rattle.aper_resuming.specs.Turns.{left, IsLeft}
+use Rattle.aper_resuming.specs.Turns.{IsLeft, Resumes}
 use Rattle.aper_resuming.proofs.Leading.{answered_on}
 
 pub container_begun : (e : Elements) (fs : List Frame) (old new : Cursor) (next : Pending) → e.possible.now ≡ e.rows.now → e.made.items ≡ []
     → GoesOn (λ p. ask_aligned p (ie_count (mandatory_count (slots_of e.rows.now)))) old new (Ok e.left)
     → IsLeft (λ gs of. elements_left of e (path_of gs) (next_of of gs)) next
-    → (of : ℕ → Tree) (more : List ℕ)
-    → run (asks (path_of fs) (container (rows_of of e.rows.now)) (next_of of fs)) (onto more old) ≡ run (left of next fs) (onto more new)
+    → Resumes (λ of. asks (path_of fs) (container (rows_of of e.rows.now)) (next_of of fs)) old new fs (Ok next)
 container_begun e fs old new next all none asked on =
     answered_on (λ p. ask_aligned p (ie_count (mandatory_count (slots_of e.rows.now))))
     (λ of. asks (path_of fs) (container (rows_of of e.rows.now)) (next_of of fs))

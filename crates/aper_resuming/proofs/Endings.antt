@@ -1,4 +1,4 @@
--- The end of a whole value, and turns that aren't taken.
+-- The end of a whole value, and turns that are taken, or aren't.
 use Rattle.std.proofs.Common.{◌≡◌, ℕ, List, Ok, Err, refl, sym, subst}
 use Rattle.aper_defs.specs.declared.reason.Reason.{Reason}
 use Rattle.aper_defs.specs.Trees.{Tree}
@@ -16,7 +16,7 @@ use Rattle.aper_frames.specs.declared.frame.Frame.{Frame}
 use Rattle.aper_frames.specs.Frames.{path_of}
 use Rattle.aper_resuming.specs.declared.pending.Pending.TheVariants as pendings
 use Rattle.aper_resuming.specs.declared.pending.Stopped.TheVariants as stops
-use Rattle.aper_resuming.specs.declared.turn.Progress.TheVariants.{Whole}
+use Rattle.aper_resuming.specs.declared.turn.Progress.TheVariants.{Next, Whole}
 use Rattle.aper_resuming.specs.declared.pending.Pending.{Pending}
 use Rattle.aper_resuming.specs.declared.pending.Stopped.{Stopped}
 use Rattle.aper_resuming.specs.Turns.{TakesTurn, Turns}
@@ -39,3 +39,8 @@ pub turn_stopped : (of : ℕ → Tree) (whole pending : Pending) → whole ≡ p
 turn_stopped of whole pending is old new before fs (stops.Wrong reason back) h =
     subst (λ (x : Pending). TakesTurn of x old new before fs (Err (stops.Wrong reason back))) (sym is) (h of)
 turn_stopped of whole pending is old new before fs stops.Memory h = tt
+
+pub turn_taken : (of : ℕ → Tree) (whole pending : Pending) → whole ≡ pending → (old new : Cursor) (before fs : List Frame) (next : Pending)
+    → Turns pending old new before fs (Ok next) → TakesTurn of whole old new before fs (Ok (Next next))
+turn_taken of whole pending is old new before fs next h =
+    subst (λ (x : Pending). TakesTurn of x old new before fs (Ok (Next next))) (sym is) (h of)

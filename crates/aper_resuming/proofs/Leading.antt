@@ -8,6 +8,7 @@ use Rattle.aper_defs.specs.Questions.{Prog}
 use Rattle.aper_defs.specs.Reading.{Cursor, run}
 use Rattle.aper_proof_followed.specs.aper_proof_pieces.Onto.{onto}
 use Rattle.aper_proof_followed.proofs.Stays.{Told, stays}
+use Rattle.aper_proof_followed.proofs.Shut.{keeps}
 use Rattle.aper_cursor.specs.declared.error.Unanswered.{Unanswered}
 use Rattle.aper_cursor.specs.declared.error.Unanswered.TheVariants.{Wrong, Memory}
 use Rattle.aper_asking.specs.Going.{fault_at, GoesOn, GoesOnOrMemory}
@@ -32,11 +33,14 @@ module _ {A : Type 0} (question : Path → (A → Prog) → Prog) (all : (ℕ �
   pub answered_on : Told question → (x : A) (next : Pending) (fs : List Frame) →
       ((p : Path) (K : A → Prog) → run (question p K) old ≡ run (K x) new)
       → ((of : ℕ → Tree) → rest of x ≡ left of next fs)
-      → (of : ℕ → Tree) (more : List ℕ) → run (all of) (onto more old) ≡ run (left of next fs) (onto more new)
-  answered_on told x next fs asked on = λ of more.
-      ap (λ (P : Prog). run P (onto more old)) (is of)
-      ∙ stays question told old new x asked more (path_of before) (rest of)
-      ∙ ap (λ (P : Prog). run P (onto more new)) (on of)
+      → Resumes all old new fs (Ok next)
+  answered_on told x next fs asked on = (
+    keeps question told old new x asked,
+    λ of more.
+        ap (λ (P : Prog). run P (onto more old)) (is of)
+        ∙ stays question told old new x asked more (path_of before) (rest of)
+        ∙ ap (λ (P : Prog). run P (onto more new)) (on of),
+  )
 
   pub wrong_on : (reason : Reason) → GoesOn question old new (Err reason) → (of : ℕ → Tree) → run (all of) old ≡ Err
       (fault_at new reason (path_of before))
@@ -52,7 +56,8 @@ module _ {A : Type 0} (question : Path → (A → Prog) → Prog) (pending : Pen
   pub turn_on : Told question → (x : A) (next : Pending) (fs : List Frame) →
       ((p : Path) (K : A → Prog) → run (question p K) old ≡ run (K x) new)
       → ((of : ℕ → Tree) → rest of x ≡ left of next fs) → Turns pending old new before fs (Ok next)
-  turn_on told x next fs asked on = answered_on question (λ of. left of pending before) rest before is old new told x next fs asked on
+  turn_on told x next fs asked on = λ of.
+      let r = answered_on question (λ of. left of pending before) rest before is old new told x next fs asked on in (r.0, r.1 of)
 
   pub turn_wrong : (reason : Reason) → GoesOn question old new (Err reason) → Turns pending old new before before
       (Err (stops.Wrong reason pending))

@@ -68,7 +68,7 @@ module _ (size : Option Size) (element : TypeId) (fs : List Frame) where
   pub list_begun : (old new : Cursor) (m : Members) (next : Pending) (more : List Frame) → m.element ≡ element → m.made.items ≡ []
       → GoesOn (λ p. ask_count p size) old new (Ok m.left)
       → ((of : ℕ → Tree) → members_left of m (path_of fs) (next_of of fs) ≡ left of next more)
-      → (of : ℕ → Tree) (os : List ℕ) → run (whole_list of) (onto os old) ≡ run (left of next more) (onto os new)
+      → Resumes whole_list old new more (Ok next)
   list_begun old new m next more is none asked on =
       answered_on (λ p. ask_count p size) whole_list after_count fs list_as old new (told_count size) m.left next more asked
       (λ of. ap (λ (e : TypeId). ask_members (λ i. asks (fields.member i ∷ path_of fs) (of e.number)) 0 m.left

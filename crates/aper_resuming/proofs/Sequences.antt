@@ -2,7 +2,7 @@
 use Rattle.std.proofs.Common.{◌≡◌, ℕ, List, [], Bool, Ok, Err, refl, sym, ap, ◌∙◌}
 use Rattle.asn1_types.specs.declared.definition.Component.{Component}
 use Rattle.aper_defs.specs.declared.reason.Reason.{Reason}
-use Rattle.aper_defs.specs.Trees.{Tree, sequence}
+use Rattle.aper_defs.specs.Trees.{Tree, sequence, boolean}
 use Rattle.aper_defs.specs.Values as seen
 use Rattle.aper_defs.specs.Fields.{Path}
 use Rattle.aper_defs.specs.Questions.{Prog, ask_extension, ask_flags}
@@ -10,6 +10,7 @@ use Rattle.aper_defs.specs.Asking.{asks, ask_components, ask_marks, ask_addition
 use Rattle.aper_defs.specs.Reading.{Cursor, run}
 use Rattle.aper_proof_followed.specs.aper_proof_pieces.Onto.{onto}
 use Rattle.aper_proof_followed.proofs.Stays.{stays}
+use Rattle.aper_proof_followed.proofs.Shut.{keeps}
 use Rattle.aper_proof_followed.proofs.Told.{told_extension, told_flags, told_marks}
 use Rattle.aper_cursor.specs.declared.error.Unanswered.{Unanswered}
 use Rattle.aper_cursor.specs.declared.error.Unanswered.TheVariants.{Wrong, Memory}
@@ -55,14 +56,18 @@ module _ (e : Bool) (root adds : List Component) (fs : List Frame) (old mid : Cu
         → c.left.now ≡ root → c.additions.now ≡ adds → c.extended ≡ x → c.there ≡ there → c.made.items ≡ []
         → ((of : ℕ → Tree) (p : Path) (J : List Bool → Prog) → run (ask_flags p (parts_of of root) J) mid ≡ run (J there) late)
         → ((of : ℕ → Tree) → components_left of c (path_of fs) (next_of of fs) ≡ left of next gs)
-        → (of : ℕ → Tree) (more : List ℕ) → run (whole_sequence of) (onto more old) ≡ run (left of next gs) (onto more late)
-    sequence_begun there c gs next is_root added ext marks made flags on = λ of more.
-        ap (λ (P : Prog). run P (onto more old)) (sequence_as of root adds (path_of fs) (next_of of fs) e)
-        ∙ stays (λ p. ask_extension p e) (told_extension e) old mid x extension more (path_of fs)
-        (after_extension of root adds (path_of fs) (next_of of fs))
-        ∙ stays (λ p. ask_flags p (parts_of of root)) (told_flags (parts_of of root)) mid late there (flags of) more (path_of fs)
-        (after_flags of root adds (path_of fs) (next_of of fs) x)
-        ∙ ap (λ (P : Prog). run P (onto more late)) (same of ∙ on of)
+        → Resumes whole_sequence old late gs (Ok next)
+    sequence_begun there c gs next is_root added ext marks made flags on = (
+      keeps (λ p. ask_flags p (parts_of (λ n. boolean) root)) (told_flags (parts_of (λ n. boolean) root)) mid late there (flags (λ n. boolean))
+          ∙ keeps (λ p. ask_extension p e) (told_extension e) old mid x extension,
+      λ of more.
+          ap (λ (P : Prog). run P (onto more old)) (sequence_as of root adds (path_of fs) (next_of of fs) e)
+          ∙ stays (λ p. ask_extension p e) (told_extension e) old mid x extension more (path_of fs)
+          (after_extension of root adds (path_of fs) (next_of of fs))
+          ∙ stays (λ p. ask_flags p (parts_of of root)) (told_flags (parts_of of root)) mid late there (flags of) more (path_of fs)
+          (after_flags of root adds (path_of fs) (next_of of fs) x)
+          ∙ ap (λ (P : Prog). run P (onto more late)) (same of ∙ on of),
+    )
       where
         same : (of : ℕ → Tree)
             → after_flags of root adds (path_of fs) (next_of of fs) x there ≡ components_left of c (path_of fs) (next_of of fs)

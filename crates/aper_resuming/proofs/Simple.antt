@@ -6,6 +6,7 @@ use Rattle.aper_defs.specs.Reading.{Cursor, run}
 use Rattle.aper_proof_followed.specs.aper_proof_pieces.Onto.{onto}
 use Rattle.aper_proof_followed.specs.Followed.{IsPlain}
 use Rattle.aper_proof_followed.proofs.Stays.{stays}
+use Rattle.aper_proof_followed.proofs.Shut.{keeps}
 use Rattle.aper_proof_followed.proofs.Told.{told_value}
 use Rattle.aper_cursor.specs.declared.error.Unanswered.{Unanswered}
 use Rattle.aper_cursor.specs.declared.error.Unanswered.TheVariants.{Wrong, Memory}
@@ -14,14 +15,18 @@ use Rattle.aper_values.specs.Views.{view}
 use Rattle.aper_simple.specs.Reads.{Reads}
 use Rattle.aper_frames.specs.declared.frame.Frame.{Frame}
 use Rattle.aper_frames.specs.Frames.{path_of, next_of}
+use Rattle.aper_resuming.specs.declared.pending.Pending.TheVariants as pendings
 use Rattle.aper_resuming.specs.Turns.{Resumes}
 
 module _ (tree_of : (ℕ → Tree) → Tree) (t : Tree) (is : (of : ℕ → Tree) → tree_of of ≡ t) (fs : List Frame) (old new : Cursor) where
-  pub read_made : IsPlain (λ p. asks p t) → (v : Value) → Reads (λ p. asks p t) old new (Ok v) → (of : ℕ → Tree) (more : List ℕ)
-      → run (asks (path_of fs) (tree_of of) (next_of of fs)) (onto more old) ≡ run (next_of of fs (view v)) (onto more new)
-  read_made plain v reads of more =
-      ap (λ (x : Tree). run (asks (path_of fs) x (next_of of fs)) (onto more old)) (is of)
-      ∙ stays (λ p. asks p t) (told_value (λ p. asks p t) plain) old new (view v) reads more (path_of fs) (next_of of fs)
+  pub read_made : IsPlain (λ p. asks p t) → (v : Value) → Reads (λ p. asks p t) old new (Ok v)
+      → Resumes (λ of. asks (path_of fs) (tree_of of) (next_of of fs)) old new fs (Ok (pendings.Made v))
+  read_made plain v reads = (
+    keeps (λ p. asks p t) (told_value (λ p. asks p t) plain) old new (view v) reads,
+    λ of more.
+        ap (λ (x : Tree). run (asks (path_of fs) x (next_of of fs)) (onto more old)) (is of)
+        ∙ stays (λ p. asks p t) (told_value (λ p. asks p t) plain) old new (view v) reads more (path_of fs) (next_of of fs),
+  )
 
   pub read_refused : (e : Unanswered) → Reads (λ p. asks p t) old new (Err e)
       → Resumes (λ of. asks (path_of fs) (tree_of of) (next_of of fs)) old new fs (Err e)

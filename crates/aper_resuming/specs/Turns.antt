@@ -35,11 +35,12 @@ left of (pendings.Octets count) fs = take (path_of fs) octet count (λ os. next_
 left of (pendings.Closing v) fs = ask (path_of fs) closing (λ m. ask (path_of fs) end (λ z. next_of of fs (view v)))
 left of (pendings.Ending v) fs = ask (path_of fs) closing (λ m. done (view v))
 
--- Whatever octets come after those that are there, what is asked at the old place is asked as what is left then at the new one. Or it is
--- refused at the new place, on the way to the value that is read.
+-- Over the same octets, whatever octets come after them, what is asked at the old place is asked as what is left then at the new one. Or
+-- it is refused at the new place, on the way to the value that is read.
 abbrev pub Resumes : ((ℕ → Tree) → Prog) → Cursor → Cursor → List Frame → Result Pending Unanswered → Type 0
 Resumes all old new fs (Ok pending) =
-    (of : ℕ → Tree) (more : List ℕ) → run (all of) (onto more old) ≡ run (left of pending fs) (onto more new)
+    (new.octets ≡ old.octets)
+    × ((of : ℕ → Tree) (more : List ℕ) → run (all of) (onto more old) ≡ run (left of pending fs) (onto more new))
 Resumes all old new fs (Err (unanswered.Wrong reason)) = (of : ℕ → Tree) → run (all of) old ≡ Err (fault_at new reason (path_of fs))
 Resumes all old new fs (Err unanswered.Memory) = Unit {0}
 
@@ -52,7 +53,8 @@ Keeps before fs (Err unanswered.Memory) = Unit {0}
 -- the same of a turn that hands back what it was given
 abbrev pub TurnsBy : (ℕ → Tree) → Pending → Cursor → Cursor → (before fs : List Frame) → Result Pending Stopped → Type 0
 TurnsBy of pending old new before fs (Ok next) =
-    (more : List ℕ) → run (left of pending before) (onto more old) ≡ run (left of next fs) (onto more new)
+    (new.octets ≡ old.octets)
+    × ((more : List ℕ) → run (left of pending before) (onto more old) ≡ run (left of next fs) (onto more new))
 TurnsBy of pending old new before fs (Err (stops.Wrong reason back)) =
     (run (left of pending before) old ≡ Err (fault_at new reason (path_of before))) × (fs ≡ before) × (back ≡ pending)
 TurnsBy of pending old new before fs (Err stops.Memory) = Unit {0}
@@ -84,7 +86,8 @@ IsPendingInside n (pendings.Ending v) = Unit {0}
 -- way to the value that is read.
 abbrev pub TakesTurn : (ℕ → Tree) → Pending → Cursor → Cursor → (before fs : List Frame) → Result Progress Stopped → Type 0
 TakesTurn of pending old new before fs (Ok (Next next)) =
-    (more : List ℕ) → run (left of pending before) (onto more old) ≡ run (left of next fs) (onto more new)
+    (new.octets ≡ old.octets)
+    × ((more : List ℕ) → run (left of pending before) (onto more old) ≡ run (left of next fs) (onto more new))
 TakesTurn of pending old new before fs (Ok (Whole v)) =
     (more : List ℕ) → run (left of pending before) (onto more old) ≡ Ok (view v, onto more new)
 TakesTurn of pending old new before fs (Err (stops.Wrong reason back)) =
