@@ -11,7 +11,7 @@ ghost use Rattle.json_simple.specs.declared.refusal.Refusal.TheVariants.{Memory 
 use aper_frames::Step;
 use gnb_types::items::Memory;
 use json_defs::JsonFault;
-use std::alloc::Global;
+use std::alloc::{AllocFailed, Global};
 
 /// Why JSON isn't read as a value.
 #[derive(Drop)]
@@ -28,6 +28,14 @@ impl<'m> From<Memory> for Refusal<'m> {
     ghost from_gives = { λ _ e. e ≡ OutOfMemory };
 
     fn from(_error: Memory) -> Refusal<'m> {
+        Refusal::Memory
+    }
+}
+
+impl<'m, T: Drop> From<AllocFailed<T>> for Refusal<'m> {
+    ghost from_gives = { λ _ e. e ≡ OutOfMemory };
+
+    fn from(_error: AllocFailed<T>) -> Refusal<'m> {
         Refusal::Memory
     }
 }
