@@ -83,12 +83,13 @@ unfoldable pub IsOwed : Part → Order → Type 0
 IsOwed s (switches_path to) = let m = s.members s.path in (to ≡ s.station) × (m.flags.frozen ≡ true) × (m.next_hop ≡ to)
 -- a new number, which no hop leads to
 IsOwed s (makes x target teid) = IsUnfed s x
-IsOwed s (freezes x to hop) = (x ≡ s.station) × (to ≢ x) × (to ≢ s.path) × IsUntouched (s.members to) × IsUnfed s to
+IsOwed s (freezes x to hop) = (x ≡ s.station) × (to ≢ s.path) × IsUntouched (s.members to) × IsUnfed s to
 IsOwed s (knows x status) = status.dl_next ≡ (s.members x).promised
 IsOwed s (switches x downlink epoch) = (x ≡ s.station) × (epoch ≤ s.epoch)
 IsOwed s (resumes x) = x ≡ s.station
 IsOwed s (releases x) = ((s.members x).flags.frozen ≡ true) × (x ≢ s.station)
-IsOwed s (closes x) = (x ≢ s.station) × (x ≢ s.path)
+-- where N3 has ended there, this follows
+IsOwed s (closes x) = is_open (s.members x).bearer.n3 ≡ true → (x ≢ s.station) × (x ≢ s.path)
 IsOwed s (arrives x) = let m = s.members s.station in (m.flags.frozen ≡ true) × (m.next_hop ≡ x) × ((s.members x).is_there ≡ true) ×
     ((s.members x).flags.frozen ≡ false)
 -- what is confirmed was received

@@ -5,7 +5,7 @@ use Rattle.gnb_types.specs.declared.names.SnBits.{SnBits}
 use Rattle.gnb_types.specs.declared.names.UeId.{UeId}
 use Rattle.gnb_types.specs.declared.names.BearerId.{BearerId}
 use Rattle.pdcp_defs.specs.Receivers.{Delivery, is_duplicate, stored, deliver}
-use Rattle.unit_defs.specs.UpRecords.{UpBearer, TunnelKind, f1u_uplink, forwarding_up}
+use Rattle.unit_defs.specs.UpRecords.{UpBearer, UpFlags, TunnelKind, f1u_uplink, forwarding_up}
 use Rattle.unit_defs.specs.UpBearers.{with_uplink, switched, frozen_to, with_status, resumed, framed}
 use Rattle.unit_defs.specs.UpItems.{took}
 use Rattle.gnb_types.specs.declared.outputs.Tag.TheVariants.{Absent}
@@ -13,6 +13,7 @@ use Rattle.unit_defs.specs.Ways.{packet_content, Taken, numbered_item, uplink_it
 use Rattle.chain_defs.specs.Parts.{Item, fresh, end_marker, Member, Part, set, new_member}
 use Rattle.chain_defs.specs.Orders.{Order, offers, switches_path, makes, freezes, closes, arrives, fails, carries, handed, after, run}
 use Rattle.chain_defs.specs.Guards.{IsReady, IsOwed, AreKept}
+use Rattle.law_chain.proofs.Control.{target_apart}
 use Rattle.law_chain.proofs.Frames.{apart, set_far}
 use Rattle.law_context_orders.specs.Orders.{UpPart, UpOrder, on_switch, on_freeze, on_status, on_resume, kept_in, begun, done, carried_out}
 use Rattle.law_context_orders.specs.Orders as ups
@@ -192,7 +193,8 @@ module _ {M C P : Type 0} (way : Way M C P) (ue : UeId) (bearer : BearerId) (sn 
           let os : List Order = freezes x b.to (hop_to peer down up) ∷ [] in (
             here_kept os (freeze_kept s x p is.0 free.0 free.3 b.to (hop_to peer down up) owed),
             frozen_in (run s os) b.to p.bearer.sender.next (done way (ups.freezes peer down up) p) given
-                (freeze_shows way s x p is.0 b.to peer down up owed.1) (done_at p (ups.freezes peer down up)),
+                (freeze_shows way s x p is.0 b.to peer down up
+                (target_apart s x b.to (ap (λ (f : UpFlags). f.has_status) is.0.flags ∙ free.3) owed.2)) (done_at p (ups.freezes peer down up)),
           )
       step_of b ups.closes given owed =
           let ended = end_is s x in (

@@ -3,14 +3,14 @@ use Rattle.std.proofs.Common.{inl, inr, ◌≡◌, ◌≢◌, ℕ, ◌==◌, ◌
 use Rattle.gnb_types.specs.declared.names.UeId.{UeId}
 use Rattle.gnb_types.specs.declared.names.BearerId.{BearerId}
 use Rattle.gnb_types.specs.declared.plans.SnStatus.{SnStatus}
-use Rattle.unit_defs.specs.UpRecords.{UpBearer, TunnelKind, n3, f1u_uplink, forwarding_down, forwarding_up}
+use Rattle.unit_defs.specs.UpRecords.{UpBearer, UpFlags, TunnelKind, n3, f1u_uplink, forwarding_down, forwarding_up}
 use Rattle.unit_defs.specs.UpBearers.{is_over}
 use Rattle.unit_defs.specs.Ways.{packet_content, report_content, Taken, fresh_item, numbered_item, uplink_item, status_item, end_item, Way, Answer, gives, spent}
 use Rattle.chain_defs.specs.Parts.{set}
 use Rattle.uplink_defs.specs.Parts.{Item, numbered, end_marker, Member, Part, new_member}
 use Rattle.uplink_defs.specs.Orders.{Order, offers, numbers, connects, leaves, arrives, carries, acknowledges, reports, marks, makes, freezes, knows, resumes, closes, discards, after, run}
-use Rattle.uplink_defs.specs.Guards.{IsReady, AreKept}
-use Rattle.law_chain.proofs.Frames.{set_far}
+use Rattle.uplink_defs.specs.Guards.{IsReady, IsOwed, AreKept}
+use Rattle.law_chain.proofs.Frames.{apart, set_far}
 use Rattle.law_context_orders.specs.Orders.{UpPart, UpOrder, begun, done, carried_out}
 use Rattle.law_context_orders.specs.Orders as ups
 use Rattle.law_context_tests.specs.Tests.{IsTested}
@@ -145,7 +145,7 @@ module _ {M C P : Type 0} (way : Way M C P) (ue : UeId) (bearer : BearerId) wher
       ended_in t ended = put_in s t cs x None has (ap (λ k. k.is_there) ended.here) (λ y far. like_same (s.members y) (t.members y) (ended.others y far))
 
       step_of : (b : Beside) (order : UpOrder P) → IsGiven (done way order p) → Asks s x b p order → Comes (orders_of x b p order) order
-      unfolding AreKept run
+      unfolding AreKept run IsOwed
       step_of b (ups.takes kind teid item) given (stands, passes, its) = by its
         where
           order : UpOrder P
@@ -159,11 +159,13 @@ module _ {M C P : Type 0} (way : Way M C P) (ue : UeId) (bearer : BearerId) wher
             shown_in (run s (item_orders x b.left_up kind teid item)) (done way order p) given
                 (item_one way s x p is stands kind teid item b.left_up fit),
           )
-      step_of b (ups.freezes peer down up) given (free, far, owed) =
-          let os : List Order = freezes x b.to (hop_to peer down up) ∷ [] in (
+      step_of b (ups.freezes peer down up) given (free, owed) =
+          let os : List Order = freezes x b.to (hop_to peer down up) ∷ [] in
+          let status : (s.members x).flags.has_status ≡ true = ap (λ (f : UpFlags). f.has_status) is.flags ∙ free.3 in (
             freeze_kept s x p is free.3 free.2 b.to (hop_to peer down up) owed,
             frozen_in (run s os) b.to p.bearer.receiver.deliv (done way (ups.freezes peer down up) p) given
-                (freeze_shows way s x p is b.to peer down up far),
+                (freeze_shows way s x p is b.to peer down up
+                (λ same. apart status (subst (λ y. (s.members y).flags.has_status ≡ false) same owed.1.status))),
           )
       step_of b ups.closes given owed = by (is_done p) refl
         where

@@ -1,5 +1,5 @@
 -- What happens to a bearer, as orders of its uplink; and what they ask.
-use Rattle.std.specs.Prelude.{◌≡◌, ◌≢◌, ◌⊎◌, ◌||◌, ◌&&◌, ℕ, Bool, true, false, if◌then◌else◌, List, [], ◌∷◌, ◌++◌, Option, Some, None, ⊤}
+use Rattle.std.specs.Prelude.{◌≡◌, ◌⊎◌, ◌||◌, ◌&&◌, ℕ, Bool, true, false, if◌then◌else◌, List, [], ◌∷◌, ◌++◌, Option, Some, None, ⊤}
 use Rattle.gnb_types.specs.declared.names.UeId.{UeId}
 use Rattle.gnb_types.specs.declared.names.BearerId.{BearerId}
 use Rattle.unit_defs.specs.UpRecords.{TunnelKind}
@@ -61,7 +61,7 @@ AsksItem s x b p kind teid item = IsOfDownlink kind item ⊎ (IsFit p kind item 
 
 abbrev pub Asks : {P : Type 0} → Part → ℕ → Beside → UpPart → UpOrder P → Type 0
 Asks s x b p (ups.takes kind teid item) = Stands p × (held_reason p.at p.bearer kind item ≡ None) × AsksItem s x b p kind teid item
-Asks s x b p (ups.freezes peer down up) = IsFreezable p × (b.to ≢ x) × IsOwed s (freezes x b.to (hop_to peer down up))
+Asks s x b p (ups.freezes peer down up) = IsFreezable p × IsOwed s (freezes x b.to (hop_to peer down up))
 Asks s x b p ups.closes = is_done p ≡ false → IsOwed s (discards x)
 Asks s x b p (ups.makes instance sn quota target teid) = ⊤
 Asks s x b p ups.polls = ⊤

@@ -36,6 +36,10 @@ taken_of_all p low held sent h = upto-filter (pairs p) (λ e. is_one_of (upto (�
     within : (i : ℕ) → sent ≤ i → i < held → (nat_le sent i && nat_lt i held) ≡ true
     within i l o = grind arith
 
+-- a target that nothing has come to yet has no SN status, which the context that freezes has
+pub target_apart : (s : Part) (x y : ℕ) → (s.members x).flags.has_status ≡ true → IsUntouched (s.members y) → y ≢ x
+target_apart s x y has_status u same = apart has_status (subst (λ q. (s.members q).flags.has_status ≡ false) same u.status)
+
 module _ (p : ℕ → List ℕ) (w : ℕ) (s : Part) (g : ℕ → Ghost) (k : Kept p w s g) (x : ℕ) where
   abbrev m : Member
   m = s.members x
@@ -119,12 +123,24 @@ module _ (p : ℕ → List ℕ) (w : ℕ) (s : Part) (g : ℕ → Ghost) (k : Ke
             k.radio,
       )
 
-  pub kept_closes : x ≢ s.station → x ≢ s.path → Good p w (after s (closes x))
+  -- where N3 has ended, the context is neither the station nor the path
+  elsewhere : (b : Bool) → is_open m.bearer.n3 ≡ b → (b ≡ true → (x ≢ s.station) × (x ≢ s.path)) → (x ≢ s.station) × (x ≢ s.path)
+  elsewhere true e owed = owed refl
+  elsewhere false e owed = (
+    λ at. (let st = (k.each x).station at in apart (((k.each x).own st.is_there).tunnels.closed e) st.is_not_gone),
+    λ at. apart ((k.each x).path at).is_open e,
+  )
+
+  pub kept_closes : (is_open m.bearer.n3 ≡ true → (x ≢ s.station) × (x ≢ s.path)) → Good p w (after s (closes x))
   unfolding after
-  kept_closes not_station not_path = (
+  kept_closes owed = (
     set g x h,
     kept_one p w s s g x no_member h k
-        (record { own = λ e. absurd (true≢false (sym e)); path = λ e. absurd (not_path e); station = λ e. absurd (not_station e) })
+        (record {
+          own = λ e. absurd (true≢false (sym e));
+          path = λ e. absurd ((elsewhere (is_open m.bearer.n3) refl owed).1 e);
+          station = λ e. absurd ((elsewhere (is_open m.bearer.n3) refl owed).0 e);
+        })
         (λ q _. k.each q)
         (λ e. absurd (true≢false (sym e.0))) (λ y _ e _. absurd (true≢false (sym e.0))) (λ y _ _ e. absurd (true≢false (sym e))) k.radio,
   )
@@ -390,9 +406,10 @@ module _ (p : ℕ → List ℕ) (w : ℕ) (s : Part) (g : ℕ → Ghost) (k : Ke
   -- ---- a freeze
 
   pub kept_freezes : (y : ℕ) (hop : SourceHop) → m.is_there ≡ true → m.flags.has_status ≡ true → m.flags.frozen ≡ false
-      → x ≡ s.station → y ≢ x → y ≢ s.path → IsUntouched (s.members y) → IsUnfed s y → Good p w (after s (freezes x y hop))
+      → x ≡ s.station → y ≢ s.path → IsUntouched (s.members y) → IsUnfed s y → Good p w (after s (freezes x y hop))
   unfolding after
-  kept_freezes y hop there has_status unfrozen is_station far not_path u unfed =
+  kept_freezes y hop there has_status unfrozen is_station not_path u unfed =
+      let far = target_apart s x y has_status u in
       let f = k.each x in
       let o = f.own there in
       let n = o.numbers in

@@ -1,5 +1,5 @@
 -- What is asked in the worked runs is met.
-use Rattle.std.proofs.Common.{◌≡◌, ◌≢◌, ℕ, ◌==◌, ◌&&◌, Bool, true, false, if◌then◌else◌, List, [], ◌∷◌, take, refl, arith}
+use Rattle.std.proofs.Common.{◌≡◌, ◌≢◌, ℕ, ◌==◌, ◌&&◌, Bool, true, false, if◌then◌else◌, List, [], ◌∷◌, take, refl, sym, true≢false, arith}
 use Rattle.gnb_types.specs.declared.names.SnBits.TheVariants.{Len12}
 use Rattle.tables.specs.Tables.{find, put}
 use Rattle.pdcp_defs.specs.Senders.{numbered, has_room, first, may_restore, restored, confirmed_to, confirmed_by}
@@ -88,7 +88,6 @@ relay_kept =
                           (
                             refl,
                             apart_numbers _ _ refl,
-                            apart_numbers _ _ refl,
                             record {
                               there = refl;
                               target = refl;
@@ -146,7 +145,6 @@ relay_kept =
                                               (refl, refl, refl),
                                               (
                                                 refl,
-                                                apart_numbers _ _ refl,
                                                 apart_numbers _ _ refl,
                                                 record {
                                                   there = refl;
@@ -211,7 +209,7 @@ relay_kept =
                                                                     -- closes 1
                                                                     (
                                                                       tt,
-                                                                      (apart_numbers _ _ refl, apart_numbers _ _ refl),
+                                                                      λ open_. absurd (true≢false (sym open_)),
                                                                       -- sends 3 1 b (fresh c ∷ fresh d ∷ end_marker ∷ [])
                                                                       (
                                                                         (record { there = refl; stands = refl; passes = refl }, refl, refl),
@@ -372,7 +370,6 @@ cancelled_kept =
                             (
                               refl,
                               apart_numbers _ _ refl,
-                              apart_numbers _ _ refl,
                               record {
                                 there = refl;
                                 target = refl;
@@ -420,7 +417,7 @@ cancelled_kept =
                                           -- closes 2
                                           (
                                             tt,
-                                            (apart_numbers _ _ refl, apart_numbers _ _ refl),
+                                            λ _. (apart_numbers _ _ refl, apart_numbers _ _ refl),
                                             -- carries 1 b ((1, b) ∷ (2, c) ∷ (1, b) ∷ (2, c) ∷ [])
                                             (
                                               refl,

@@ -50,12 +50,12 @@ module _ (p : ℕ → List ℕ) (sn : SnBits) (quota : ℕ) (s : Part) (g : ℕ 
   kept_order (offers packet) r d is = kept_offers p (window sn quota) s g k packet is
   kept_order (switches_path to) r d is = kept_switches_path p (window sn quota) s g k to d.0 d.1 d.2
   kept_order (makes x target teid) r d is = kept_makes p (window sn quota) s g k x target teid r d
-  kept_order (freezes x to hop) r d is = kept_freezes p (window sn quota) s g k x to hop r.0 r.1 r.2 d.0 d.1 d.2 d.3 d.4
+  kept_order (freezes x to hop) r d is = kept_freezes p (window sn quota) s g k x to hop r.0 r.1 r.2 d.0 d.1 d.2 d.3
   kept_order (knows x status) r d is = kept_knows p (window sn quota) s g k x status r.0 r.1 d
   kept_order (switches x downlink epoch) r d is = kept_switches p (window sn quota) s g k x downlink epoch r d.0 d.1
   kept_order (resumes x) r d is = kept_resumes p (window sn quota) s g k x r.0 r.1 d
   kept_order (releases x) r d is = kept_releases p (window sn quota) s g k x r d.0 d.1
-  kept_order (closes x) r d is = kept_closes p (window sn quota) s g k x d.0 d.1
+  kept_order (closes x) r d is = kept_closes p (window sn quota) s g k x d
   kept_order (arrives x) r d is = kept_arrives p (window sn quota) s g k x d.0 d.1 d.2 d.3
   kept_order fails r d is = kept_fails p (window sn quota) s g k 0
   kept_order (keeps_n3 x packet rest) r d is = kept_keeps_n3 p (window sn quota) s g k x packet rest r.0 r.1

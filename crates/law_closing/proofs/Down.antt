@@ -1,11 +1,10 @@
 -- Down: from what holds after every list of orders.
-use Rattle.std.proofs.Common.{◌≡◌, ◌≢◌, ℕ, Bool, true, false, List, [], ◌∷◌, refl, subst}
+use Rattle.std.proofs.Common.{◌≡◌, ℕ, Bool, true, false, List, refl}
 use Rattle.gnb_types.specs.declared.names.SnBits.{SnBits}
 use Rattle.pdcp_defs.specs.Senders.{window}
-use Rattle.chain_defs.specs.unit_defs.UpRecords.{SourceHop}
 use Rattle.chain_defs.specs.Parts.{Part, start, is_open, is_fed}
-use Rattle.chain_defs.specs.Orders.{Order, freezes, closes, run, offers_in}
-use Rattle.chain_defs.specs.Guards.{IsUntouched, IsReady, IsOwed, AreKept}
+use Rattle.chain_defs.specs.Orders.{Order, run, offers_in}
+use Rattle.chain_defs.specs.Guards.{AreKept}
 use Rattle.law_chain.proofs.Facts.{view, Own, Good}
 use Rattle.law_chain.proofs.Frames.{apart}
 use Rattle.law_chain.proofs.Runs.{stream, agrees, kept_run, good_start}
@@ -35,18 +34,8 @@ module _ (p : ℕ → List ℕ) (w : ℕ) (s : Part) (good : Good p w s) where
       before_it y is frozen leads true e = apart (good.1.links y x (is, frozen, e, leads) there).open_ ended
       before_it y is frozen leads false e = (is, e, not_fed y is e (is_fed (s.members y)) refl)
 
-  pub close_kept : (sn : SnBits) (quota x : ℕ) → IsDoneDown (s.members x) → AreKept sn quota s (closes x ∷ [])
-  unfolding AreKept IsReady IsOwed
-  close_kept sn quota x done = (tt, (ends_down x done).elsewhere, tt)
-
 pub good_after : (sn : SnBits) (quota first teid : ℕ) (os : List Order) → AreKept sn quota (start first teid) os
     → Good (stream (offers_in os)) (window sn quota) (run (start first teid) os)
 unfolding start
 good_after sn quota first teid os kept =
     kept_run (stream (offers_in os)) sn quota (start first teid) os (good_start (stream (offers_in os)) (window sn quota) first teid) kept (agrees (offers_in os))
-
-pub target_apart : (sn : SnBits) (quota : ℕ) (s : Part) (x to : ℕ) (hop : SourceHop) → IsReady sn quota s (freezes x to hop) → IsUntouched (s.members to)
-    → to ≢ x
-unfolding IsReady
-target_apart sn quota s x to hop ready untouched same =
-    apart ready.1 (subst (λ y. (s.members y).flags.has_status ≡ false) same untouched.status)

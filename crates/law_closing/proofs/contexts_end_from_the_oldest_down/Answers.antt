@@ -2,13 +2,11 @@ use Rattle.pdcp_defs.specs.Senders.{window}
 use Rattle.chain_defs.specs.Parts.{start}
 use Rattle.chain_defs.specs.Orders.{run, offers_in}
 use Rattle.law_chain.proofs.Runs.{stream}
-use Rattle.law_closing.proofs.Down.{ends_down, close_kept, good_after}
+use Rattle.law_closing.proofs.Down.{ends_down, good_after}
 use Rattle.law_closing.proofs.contexts_end_from_the_oldest_down.Goals as goal
 
 pub returns : goal.returns
 returns c = record {
   ends = λ sn quota first teid orders kept x done.
       ends_down (stream (offers_in orders)) (window sn quota) (run (start first teid) orders) (good_after sn quota first teid orders kept) x done;
-  asks_nothing = λ sn quota first teid orders kept x done.
-      close_kept (stream (offers_in orders)) (window sn quota) (run (start first teid) orders) (good_after sn quota first teid orders kept) sn quota x done;
 }
