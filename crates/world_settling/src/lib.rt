@@ -1,0 +1,7 @@
+//! `settle` in a run of the whole base station: rounds until every bearer of every attached terminal is quiet.
+#![tactic(auto)]
+
+pub mod limit;
+pub mod quiet;
+pub mod rounds;
+pub mod settle;
