@@ -273,9 +273,10 @@ container_in-contents_in-asked-requires t c =
     let whole = array_weight c.args.d.now c.in-Array.items vs c.in-Array.is c.as_slice-items.ensures.value in
     let light = item_light vs l.item-index c.item-item.result c.loop-item-test.true c.item-item.is in
     let own : weight (json c.item-item.result) ≡ suc (members_weight (members_view c.in_ok-head.head.members.now.entries)) =
-    ap weight c.in_ok-head.ensures.1.is in
-    (omega (arith, whole, light, own, c.decreases),
-    body_below (tree c.args.m.now) n c.in_ok-head.head.id c.args.rows.now c.row_type.result c.requires c.row_type.ensures)
+    ap weight c.in_ok-head.ensures.1.is in (
+      omega (arith, whole, light, own, c.decreases),
+      body_below (tree c.args.m.now) n c.in_ok-head.head.id c.args.rows.now c.row_type.result c.requires c.row_type.ensures,
+    )
 
 pub container_in-returns-in_err-put_element : goal.container_in-returns-in_err-put_element
 container_in-returns-in_err-put_element t c =
@@ -290,7 +291,7 @@ container_in-returns-in_err-put_element t c =
     let p = err_from_is_err_and c.from_residual-in_err-put_element.result c.from_residual-in_err-put_element.ensures.1 in
     let e : Refusal = c.in_err-put_element.field-0.0 in
     let asked : ReadsAs (λ q. contents_demands of (row_type head.id rows) q element_keys ms) (contents_read of (row_type head.id rows) ms)
-        c.contents_in-asked.result =
+    c.contents_in-asked.result =
     subst (λ (o : Option TypeId). ReadsAs (λ q. contents_demands of o q element_keys ms) (contents_read of o ms) c.contents_in-asked.result)
     c.row_type.ensures c.contents_in-asked.ensures in
     let told = c.in_err-put_element.ensures (λ q. contents_demands of (row_type head.id rows) q element_keys ms)
@@ -313,7 +314,7 @@ container_in-loop-item-preserved t c =
     let head : ElementHead = c.in_ok-head.head in
     let ms : Members = members_view head.members.now.entries in
     let asked : ReadsAs (λ q. contents_demands of (row_type head.id rows) q element_keys ms) (contents_read of (row_type head.id rows) ms)
-        c.contents_in-asked.result =
+    c.contents_in-asked.result =
     subst (λ (o : Option TypeId). ReadsAs (λ q. contents_demands of o q element_keys ms) (contents_read of o ms) c.contents_in-asked.result)
     c.row_type.ensures c.contents_in-asked.ensures in
     let k = c.in_ok-put_element.ensures (λ q. contents_demands of (row_type head.id rows) q element_keys ms)
@@ -443,9 +444,10 @@ message_in-contents_in-asked-requires t c =
     let whole = object_weight c.args.d.now c.in-Object.members c.in-Object.is in
     let light = outcome_light ms c.in-Some.outcome (json c.in-Some.body.now) c.in-Some.ensures in
     let own : weight (json c.in-Some.body.now) ≡ suc (members_weight (members_view head.members.now.entries)) =
-    ap weight c.in_ok-head.ensures.1.is in
-    (omega (arith, whole, light, own, c.decreases),
-    messages_below n c.in-Some.outcome head.code c.args.rows.now c.message_type-definition.result c.requires c.message_type-definition.ensures)
+    ap weight c.in_ok-head.ensures.1.is in (
+      omega (arith, whole, light, own, c.decreases),
+      messages_below n c.in-Some.outcome head.code c.args.rows.now c.message_type-definition.result c.requires c.message_type-definition.ensures,
+    )
 
 pub message_in-returns : goal.message_in-returns
 message_in-returns t c =
@@ -470,9 +472,10 @@ message_in-returns t c =
 -- ---- SEQUENCE
 pub sequence_in-components_in-requires : goal.sequence_in-components_in-requires
 sequence_in-components_in-requires t c =
-    let whole = object_weight c.args.d.now c.in-Object.object c.in-Object.is in
-    (omega (arith, whole, c.decreases),
-    subst (λ (cs : List Component). AreBelow (length c.args.m.now.nodes) cs) (sym c.as_slice-parts.ensures) c.requires.0)
+    let whole = object_weight c.args.d.now c.in-Object.object c.in-Object.is in (
+      omega (arith, whole, c.decreases),
+      subst (λ (cs : List Component). AreBelow (length c.args.m.now.nodes) cs) (sym c.as_slice-parts.ensures) c.requires.0,
+    )
 
 pub sequence_in-returns-in_err-root : goal.sequence_in-returns-in_err-root
 sequence_in-returns-in_err-root t c =
@@ -505,9 +508,10 @@ pub sequence_in-additions_in-asked-requires : goal.sequence_in-additions_in-aske
 sequence_in-additions_in-asked-requires t c =
     let ms : Members = members_view c.in-Object.object.entries in
     let whole = object_weight c.args.d.now c.in-Object.object c.in-Object.is in
-    let light = additions_light c.is_some-extensible.result ms (json c.in-Some.more.now) c.in-Some.ensures in
-    (omega (arith, whole, light, c.decreases),
-    subst (λ (cs : List Component). AreBelow (length c.args.m.now.nodes) cs) (sym c.named.ensures) c.requires.1)
+    let light = additions_light c.is_some-extensible.result ms (json c.in-Some.more.now) c.in-Some.ensures in (
+      omega (arith, whole, light, c.decreases),
+      subst (λ (cs : List Component). AreBelow (length c.args.m.now.nodes) cs) (sym c.named.ensures) c.requires.1,
+    )
 
 pub sequence_in-returns : goal.sequence_in-returns
 sequence_in-returns t c =
@@ -535,12 +539,13 @@ choice_in-value_in-requires t c =
     let f = found_in (named c.args.m.now) ms root c.in-Some.i c.index-root-i-in-Some.result (json c.in-Some.d.now) c.in-Some.ensures.part c.in-Some.ensures.inside
     c.index-root-i-in-Some.is in
     let whole = object_weight c.args.d.now c.in-Object.object c.in-Object.is in
-    let light = member_light c.index-root-i-in-Some.result.name ms (json c.in-Some.d.now) (sym f.there) in
-    (omega (arith, whole, light, c.decreases),
-    subst (λ (y : Component). y.definition.number < length c.args.m.now.nodes) c.index-root-i-in-Some.is
-    (below_at (length c.args.m.now.nodes) root c.in-Some.i c.index-root-i-in-Some.result
-    (subst (λ (cs : List Component). AreBelow (length c.args.m.now.nodes) cs) (sym c.as_slice-root.ensures) c.requires.inside.0)
-    c.in-Some.ensures.inside c.index-root-i-in-Some.is))
+    let light = member_light c.index-root-i-in-Some.result.name ms (json c.in-Some.d.now) (sym f.there) in (
+      omega (arith, whole, light, c.decreases),
+      subst (λ (y : Component). y.definition.number < length c.args.m.now.nodes) c.index-root-i-in-Some.is
+          (below_at (length c.args.m.now.nodes) root c.in-Some.i c.index-root-i-in-Some.result
+          (subst (λ (cs : List Component). AreBelow (length c.args.m.now.nodes) cs) (sym c.as_slice-root.ensures) c.requires.inside.0)
+          c.in-Some.ensures.inside c.index-root-i-in-Some.is),
+    )
 
 pub choice_in-returns-in-Some : goal.choice_in-returns-in-Some
 choice_in-returns-in-Some t c =
@@ -631,11 +636,12 @@ choice_in-value_in-requires-in-Some-part_in t c =
     let f = found_in (named c.args.m.now) ms additions i q (json c.in-Some-part_in.d.now) c.in-Some-part_in.ensures.part
     c.in-Some-part_in.ensures.inside c.index-additions-i.is in
     let whole = object_weight c.args.d.now c.in-Object.object c.in-Object.is in
-    let light = member_light q.name ms (json c.in-Some-part_in.d.now) (sym f.there) in
-    (omega (arith, whole, light, c.decreases),
-    subst (λ (y : Component). y.definition.number < n) c.index-additions-i.is
-    (below_at n additions i q (subst (λ (cs : List Component). AreBelow n cs) (sym c.named-additions.ensures) c.requires.inside.1)
-    c.in-Some-part_in.ensures.inside c.index-additions-i.is))
+    let light = member_light q.name ms (json c.in-Some-part_in.d.now) (sym f.there) in (
+      omega (arith, whole, light, c.decreases),
+      subst (λ (y : Component). y.definition.number < n) c.index-additions-i.is
+          (below_at n additions i q (subst (λ (cs : List Component). AreBelow n cs) (sym c.named-additions.ensures) c.requires.inside.1)
+          c.in-Some-part_in.ensures.inside c.index-additions-i.is),
+    )
 
 pub choice_in-held-requires-clause-inside : goal.choice_in-held-requires-clause-inside
 choice_in-held-requires-clause-inside t c =
@@ -803,10 +809,11 @@ additions_in-value_in-asked-requires t c =
     let vs : List trees.Value = c.as_slice-items.result.now in
     let cs : List Component = c.args.parts.now in
     let whole = array_weight c.args.d.now c.in-Array.items vs c.in-Array.is c.as_slice-items.ensures.value in
-    let light = item_light vs l.i c.index-items-i.result c.loop-i-test.true c.index-items-i.is in
-    (omega (arith, whole, light, c.decreases),
-    below_at (length c.args.m.now.nodes) cs l.i c.in-Some.part.now c.requires (below l.i (length cs) (sym c.in-Some.ensures.lookup.0))
-    c.in-Some.ensures.lookup.1)
+    let light = item_light vs l.i c.index-items-i.result c.loop-i-test.true c.index-items-i.is in (
+      omega (arith, whole, light, c.decreases),
+      below_at (length c.args.m.now.nodes) cs l.i c.in-Some.part.now c.requires (below l.i (length cs) (sym c.in-Some.ensures.lookup.0))
+          c.in-Some.ensures.lookup.1,
+    )
 
 pub additions_in-is_fitting-requires-clause-inside : goal.additions_in-is_fitting-requires-clause-inside
 additions_in-is_fitting-requires-clause-inside t c =
