@@ -1,7 +1,7 @@
 #!/usr/bin/env python3
 """Runs each example, and compares what the program prints with the transcript beside it (`NAME.script`, `NAME.check`, `NAME.um`,
-`NAME.dup`, `NAME.TYPE.decode` or `NAME.words`, and `NAME.out`). A script is the input of `run`, a check that of `check`; words are those of a
-call that reads nothing. Values of a type are the input of `decode TYPE`.
+`NAME.dup`, `NAME.TYPE.encode`, `NAME.TYPE.decode` or `NAME.words`, and `NAME.out`). A script is the input of `run`, a check that of `check`; words are
+those of a call that reads nothing. Values of a type are the input of `encode TYPE` or `decode TYPE`.
 A script of `um` or of `duplicate` has the words of its call in its first line, after `; gnb`.
 
 The last line of a transcript has the status: it is `stop STATUS ..`, or the status is 0. Standard error has one line that begins with `gnb: `
@@ -17,7 +17,7 @@ import sys
 TOP = pathlib.Path(__file__).resolve().parents[1]
 WORDS = {".script": "run", ".check": "check"}
 WITH_WORDS = (".um", ".dup")
-OF_TYPES = (".decode",)
+OF_TYPES = (".encode", ".decode")
 
 
 def status_of(transcript):

@@ -23,9 +23,9 @@ def answer(command, words, text):
     return ran.returncode, ran.stdout
 
 
-def compare(usage, what, count, make, told, plain=None):
+def compare(usage, what, count, make, told, plain=None, asks=False):
     """Compares so many calls, each with words and an input made by chance; `told` names what a status and an output came to, and `plain` is the
-    other reading where none is named."""
+    other reading where none is named. Where calls are made with its help (`asks`), `make` takes it before chance."""
     asked = argparse.ArgumentParser(description=usage, formatter_class=argparse.RawDescriptionHelpFormatter)
     asked.add_argument("--count", type=int, default=count)
     asked.add_argument("--seed", type=int, default=1)
@@ -35,10 +35,11 @@ def compare(usage, what, count, make, told, plain=None):
     if other is None:
         print(f"no other reading is here: {given.count} random {what} are not compared")
         return 0
-    calls = [make(random.Random(given.seed * 1_000_003 + number)) for number in range(given.count)]
-    answer(PROGRAM, *calls[0])  # builds the program before several are run side by side
+    chances = [random.Random(given.seed * 1_000_003 + number) for number in range(given.count)]
     outcomes = collections.Counter()
     with concurrent.futures.ThreadPoolExecutor(os.cpu_count()) as pool:
+        calls = list(pool.map(lambda chance: make(other, chance) if asks else make(chance), chances))
+        answer(PROGRAM, *calls[0])  # builds the program before several are run side by side
         both = pool.map(lambda call: (answer(PROGRAM, *call), answer(other, *call)), calls)
         for (words, text), (ours, theirs) in zip(calls, both):
             if ours != theirs:

@@ -12,3 +12,4 @@ pub use aper_value_checks::{is_value, spelled_length};
 pub use aper_values::value::{Element, Ie, Ies, OptValues, Value, Values};
 pub use decoder::decode;
 pub use error::DecodeError;
+pub use path::path_text;

@@ -1,4 +1,4 @@
--- How the word ends, what status reports it, and what is written then.
+-- How these words end, what status reports it, and what is written then.
 use Rattle.std.specs.Prelude.{◌≡◌, ◌⊎◌, ℕ, List, [], ◌∷◌, ◌++◌, Some, codes}
 use Rattle.std.specs.Fmt.{decimal}
 use Rattle.gnb_base.specs.Outside.{SourceAt}

@@ -1,4 +1,4 @@
--- What the word `decode` does, for every input, every list of failing calls, and every end.
+-- What the words `encode` and `decode` do, for every input, every list of failing calls, and every end.
 use Rattle.std.specs.Prelude.{◌≡◌, ◌+◌, ◌⊎◌, ℕ, List, [], ◌++◌, length, Option, Some, None, IfSome}
 use Rattle.gnb_base.specs.Outside.{SinkAt}
 use Rattle.input_defs.specs.Split.{InputSplit, rest_of, joined, TakesInput}

@@ -1,4 +1,4 @@
--- Internal: what ties the functions of this word together.
+-- Internal: what ties the functions of these words together.
 pub mod Answered
 pub mod Turns
 pub mod Stops

@@ -1,4 +1,4 @@
-//! How the word ends, the status that reports it, and what is written then.
+//! How these words end, the status that reports it, and what is written then.
 
 ghost use Rattle.std.specs.Prelude.{◌≡◌, IfOk};
 ghost use Rattle.std.specs.Option.{option_to_list};

@@ -1,5 +1,5 @@
-//! The word `decode`: each line after a module is one value of a type of it, as hexadecimal digits of its octets; it is written as JSON
-//! before the next line is read.
+//! The words `encode` and `decode`: each line after a module is one value of a type of it, as JSON or as hexadecimal digits of its
+//! octets; it is written in the other form before the next line is read.
 #![tactic(auto)]
 
 mod answer;

@@ -1,4 +1,4 @@
-//! The word `decode`.
+//! The words `encode` and `decode`.
 
 ghost use Rattle.std.specs.Prelude.{◌≡◌, ◌++◌, ◌∷◌, [], IfOk};
 ghost use Rattle.profile_module.specs.Profiles.{IsBuiltin};

@@ -9,6 +9,7 @@ ghost use Rattle.aper_defs.specs.Membership.{Has};
 ghost use Rattle.aper_defs.specs.Bounds.{IsBounded};
 ghost use Rattle.aper_defs.specs.Spelling.{Spells, spelling_limit, whole_layout};
 ghost use Rattle.aper_defs.specs.Reading.{decoded};
+ghost use Rattle.aper_octet_defs.specs.Octets.{spelled_as};
 
 /// A value whose layout has at most 131,072 octets has one spelling.
 pub fn a_value_has_one_spelling()
@@ -18,6 +19,14 @@ pub fn a_value_has_one_spelling()
     ensures one { (t : Tree) (v : Value) (a b : List ℕ)
         → All (λ o. o < 256) a → All (λ o. o < 256) b
         → Spells t v a → Spells t v b → a ≡ b }
+{}
+
+/// The octets of a value, as they are computed, are its one spelling; and there are none where nothing spells it.
+pub fn the_octets_of_a_value()
+    ensures spelling { (t : Tree) (v : Value) (octets : List ℕ) → IsBounded t
+        → All (λ o. o < 256) octets → Spells t v octets → octets ≡ spelled_as t v }
+    ensures none { (t : Tree) (v : Value) → IsBounded t
+        → ((octets : List ℕ) → Spells t v octets → ⊥) → [] ≡ spelled_as t v }
 {}
 
 /// A spelling has one value, and no spelling of a type within the profile's bounds is a proper prefix of another of that type.

@@ -1,4 +1,3 @@
-pub mod Decided
-pub mod LinkReading
 pub mod Lawful
+mod Decided
 mod InRange

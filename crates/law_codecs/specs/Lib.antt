@@ -1,1 +1,2 @@
 pub mod SameMessages
+pub mod LinkRows

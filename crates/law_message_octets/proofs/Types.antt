@@ -6,7 +6,7 @@ use Rattle.profile.specs.declared.version.Version.TheVariants.{One, Two}
 use Rattle.profile.specs.Versions.{number_of}
 use Rattle.profile_defs.specs.Forms.{tree, parts, rows, procedures, outcome_tree}
 use Rattle.profile_defs.specs.Profile.{f1_type, e1_type, xn_type, core_type, token_type}
-use Rattle.law_message_ranges.proofs.Bounded.{test, parts_test, rows_test, procedures_test, outcome_test, bounded}
+use Rattle.aper_proof_octets.proofs.Bounded.{test, parts_test, rows_test, procedures_test, outcome_test, bounded}
 
 pub f1 : IsBounded f1_type
 unfolding f1_type tree parts rows procedures outcome_tree test parts_test rows_test procedures_test outcome_test

@@ -5,4 +5,3 @@ pub mod InRangeF1
 pub mod InRangeE1
 pub mod InRangeXn
 pub mod InRangeCore
-pub mod Bounded

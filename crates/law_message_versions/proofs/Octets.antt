@@ -6,10 +6,9 @@ use Rattle.std.proofs.lemmas.List.{length-take, length-drop}
 use Rattle.bits_core.specs.Bits.{number_of}
 use Rattle.bits_core.proofs.BitLemmas.{number_small}
 use Rattle.aper_proof_answers.proofs.NumberFacts.{is_below}
-use Rattle.law_aper.proofs.Spelled.{octets_of}
+use Rattle.aper_octet_defs.specs.Octets.{octets_of}
 
 pub octets_of_octets : (count : ℕ) (bits : List Bool) → length bits ≡ 8 * count → list_all (λ o. nat_lt o 256) (octets_of count bits) ≡ true
-unfolding octets_of
 octets_of_octets zero bits h = refl
 octets_of_octets (suc count) bits h =
     let front : length (take 8 bits) ≡ 8 = omega (arith, length-take 8 bits, h) in

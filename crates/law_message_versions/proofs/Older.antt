@@ -17,7 +17,8 @@ use Rattle.aper_defs.specs.Membership.{Has, HasAdditions, HasBody, HasOutcome, I
 use Rattle.aper_defs.specs.Spelling.{Spells}
 use Rattle.aper_proof_places.proofs.Bits.{total-append}
 use Rattle.aper_proof_places.proofs.Opened.{empty_mark, size_is, closing_is, octets_are, octets_some}
-use Rattle.law_aper.proofs.Spelled.{octets_of, octets_of_bits, octets_of_count}
+use Rattle.aper_octet_defs.specs.Octets.{octets_of}
+use Rattle.aper_proof_octets.proofs.Octets.{octets_of_bits, octets_of_count}
 use Rattle.profile_defs.specs.Forms.{component, container, no_components, tree, parts, rows, procedures, outcome_tree}
 use Rattle.profile_defs.specs.BaseTypes as types
 use Rattle.profile_defs.specs.Elements as ies

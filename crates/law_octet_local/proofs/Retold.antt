@@ -20,7 +20,7 @@ use Rattle.law_octet_steady.specs.law_octet_runs.Printed.{PrintedStep, PrintedEv
 
 -- ---- lists
 
-append_mapped : {A B : Type 0} (f : A → B) (xs ys : List A) → map f (xs ++ ys) ≡ map f xs ++ map f ys
+pub append_mapped : {A B : Type 0} (f : A → B) (xs ys : List A) → map f (xs ++ ys) ≡ map f xs ++ map f ys
 append_mapped f [] ys = refl
 append_mapped f (x ∷ xs) ys = ap (λ (zs : List _). f x ∷ zs) (append_mapped f xs ys)
 
@@ -46,7 +46,7 @@ any_mapped P Q f to [] (k, x, low, at, p) = absurd (omega (arith, low))
 any_mapped P Q f to (y ∷ ys) (zero, x, low, at, p) = (0, f x, omega arith, ap f at, to x p)
 any_mapped P Q f to (y ∷ ys) (suc k, x, low, at, p) = one_later Q (f y) (map f ys) (any_mapped P Q f to ys (k, x, omega (arith, low), at, p))
 
-all_mapped : {A B : Type 0} (P : A → Type 0) (Q : B → Type 0) (f : A → B) → ((x : A) → P x → Q (f x)) → (xs : List A) → All P xs → All Q (map f xs)
+pub all_mapped : {A B : Type 0} (P : A → Type 0) (Q : B → Type 0) (f : A → B) → ((x : A) → P x → Q (f x)) → (xs : List A) → All P xs → All Q (map f xs)
 all_mapped P Q f to [] h = All-nil Q
 all_mapped P Q f to (x ∷ xs) h = All-cons Q (f x) (map f xs) (to x (All-head P x xs h)) (all_mapped P Q f to xs (All-tail P x xs h))
 
@@ -92,14 +92,14 @@ module _ {M N : Type 0} (f : M → N) where
   puts (put_item link item) = refl
   puts l = refl
 
-  its_lines : (steps : List (RunStep M)) → lines_in (map restep steps) ≡ map reline (lines_in steps)
+  pub its_lines : (steps : List (RunStep M)) → lines_in (map restep steps) ≡ map reline (lines_in steps)
   its_lines [] = refl
   its_lines (s ∷ steps) = ap (λ (ls : List (RunLine N)). map reline s.lines ++ ls) (its_lines steps) ∙ sym (append_mapped reline s.lines (lines_in steps))
 
-  refused : (steps : List (RunStep M)) → list_any is_refusal (lines_in (map restep steps)) ≡ list_any is_refusal (lines_in steps)
+  pub refused : (steps : List (RunStep M)) → list_any is_refusal (lines_in (map restep steps)) ≡ list_any is_refusal (lines_in steps)
   refused steps = ap (λ (ls : List (RunLine N)). list_any is_refusal ls) (its_lines steps) ∙ any_test is_refusal is_refusal reline refuses (lines_in steps)
 
-  lengths : (hs : List (Happened M)) (ue : UeId) → sn_in hs ue ≡ sn_in (map rehap hs) ue
+  pub lengths : (hs : List (Happened M)) (ue : UeId) → sn_in hs ue ≡ sn_in (map rehap hs) ue
   lengths [] ue = refl
   lengths (h ∷ hs) ue =
       ap (λ (r : Bool). if r then sn_in hs ue else sn_or (sn_by ue h.event) (sn_in hs ue)) (sym (refused h.steps))

@@ -1,2 +1,2 @@
-mod Alike
-mod Keeping
+pub mod Alike
+pub mod Keeping

@@ -1,1 +1,1 @@
-pub mod OctetCodecs
+pub mod SameMessages

@@ -2,6 +2,7 @@
 #![tactic(auto)]
 
 ghost use Rattle.std.specs.Prelude.{◌≡◌, ℕ, List, [], Ok};
+ghost use Rattle.gnb_types.specs.declared.names.NodeId.{NodeId};
 ghost use Rattle.message_types.specs.declared.e1.E1Message.{E1Message};
 ghost use Rattle.aper_defs.specs.Values.{Value};
 ghost use Rattle.aper_defs.specs.Membership.{Has};
@@ -10,7 +11,9 @@ ghost use Rattle.message_defs.specs.E1.{heard_e1};
 ghost use Rattle.unit_octet_defs.specs.Codec.{Codec};
 ghost use Rattle.codec_defs.specs.Reading.{ReadsItems, ReadsPdus};
 ghost use Rattle.codec_range_defs.specs.Ranges.{IsE1InRange, ReadsInRange};
-ghost use Rattle.law_read_ranges.specs.OctetCodecs.{SaysInOctets, ReadsOctets, HasMessagesOf};
+ghost use Rattle.message_codec_defs.specs.Codecs.{read_between, profile_codec};
+ghost use Rattle.message_codec_defs.specs.OctetCodecs.{SaysInOctets, ReadsOctets};
+ghost use Rattle.law_read_ranges.specs.SameMessages.{HasMessagesOf};
 
 /// A message that is heard in a value of E1AP-PDU, and so one that octets say, has 1 to 8 bearers, a quota of 4 to 4,096 packets, and at
 /// most 4,096 bits in each SN status.
@@ -30,4 +33,10 @@ pub fn codecs_of_octets_read_in_range()
 pub fn codecs_of_octets_read_links()
     ensures { (given : Codec) → ReadsOctets given
         → (codec : Codec) × ReadsItems codec × ReadsPdus codec × ReadsInRange codec × HasMessagesOf given codec }
+{}
+
+/// The codec of the profile drops no message for its ranges: what it reads between two nodes is what octets say there.
+pub fn nothing_is_dropped_for_its_ranges()
+    ensures { (from to : NodeId) (octets : List ℕ)
+        → profile_codec.read from to octets ≡ read_between from to octets }
 {}

@@ -1,10 +1,18 @@
-//! Laws of the word `decode`. Each function does nothing: its contract is the law.
+//! Laws of the words `encode` and `decode`. Each function does nothing: its contract is the law.
 #![tactic(auto)]
 
-ghost use Rattle.std.specs.Prelude.{◌≡◌, ℕ, List};
+ghost use Rattle.std.specs.Prelude.{◌≡◌, ℕ, List, [], Some};
+ghost use Rattle.gnb_types.specs.Hex.{hex_of, read_hex};
 ghost use Rattle.asn1_module.specs.asn1_assignments.declared.assignment.Syntax.{Syntax};
 ghost use Rattle.asn1_module.specs.Module.{IsModule};
+ghost use Rattle.aper_defs.specs.Values.{Value};
+ghost use Rattle.aper_defs.specs.Membership.{Has};
+ghost use Rattle.aper_types.specs.Types.{tree};
+ghost use Rattle.json_shown_defs.specs.Printed.{shown_as};
+ghost use Rattle.json_type_defs.specs.Types.{named};
+ghost use Rattle.values_json.specs.Texts.{IsReadAgain, IsTextOf};
 ghost use Rattle.command_values.specs.declared.way.Way.{Way};
+ghost use Rattle.command_values.specs.declared.way.Way.TheVariants.{Encode, Decode};
 ghost use Rattle.command_values.specs.declared.answer.Wrong.{Wrong};
 ghost use Rattle.command_values.specs.Answers.{IsAnswered, IsWrong};
 
@@ -18,4 +26,16 @@ pub fn a_line_has_one_answer()
 pub fn a_line_with_an_answer_is_not_refused()
     ensures { (way : Way) (m : Syntax) (id : ℕ) (line text : List ℕ) (wrong : Wrong)
         → IsModule m → IsAnswered way m id line text → IsWrong way m id line wrong → ⊥ }
+{}
+
+/// A text of the printed tree of a value, as `json_of_value` answers it, is JSON of that value: the tree is never too deep to be read.
+pub fn a_printed_text_is_read_again()
+    ensures { (m : Syntax) (id : ℕ) (v : Value) (text : List ℕ) → IsModule m → Has [] (tree m id) v
+        → IsReadAgain text (shown_as (named m id) v) → IsTextOf (named m id) text v }
+{}
+
+/// What octets are decoded to is encoded again as these octets, in upper-case digits.
+pub fn what_is_decoded_is_encoded_again()
+    ensures { (m : Syntax) (id : ℕ) (line text : List ℕ) → IsModule m → IsAnswered Decode m id line text
+        → (octets : List ℕ) × (read_hex line ≡ Some octets) × IsAnswered Encode m id text (hex_of octets) }
 {}

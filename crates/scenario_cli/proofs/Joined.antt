@@ -308,7 +308,7 @@ pub runs_legs : {before after : OutsideAt} (form found : Form) (config : DupConf
 runs_legs {before = before} {after = after} form found config end status e f same meets near complete =
     holds_at form found (Dup config) status (dup_script_status end) e f same (dup_holds config before after end meets near complete)
 
--- ---- with the word `decode`
+-- ---- with the words `encode` and `decode`
 
 values_hold : (job : Job) (before after : OutsideAt) (end : ValuesEnd) → ValuesMeet job before after end
     → StopsAtValue before.source after.source (values_status end) → AnswersWholly job before after (values_status end)
@@ -357,7 +357,7 @@ named {before = before} {after = after} form found way name taken end status is 
     (subst (λ (s : Status). ValuesHold (job_of way taken) before after s) (sym same)
     (values_hold (job_of way taken) before after end meets near wholly)))
 
--- another form is not of this word
+-- another form is none of these words
 abbrev pub IsNone : Form → Type 0
 IsNone form = (way : Way) → form ≡ Values way → ⊥
 

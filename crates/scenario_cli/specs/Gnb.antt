@@ -21,7 +21,7 @@ use Rattle.command_dup.specs.declared.config.DupConfig.{DupConfig}
 use Rattle.command_dup.specs.declared.end.ScriptEnd.{ScriptEnd as DupScriptEnd}
 use Rattle.command_dup.specs.Ends.{script_status as dup_script_status}
 use Rattle.command_dup.specs.Run.{DupMeets}
-use Rattle.command_values.specs.declared.way.Way.TheVariants.{Decode}
+use Rattle.command_values.specs.declared.way.Way.TheVariants.{Encode, Decode}
 use Rattle.command_values.specs.declared.end.ValuesEnd.{ValuesEnd}
 use Rattle.command_values.specs.Ends.{values_status}
 use Rattle.command_values.specs.Values.{Job, job_of, ValuesMeet}
@@ -53,9 +53,11 @@ dup_form_with None quota = forms.Other
 abbrev pub dup_form : List ℕ → List ℕ → Form
 dup_form bits quota = dup_form_with (sn_bits_of bits) (number_of 4 4096 quota)
 
--- the word before the name of a type
+-- the word before the name of a type: `encode` or `decode`
 abbrev pub values_form : List ℕ → Form
-values_form word = if bytes_eq word (codes "decode") then forms.Values Decode else forms.Other
+values_form word =
+    if bytes_eq word (codes "encode") then forms.Values Encode
+    else (if bytes_eq word (codes "decode") then forms.Values Decode else forms.Other)
 
 -- the name of the type
 abbrev pub type_of : List (List ℕ) → List ℕ
@@ -63,7 +65,7 @@ type_of [] = []
 type_of (word ∷ []) = []
 type_of (word ∷ name ∷ words) = name
 
--- the words of a form: one, `profile 2`, `decode TYPE`, `um N T`, or `duplicate N Q`
+-- the words of a form: one, `profile 2`, `encode TYPE`, `decode TYPE`, `um N T`, or `duplicate N Q`
 abbrev pub form_of : List (List ℕ) → Form
 form_of (word ∷ []) = form_of_one word
 form_of (word ∷ number ∷ []) =
@@ -96,7 +98,7 @@ pub record RunsLegs (config : DupConfig) (before after : OutsideAt) (status : St
   pub status_is : status ≡ dup_script_status end
   pub meets : DupMeets config before after end
 
--- with the word `decode`
+-- with the word `encode` or `decode`
 pub record ConvertsValues (job : Job) (before after : OutsideAt) (status : Status) : Type 0 where
   pub end : ValuesEnd
   pub status_is : status ≡ values_status end

@@ -1,12 +1,14 @@
 //! The program: runs a script of events over the units of a split base station, or of one
 //! unacknowledged bearer, or of one bearer with duplication, and prints every message, packet and delivery; or checks an ASN.1 module,
-//! or decodes values of its types.
+//! or encodes and decodes values of its types.
 #![tactic(auto)]
 
 mod plain_words;
 #[cfg(test)]
 mod tests;
 pub mod top;
+#[cfg(test)]
+mod value_rows;
 
 use gnb_base::standard::{StdSink, StdSource};
 use std::env;

@@ -49,6 +49,10 @@ fn value_reason(reason: u16) -> &'static str {
         12 => "the encoding is too long",
         13 => "no addition is there",
         100 => "not hexadecimal digits",
+        101 => "no JSON",
+        102 => "a member is not of the form of its type",
+        103 => "a member is outside the bounds of its type",
+        104 => "its encoding would be too long",
         _ => "not what is awaited there",
     }
 }
@@ -62,7 +66,7 @@ pub fn explain(rt: &impl Eprint, status: Status) -> io::Result<()> {
     } = status;
     match code {
         2 => eprintln!(rt;
-            "gnb: usage: gnb run < SCRIPT, or gnb check < MODULE, or gnb decode TYPE < VALUES, or gnb profile, or gnb profile 2, or gnb um N T < SCRIPT, or gnb duplicate N Q < SCRIPT"
+            "gnb: usage: gnb run < SCRIPT, or gnb check < MODULE, or gnb encode TYPE < VALUES, or gnb decode TYPE < VALUES, or gnb profile, or gnb profile 2, or gnb um N T < SCRIPT, or gnb duplicate N Q < SCRIPT"
         ),
         3 if place == 0 && reason == 3 => eprintln!(rt; "gnb: the module has no type of this name"),
         3 if reason == 20 => eprintln!(rt; "gnb: the module is not the profile, version 1"),

@@ -3,6 +3,7 @@
 ghost use Rattle.std.specs.Prelude.{◌<◌};
 
 use crate::top::gnb;
+use crate::value_rows::VALUES;
 use command_defs::Status;
 use gnb_base::memory::{MemorySink, MemorySource};
 use profile::{PROFILE_TEXT, PROFILE_TEXT_2};
@@ -124,7 +125,7 @@ fn status(code: u8, place: u64, reason: u16) -> Status {
 }
 
 /// The words and the input of a call, the code, the place and the reason of its status, and what it writes.
-type Row = (&'static str, &'static str, (u8, u64, u16), &'static str);
+pub(crate) type Row = (&'static str, &'static str, (u8, u64, u16), &'static str);
 
 /// Scripts that are run, and words that are no form.
 const RUNS: [Row; 15] = [
@@ -245,21 +246,21 @@ const CHECKS: [Row; 12] = [
     ),
 ];
 
-/// Values that are decoded.
-const VALUES: [Row; 11] = [
+/// Lines after a module, and words that are no form.
+const LINES: [Row; 11] = [
     (
         "decode T",
         "module text\nM DEFINITIONS AUTOMATIC TAGS ::= BEGIN\nT ::= BOOLEAN\nEND\n80\n00\n",
         (0, 0, 0),
         "true\nfalse\n",
     ),
-    ("encode T", MODULE, (2, 0, 0), "stop 2 0 0\n"),
+    ("encode", MODULE, (2, 0, 0), "stop 2 0 0\n"),
     ("decode", MODULE, (2, 0, 0), "stop 2 0 0\n"),
     ("decode T T", MODULE, (2, 0, 0), "stop 2 0 0\n"),
     ("decode T", "", (4, 1, 1), "stop 4 1 1\n"),
     ("decode T", MODULE, (0, 0, 0), ""),
     (
-        "decode T",
+        "encode T",
         "module builtin 2\n",
         (3, 0, 3),
         "module 0 0 3\nstop 3 0 3\n",
@@ -334,7 +335,8 @@ fn whole_checks(rt: HostRuntime) {
 }
 
 #[test]
-fn whole_decodings(rt: HostRuntime) {
+fn whole_conversions(rt: HostRuntime) {
+    come_to(&rt, rt.alloc(), &LINES);
     come_to(&rt, rt.alloc(), &VALUES);
 }
 

@@ -54,7 +54,7 @@ pub enum Form {
     Um(UmConfig),
     /// A script of one bearer with duplication is run.
     Dup(DupConfig),
-    /// Values of a type are decoded.
+    /// Values of a type are encoded or decoded.
     Values(Way),
     /// The words are no form.
     Other,
@@ -109,7 +109,9 @@ fn dup_form(bits: &[u8], quota: &[u8]) -> Form
 fn values_form(word: &str) -> Form
     ensures { result ≡ values_form_of word.now }
 {
-    if word == "decode" {
+    if word == "encode" {
+        Form::Values(Way::Encode)
+    } else if word == "decode" {
         Form::Values(Way::Decode)
     } else {
         Form::Other
@@ -204,7 +206,7 @@ pub fn gnb<S: Source, K: Sink>(
     ensures near_leg_event { (config : Legs) → form_of_words (map string_bytes words.now) ≡ Form.Dup config
         → StopsAtDupEvent (S.at input.old) (S.at input.new) result }
 
-    // Lines after a module are decoded as values of the type that the second word names.
+    // Lines after a module are encoded, or decoded, as values of the type that the second word names.
     // Each line of a whole input is answered, and a stop at one is near it too.
     ensures values { (way : Direction) → form_of_words (map string_bytes words.now) ≡ Form.Values way
         → ConvertsValues (job_of way (type_of (map string_bytes words.now)))

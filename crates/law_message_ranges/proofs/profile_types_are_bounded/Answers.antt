@@ -1,7 +1,7 @@
 use Rattle.std.proofs.Common.{refl}
 use Rattle.profile_defs.specs.Forms.{tree, parts, rows, procedures, outcome_tree}
 use Rattle.profile_defs.specs.Profile.{f1_type, e1_type, xn_type, core_type, token_type}
-use Rattle.law_message_ranges.proofs.Bounded.{test, parts_test, rows_test, procedures_test, outcome_test, bounded}
+use Rattle.aper_proof_octets.proofs.Bounded.{test, parts_test, rows_test, procedures_test, outcome_test, bounded}
 use Rattle.law_message_ranges.proofs.profile_types_are_bounded.Goals as goal
 
 pub returns : goal.returns

@@ -1,7 +1,7 @@
 use Rattle.std.proofs.Common.{refl}
 use Rattle.unit_octet_defs.specs.Codec.{Codec}
 use Rattle.law_codecs.proofs.Lawful.{lawful, reads_items, reads_pdus}
-use Rattle.law_read_ranges.proofs.Heard.{codec_in_range}
+use Rattle.message_proof_codec.proofs.Heard.{codec_in_range}
 use Rattle.law_read_ranges.proofs.codecs_of_octets_read_links.Goals as goal
 
 abbrev with_links : Codec → Codec

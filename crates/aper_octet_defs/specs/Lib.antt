@@ -1,0 +1,3 @@
+pub mod SameValues
+pub mod Octets
+pub use Rattle.aper_defs.specs as aper_defs

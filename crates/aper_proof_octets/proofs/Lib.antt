@@ -1,0 +1,4 @@
+pub mod SameValues
+pub mod Octets
+pub mod Spelled
+pub mod Bounded

@@ -1,0 +1,2 @@
+pub mod Promise
+pub use Rattle.law_octet_steady.specs as law_octet_steady

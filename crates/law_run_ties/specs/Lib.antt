@@ -1,0 +1,2 @@
+pub mod Worked
+pub use Rattle.law_tie_facts.specs as law_tie_facts

@@ -1,0 +1,4 @@
+pub mod Pdus
+pub mod Shells
+pub mod Items
+pub mod Lawful

@@ -1,0 +1,3 @@
+pub mod Shells
+pub mod Pdus
+pub mod Items

@@ -1,0 +1,61 @@
+-- The codec of version 1 of the profile: the octets of a message, and the message that octets say (ITU-T X.691; TS 38.473, 37.483, 38.423).
+-- On links it reads what their layouts say (TS 29.281, TS 38.425, TS 38.323).
+use Rattle.std.specs.Prelude.{List, ℕ, Option, Some, None, Result, Ok, Err}
+use Rattle.unit_octet_defs.specs.unit_defs.gnb_types.declared.names.NodeId.{NodeId}
+use Rattle.unit_octet_defs.specs.unit_defs.gnb_types.declared.names.NodeId.TheVariants.{CuCp, CuUp, Du, Core, Ue}
+use Rattle.unit_octet_defs.specs.unit_defs.gnb_types.declared.reasons.DropReason.{DropReason}
+use Rattle.unit_octet_defs.specs.unit_defs.gnb_types.declared.reasons.DropReason.TheVariants.{Unexpected}
+use Rattle.unit_octet_defs.specs.unit_defs.message_types.declared.rrc.Token.{Token}
+use Rattle.unit_octet_defs.specs.unit_defs.Ways.{Message, f1, e1, xn, core, rrc}
+use Rattle.unit_octet_defs.specs.Codec.{Codec}
+use Rattle.aper_octet_defs.specs.Octets.{spelled_as}
+use Rattle.message_defs.specs.profile_defs.Profile.{f1_type, e1_type, xn_type, core_type, token_type}
+use Rattle.message_defs.specs.F1.{written_f1, heard_f1}
+use Rattle.message_defs.specs.E1.{written_e1, heard_e1}
+use Rattle.message_defs.specs.Xn.{written_xn, heard_xn}
+use Rattle.message_defs.specs.Core.{written_core, heard_core}
+use Rattle.message_defs.specs.Tokens.{written_token, heard_token}
+use Rattle.message_octets.specs.Reading.{read_as}
+use Rattle.link_read_defs.specs.Items.{item_on}
+use Rattle.link_read_defs.specs.Pdus.{pdu_on}
+use Rattle.message_codec_defs.specs.Ranges.{within_ranges}
+
+-- ---- writing: the one spelling of what is written for a message, and none where it has no spelling
+abbrev pub octets_of_message : Message (List ℕ) → List ℕ
+octets_of_message (f1 message) = spelled_as f1_type (written_f1 message)
+octets_of_message (e1 message) = spelled_as e1_type (written_e1 message)
+octets_of_message (xn message) = spelled_as (xn_type 1) (written_xn message)
+octets_of_message (core message) = spelled_as core_type (written_core message)
+octets_of_message (rrc token) = spelled_as token_type (written_token token)
+
+-- ---- reading, by the interface between two nodes
+abbrev pub answered : {M : Type 0} → (M → Message (List ℕ)) → Result M DropReason
+    → Result (Message (List ℕ)) DropReason
+answered as_message (Ok message) = Ok (as_message message)
+answered as_message (Err reason) = Err reason
+
+abbrev pub read_between : NodeId → NodeId → List ℕ → Result (Message (List ℕ)) DropReason
+read_between (CuCp g) (Du h n) octets = answered f1 (read_as f1_type heard_f1 octets)
+read_between (Du h n) (CuCp g) octets = answered f1 (read_as f1_type heard_f1 octets)
+read_between (CuCp g) (CuUp h n) octets = answered e1 (read_as e1_type heard_e1 octets)
+read_between (CuUp h n) (CuCp g) octets = answered e1 (read_as e1_type heard_e1 octets)
+read_between (CuCp g) (CuCp h) octets = answered xn (read_as (xn_type 1) heard_xn octets)
+read_between (CuCp g) Core octets = answered core (read_as core_type heard_core octets)
+read_between Core (CuCp g) octets = answered core (read_as core_type heard_core octets)
+read_between (Ue u) (Du h n) octets = answered rrc (read_as token_type heard_token octets)
+read_between (Du h n) (Ue u) octets = answered rrc (read_as token_type heard_token octets)
+read_between from to octets = Err Unexpected
+
+abbrev pub token_of : Result Token DropReason → Option Token
+token_of (Ok token) = Some token
+token_of (Err reason) = None
+
+-- ---- the codec
+abbrev pub profile_codec : Codec
+profile_codec = record {
+  spell = octets_of_message;
+  read = λ from to octets. within_ranges (read_between from to octets);
+  read_token = λ octets. token_of (read_as token_type heard_token octets);
+  read_item = item_on;
+  read_pdu = pdu_on;
+}

@@ -1,0 +1,7 @@
+pub mod Fields
+pub mod Elements
+pub mod Heard
+pub mod Ranges
+pub mod Kept
+pub mod Lawful
+pub mod Spelled

@@ -1,0 +1,1 @@
+pub use Rattle.message_codec_defs.specs as message_codec_defs

@@ -1,0 +1,8 @@
+use Rattle.std.proofs.Common.{Result, subst}
+use Rattle.aper_values.specs.declared.value.Value.{Value}
+use Rattle.json_simple.specs.declared.refusal.Refusal.{Refusal}
+use Rattle.json_wholes.specs.Reads.{ReadsAs}
+use Rattle.values_json.proofs.reading.answered.Goals as goal
+
+pub returns-in-Err : goal.returns-in-Err
+returns-in-Err c = λ of v h. c.refused.ensures of (subst (λ (r : Result Value Refusal). ReadsAs of v r) c.in-Err.is h)

@@ -1,0 +1,2 @@
+-- Internal: what ties the steps from a text to a value together.
+pub mod Answered
