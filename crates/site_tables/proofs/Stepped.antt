@@ -145,7 +145,7 @@ module _ (plan : Plan) (downlink : ℕ) (old new there : Users) where
       → IfErr result (λ error. error ≡ places.Step errors.Memory) → PlacesUser plan downlink old new result
   kept_placed (Ok done) (u, works, placed, back) put fails = (u, works, placed, put ∙ back)
   kept_placed (Err error) (u, works, placed, back) put fails =
-      let full : PlacesUser plan downlink old new (Err (places.Step errors.Memory)) = tt in
+      let full : PlacesUser plan downlink old new (Err (places.Step errors.Memory)) = (placed.0, tt) in
       subst (λ (e : PlaceError). PlacesUser plan downlink old new (Err e)) (sym fails) full
 
 module _ (plan : Plan) (uplink : ℕ) (old new there : Nodes) where

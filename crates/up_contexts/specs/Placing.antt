@@ -22,9 +22,9 @@ IsPut r plan downlink after (Ok x) = (may_place r plan downlink ≡ true) × (af
 IsPut r plan downlink after (Err (steps.Spent counter)) = (may_place r plan downlink ≡ false) × (counter ≡ teids_spent)
 IsPut r plan downlink after (Err steps.Memory) = Unit {0}
 
--- the terminal is placed where there are blocks, and all TEIDs are left and fit; without blocks nothing changes; else the counter of
--- TEIDs is spent; out of memory nothing is said
+-- the terminal is placed where there are blocks, and all TEIDs are left and fit; without blocks nothing changes; with them, where a TEID
+-- isn't left or doesn't fit, their counter is spent; out of memory nothing is said of what is kept
 abbrev pub IsPlaced : OctetUp → Plan → ℕ → OctetUp → Result (Unit {0}) PlaceError → Type 0
 IsPlaced r plan downlink after (Ok x) = (up_has_room r plan ≡ true) × IsPut r plan downlink after (Ok x)
 IsPlaced r plan downlink after (Err errors.NoQuota) = (up_has_room r plan ≡ false) × (after ≡ r)
-IsPlaced r plan downlink after (Err (errors.Step error)) = IsPut r plan downlink after (Err error)
+IsPlaced r plan downlink after (Err (errors.Step error)) = (up_has_room r plan ≡ true) × IsPut r plan downlink after (Err error)

@@ -9,3 +9,7 @@ returns-then-not-fits c = λ r gnb_is. (room_is r c.args.self.now c.args.plan fa
 pub returns-in-Ok : goal.returns-in-Ok
 returns-in-Ok c = λ r gnb_is.
     (room_is r c.args.self.now c.args.plan true (sym c.if-not-fits.false ∙ c.fits.ensures any_codec r), c.in-Ok.ensures r gnb_is)
+
+pub returns-in-Err : goal.returns-in-Err
+returns-in-Err c = λ r gnb_is.
+    (room_is r c.args.self.now c.args.plan true (sym c.if-not-fits.false ∙ c.fits.ensures any_codec r), c.in-Err.ensures r gnb_is)

@@ -1,0 +1,6 @@
+mod Each
+mod Sets
+mod Marks
+mod Others
+mod Placing
+mod Ready

@@ -1,0 +1,4 @@
+pub mod Each
+pub mod Sites
+pub mod Placing
+pub mod Laws

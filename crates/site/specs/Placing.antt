@@ -1,0 +1,34 @@
+-- Internal: a terminal that is set up without messages, at the units beside its CU-UP.
+use Rattle.std.specs.Prelude.{◌≡◌, ℕ, true, false, Result, Ok, Err}
+use Rattle.gnb_types.specs.declared.names.Gnb.{Gnb}
+use Rattle.gnb_types.specs.declared.names.Gnb.TheVariants.{A, B}
+use Rattle.gnb_types.specs.declared.plans.Plan.{Plan}
+use Rattle.run_defs.specs.unit_defs.Static.{cp_placed, du_placed}
+use Rattle.run_defs.specs.unit_defs.Ue.{new_ue, placed}
+use Rattle.run_defs.specs.unit_defs.Ways.{teids_spent}
+use Rattle.run_defs.specs.Units.{cp_of, with_cp, du_of, with_du, with_ue}
+use Rattle.run_defs.specs.Conditions.{all_set_up}
+use Rattle.run_defs.specs.UnitRuns.{Records}
+use Rattle.unit_steps.specs.declared.StepError.{StepError}
+use Rattle.unit_steps.specs.declared.StepError.TheVariants as errors
+use Rattle.du_contexts.specs.Placing.{may_place}
+use Rattle.site.specs.declared.unit_set.UnitSet.{UnitSet}
+use Rattle.site_tables.specs.Nodes.{node_at}
+use Rattle.site.specs.Sites.{records_of, AreWorking}
+
+abbrev pub control_placed : Plan → Gnb → UnitSet → UnitSet
+control_placed plan A s = record s { cp_a = record s.cp_a { kept = cp_placed s.cp_a.kept plan } }
+control_placed plan B s = record s { cp_b = record s.cp_b { kept = cp_placed s.cp_b.kept plan } }
+
+abbrev pub placed_beside : Plan → ℕ → Records → Records
+placed_beside plan uplink r =
+    with_cp (with_du (with_ue r plan.ue (placed (new_ue plan))) plan.gnb plan.du (du_placed (du_of r plan.gnb plan.du) plan uplink)) plan.gnb
+    (cp_placed (cp_of r plan.gnb) plan)
+
+abbrev pub PlacesOthers : Plan → ℕ → UnitSet → UnitSet → Result (Unit {0}) StepError → Type 0
+PlacesOthers plan uplink old new (Ok done) =
+    (may_place (node_at old.nodes plan.gnb plan.du).du plan uplink ≡ true)
+    × (records_of new ≡ all_set_up (placed_beside plan uplink (records_of old))) × AreWorking new
+PlacesOthers plan uplink old new (Err (errors.Spent counter)) =
+    (may_place (node_at old.nodes plan.gnb plan.du).du plan uplink ≡ false) × (counter ≡ teids_spent)
+PlacesOthers plan uplink old new (Err errors.Memory) = Unit {0}
