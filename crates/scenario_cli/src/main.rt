@@ -11,6 +11,7 @@ pub mod top;
 mod value_rows;
 
 use gnb_base::standard::{StdSink, StdSource};
+use site::Site;
 use std::env;
 use std::io::ErrorKind;
 use std::process::ExitCode;
@@ -33,7 +34,13 @@ fn main(rt: HostRuntime) -> ExitCode {
     }
     let mut input = StdSource::new(rt.stdin());
     let mut output = StdSink::new(rt.stdout());
-    let status = top::gnb(alloc, words.as_slice(), &mut input, &mut output);
+    let status = top::gnb(
+        alloc,
+        words.as_slice(),
+        &mut input,
+        &mut output,
+        Site::new(),
+    );
     let _ = plain_words::explain(&rt, status);
     ExitCode::from(status.code)
 }

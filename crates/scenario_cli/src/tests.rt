@@ -7,6 +7,7 @@ use crate::value_rows::VALUES;
 use command_defs::Status;
 use gnb_base::memory::{MemorySink, MemorySource};
 use profile::{PROFILE_TEXT, PROFILE_TEXT_2};
+use site::Site;
 use std::alloc::{AllocError, Global};
 use std::cmp::min;
 use std::process::Abort;
@@ -97,7 +98,7 @@ fn answer_of(
     source: &mut MemorySource,
     sink: &mut MemorySink,
 ) -> Result<Answer, AllocError> {
-    let status = gnb(alloc, words, source, sink);
+    let status = gnb(alloc, words, source, sink, Site::new());
     let held = Vec::from_slice(alloc, sink.bytes_held())?;
     Ok((status, held, sink.calls()))
 }
@@ -198,6 +199,28 @@ const BEARERS: [Row; 15] = [
     ("duplicate 12", TWO_LEGS, (2, 0, 0), "stop 2 0 0\n"),
     ("duplicate 12 3", TWO_LEGS, (2, 0, 0), "stop 2 0 0\n"),
     ("duplicate 12 4097", TWO_LEGS, (2, 0, 0), "stop 2 0 0\n"),
+];
+
+/// Scripts that are made.
+const GENERATED: [Row; 8] = [
+    (
+        "generate 1",
+        SCRIPT,
+        (0, 0, 0),
+        "generated 1 delivered 1 returns 0 events 8 quiet 1\n",
+    ),
+    (
+        "generate 100",
+        SCRIPT,
+        (0, 0, 0),
+        "generated 100 delivered 100 returns 1 events 611 quiet 1\n",
+    ),
+    ("generate", SCRIPT, (2, 0, 0), "stop 2 0 0\n"),
+    ("generate 0", SCRIPT, (2, 0, 0), "stop 2 0 0\n"),
+    ("generate 01", SCRIPT, (2, 0, 0), "stop 2 0 0\n"),
+    ("generate +1", SCRIPT, (2, 0, 0), "stop 2 0 0\n"),
+    ("generate 100001", SCRIPT, (2, 0, 0), "stop 2 0 0\n"),
+    ("generate 1 1", SCRIPT, (2, 0, 0), "stop 2 0 0\n"),
 ];
 
 /// Modules that are checked.
@@ -330,6 +353,11 @@ fn whole_runs_of_a_bearer(rt: HostRuntime) {
 }
 
 #[test]
+fn generated_runs(rt: HostRuntime) {
+    come_to(&rt, rt.alloc(), &GENERATED);
+}
+
+#[test]
 fn whole_checks(rt: HostRuntime) {
     come_to(&rt, rt.alloc(), &CHECKS);
 }
@@ -361,6 +389,14 @@ fn profile_texts(rt: HostRuntime) {
     assert!(rt; writes_text(rt.alloc(), "profile", &[], 0, PROFILE_TEXT));
     assert!(rt; writes_text(rt.alloc(), "profile 2", &[], 0, PROFILE_TEXT_2));
     assert!(rt; writes_text(rt.alloc(), "profile", &[2], 7, &PROFILE_TEXT[..4096]));
+}
+
+/// Of a generated script nothing is read, and nothing stands where its one write fails.
+#[test]
+fn one_line(rt: HostRuntime) {
+    let text = b"generated 2 delivered 2 returns 0 events 14 quiet 1\n";
+    assert!(rt; writes_text(rt.alloc(), "generate 2", &[], 0, text));
+    assert!(rt; writes_text(rt.alloc(), "generate 2", &[1], 7, b""));
 }
 
 /// A script of one event with this text as its module.
