@@ -11,8 +11,8 @@ use Rattle.plain_defs.specs.Plain.{IsPlain, KeepRange}
 use Rattle.law_wires.proofs.Runs.{wires}
 use Rattle.law_octet_downlink.proofs.Runs.{nothing_is_read, promised}
 use Rattle.command_defs.specs.Outside.{OutsideAt}
-use Rattle.command_world.specs.Run.{Setting, IsScript, IsDone, run_of, RunMeets}
-use Rattle.command_world.specs.declared.end.RunEnd.TheVariants.{Done}
+use Rattle.command_run.specs.Run.{Setting, IsScript, IsDone, run_of, RunMeets}
+use Rattle.command_run.specs.declared.end.RunEnd.TheVariants.{Done}
 use Rattle.law_promise.specs.Written.{WritesOne}
 use Rattle.law_promise.proofs.Ranges.{read_in_range}
 

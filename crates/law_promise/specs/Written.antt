@@ -7,8 +7,8 @@ use Rattle.scenario_text.specs.declared.event.Event.{Event}
 use Rattle.run_defs.specs.Said.{all_lines, Wires}
 use Rattle.command_defs.specs.Outside.{OutsideAt}
 use Rattle.command_defs.specs.Output.{Prints}
-use Rattle.command_world.specs.Run.{Setting, IsScript, run_of, GoesOn, run_text, text_to}
-use Rattle.command_world.specs.declared.end.RunEnd.TheVariants.{Done}
+use Rattle.command_run.specs.Run.{Setting, IsScript, run_of, GoesOn, run_text, text_to}
+use Rattle.command_run.specs.declared.end.RunEnd.TheVariants.{Done}
 use Rattle.law_octet_downlink.specs.law_octet_steady.law_octet_facts.Ranges.{IsDown}
 use Rattle.law_octet_downlink.specs.Promise.{KeepsPromise}
 

@@ -3,8 +3,8 @@
 
 ghost use Rattle.codec_defs.specs.Reading.{ReadsItems, ReadsPdus};
 ghost use Rattle.command_defs.specs.Outside.{OutsideAt};
-ghost use Rattle.command_world.specs.Run.{RunMeets, setting_of};
-ghost use Rattle.command_world.specs.declared.end.RunEnd.TheVariants.{Done};
+ghost use Rattle.command_run.specs.Run.{RunMeets, setting_of};
+ghost use Rattle.command_run.specs.declared.end.RunEnd.TheVariants.{Done};
 ghost use Rattle.law_promise.specs.Written.{WritesOne};
 ghost use Rattle.message_codec_defs.specs.Codecs.{profile_codec};
 ghost use Rattle.plain_defs.specs.Plain.{IsPlain, KeepRange};

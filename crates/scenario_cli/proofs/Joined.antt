@@ -12,13 +12,13 @@ use Rattle.command_defs.specs.Outside.{OutsideAt, outside, ReadsTo, AllRead, Rea
 use Rattle.command_defs.specs.Statuses.{usage_status, common_status, stop_line}
 use Rattle.command_output.specs.Writes.{WritesAll, WritesLines}
 use Rattle.command_output.proofs.Written.{none_failed}
-use Rattle.command_world.specs.declared.end.RunEnd.{RunEnd}
-use Rattle.command_world.specs.declared.end.RunEnd.TheVariants.{Common}
-use Rattle.command_world.specs.Ends.{run_status, StopsAtEvent as StopsAtStep}
-use Rattle.command_world.specs.Run.{Setting, run_of, RunMeets}
-use Rattle.command_world.specs.Whole.{RunsWholly}
-use Rattle.command_world.proofs.Finished.{out_of_memory}
-use Rattle.command_world.proofs.Whole.{complete, near}
+use Rattle.command_run.specs.declared.end.RunEnd.{RunEnd}
+use Rattle.command_run.specs.declared.end.RunEnd.TheVariants.{Common}
+use Rattle.command_run.specs.Ends.{run_status, StopsAtEvent as StopsAtStep}
+use Rattle.command_run.specs.Run.{Setting, run_of, RunMeets}
+use Rattle.command_run.specs.Whole.{RunsWholly}
+use Rattle.command_run.proofs.Finished.{out_of_memory}
+use Rattle.command_run.proofs.Whole.{complete, near}
 use Rattle.run_defs.specs.Runs.{Transcript}
 use Rattle.command_generate.specs.declared.end.GenerateEnd.{GenerateEnd}
 use Rattle.command_generate.specs.declared.end.GenerateEnd.TheVariants as ends

@@ -4,9 +4,9 @@ use Rattle.std.specs.Str.{bytes_eq}
 use Rattle.command_defs.specs.declared.Status.{Status}
 use Rattle.command_defs.specs.Ends.{UsageMeets}
 use Rattle.command_defs.specs.Outside.{OutsideAt}
-use Rattle.command_world.specs.declared.end.RunEnd.{RunEnd}
-use Rattle.command_world.specs.Ends.{run_status}
-use Rattle.command_world.specs.Run.{Setting, run_of, RunMeets}
+use Rattle.command_run.specs.declared.end.RunEnd.{RunEnd}
+use Rattle.command_run.specs.Ends.{run_status}
+use Rattle.command_run.specs.Run.{Setting, run_of, RunMeets}
 use Rattle.command_generate.specs.Script.{script}
 use Rattle.command_generate.specs.Generate.{GenerateMeets}
 use Rattle.command_check.specs.declared.end.CheckEnd.{CheckEnd}

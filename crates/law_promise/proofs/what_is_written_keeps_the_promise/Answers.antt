@@ -1,4 +1,4 @@
-use Rattle.command_world.specs.Run.{setting_of}
+use Rattle.command_run.specs.Run.{setting_of}
 use Rattle.law_promise.proofs.Promise.{done_writes}
 use Rattle.law_promise.proofs.what_is_written_keeps_the_promise.Goals as goal
 

@@ -1,9 +1,9 @@
 -- Internal: all that is promised of a script that is run over units.
 use Rattle.command_defs.specs.declared.Status.{Status}
 use Rattle.command_defs.specs.Outside.{OutsideAt}
-use Rattle.command_world.specs.Ends.{StopsAtEvent}
-use Rattle.command_world.specs.Run.{Setting}
-use Rattle.command_world.specs.Whole.{RunsWholly}
+use Rattle.command_run.specs.Ends.{StopsAtEvent}
+use Rattle.command_run.specs.Run.{Setting}
+use Rattle.command_run.specs.Whole.{RunsWholly}
 use Rattle.scenario_cli.specs.Gnb.{RunsScript}
 
 pub record RunsOver (setting : Setting) (before after : OutsideAt) (status : Status) : Type 0 where
