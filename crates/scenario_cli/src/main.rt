@@ -3,6 +3,8 @@
 //! or encodes and decodes values of its types.
 #![tactic(auto)]
 
+#[cfg(test)]
+mod failing_runs;
 mod plain_words;
 #[cfg(test)]
 mod tests;
