@@ -1,6 +1,6 @@
 //! A place in octets, with the open types around it.
 
-ghost use Rattle.std.specs.Prelude.{◌≡◌, ◌+◌, ◌*◌, ◌%◌, ◌==◌, ◌<◌, ◌≤◌, ◌^◌, ◌++◌, length, replicate, None, OnOk};
+ghost use Rattle.std.specs.Prelude.{◌≡◌, ◌+◌, ◌*◌, ◌%◌, ◌==◌, ◌<◌, ◌≤◌, ◌^◌, ◌++◌, ◌∷◌, length, map, replicate, reverse, None, IfOk, OnOk};
 ghost use Rattle.bits_core.specs.Bits.{pad_of, numbers_at};
 ghost use Rattle.aper_defs.specs.Fields.{opening, closing, end};
 ghost use Rattle.aper_defs.specs.Reading.{at_first, bits_at, start_of, ends_at, told_width, asked_width, passes, moved_by};
@@ -8,7 +8,6 @@ ghost use Rattle.aper_cursor.specs.Questions.{question_of, unit_of, IsAskable};
 ghost use Rattle.aper_cursor.specs.Answers.{Answers, AnswersOrMemory, ReadsRun};
 ghost use Rattle.aper_cursor.specs.inside.Places.{Looks, entered, left_open};
 ghost use Rattle.aper_cursor.specs.Spans.{span_view};
-ghost use Rattle.std.specs.Prelude.{◌∷◌, map, reverse, IfOk};
 
 use crate::error::Unanswered;
 use crate::lengths::Extent;
@@ -91,14 +90,14 @@ impl<'a> Cursor<'a> {
             opens: Vec::new(alloc),
         };
         for span in spans {
-            cursor.surround(span)?;
+            cursor.surround(*span)?;
         }
         Ok(cursor)
     }
 
     /// Puts an open type around it, inside all others.
-    fn surround(&mut self, span: &Span) -> Result<(), Memory>
-        ensures { OnOk result (self.new ≡ record { octets = self.old.octets; place = self.old.place; opens = span_view span.now ∷ self.old.opens }) }
+    fn surround(&mut self, span: Span) -> Result<(), Memory>
+        ensures { OnOk result (self.new ≡ record { octets = self.old.octets; place = self.old.place; opens = span_view span ∷ self.old.opens }) }
     {
         self.opens.push(OpenType {
             start: span.start,
@@ -330,13 +329,10 @@ impl<'a> Cursor<'a> {
         ensures { OnOk result (self.new ≡ entered length self.old) }
     {
         let finish = self.place + 8 * length;
-        self.opens.push(OpenType {
+        self.surround(Span {
             start: self.place,
             finish,
-            around: self.nearest,
-        })?;
-        self.nearest = finish.min(self.nearest);
-        Ok(())
+        })
     }
 
     /// Leaves the innermost open type.
