@@ -6,25 +6,17 @@ use Rattle.scenario_text.specs.declared.line.OutLine.{OutLine}
 use Rattle.scenario_text.specs.declared.line.OutLine.TheVariants as lines
 use Rattle.scenario_text.specs.Print.{◌then◌, print}
 use Rattle.command_defs.specs.declared.Status.{Status}
-use Rattle.command_defs.specs.Statuses.{done_status, module_status, fault_line, line_status, common_status, stop_line, common_last_lines}
+use Rattle.command_defs.specs.Statuses.{done_status, module_status, fault_line, line_status, outstanding_status, spent_status, common_status, stop_line, common_last_lines}
 use Rattle.command_defs.specs.declared.CommonEnd.TheVariants.{Memory}
 use Rattle.world_steps.specs.declared.cause.Cause.{Cause}
 use Rattle.world_steps.specs.declared.cause.Cause.TheVariants as causes
 use Rattle.command_run.specs.declared.end.RunEnd.{RunEnd}
-use Rattle.run_links.specs.declared.spans.Outstanding.{Outstanding as Span}
+use Rattle.run_links.specs.Told.{outstanding_line}
 use Rattle.command_run.specs.declared.end.RunEnd.TheVariants.{Done, NoModule, Differs, Script, Outstanding, Spent, Common}
 
 -- a module isn't the profile's
 abbrev pub differs_status : Status
 differs_status = record { code = 3; place = 0; reason = 20 }
-
--- after a step of the event at this line the COUNTs of a bearer span more than half the space of its numbers
-abbrev pub outstanding_status : ℕ → Status
-outstanding_status place = record { code = 5; place = place; reason = 0 }
-
--- in a step of the event at this line a counter would pass its last value
-abbrev pub spent_status : ℕ → ℕ → Status
-spent_status place counter = record { code = 10; place = place; reason = counter }
 
 abbrev pub run_status : RunEnd → Status
 run_status (Done events) = done_status
@@ -38,10 +30,6 @@ run_status (Common end) = common_status end
 -- `differs NAME`
 abbrev pub differs_line : List ℕ → List ℕ
 differs_line name = codes "differs" then name ++ 10 ∷ []
-
--- `outstanding uU bB DIR SPAN W`
-abbrev pub outstanding_line : Span → OutLine
-outstanding_line o = lines.Outstanding o.key.ue o.key.bearer o.key.dir o.span o.window
 
 -- what is wrong with the module, its first fault or the first name by which it differs; or which bearer is outstanding
 abbrev pub report_of : RunEnd → List ℕ

@@ -4,7 +4,7 @@ ghost use Rattle.std.specs.Prelude.{◌≡◌, ◌∷◌, [], IfOk};
 ghost use Rattle.scenario_text.specs.Print.{print};
 ghost use Rattle.std.specs.Option.{option_to_list};
 ghost use Rattle.command_defs.specs.Ends.{end_of_input as common_end_of};
-ghost use Rattle.command_run.specs.Ends.{run_status, differs_line, report_of as report_text, run_last_lines, outstanding_line, end_at as end_of_run};
+ghost use Rattle.command_run.specs.Ends.{run_status, differs_line, report_of as report_text, run_last_lines, end_at as end_of_run};
 ghost use Rattle.command_run.specs.inside.Stops.{end_of_stop};
 ghost use Rattle.command_run.specs.declared.end.RunEnd.TheVariants.{Common as CommonRunEnd};
 
@@ -14,7 +14,6 @@ use command_output::{
     common_last_line, common_status, end_of_input, fault_text, line_status, module_status,
     stop_line, text_of,
 };
-use gnb_types::keys::EntityKey;
 use gnb_types::octets::{Memory, Octets};
 use input_defs::InputEnd;
 use input_module::ModuleStop;
@@ -109,23 +108,6 @@ pub(crate) fn end_at(place: u64, cause: Cause) -> RunEnd
     }
 }
 
-/// The line of a bearer that is outstanding.
-fn outstanding_text(alloc: Global, outstanding: Outstanding) -> Result<Octets, Memory>
-    ensures { IfOk result (λ text. text ≡ print (outstanding_line outstanding ∷ [])) }
-{
-    let EntityKey { ue, bearer, dir } = outstanding.key;
-    let lines = [OutLine::Outstanding {
-        ue,
-        bearer,
-        dir,
-        span: outstanding.span,
-        window: outstanding.window,
-    }];
-    let text = text_of(alloc, &lines);
-    drop(lines);
-    text
-}
-
 /// The line of a module that isn't the profile's.
 fn differs_text(alloc: Global, name: &Octets) -> Result<Octets, Memory>
     ensures { IfOk result (λ text. text ≡ differs_line name.now) }
@@ -180,7 +162,7 @@ impl RunEnd {
                 reason,
             } => fault_text(alloc, *line, *column, *reason),
             RunEnd::Differs { name } => differs_text(alloc, name),
-            RunEnd::Outstanding { outstanding, .. } => outstanding_text(alloc, *outstanding),
+            RunEnd::Outstanding { outstanding, .. } => text_of(alloc, &[outstanding.line()]),
             RunEnd::Done { .. }
             | RunEnd::Script { .. }
             | RunEnd::Spent { .. }

@@ -8,6 +8,6 @@ use Rattle.law_promise.proofs.Promise.{done_writes}
 use Rattle.law_promise.proofs.what_the_product_writes_keeps_the_promise.Goals as goal
 
 pub returns : goal.returns
-returns g = λ before after count meets.
+returns g = λ before after end zero meets.
     done_writes (setting_of profile_codec (tables profile_codec)) items_are_read pdus_are_read ArePlanned (tables_keep profile_codec)
-    (tables_plain profile_codec) before after count meets
+    (tables_plain profile_codec) before after end zero meets
