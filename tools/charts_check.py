@@ -27,9 +27,8 @@ SVG = "{http://www.w3.org/2000/svg}"
 PICTURES = stories.TOOLS.parent / "docs/pictures"
 # the pictures of docs: the story, its range of events, and the title
 DRAWN = {
-    "handover-between-dus": (None, "A terminal moves from one DU of gNB A to the other one"),
-    "handover-between-gnbs": (None, "A terminal moves from gNB A to gNB B"),
-    "lost-on-f1-u": (None, "A frame is lost on F1-U downlink and put again"),
+    "handover-with-data-in-flight": (None, "An Xn handover with data in flight"),
+    "lost-on-f1-u": (None, "A frame is lost on F1-U downlink, and its repair"),
 }
 # a longer chart is made, but not drawn here: that would take seconds
 DRAWN_ROWS = 1000
