@@ -7,7 +7,6 @@ Nothing here is a proof.
 Usage: tools/walkthrough_check.py
 """
 
-import re
 import sys
 
 import stories
@@ -18,8 +17,13 @@ STORY = stories.EXAMPLES / "handover-with-data-in-flight.out"
 
 def quoted(page):
     """The lines of a page's blocks without a language that aren't indented."""
-    blocks = re.findall(r"^```\n(.*?)^```$", page, re.DOTALL | re.MULTILINE)
-    return [line for block in blocks for line in block.splitlines() if not line.startswith("    ")]
+    found, block = [], None
+    for line in page.splitlines():
+        if line.startswith("```"):
+            block = line if block is None else None
+        elif block == "```" and not line.startswith("    "):
+            found.append(line)
+    return found
 
 
 def main():
