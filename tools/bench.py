@@ -2,7 +2,7 @@
 """Measures the words of the program at two sizes each: processor time, its ratio between the sizes, and peak memory; beside it what writing the same bytes alone takes,
 another reading of the specification where one is here, and Erlang's asn1 where it is installed. A word that the program doesn't have yet is said so.
 
-`run` is measured on scripts of one static downlink bearer, `generate` on its number, `encode` on so many values of a module of plain types, and `decode` on what `encode` printed.
+`run` is measured on scripts of one static downlink bearer whose packets are confirmed, `generate` on its number, `encode` on so many values of a module of plain types, and `decode` on what `encode` printed.
 Of Erlang the calls alone are measured: it reads no JSON and prints nothing.
 
 Nothing here is proved, and a measurement is one of this machine at this time: other work on it shows.
@@ -33,8 +33,8 @@ END
 ERLANG = pathlib.Path(__file__).resolve().with_name("bench_asn1.escript")
 USAGE = 2
 MEBIBYTE = 1024  # in KiB
-# so many packets can be numbered with 12 bits while none is confirmed
-LARGEST = 2047
+# the largest number of `generate`; the script of so many packets is no longer than 16 MiB
+LARGEST = 100_000
 
 
 class Unmeasured(Exception):
@@ -75,10 +75,10 @@ def measure(command, given, taken):
 
 
 def script(packets):
-    """A script of so many packets, each taken to the terminal: the events that the program runs today."""
+    """A script of so many packets, each taken to the terminal and confirmed to the CU-UP."""
     lines = ["module builtin", "static u1 A 1 1 12 1 4096"]
     for number in range(packets):
-        lines += [f"offer u1 b1 dl {number:08X}", "get A.up1/1", "get A.du1/1", "air u1 b1 dl"]
+        lines += [f"offer u1 b1 dl {number:08X}", "get A.up1/1", "get A.du1/1", "air u1 b1 dl", "ack u1 b1 dl", "get A.up1/2"]
     return lines
 
 

@@ -52,7 +52,7 @@ def check_wrong(folder):
     said = f"bench: '{folder / 'none'}' is no program that can be run; ./gnb builds the one that is measured\n"
     assert (ran.returncode, ran.stdout, ran.stderr) == (2, "", said), ran.stderr
     ran = stories.run_tool("bench", "--small", "5", "--large", "5")
-    assert ran.returncode == 2 and "from 1 to 2047, the smaller one first" in ran.stderr, ran.stderr
+    assert ran.returncode == 2 and "from 1 to 100000, the smaller one first" in ran.stderr, ran.stderr
 
 
 UP_ROWS = [

@@ -8,7 +8,7 @@
   high up costs it minutes.
 - docs/architecture.md has the same headings, with the same crates in the same order.
 
-The family `asn1_` keeps its old names, and so do `run_model`, `run_laws` and `static_runner`: of them the order alone is checked.
+The family `asn1_` keeps its old names: of them the order alone is checked.
 
 Usage: tools/layers.py
 """
@@ -18,7 +18,7 @@ import re
 import sys
 
 TOP = pathlib.Path(__file__).resolve().parents[1]
-OLD_NAMES = re.compile(r"asn1_|run_model$|run_laws$|static_runner$")
+OLD_NAMES = re.compile(r"asn1_")
 
 
 def layers():

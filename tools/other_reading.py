@@ -37,9 +37,9 @@ def compare(usage, what, count, make, told, plain=None, asks=False):
         return 0
     chances = [random.Random(given.seed * 1_000_003 + number) for number in range(given.count)]
     outcomes = collections.Counter()
+    answer(PROGRAM, ["profile"], "")  # builds the program before several are run side by side
     with concurrent.futures.ThreadPoolExecutor(os.cpu_count()) as pool:
         calls = list(pool.map(lambda chance: make(other, chance) if asks else make(chance), chances))
-        answer(PROGRAM, *calls[0])  # builds the program before several are run side by side
         both = pool.map(lambda call: (answer(PROGRAM, *call), answer(other, *call)), calls)
         for (words, text), (ours, theirs) in zip(calls, both):
             if ours != theirs:

@@ -1,4 +1,5 @@
 pub mod Questions
 pub mod Rows
 pub mod Answers
+pub mod Spans
 pub mod inside

@@ -1,12 +1,13 @@
 //! A place in octets, with the open types around it.
 
-ghost use Rattle.std.specs.Prelude.{◌≡◌, ◌+◌, ◌*◌, ◌%◌, ◌==◌, ◌<◌, ◌≤◌, ◌^◌, ◌++◌, length, replicate, None, OnOk};
+ghost use Rattle.std.specs.Prelude.{◌≡◌, ◌+◌, ◌*◌, ◌%◌, ◌==◌, ◌<◌, ◌≤◌, ◌^◌, ◌++◌, ◌∷◌, length, map, replicate, reverse, None, IfOk, OnOk};
 ghost use Rattle.bits_core.specs.Bits.{pad_of, numbers_at};
 ghost use Rattle.aper_defs.specs.Fields.{opening, closing, end};
 ghost use Rattle.aper_defs.specs.Reading.{at_first, bits_at, start_of, ends_at, told_width, asked_width, passes, moved_by};
 ghost use Rattle.aper_cursor.specs.Questions.{question_of, unit_of, IsAskable};
 ghost use Rattle.aper_cursor.specs.Answers.{Answers, AnswersOrMemory, ReadsRun};
 ghost use Rattle.aper_cursor.specs.inside.Places.{Looks, entered, left_open};
+ghost use Rattle.aper_cursor.specs.Spans.{span_view};
 
 use crate::error::Unanswered;
 use crate::lengths::Extent;
@@ -26,6 +27,13 @@ struct OpenType {
     start: u64,
     finish: u64,
     around: u64,
+}
+
+/// An open type around a place: where its contents begin, and where they end.
+#[derive(Clone, Copy, Debug, PartialEq, Eq)]
+pub struct Span {
+    pub start: u64,
+    pub finish: u64,
 }
 
 /// A place in the bits of octets, and the open types around it, the innermost last. `nearest` is the nearest of their ends.
@@ -63,10 +71,63 @@ impl<'a> Cursor<'a> {
         }
     }
 
+    /// A cursor at a place in these octets, inside these open types, the innermost last.
+    pub fn at(
+        alloc: Global,
+        octets: &'a [u8],
+        place: u64,
+        spans: &[Span],
+    ) -> Result<Cursor<'a>, Memory>
+        requires short { length octets.now < 2 ^ 61 }
+        requires within { place ≤ 8 * length octets.now }
+        requires limit { place ≤ 1048576 }
+        ensures { IfOk result (λ c. c ≡ record { octets = octets.now; place = place; opens = map span_view (reverse spans.now) }) }
+    {
+        let mut cursor = Cursor {
+            octets,
+            place,
+            nearest: u64::MAX,
+            opens: Vec::new(alloc),
+        };
+        for span in spans {
+            cursor.surround(*span)?;
+        }
+        Ok(cursor)
+    }
+
+    /// Puts an open type around it, inside all others.
+    fn surround(&mut self, span: Span) -> Result<(), Memory>
+        ensures { OnOk result (self.new ≡ record { octets = self.old.octets; place = self.old.place; opens = span_view span ∷ self.old.opens }) }
+    {
+        self.opens.push(OpenType {
+            start: span.start,
+            finish: span.finish,
+            around: self.nearest,
+        })?;
+        self.nearest = span.finish.min(self.nearest);
+        Ok(())
+    }
+
+    /// Puts the open types around it in place of others, the innermost last.
+    pub fn put_spans(&self, out: &mut Vec<Span>) -> Result<(), Memory>
+        ensures { OnOk result (map span_view (reverse out.new.items) ≡ self.now.opens) }
+    {
+        out.clear();
+        for open in &self.opens {
+            let span = Span {
+                start: open.start,
+                finish: open.finish,
+            };
+            out.push(span)?;
+        }
+        Ok(())
+    }
+
     /// The number of the next bit, from 0.
     pub fn place(&self) -> u64
         ensures place { result ≡ self.now.place }
         ensures most { result ≤ 1048576 }
+        ensures within { result ≤ 8 * length self.now.octets }
     {
         self.place
     }
@@ -268,13 +329,10 @@ impl<'a> Cursor<'a> {
         ensures { OnOk result (self.new ≡ entered length self.old) }
     {
         let finish = self.place + 8 * length;
-        self.opens.push(OpenType {
+        self.surround(Span {
             start: self.place,
             finish,
-            around: self.nearest,
-        })?;
-        self.nearest = finish.min(self.nearest);
-        Ok(())
+        })
     }
 
     /// Leaves the innermost open type.

@@ -8,7 +8,7 @@ mod numbers;
 mod questions;
 mod rows;
 
-pub use cursor::Cursor;
+pub use cursor::{Cursor, Span};
 pub use error::Unanswered;
 pub use lengths::Extent;
 pub use numbers::{bits_for, octets_for, signed_number};

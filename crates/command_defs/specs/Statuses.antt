@@ -53,6 +53,14 @@ fault_line line column reason =
 abbrev pub line_status : ℕ → TextReason → Status
 line_status place reason = record { code = 4; place = place; reason = reason_code reason }
 
+-- after a step of the event at this line more COUNTs of a bearer are outstanding than may be
+abbrev pub outstanding_status : ℕ → Status
+outstanding_status place = record { code = 5; place = place; reason = 0 }
+
+-- in a step of the event at this line a counter would pass its last value
+abbrev pub spent_status : ℕ → ℕ → Status
+spent_status place counter = record { code = 10; place = place; reason = counter }
+
 abbrev pub common_status : CommonEnd → Status
 common_status (ReadFault taken) = record { code = 6; place = taken; reason = 0 }
 common_status WriteFault = record { code = 7; place = 0; reason = 0 }

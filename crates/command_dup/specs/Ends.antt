@@ -8,17 +8,13 @@ use Rattle.scenario_text.specs.Print.{print}
 use Rattle.dup_types.specs.declared.stop.DupEnd.{DupEnd}
 use Rattle.dup_types.specs.declared.stop.DupEnd.TheVariants as ends
 use Rattle.command_defs.specs.declared.Status.{Status}
-use Rattle.command_defs.specs.Statuses.{done_status, line_status, common_status, stop_line, common_last_lines}
+use Rattle.command_defs.specs.Statuses.{done_status, line_status, outstanding_status, spent_status, common_status, stop_line, common_last_lines}
 use Rattle.command_dup.specs.declared.end.ScriptEnd.{ScriptEnd}
 use Rattle.command_dup.specs.declared.end.ScriptEnd.TheVariants.{Done, Script, Outstanding, CountsSpent, Common}
 
--- after the event at this line more COUNTs are outstanding than may be
-abbrev pub outstanding_status : ℕ → Status
-outstanding_status place = record { code = 5; place = place; reason = 0 }
-
 -- in the event at this line the counter of COUNTs, which is the fourth, would pass its last value
 abbrev pub counts_spent_status : ℕ → Status
-counts_spent_status place = record { code = 10; place = place; reason = 4 }
+counts_spent_status place = spent_status place 4
 
 abbrev pub script_status : ScriptEnd → Status
 script_status (Done events) = done_status

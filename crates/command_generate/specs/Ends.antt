@@ -1,24 +1,14 @@
 -- How a run of the generated script ends, what status reports it, and what is written then.
 use Rattle.std.specs.Prelude.{◌≡◌, ℕ, ◌+◌, ◌*◌, ◌/◌, List, [], ◌∷◌, ◌++◌, length, Some, None, codes}
 use Rattle.std.specs.Fmt.{decimal}
-use Rattle.scenario_text.specs.declared.line.OutLine.{OutLine}
-use Rattle.scenario_text.specs.declared.line.OutLine.TheVariants as lines
 use Rattle.scenario_text.specs.Print.{print, ◌then◌}
 use Rattle.run_defs.specs.States.{outstanding, spent_counter}
 use Rattle.run_defs.specs.Runs.{Transcript}
-use Rattle.run_links.specs.declared.spans.Outstanding.{Outstanding as Span}
+use Rattle.run_links.specs.Told.{outstanding_line}
 use Rattle.command_defs.specs.declared.Status.{Status}
-use Rattle.command_defs.specs.Statuses.{done_status, stop_line}
+use Rattle.command_defs.specs.Statuses.{done_status, outstanding_status, spent_status, stop_line}
 use Rattle.command_generate.specs.declared.end.GenerateEnd.{GenerateEnd}
 use Rattle.command_generate.specs.declared.end.GenerateEnd.TheVariants.{Done, Outstanding, Spent}
-
--- after a step of the event at this line the COUNTs of a bearer span more than half the space of its numbers
-abbrev pub outstanding_status : ℕ → Status
-outstanding_status place = record { code = 5; place = place; reason = 0 }
-
--- in a step of the event at this line a counter would pass its last value
-abbrev pub spent_status : ℕ → ℕ → Status
-spent_status place counter = record { code = 10; place = place; reason = counter }
 
 abbrev pub generate_status : GenerateEnd → Status
 generate_status (Done packets) = done_status
@@ -47,10 +37,6 @@ abbrev pub summary : ℕ → List ℕ
 summary packets =
     codes "generated" then decimal packets then codes "delivered" then decimal packets then codes "returns" then decimal (returns_in packets)
     then codes "events" then decimal (events_in packets) then codes "quiet 1" ++ 10 ∷ []
-
--- `outstanding uU bB DIR SPAN W`
-abbrev pub outstanding_line : Span → OutLine
-outstanding_line o = lines.Outstanding o.key.ue o.key.bearer o.key.dir o.span o.window
 
 abbrev pub end_text : GenerateEnd → List ℕ
 end_text (Done packets) = summary packets

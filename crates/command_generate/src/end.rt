@@ -1,14 +1,12 @@
 //! How a run of the generated script ends, the status that reports it, and what is written then.
 
 ghost use Rattle.std.specs.Prelude.{◌≡◌, IfOk};
-ghost use Rattle.command_generate.specs.Ends.{generate_status, summary, outstanding_line, end_text};
+ghost use Rattle.command_generate.specs.Ends.{generate_status, summary, end_text};
 
 use command_defs::Status;
 use command_output::{stop_line, text_of};
-use gnb_types::keys::EntityKey;
 use gnb_types::octets::{Memory, Octets};
 use run_links::spans::Outstanding;
-use scenario_text::line::OutLine;
 use std::alloc::Global;
 
 /// How a run of the generated script ended.
@@ -42,20 +40,6 @@ fn summary(alloc: Global, packets: u32) -> Result<Octets, Memory>
     Ok(Octets::from_vec(text.into_bytes()))
 }
 
-/// The line of a bearer that is outstanding.
-fn outstanding_line(outstanding: Outstanding) -> OutLine
-    ensures { result ≡ outstanding_line outstanding }
-{
-    let EntityKey { ue, bearer, dir } = outstanding.key;
-    OutLine::Outstanding {
-        ue,
-        bearer,
-        dir,
-        span: outstanding.span,
-        window: outstanding.window,
-    }
-}
-
 impl GenerateEnd {
     /// Its status.
     pub fn status(self) -> Status
@@ -87,10 +71,7 @@ impl GenerateEnd {
         match self {
             GenerateEnd::Done { packets } => summary(alloc, packets),
             GenerateEnd::Outstanding { outstanding, .. } => {
-                text_of(
-                    alloc,
-                    &[outstanding_line(outstanding), stop_line(self.status())],
-                )
+                text_of(alloc, &[outstanding.line(), stop_line(self.status())])
             }
             GenerateEnd::Spent { .. } => text_of(alloc, &[stop_line(self.status())]),
         }

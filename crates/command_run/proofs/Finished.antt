@@ -1,7 +1,6 @@
 -- The last line after a run, and the status.
 use Rattle.std.proofs.Common.{◌≡◌, ℕ, List, [], ◌∷◌, ◌++◌, Option, Some, None, refl, sym, ap, ◌∙◌, subst, inl, inr, arith}
 use Rattle.gnb_base.specs.Outside.{SourceAt, SinkAt}
-use Rattle.run_model.specs.declared.event.StaticEvent.{StaticEvent}
 use Rattle.scenario_text.specs.declared.line.OutLine.{OutLine}
 use Rattle.scenario_text.specs.Print.{print}
 use Rattle.std.specs.Option.{option_to_list}
@@ -11,10 +10,11 @@ use Rattle.command_defs.specs.Output.{Prints}
 use Rattle.command_output.specs.Writes.{WritesAll, WritesFront}
 use Rattle.command_output.proofs.Written.{none_then_none, none_then_last, prints_more, front_more, front_all}
 use Rattle.command_run.specs.declared.end.RunEnd.{RunEnd}
-use Rattle.command_run.specs.declared.end.RunEnd.TheVariants.{Done, NoModule, Differs, Script, Common}
+use Rattle.command_run.specs.declared.end.RunEnd.TheVariants.{Done, NoModule, Differs, Script, Outstanding, Spent, Common}
 use Rattle.command_run.specs.Ends.{run_status, report_of, run_last_lines, end_text}
-use Rattle.command_run.specs.Run.{run_text, PrintsRun, RunMeets}
+use Rattle.command_run.specs.Run.{Setting, PrintsRun, RunMeets}
 use Rattle.command_run.specs.inside.Stops.{RunsTo, PrintsTo, ReadsUntil, WritesUntil, Finishes, Silent, Written, Cut, Unwritten}
+use Rattle.command_run.proofs.Turned.{no_reader}
 
 -- ---- the status of the reads
 
@@ -23,6 +23,8 @@ reads_end a b (Done n) h = AllRead h (λ (e : 0 ≡ 6). omega arith)
 reads_end a b (NoModule line column reason) h = AllRead h (λ (e : 3 ≡ 6). omega arith)
 reads_end a b (Differs name) h = AllRead h (λ (e : 3 ≡ 6). omega arith)
 reads_end a b (Script place reason) h = AllRead h (λ (e : 4 ≡ 6). omega arith)
+reads_end a b (Outstanding place span) h = AllRead h (λ (e : 5 ≡ 6). omega arith)
+reads_end a b (Spent place counter) h = AllRead h (λ (e : 10 ≡ 6). omega arith)
 reads_end a b (Common (ReadFault taken)) h = ReadStopped h (inl refl)
 reads_end a b (Common TooLong) h = AllRead h (λ (e : 11 ≡ 6). omega arith)
 reads_end a b (Common WriteFault) h = AllRead h (λ (e : 7 ≡ 6). omega arith)
@@ -34,6 +36,8 @@ reads_cut a b (Done n) h = AllRead h (λ (e : 7 ≡ 6). omega arith)
 reads_cut a b (NoModule line column reason) h = AllRead h (λ (e : 7 ≡ 6). omega arith)
 reads_cut a b (Differs name) h = AllRead h (λ (e : 7 ≡ 6). omega arith)
 reads_cut a b (Script place reason) h = AllRead h (λ (e : 7 ≡ 6). omega arith)
+reads_cut a b (Outstanding place span) h = AllRead h (λ (e : 7 ≡ 6). omega arith)
+reads_cut a b (Spent place counter) h = AllRead h (λ (e : 7 ≡ 6). omega arith)
 reads_cut a b (Common (ReadFault taken)) h = ReadStopped h (inr (inl refl))
 reads_cut a b (Common TooLong) h = AllRead h (λ (e : 7 ≡ 6). omega arith)
 reads_cut a b (Common WriteFault) h = AllRead h (λ (e : 7 ≡ 6). omega arith)
@@ -44,6 +48,8 @@ reads_out a b (Done n) h = AllRead h (λ (e : 9 ≡ 6). omega arith)
 reads_out a b (NoModule line column reason) h = AllRead h (λ (e : 9 ≡ 6). omega arith)
 reads_out a b (Differs name) h = AllRead h (λ (e : 9 ≡ 6). omega arith)
 reads_out a b (Script place reason) h = AllRead h (λ (e : 9 ≡ 6). omega arith)
+reads_out a b (Outstanding place span) h = AllRead h (λ (e : 9 ≡ 6). omega arith)
+reads_out a b (Spent place counter) h = AllRead h (λ (e : 9 ≡ 6). omega arith)
 reads_out a b (Common (ReadFault taken)) h = ReadStopped h (inr (inr refl))
 reads_out a b (Common TooLong) h = AllRead h (λ (e : 9 ≡ 6). omega arith)
 reads_out a b (Common WriteFault) h = AllRead h (λ (e : 9 ≡ 6). omega arith)
@@ -57,33 +63,39 @@ silent_writes a b (Done n) e h = absurd (cc)
 silent_writes a b (NoModule line column reason) e h = absurd (cc)
 silent_writes a b (Differs name) e h = absurd (cc)
 silent_writes a b (Script place reason) e h = absurd (cc)
+silent_writes a b (Outstanding place span) e h = absurd (cc)
+silent_writes a b (Spent place counter) e h = absurd (cc)
 silent_writes a b (Common (ReadFault taken)) e h = absurd (cc)
 silent_writes a b (Common TooLong) e h = absurd (cc)
 silent_writes a b (Common WriteFault) e h = WriteStopped h refl
 silent_writes a b (Common Memory) e h = AllWritten h (λ (f : 9 ≡ 7). omega arith)
 
-silent_prints : (a b : SinkAt) (Meets : RunEnd → Type 0) (events : List StaticEvent) (end : RunEnd) → run_last_lines end ≡ []
-    → PrintsTo a b events end → PrintsRun a b Meets events end
-silent_prints a b Meets events (Done n) e h = absurd (cc)
-silent_prints a b Meets events (NoModule line column reason) e h = absurd (cc)
-silent_prints a b Meets events (Differs name) e h = absurd (cc)
-silent_prints a b Meets events (Script place reason) e h = absurd (cc)
-silent_prints a b Meets events (Common (ReadFault taken)) e h = absurd (cc)
-silent_prints a b Meets events (Common TooLong) e h = absurd (cc)
-silent_prints a b Meets events (Common WriteFault) e h = (None, tt, h)
-silent_prints a b Meets events (Common Memory) e h = h
+silent_prints : (a b : SinkAt) (Meets : RunEnd → Type 0) (text : List ℕ) (end : RunEnd) → run_last_lines end ≡ []
+    → PrintsTo a b text end → PrintsRun a b Meets text end
+silent_prints a b Meets text (Done n) e h = absurd (cc)
+silent_prints a b Meets text (NoModule line column reason) e h = absurd (cc)
+silent_prints a b Meets text (Differs name) e h = absurd (cc)
+silent_prints a b Meets text (Script place reason) e h = absurd (cc)
+silent_prints a b Meets text (Outstanding place span) e h = absurd (cc)
+silent_prints a b Meets text (Spent place counter) e h = absurd (cc)
+silent_prints a b Meets text (Common (ReadFault taken)) e h = absurd (cc)
+silent_prints a b Meets text (Common TooLong) e h = absurd (cc)
+silent_prints a b Meets text (Common WriteFault) e h = (None, tt, h)
+silent_prints a b Meets text (Common Memory) e h = h
 
 -- the text before the last line
-text_before : (a b : SinkAt) (events : List StaticEvent) (end : RunEnd) (line : OutLine) → run_last_lines end ≡ line ∷ []
-    → PrintsTo a b events end → Prints a b (run_text events)
-text_before a b events (Done n) line e h = h
-text_before a b events (NoModule at column reason) line e h = h
-text_before a b events (Differs name) line e h = h
-text_before a b events (Script place reason) line e h = h
-text_before a b events (Common (ReadFault taken)) line e h = h
-text_before a b events (Common TooLong) line e h = h
-text_before a b events (Common WriteFault) line e h = absurd (cc)
-text_before a b events (Common Memory) line e h = absurd (cc)
+text_before : (a b : SinkAt) (text : List ℕ) (end : RunEnd) (line : OutLine) → run_last_lines end ≡ line ∷ []
+    → PrintsTo a b text end → Prints a b text
+text_before a b text (Done n) line e h = h
+text_before a b text (NoModule at column reason) line e h = h
+text_before a b text (Differs name) line e h = h
+text_before a b text (Script place reason) line e h = h
+text_before a b text (Outstanding place span) line e h = h
+text_before a b text (Spent place counter) line e h = h
+text_before a b text (Common (ReadFault taken)) line e h = h
+text_before a b text (Common TooLong) line e h = h
+text_before a b text (Common WriteFault) line e h = absurd (cc)
+text_before a b text (Common Memory) line e h = absurd (cc)
 
 none_before : (a b : SinkAt) (end : RunEnd) (line : OutLine) → run_last_lines end ≡ line ∷ [] → WritesUntil a b end
     → WritesUntil a b (Done 0)
@@ -91,6 +103,8 @@ none_before a b (Done n) line e h = h
 none_before a b (NoModule at column reason) line e h = h
 none_before a b (Differs name) line e h = h
 none_before a b (Script place reason) line e h = h
+none_before a b (Outstanding place span) line e h = h
+none_before a b (Spent place counter) line e h = h
 none_before a b (Common (ReadFault taken)) line e h = h
 none_before a b (Common TooLong) line e h = h
 none_before a b (Common WriteFault) line e h = absurd (cc)
@@ -101,57 +115,61 @@ not_seven (Done n) line e f = omega arith
 not_seven (NoModule at column reason) line e f = omega arith
 not_seven (Differs name) line e f = omega arith
 not_seven (Script place reason) line e f = omega arith
+not_seven (Outstanding place span) line e f = omega arith
+not_seven (Spent place counter) line e f = omega arith
 not_seven (Common (ReadFault taken)) line e f = omega arith
 not_seven (Common TooLong) line e f = omega arith
 not_seven (Common WriteFault) line e f = cc
 not_seven (Common Memory) line e f = omega arith
 
-written_prints : (a b : SinkAt) (Meets : RunEnd → Type 0) (events : List StaticEvent) (end : RunEnd) (line : OutLine)
+written_prints : (a b : SinkAt) (Meets : RunEnd → Type 0) (text : List ℕ) (end : RunEnd) (line : OutLine)
     → run_last_lines end ≡ line ∷ []
-    → Prints a b (run_text events ++ end_text end) → PrintsRun a b Meets events end
-written_prints a b Meets events (Done n) line e h = h
-written_prints a b Meets events (NoModule at column reason) line e h = h
-written_prints a b Meets events (Differs name) line e h = h
-written_prints a b Meets events (Script place reason) line e h = h
-written_prints a b Meets events (Common (ReadFault taken)) line e h = h
-written_prints a b Meets events (Common TooLong) line e h = h
-written_prints a b Meets events (Common WriteFault) line e h = absurd (cc)
-written_prints a b Meets events (Common Memory) line e h = absurd (cc)
+    → Prints a b (text ++ end_text end) → PrintsRun a b Meets text end
+written_prints a b Meets text (Done n) line e h = h
+written_prints a b Meets text (NoModule at column reason) line e h = h
+written_prints a b Meets text (Differs name) line e h = h
+written_prints a b Meets text (Script place reason) line e h = h
+written_prints a b Meets text (Outstanding place span) line e h = h
+written_prints a b Meets text (Spent place counter) line e h = h
+written_prints a b Meets text (Common (ReadFault taken)) line e h = h
+written_prints a b Meets text (Common TooLong) line e h = h
+written_prints a b Meets text (Common WriteFault) line e h = absurd (cc)
+written_prints a b Meets text (Common Memory) line e h = absurd (cc)
 
 -- ---- with the word `run`
 
-pub run_meets : {first : OutsideAt} {source : SourceAt} {sink last : SinkAt} (end result : RunEnd) → RunsTo first (outside source sink) end
+pub run_meets : {setting : Setting} {first : OutsideAt} {source : SourceAt} {sink last : SinkAt} (end result : RunEnd) → RunsTo setting first (outside source sink) end
     → Finishes sink last end result
-    → RunMeets first (outside source last) result
-run_meets {first = first} {source = source} {sink = sink} {last = last} end result r (Silent none same kept) =
-    subst (λ (e : RunEnd). RunMeets first (outside source last) e) (sym same)
-    (subst (λ (s : SinkAt). RunMeets first (outside source s) end) (sym kept)
+    → RunMeets setting first (outside source last) result
+run_meets {setting = setting} {first = first} {source = source} {sink = sink} {last = last} end result r (Silent none same kept) =
+    subst (λ (e : RunEnd). RunMeets setting first (outside source last) e) (sym same)
+    (subst (λ (s : SinkAt). RunMeets setting first (outside source s) end) (sym kept)
     (record {
       split = r.split;
       events = r.events;
       input = r.input;
       script = r.script;
       ends = r.ends;
-      prints = silent_prints first.sink sink _ r.events end none r.prints;
+      prints = silent_prints first.sink sink _ _ end none r.prints;
       calls = record { reads = reads_end _ _ end r.reads; writes = silent_writes first.sink sink end none r.writes };
     }))
-run_meets {first = first} {source = source} {sink = sink} {last = last} end result r (Written line some same written) =
-    subst (λ (e : RunEnd). RunMeets first (outside source last) e) (sym same)
+run_meets {setting = setting} {first = first} {source = source} {sink = sink} {last = last} end result r (Written line some same written) =
+    subst (λ (e : RunEnd). RunMeets setting first (outside source last) e) (sym same)
     (record {
       split = r.split;
       events = r.events;
       input = r.input;
       script = r.script;
       ends = r.ends;
-      prints = written_prints first.sink last _ r.events end line some
-          (prints_more (text_before first.sink sink r.events end line some r.prints) written.prints);
+      prints = written_prints first.sink last _ _ end line some
+          (prints_more (text_before first.sink sink _ end line some r.prints) written.prints);
       calls = record {
         reads = reads_end _ _ end r.reads;
         writes = AllWritten (none_then_none (none_before first.sink sink end line some r.writes) written.none) (not_seven end line some);
       };
     })
-run_meets {first = first} {source = source} {sink = sink} {last = last} end result r (Cut line some same cut) =
-    subst (λ (e : RunEnd). RunMeets first (outside source last) e) (sym same)
+run_meets {setting = setting} {first = first} {source = source} {sink = sink} {last = last} end result r (Cut line some same cut) =
+    subst (λ (e : RunEnd). RunMeets setting first (outside source last) e) (sym same)
     (record {
       split = r.split;
       events = r.events;
@@ -161,23 +179,23 @@ run_meets {first = first} {source = source} {sink = sink} {last = last} end resu
       prints = (
         Some end,
         r.ends,
-        front_more (text_before first.sink sink r.events end line some r.prints) cut.prints,
+        front_more (text_before first.sink sink _ end line some r.prints) cut.prints,
       );
       calls = record {
         reads = reads_cut _ _ end r.reads;
         writes = WriteStopped (none_then_last (none_before first.sink sink end line some r.writes) cut.last) refl;
       };
     })
-run_meets {first = first} {source = source} {sink = sink} {last = last} end result r (Unwritten line some same kept) =
-    subst (λ (e : RunEnd). RunMeets first (outside source last) e) (sym same)
-    (subst (λ (s : SinkAt). RunMeets first (outside source s) (Common Memory)) (sym kept)
+run_meets {setting = setting} {first = first} {source = source} {sink = sink} {last = last} end result r (Unwritten line some same kept) =
+    subst (λ (e : RunEnd). RunMeets setting first (outside source last) e) (sym same)
+    (subst (λ (s : SinkAt). RunMeets setting first (outside source s) (Common Memory)) (sym kept)
     (record {
       split = r.split;
       events = r.events;
       input = r.input;
       script = r.script;
       ends = tt;
-      prints = front_all (text_before first.sink sink r.events end line some r.prints);
+      prints = front_all (text_before first.sink sink _ end line some r.prints);
       calls = record {
         reads = reads_out _ _ end r.reads;
         writes = AllWritten (none_before first.sink sink end line some r.writes) (λ (e : 9 ≡ 7). omega arith);
@@ -210,3 +228,8 @@ module _ {a b : SinkAt} (end : RunEnd) (line : OutLine) (found : Option OutLine)
 pub finish_out : {a : SinkAt} (end : RunEnd) (line : OutLine) (found : Option OutLine) → found ≡ Some line
     → option_to_list found ≡ run_last_lines end → Finishes a a end (Common Memory)
 finish_out end line found some lines = Unwritten line (one_line end line found some lines) refl refl
+
+-- out of memory before the first read, as where the codec can't be made
+pub out_of_memory : (setting : Setting) (source : SourceAt) (sink : SinkAt)
+    → RunMeets setting (outside source sink) (outside source sink) (Common Memory)
+out_of_memory setting source sink = run_meets (Common Memory) (Common Memory) (no_reader setting source sink) (Silent refl refl refl)

@@ -1,5 +1,5 @@
--- What the word `run` does, for every input, every list of failing calls, and every end.
-use Rattle.std.specs.Prelude.{◌≡◌, ◌+◌, ◌⊎◌, ℕ, false, List, [], ◌∷◌, ◌++◌, map, length, Option, Some, None, Result, Ok, Err, IfSome, if◌then◌else◌}
+-- What the word `run` does over units of any meaning, for every input, every list of failing calls, and every end.
+use Rattle.std.specs.Prelude.{◌≡◌, ◌+◌, ◌<◌, ◌⊎◌, ℕ, false, List, [], ◌∷◌, ◌++◌, map, length, Option, Some, None, Result, Ok, Err, IfSome, if◌then◌else◌}
 use Rattle.std.specs.List.{flat_map}
 use Rattle.gnb_base.specs.Outside.{SinkAt}
 use Rattle.input_defs.specs.Split.{InputSplit, rest_of, TakesInput}
@@ -11,27 +11,32 @@ use Rattle.profile_defs.specs.Agreement.{differs, Agrees}
 use Rattle.input_module.specs.declared.module.GivenModule.{GivenModule}
 use Rattle.input_module.specs.declared.module.GivenModule.TheVariants as given
 use Rattle.input_module.specs.Module.{GivesModule, IsNoModule, IsWrongModule, IsUnfinished, IsPart}
-use Rattle.run_model.specs.declared.event.StaticEvent.{StaticEvent}
+use Rattle.scenario_text.specs.declared.event.Event.{Event}
 use Rattle.script_words.specs.declared.reason.TextReason.{TextReason}
-use Rattle.scenario_text.specs.Grammar.{is_skipped}
+use Rattle.scenario_text.specs.Grammar.{is_skipped, event_of}
 use Rattle.scenario_text.specs.Print.{print}
-use Rattle.run_model.specs.Run.{run, lines_of}
+use Rattle.run_defs.specs.unit_octet_defs.Codec.{Codec}
+use Rattle.run_defs.specs.States.{Stop, outstanding, spent_counter}
+use Rattle.run_defs.specs.Runs.{Happened, Transcript, lines_of}
+use Rattle.run_defs.specs.Printing.{out_lines}
+use Rattle.run_defs.specs.UnitRuns.{Meaning, UnitRun}
+use Rattle.scenario_text.specs.declared.line.OutLine.TheVariants as lines
+use Rattle.gnb_base.specs.Reading.{piece_size}
 use Rattle.command_defs.specs.declared.CommonEnd.TheVariants.{ReadFault, TooLong, WriteFault, Memory}
 use Rattle.command_defs.specs.Outside.{OutsideAt, CallsTo}
 use Rattle.command_defs.specs.Output.{Prints, PrintsFront}
 use Rattle.command_run.specs.declared.end.RunEnd.{RunEnd}
-use Rattle.command_run.specs.declared.end.RunEnd.TheVariants.{Done, NoModule, Differs, Script, Common}
+use Rattle.command_run.specs.declared.end.RunEnd.TheVariants.{Done, NoModule, Differs, Script, Outstanding, Spent, Common}
 use Rattle.command_run.specs.Ends.{run_status, end_text}
-use Rattle.run_model.specs.Runnable.{runnable_event_of}
 
 -- ---- the input
 
 -- what a line after the module means: nothing where it is skipped
-abbrev pub meanings : List ℕ → List (Result StaticEvent TextReason)
-meanings line = if is_skipped line then [] else runnable_event_of line ∷ []
+abbrev pub meanings : List ℕ → List (Result Event TextReason)
+meanings line = if is_skipped line then [] else event_of line ∷ []
 
 -- the lines are these events and skipped lines
-abbrev pub AreEvents : List (List ℕ) → List StaticEvent → Type 0
+abbrev pub AreEvents : List (List ℕ) → List Event → Type 0
 AreEvents lines events = flat_map meanings lines ≡ map (λ event. Ok event) events
 
 -- the module is version 1 of the profile
@@ -40,7 +45,7 @@ IsProfile (given.Text m) = Agrees (profile_types 1) m
 IsProfile (given.Builtin version) = Unit {0}
 
 -- the lines are a header with the profile that it gives, and then these events and skipped lines
-pub record IsScript (left : Option (List ℕ)) (split : InputSplit) (events : List StaticEvent) : Type 0 where
+pub record IsScript (left : Option (List ℕ)) (split : InputSplit) (events : List Event) : Type 0 where
   pub front : List (List ℕ)
   pub lines : List (List ℕ)
   pub found : GivenModule
@@ -50,10 +55,27 @@ pub record IsScript (left : Option (List ℕ)) (split : InputSplit) (events : Li
   pub are : AreEvents lines events
 
 -- or they are no more than a header and a text, and no event was read
-abbrev pub AreScript : Option (List ℕ) → InputSplit → List StaticEvent → Type 0
+abbrev pub AreScript : Option (List ℕ) → InputSplit → List Event → Type 0
 AreScript left split events = IsScript left split events ⊎ ((events ≡ []) × IsPart One left split)
 
--- ---- how it ends, after the lines that were applied
+-- ---- the run
+
+-- how the units answer, and the codec of their control messages
+pub record Setting : Type 0 where
+  pub codec : Codec
+  pub answer : Meaning
+
+abbrev pub setting_of : Codec → Meaning → Setting
+setting_of codec answer = record { codec = codec; answer = answer }
+
+-- the run of these events
+abbrev pub run_of : Setting → List Event → Transcript (List ℕ)
+run_of setting events = UnitRun setting.codec setting.answer events
+
+abbrev pub GoesOn : Setting → List Event → Type 0
+GoesOn setting events = (run_of setting events).stop ≡ None
+
+-- ---- how it ends, after the lines that were handed out
 
 -- the text is a module, and not the profile's: this is the first name by which it differs
 pub record IsOther (left : Option (List ℕ)) (split : InputSplit) (name : List ℕ) : Type 0 where
@@ -62,61 +84,86 @@ pub record IsOther (left : Option (List ℕ)) (split : InputSplit) (name : List 
   pub differs : differs (profile_types 1) m ≡ Some name
 
 -- the next line is no event, and not skipped
-pub record IsWrongLine (left : Option (List ℕ)) (split : InputSplit) (events : List StaticEvent) (place : ℕ) (reason : TextReason) : Type 0 where
+pub record IsWrongLine (left : Option (List ℕ)) (split : InputSplit) (events : List Event) (place : ℕ) (reason : TextReason) : Type 0 where
   pub before : IsScript left split events
   pub line : List ℕ
   pub next : ComesNext left split.kept line
   pub at : place ≡ length split.lines + 1
   pub skip : is_skipped line ≡ false
-  pub wrong : runnable_event_of line ≡ Err reason
+  pub wrong : event_of line ≡ Err reason
 
 -- the input was read to its end, and every line was applied
-pub record IsDone (left : Option (List ℕ)) (split : InputSplit) (events : List StaticEvent) (count : ℕ) : Type 0 where
+pub record IsDone (left : Option (List ℕ)) (split : InputSplit) (events : List Event) (count : ℕ) : Type 0 where
   pub script : IsScript left split events
   pub all : IsReadToEnd left split
   pub counted : count ≡ length events
 
+-- the run stops so in the event of the last line, at this place, and in none before it
+pub record StopsInLast (setting : Setting) (left : Option (List ℕ)) (split : InputSplit) (events : List Event) (place : ℕ) (why : Stop)
+    : Type 0 where
+  pub script : IsScript left split events
+  pub earlier : List Event
+  pub last : Event
+  pub lines : List (List ℕ)
+  pub line : List ℕ
+  pub parts : events ≡ earlier ++ last ∷ []
+  pub line_parts : split.lines ≡ lines ++ line ∷ []
+  pub means : meanings line ≡ Ok last ∷ []
+  pub goes : GoesOn setting earlier
+  pub stops : (run_of setting events).stop ≡ Some why
+  pub at : place ≡ length split.lines
+  -- after this line fewer bytes were taken than one read asks for
+  pub few : length split.kept < piece_size
+
 -- no cause lies in the lines
-abbrev pub Passes : Option (List ℕ) → InputSplit → List StaticEvent → Type 0
+abbrev pub Passes : Option (List ℕ) → InputSplit → List Event → Type 0
 Passes left split events = IsUnfinished One split ⊎ IsScript left split events
 
-abbrev pub RunEndMeets : Option (List ℕ) → InputSplit → List StaticEvent → RunEnd → Type 0
-RunEndMeets left split events (Done count) = IsDone left split events count
-RunEndMeets left split events (NoModule line column reason) = (events ≡ []) × IsNoModule One left split line column reason
-RunEndMeets left split events (Differs name) = (events ≡ []) × IsOther left split name
-RunEndMeets left split events (Script place reason) =
-    ((events ≡ []) × IsWrongModule One left split place reason) ⊎ IsWrongLine left split events place reason
-RunEndMeets left split events (Common (ReadFault taken)) = Passes left split events × IsReadFault split taken
-RunEndMeets left split events (Common TooLong) = Passes left split events × IsTooLong split
-RunEndMeets left split events (Common WriteFault) = Unit {0}
-RunEndMeets left split events (Common Memory) = Unit {0}
+abbrev pub RunEndMeets : Setting → Option (List ℕ) → InputSplit → List Event → RunEnd → Type 0
+RunEndMeets setting left split events (Done count) = GoesOn setting events × IsDone left split events count
+RunEndMeets setting left split events (NoModule line column reason) = (events ≡ []) × IsNoModule One left split line column reason
+RunEndMeets setting left split events (Differs name) = (events ≡ []) × IsOther left split name
+RunEndMeets setting left split events (Script place reason) =
+    ((events ≡ []) × IsWrongModule One left split place reason) ⊎ (GoesOn setting events × IsWrongLine left split events place reason)
+RunEndMeets setting left split events (Outstanding place o) =
+    StopsInLast setting left split events place (outstanding o.key o.span o.window)
+RunEndMeets setting left split events (Spent place counter) = StopsInLast setting left split events place (spent_counter counter)
+RunEndMeets setting left split events (Common (ReadFault taken)) =
+    GoesOn setting events × Passes left split events × IsReadFault split taken
+RunEndMeets setting left split events (Common TooLong) = GoesOn setting events × Passes left split events × IsTooLong split
+RunEndMeets setting left split events (Common WriteFault) = Unit {0}
+RunEndMeets setting left split events (Common Memory) = Unit {0}
 
 -- ---- the output
 
+-- an event's own line, and the lines that it prints
+abbrev pub happened_text : Happened (List ℕ) → List ℕ
+happened_text h = print (lines.Happens h.event ∷ out_lines (λ octets. octets) (lines_of h))
+
 -- the text of the run of these events
-abbrev pub run_text : List StaticEvent → List ℕ
-run_text events = print (lines_of (run events).steps)
+abbrev pub run_text : Setting → List Event → List ℕ
+run_text setting events = flat_map happened_text (run_of setting events).events
 
 -- and what is written at the end, if that is known
-abbrev pub text_to : List StaticEvent → Option RunEnd → List ℕ
-text_to events None = run_text events
-text_to events (Some end) = run_text events ++ end_text end
+abbrev pub text_to : List ℕ → Option RunEnd → List ℕ
+text_to text None = text
+text_to text (Some end) = text ++ end_text end
 
--- At the end of a run its text and the last line were written. A write that fails leaves a front of
+-- At the end of a run its text and what is written at the end were written. A write that fails leaves a front of
 -- the text, up to the end that the run had come to; out of memory a front of the run's text.
-abbrev pub PrintsRun : SinkAt → SinkAt → (RunEnd → Type 0) → List StaticEvent → RunEnd → Type 0
-PrintsRun before after Meets events (Common WriteFault) =
-    (other : Option RunEnd) × IfSome other Meets × PrintsFront before after (text_to events other)
-PrintsRun before after Meets events (Common Memory) = PrintsFront before after (run_text events)
-PrintsRun before after Meets events end = Prints before after (text_to events (Some end))
+abbrev pub PrintsRun : SinkAt → SinkAt → (RunEnd → Type 0) → List ℕ → RunEnd → Type 0
+PrintsRun before after Meets text (Common WriteFault) =
+    (other : Option RunEnd) × IfSome other Meets × PrintsFront before after (text_to text other)
+PrintsRun before after Meets text (Common Memory) = PrintsFront before after text
+PrintsRun before after Meets text end = Prints before after (text_to text (Some end))
 
 -- what was taken from the source, the events of its lines, how it ended, what was written, and
 -- where a call failed
-pub record RunMeets (before after : OutsideAt) (end : RunEnd) : Type 0 where
+pub record RunMeets (setting : Setting) (before after : OutsideAt) (end : RunEnd) : Type 0 where
   pub split : InputSplit
-  pub events : List StaticEvent
+  pub events : List Event
   pub input : TakesInput before.source after.source split
   pub script : AreScript (rest_of before.source after.source) split events
-  pub ends : RunEndMeets (rest_of before.source after.source) split events end
-  pub prints : PrintsRun before.sink after.sink (RunEndMeets (rest_of before.source after.source) split events) events end
+  pub ends : RunEndMeets setting (rest_of before.source after.source) split events end
+  pub prints : PrintsRun before.sink after.sink (RunEndMeets setting (rest_of before.source after.source) split events) (run_text setting events) end
   pub calls : CallsTo before after (run_status end).code

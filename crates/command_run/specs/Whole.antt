@@ -10,15 +10,15 @@ use Rattle.profile_defs.specs.Profile.{profile_types}
 use Rattle.profile_defs.specs.Agreement.{Agrees}
 use Rattle.input_module.specs.Header.{builtin_line}
 use Rattle.input_module.specs.Text.{IsClosed, IsUnclosed, IsOneModule}
-use Rattle.run_model.specs.declared.event.StaticEvent.{StaticEvent}
+use Rattle.scenario_text.specs.declared.event.Event.{Event}
 use Rattle.command_defs.specs.declared.Status.{Status}
 use Rattle.command_defs.specs.Outside.{OutsideAt, NoneFailed}
 use Rattle.command_defs.specs.Output.{Prints}
 use Rattle.command_run.specs.declared.end.RunEnd.TheVariants.{Done}
-use Rattle.command_run.specs.Run.{AreEvents, text_to}
+use Rattle.command_run.specs.Run.{Setting, AreEvents, GoesOn, run_text, text_to}
 
 -- the lines of the input are the header `module builtin`, and then these events and skipped lines
-pub record NamesScript (input : List ℕ) (events : List StaticEvent) : Type 0 where
+pub record NamesScript (input : List ℕ) (events : List Event) : Type 0 where
   pub lines : List (List ℕ)
   pub parts : lines_of input ≡ builtin_line One ∷ lines
   pub are : AreEvents lines events
@@ -28,7 +28,7 @@ text_line = codes "module text"
 
 -- They are the header `module text`, the lines of a text up to and with the first `END` or to the input's end, and then these events and
 -- skipped lines; the text is a module that agrees with the profile.
-pub record TextScript (input : List ℕ) (events : List StaticEvent) : Type 0 where
+pub record TextScript (input : List ℕ) (events : List Event) : Type 0 where
   pub body : List (List ℕ)
   pub lines : List (List ℕ)
   pub text : List ℕ
@@ -40,18 +40,19 @@ pub record TextScript (input : List ℕ) (events : List StaticEvent) : Type 0 wh
   pub agrees : Agrees (profile_types 1) m
   pub are : AreEvents lines events
 
--- the input is a whole script of these events
-pub record IsWhole (input : List ℕ) (events : List StaticEvent) : Type 0 where
+-- the input is a whole script of these events, in none of which the run stops
+pub record IsWhole (setting : Setting) (input : List ℕ) (events : List Event) : Type 0 where
+  pub goes : GoesOn setting events
   pub within : length input ≤ input_limit
   pub script : NamesScript input events ⊎ TextScript input events
 
 -- every event was applied, and all was written; or memory ran out
-abbrev pub RunsAll : SinkAt → SinkAt → List StaticEvent → Status → Type 0
-RunsAll before after events status =
-    ((status.code ≡ 0) × Prints before after (text_to events (Some (Done (length events))))) ⊎ (status.code ≡ 9)
+abbrev pub RunsAll : Setting → SinkAt → SinkAt → List Event → Status → Type 0
+RunsAll setting before after events status =
+    ((status.code ≡ 0) × Prints before after (text_to (run_text setting events) (Some (Done (length events))))) ⊎ (status.code ≡ 9)
 
-abbrev pub RunsWholly : OutsideAt → OutsideAt → Status → Type 0
-RunsWholly before after status =
-    (bytes : List ℕ) (events : List StaticEvent) → before.source.left ≡ Some bytes → IsWhole bytes events
+abbrev pub RunsWholly : Setting → OutsideAt → OutsideAt → Status → Type 0
+RunsWholly setting before after status =
+    (bytes : List ℕ) (events : List Event) → before.source.left ≡ Some bytes → IsWhole setting bytes events
     → NoneFailed before after
-    → RunsAll before.sink after.sink events status
+    → RunsAll setting before.sink after.sink events status

@@ -1,9 +1,10 @@
 //! How a run ends, the status that reports it, and what is written then.
 
-ghost use Rattle.std.specs.Prelude.{◌≡◌, IfOk};
+ghost use Rattle.std.specs.Prelude.{◌≡◌, ◌∷◌, [], IfOk};
+ghost use Rattle.scenario_text.specs.Print.{print};
 ghost use Rattle.std.specs.Option.{option_to_list};
 ghost use Rattle.command_defs.specs.Ends.{end_of_input as common_end_of};
-ghost use Rattle.command_run.specs.Ends.{run_status, differs_line, report_of as report_text, run_last_lines};
+ghost use Rattle.command_run.specs.Ends.{run_status, differs_line, report_of as report_text, run_last_lines, end_at as end_of_run};
 ghost use Rattle.command_run.specs.inside.Stops.{end_of_stop};
 ghost use Rattle.command_run.specs.declared.end.RunEnd.TheVariants.{Common as CommonRunEnd};
 
@@ -11,14 +12,16 @@ use asn1_types::ModuleReason;
 use command_defs::{CommonEnd, Status};
 use command_output::{
     common_last_line, common_status, end_of_input, fault_text, line_status, module_status,
-    stop_line,
+    stop_line, text_of,
 };
 use gnb_types::octets::{Memory, Octets};
 use input_defs::InputEnd;
 use input_module::ModuleStop;
+use run_links::spans::Outstanding;
 use scenario_text::event::TextReason;
 use scenario_text::line::OutLine;
 use std::alloc::Global;
+use world_steps::cause::Cause;
 
 /// How a run ended.
 #[derive(Drop)]
@@ -42,6 +45,17 @@ pub enum RunEnd {
     Script {
         place: u64,
         reason: TextReason,
+    },
+    /// After a step of the event at line `place` the COUNTs of a bearer span more than half the
+    /// space of its numbers.
+    Outstanding {
+        place: u64,
+        outstanding: Outstanding,
+    },
+    /// In a step of the event at line `place` a counter, by its number, would pass its last value.
+    Spent {
+        place: u64,
+        counter: u8,
     },
     /// An end that each word has.
     Common(CommonEnd),
@@ -83,6 +97,17 @@ impl From<ModuleStop> for RunEnd {
     }
 }
 
+/// The end of a script whose run stops for this cause in the event at this line.
+pub(crate) fn end_at(place: u64, cause: Cause) -> RunEnd
+    ensures { result ≡ end_of_run place cause }
+{
+    match cause {
+        Cause::Outstanding(outstanding) => RunEnd::Outstanding { place, outstanding },
+        Cause::Spent(counter) => RunEnd::Spent { place, counter },
+        Cause::Memory => RunEnd::Common(CommonEnd::Memory),
+    }
+}
+
 /// The line of a module that isn't the profile's.
 fn differs_text(alloc: Global, name: &Octets) -> Result<Octets, Memory>
     ensures { IfOk result (λ text. text ≡ differs_line name.now) }
@@ -111,11 +136,22 @@ impl RunEnd {
                 reason: 20,
             },
             RunEnd::Script { place, reason } => line_status(*place, *reason),
+            RunEnd::Outstanding { place, .. } => Status {
+                code: 5,
+                place: *place,
+                reason: 0,
+            },
+            RunEnd::Spent { place, counter } => Status {
+                code: 10,
+                place: *place,
+                reason: u16::from(*counter),
+            },
             RunEnd::Common(end) => common_status(*end),
         }
     }
 
-    /// What is wrong with the module, as it is written before the last line; of another end nothing.
+    /// What is wrong with the module, or which bearer is outstanding, as it is written before the
+    /// last line; of another end nothing.
     pub fn report(&self, alloc: Global) -> Result<Octets, Memory>
         ensures { IfOk result (λ text. text ≡ report_text self.now) }
     {
@@ -126,9 +162,11 @@ impl RunEnd {
                 reason,
             } => fault_text(alloc, *line, *column, *reason),
             RunEnd::Differs { name } => differs_text(alloc, name),
-            RunEnd::Done { .. } | RunEnd::Script { .. } | RunEnd::Common(_) => {
-                Ok(Octets::new(alloc))
-            }
+            RunEnd::Outstanding { outstanding, .. } => text_of(alloc, &[outstanding.line()]),
+            RunEnd::Done { .. }
+            | RunEnd::Script { .. }
+            | RunEnd::Spent { .. }
+            | RunEnd::Common(_) => { Ok(Octets::new(alloc)) }
         }
     }
 
@@ -138,9 +176,11 @@ impl RunEnd {
     {
         match self {
             RunEnd::Done { events } => Some(OutLine::End { events: *events }),
-            RunEnd::NoModule { .. } | RunEnd::Differs { .. } | RunEnd::Script { .. } => {
-                Some(stop_line(self.status()))
-            }
+            RunEnd::NoModule { .. }
+            | RunEnd::Differs { .. }
+            | RunEnd::Script { .. }
+            | RunEnd::Outstanding { .. }
+            | RunEnd::Spent { .. } => Some(stop_line(self.status())),
             RunEnd::Common(end) => common_last_line(*end),
         }
     }

@@ -1,5 +1,5 @@
-//! The word `run`: a script of events is read line by line, each event is applied before the next
-//! line is read, and what it gives is written.
+//! The word `run` over any units: a script of events is read line by line, each event is applied before the next line is read, and
+//! what it gives is written.
 #![tactic(auto)]
 
 mod end;

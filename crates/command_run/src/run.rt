@@ -2,10 +2,9 @@
 
 ghost use Rattle.std.specs.Prelude.{◌≡◌, ◌++◌, ◌∷◌, [], IfOk};
 ghost use Rattle.scenario_text.specs.Print.{print};
-ghost use Rattle.command_defs.specs.Ends.{StopsAtLine};
 ghost use Rattle.command_defs.specs.Outside.{outside};
-ghost use Rattle.command_run.specs.Ends.{run_status, report_of};
-ghost use Rattle.command_run.specs.Run.{RunMeets};
+ghost use Rattle.command_run.specs.Ends.{run_status, report_of, StopsAtEvent};
+ghost use Rattle.command_run.specs.Run.{setting_of, RunMeets};
 ghost use Rattle.command_run.specs.Whole.{RunsWholly};
 ghost use Rattle.command_run.specs.inside.Stops.{Finishes};
 
@@ -15,8 +14,10 @@ use command_defs::CommonEnd;
 use command_output::{text_of, write_all};
 use gnb_base::outside::{Sink, Source};
 use gnb_types::octets::{Memory, Octets};
+use lawful_codecs::LawfulCodec;
 use scenario_text::line::OutLine;
 use std::alloc::Global;
+use world_steps::Units;
 
 /// All that is written at this end, whose last line this is.
 fn text_at(alloc: Global, end: &RunEnd, line: OutLine) -> Result<Octets, Memory>
@@ -46,17 +47,27 @@ fn finish<K: Sink>(alloc: Global, output: &mut K, end: RunEnd) -> RunEnd
     }
 }
 
-/// Runs a script, and writes what is left to write at its end.
-pub fn run_script<S: Source, K: Sink>(alloc: Global, input: &mut S, output: &mut K) -> RunEnd
-    ensures meets { RunMeets (outside (S.at input.old) (K.at output.old))
+/// Runs a script over these units, and writes what is left to write at its end.
+pub fn run_script<S: Source, K: Sink, U: Units<C> + Drop, C: LawfulCodec + Drop>(
+    alloc: Global,
+    codec: C,
+    units: U,
+    input: &mut S,
+    output: &mut K,
+) -> RunEnd
+    ensures meets { RunMeets (setting_of C.codec U.answer)
+        (outside (S.at input.old) (K.at output.old))
         (outside (S.at input.new) (K.at output.new)) result }
-    ensures near { StopsAtLine (S.at input.old) (S.at input.new) (run_status result) }
+
+    // At a stop at a line the source was read hardly further than that line.
+    ensures near { StopsAtEvent (S.at input.old) (S.at input.new) (run_status result) }
 
     // A whole script is run, where its bytes are reported and no call fails, unless memory runs
     // out.
-    ensures complete { RunsWholly (outside (S.at input.old) (K.at output.old))
+    ensures complete { RunsWholly (setting_of C.codec U.answer)
+        (outside (S.at input.old) (K.at output.old))
         (outside (S.at input.new) (K.at output.new)) (run_status result) }
 {
-    let end = script::run(alloc, input, output);
+    let end = script::run(alloc, codec, units, input, output);
     finish(alloc, output, end)
 }

@@ -8,17 +8,9 @@ use Rattle.scenario_text.specs.Print.{print}
 use Rattle.um_types.specs.declared.stop.UmEnd.{UmEnd}
 use Rattle.um_types.specs.declared.stop.UmEnd.TheVariants as ends
 use Rattle.command_defs.specs.declared.Status.{Status}
-use Rattle.command_defs.specs.Statuses.{done_status, line_status, common_status, stop_line, common_last_lines}
+use Rattle.command_defs.specs.Statuses.{done_status, line_status, outstanding_status, spent_status, common_status, stop_line, common_last_lines}
 use Rattle.command_um.specs.declared.end.ScriptEnd.{ScriptEnd}
 use Rattle.command_um.specs.declared.end.ScriptEnd.TheVariants.{Done, Script, Outstanding, Spent, Common}
-
--- after the event at this line more COUNTs are outstanding than may be
-abbrev pub outstanding_status : ℕ → Status
-outstanding_status place = record { code = 5; place = place; reason = 0 }
-
--- in the event at this line a counter would pass its last value
-abbrev pub spent_status : ℕ → ℕ → Status
-spent_status place counter = record { code = 10; place = place; reason = counter }
 
 abbrev pub script_status : ScriptEnd → Status
 script_status (Done events) = done_status

@@ -1,5 +1,5 @@
 -- What is written at the end of a run that was done keeps the promise.
-use Rattle.std.proofs.Common.{◌≡◌, ℕ, false, List, None}
+use Rattle.std.proofs.Common.{◌≡◌, ℕ, List, Some, subst}
 use Rattle.std.specs.List.{AllByRecursion}
 use Rattle.input_defs.specs.Split.{rest_of}
 use Rattle.scenario_text.specs.Texts.{InRange}
@@ -11,8 +11,12 @@ use Rattle.plain_defs.specs.Plain.{IsPlain, KeepRange}
 use Rattle.law_wires.proofs.Runs.{wires}
 use Rattle.law_octet_downlink.proofs.Runs.{nothing_is_read, promised}
 use Rattle.command_defs.specs.Outside.{OutsideAt}
-use Rattle.command_world.specs.Run.{Setting, IsScript, IsDone, run_of, RunMeets}
-use Rattle.command_world.specs.declared.end.RunEnd.TheVariants.{Done}
+use Rattle.command_defs.specs.Output.{Prints}
+use Rattle.command_run.specs.Run.{Setting, IsDone, run_of, run_text, text_to, RunMeets}
+use Rattle.command_run.specs.Ends.{run_status}
+use Rattle.command_run.specs.declared.end.RunEnd.{RunEnd}
+use Rattle.command_run.specs.declared.end.RunEnd.TheVariants.{Done, NoModule, Differs, Script, Outstanding, Spent, Common}
+use Rattle.command_defs.specs.declared.CommonEnd.TheVariants.{ReadFault, TooLong, WriteFault, Memory}
 use Rattle.law_promise.specs.Written.{WritesOne}
 use Rattle.law_promise.proofs.Ranges.{read_in_range}
 
@@ -23,22 +27,32 @@ module _ (setting : Setting) where
 
   module _ (items : ReadsItems setting.codec) (pdus : ReadsPdus setting.codec) (in_range : Records → Type 0)
       (keep : KeepRange setting.answer in_range) (plain : IsPlain setting.codec setting.answer in_range) where
-    pub done_writes : (before after : OutsideAt) (count : ℕ) → RunMeets setting before after (Done count) → WritesOne setting before after count
-    done_writes before after count r = by r.ends.1
+    -- of all ends, status 0 is that of a script whose events were all applied
+    pub done_writes : (before after : OutsideAt) (end : RunEnd) → (run_status end).code ≡ 0 → RunMeets setting before after end
+        → WritesOne setting before after
+    done_writes before after (Done count) zero r = record {
+      split = r.split;
+      events = r.events;
+      input = r.input;
+      script = done.script;
+      in_ranges = fits;
+      goes = r.ends.0;
+      prints = subst (λ (n : ℕ). Prints before.sink after.sink (text_to (run_text setting r.events) (Some (Done n)))) done.counted r.prints;
+      wires = keeps_wires r.events;
+      promise = λ are. promised setting.codec items pdus setting.answer in_range keep plain nothing_is_read r.events fits are;
+    }
       where
-        by : IsDone (rest_of before.source after.source) r.split r.events count → WritesOne setting before after count
-        by done = record {
-          split = r.split;
-          events = r.events;
-          input = r.input;
-          script = done.script;
-          counted = done.counted;
-          in_ranges = fits;
-          goes = r.ends.0;
-          prints = r.prints;
-          wires = keeps_wires r.events;
-          promise = λ are. promised setting.codec items pdus setting.answer in_range keep plain nothing_is_read r.events fits are;
-        }
-          where
-            fits : AllByRecursion InRange r.events
-            fits = read_in_range done.script.lines r.events done.script.are
+        done : IsDone (rest_of before.source after.source) r.split r.events count
+        done = r.ends.1
+
+        fits : AllByRecursion InRange r.events
+        fits = read_in_range done.script.lines r.events done.script.are
+    done_writes before after (NoModule line column reason) zero r = absurd cc
+    done_writes before after (Differs name) zero r = absurd cc
+    done_writes before after (Script place reason) zero r = absurd cc
+    done_writes before after (Outstanding place span) zero r = absurd cc
+    done_writes before after (Spent place counter) zero r = absurd cc
+    done_writes before after (Common (ReadFault taken)) zero r = absurd cc
+    done_writes before after (Common TooLong) zero r = absurd cc
+    done_writes before after (Common WriteFault) zero r = absurd cc
+    done_writes before after (Common Memory) zero r = absurd cc

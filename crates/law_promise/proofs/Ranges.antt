@@ -8,7 +8,7 @@ use Rattle.scenario_text.specs.Texts.{InRange, IsTextOf}
 use Rattle.scenario_text.specs.declared.event.Event.{Event}
 use Rattle.scenario_text.specs.declared.event.Event.TheVariants as events
 use Rattle.scenario_text.proofs.EventLaws.{event_sound}
-use Rattle.command_world.specs.Run.{meanings, AreEvents}
+use Rattle.command_run.specs.Run.{meanings, AreEvents}
 
 text_range : (line : List ℕ) (event : Event) → IsTextOf line event → InRange event
 text_range line (events.Static plan) h = h.range

@@ -3,31 +3,32 @@
 
 ghost use Rattle.codec_defs.specs.Reading.{ReadsItems, ReadsPdus};
 ghost use Rattle.command_defs.specs.Outside.{OutsideAt};
-ghost use Rattle.command_world.specs.Run.{RunMeets, setting_of};
-ghost use Rattle.command_world.specs.declared.end.RunEnd.TheVariants.{Done};
+ghost use Rattle.command_run.specs.Ends.{run_status};
+ghost use Rattle.command_run.specs.Run.{RunMeets, setting_of};
+ghost use Rattle.command_run.specs.declared.end.RunEnd.{RunEnd};
 ghost use Rattle.law_promise.specs.Written.{WritesOne};
 ghost use Rattle.message_codec_defs.specs.Codecs.{profile_codec};
 ghost use Rattle.plain_defs.specs.Plain.{IsPlain, KeepRange};
 ghost use Rattle.run_defs.specs.UnitRuns.{tables};
 ghost use Rattle.run_defs.specs.unit_octet_defs.Codec.{Codec};
-ghost use Rattle.std.specs.Prelude.{ℕ};
+ghost use Rattle.std.specs.Prelude.{◌≡◌};
 
 use law_plain_units::Units;
 
-/// Where a script was run to its end, the sink got the text of one transcript, of all events of the script, and of no other. In this
+/// Where `run` answers status 0, the sink got the text of one transcript, of all events of the script, and of no other. In this
 /// transcript links keep order; and where terminals are set up without messages, packets are offered down, and items are got and
 /// carried, each bearer delivers a prefix of what was offered, each packet once, over the printed links alone, and COUNTs are places.
 pub fn what_is_written_keeps_the_promise<U: Units>()
     ensures { (codec : Codec) → ReadsItems codec → ReadsPdus codec
         → KeepRange (U.answer codec) U.in_range → IsPlain codec (U.answer codec) U.in_range
-        → (before after : OutsideAt) (count : ℕ)
-        → RunMeets (setting_of codec (U.answer codec)) before after (Done count)
-        → WritesOne (setting_of codec (U.answer codec)) before after count }
+        → (before after : OutsideAt) (end : RunEnd) → (run_status end).code ≡ 0
+        → RunMeets (setting_of codec (U.answer codec)) before after end
+        → WritesOne (setting_of codec (U.answer codec)) before after }
 {}
 
 /// So it is of the product: its units answer as the procedure tables do after decoding, with the codec of the profile.
 pub fn what_the_product_writes_keeps_the_promise()
-    ensures { (before after : OutsideAt) (count : ℕ)
-        → RunMeets (setting_of profile_codec (tables profile_codec)) before after (Done count)
-        → WritesOne (setting_of profile_codec (tables profile_codec)) before after count }
+    ensures { (before after : OutsideAt) (end : RunEnd) → (run_status end).code ≡ 0
+        → RunMeets (setting_of profile_codec (tables profile_codec)) before after end
+        → WritesOne (setting_of profile_codec (tables profile_codec)) before after }
 {}

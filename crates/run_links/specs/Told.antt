@@ -20,10 +20,15 @@ use Rattle.run_defs.specs.Steps.{radio_lost}
 use Rattle.run_defs.specs.Events.{is_lossy}
 use Rattle.run_defs.specs.UnitRuns.{Records, Meaning, unit_world}
 use Rattle.run_links.specs.declared.ground.Ground.{Ground}
+use Rattle.run_links.specs.declared.spans.Outstanding.{Outstanding}
 use Rattle.run_links.specs.Grounds.{Octets, OctetState, OctetWorld, OctetWithin, OctetOutcome, OctetCore, state_of}
 
 abbrev pub printed : List (RunLine Octets) → List OutLine
 printed lines = out_lines (λ octets. octets) lines
+
+-- `outstanding uU bB DIR SPAN W`
+abbrev pub outstanding_line : Outstanding → OutLine
+outstanding_line o = outs.Outstanding o.key.ue o.key.bearer o.key.dir o.span o.window
 
 -- the run goes on from this state, with these lines after those before
 abbrev pub GoesTo : List OutLine → OctetWithin → List OutLine → OctetState → Type 0

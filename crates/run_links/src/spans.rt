@@ -11,10 +11,12 @@ ghost use Rattle.run_defs.specs.Steps.{span, first_outstanding, bearer_numbers, 
 ghost use Rattle.run_defs.specs.UnitRuns.{Records};
 ghost use Rattle.run_links.specs.Grounds.{OctetCore, state_of};
 ghost use Rattle.run_links.specs.Spans.{lowered, stop_of, both_of};
+ghost use Rattle.run_links.specs.Told.{outstanding_line};
 
 use crate::ground::Ground;
 use gnb_types::keys::EntityKey;
 use gnb_types::names::{BearerId, Dir, SnBits, UeId};
+use scenario_text::line::OutLine;
 
 /// A bearer and direction whose COUNTs span more than half the space of its numbers.
 #[derive(Clone, Copy, Debug, PartialEq, Eq)]
@@ -22,6 +24,22 @@ pub struct Outstanding {
     pub key: EntityKey,
     pub span: u64,
     pub window: u32,
+}
+
+impl Outstanding {
+    /// The line that tells of it.
+    pub fn line(self) -> OutLine
+        ensures { result ≡ outstanding_line self }
+    {
+        let EntityKey { ue, bearer, dir } = self.key;
+        OutLine::Outstanding {
+            ue,
+            bearer,
+            dir,
+            span: self.span,
+            window: self.window,
+        }
+    }
 }
 
 /// Half the space of numbers of this length.

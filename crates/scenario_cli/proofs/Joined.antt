@@ -1,5 +1,5 @@
 -- What each word promises, joined to what the program does.
-use Rattle.std.proofs.Common.{◌≡◌, ◌⊎◌, ℕ, List, [], ◌∷◌, refl, sym, ap, ◌∙◌, subst, inl, inr, arith, Err}
+use Rattle.std.proofs.Common.{◌≡◌, ◌≤◌, ◌⊎◌, ℕ, List, [], ◌∷◌, refl, sym, ap, ◌∙◌, subst, inl, inr, arith, Err}
 use Rattle.gnb_base.specs.Outside.{SourceAt, SinkAt, Rose}
 use Rattle.input_lines.proofs.Sources.{none_failed as no_read_failed}
 use Rattle.scenario_text.specs.declared.line.OutLine.{OutLine}
@@ -13,9 +13,19 @@ use Rattle.command_defs.specs.Statuses.{usage_status, common_status, stop_line}
 use Rattle.command_output.specs.Writes.{WritesAll, WritesLines}
 use Rattle.command_output.proofs.Written.{none_failed}
 use Rattle.command_run.specs.declared.end.RunEnd.{RunEnd}
-use Rattle.command_run.specs.Ends.{run_status}
-use Rattle.command_run.specs.Run.{RunMeets}
+use Rattle.command_run.specs.declared.end.RunEnd.TheVariants.{Common}
+use Rattle.command_run.specs.Ends.{run_status, StopsAtEvent as StopsAtStep}
+use Rattle.command_run.specs.Run.{Setting, run_of, RunMeets}
 use Rattle.command_run.specs.Whole.{RunsWholly}
+use Rattle.command_run.proofs.Finished.{out_of_memory}
+use Rattle.command_run.proofs.Whole.{complete, near}
+use Rattle.run_defs.specs.Runs.{Transcript}
+use Rattle.command_generate.specs.declared.end.GenerateEnd.{GenerateEnd}
+use Rattle.command_generate.specs.declared.end.GenerateEnd.TheVariants as ends
+use Rattle.command_generate.specs.Script.{script}
+use Rattle.command_generate.specs.Ends.{generate_status}
+use Rattle.command_generate.specs.Generate.{PrintsEnd, GenerateMeets, GeneratesWholly}
+use Rattle.command_generate.specs.Generate as generated
 use Rattle.command_check.specs.declared.end.CheckEnd.{CheckEnd}
 use Rattle.command_check.specs.Report.{check_status, CheckMeets}
 use Rattle.command_check.specs.Whole.{ChecksWholly}
@@ -38,9 +48,10 @@ use Rattle.command_values.specs.declared.end.ValuesEnd.{ValuesEnd}
 use Rattle.command_values.specs.Ends.{values_status, StopsAtValue}
 use Rattle.command_values.specs.Values.{Job, job_of, ValuesMeet}
 use Rattle.command_values.specs.Whole.{AnswersWholly}
-use Rattle.scenario_cli.specs.declared.top.Form.TheVariants.{Run, Check, Profile, Um, Dup, Values, Other}
-use Rattle.scenario_cli.specs.Gnb.{FormMeets, WritesProfile, ConvertsValues}
+use Rattle.scenario_cli.specs.declared.top.Form.TheVariants.{Run, Generate, Check, Profile, Um, Dup, Values, Other}
+use Rattle.scenario_cli.specs.Gnb.{FormMeets, WritesProfile, ConvertsValues, RunsScript}
 use Rattle.scenario_cli.specs.inside.Timed.{IsTimed}
+use Rattle.scenario_cli.specs.inside.Over.{RunsOver}
 
 -- ---- with words that are no form
 
@@ -98,13 +109,15 @@ pub record ValuesHold (job : Job) (before after : OutsideAt) (status : Status) :
   pub near : StopsAtValue before.source after.source status
   pub wholly : AnswersWholly job before after status
 
-pub record Holds (form : Form) (before after : OutsideAt) (status : Status) : Type 0 where
-  pub headline : FormMeets form before after status
+pub record Holds (setting : Setting) (form : Form) (before after : OutsideAt) (status : Status) : Type 0 where
+  pub headline : FormMeets setting form before after status
   pub read : status.code ≡ 6 → Rose before.source.faults after.source.faults
   pub write : status.code ≡ 7 → Rose before.sink.faults after.sink.faults
   pub calls : CallsTo before after status.code
   pub near : StopsAtLine before.source after.source status
-  pub complete : form ≡ Run → RunsWholly before after status
+  pub complete : form ≡ Run → RunsWholly setting before after status
+  pub near_step : form ≡ Run → StopsAtStep before.source after.source status
+  pub generates : (packets : ℕ) → form ≡ Generate packets → GeneratesWholly (run_of setting (script packets)) packets before after status
   pub bearer : (config : UmConfig) → form ≡ Um config → RunsWhollyUm config before after status
   pub near_event : (config : UmConfig) → form ≡ Um config → StopsAtEvent before.source after.source status
   pub legs : (config : DupConfig) → form ≡ Dup config → RunsWhollyDup config before after status
@@ -120,34 +133,56 @@ write_rose : {before after : SinkAt} {code : ℕ} → WritesTo before after code
 write_rose (AllWritten h other) e = absurd (other e)
 write_rose (WriteStopped h is) e = h.faults
 
-run_holds : (before after : OutsideAt) (end : RunEnd) → RunMeets before after end → StopsAtLine before.source after.source (run_status end)
-    → RunsWholly before after (run_status end)
-    → Holds Run before after (run_status end)
-run_holds before after end meets near complete = record {
-  headline = record { end = end; status_is = refl; meets = meets };
-  read = read_rose meets.calls.reads;
-  write = write_rose meets.calls.writes;
-  calls = meets.calls;
-  near = near;
-  complete = λ (e : Run ≡ Run). complete;
-  bearer = λ config (e : Run ≡ Um config). absurd (cc);
-  near_event = λ config (e : Run ≡ Um config). absurd (cc);
-  legs = λ config (e : Run ≡ Dup config). absurd (cc);
-  near_leg_event = λ config (e : Run ≡ Dup config). absurd (cc);
-  checks = λ (e : Run ≡ Check). absurd (cc);
-  writes = tt;
-}
+run_holds : (setting : Setting) (before after : OutsideAt) (status : Status) → RunsOver setting before after status
+    → Holds setting Run before after status
+run_holds setting before after status o =
+    let calls : CallsTo before after status.code =
+    subst (λ (s : Status). CallsTo before after s.code) (sym o.script.status_is) o.script.meets.calls in
+    record {
+      headline = o.script;
+      read = read_rose calls.reads;
+      write = write_rose calls.writes;
+      calls = calls;
+      near = λ bytes known (stop : status.code ≡ 4). o.near bytes known (inl stop);
+      complete = λ (e : Run ≡ Run). o.wholly;
+      near_step = λ (e : Run ≡ Run). o.near;
+      generates = λ packets (e : Run ≡ Generate packets). absurd (cc);
+      bearer = λ config (e : Run ≡ Um config). absurd (cc);
+      near_event = λ config (e : Run ≡ Um config). absurd (cc);
+      legs = λ config (e : Run ≡ Dup config). absurd (cc);
+      near_leg_event = λ config (e : Run ≡ Dup config). absurd (cc);
+      checks = λ (e : Run ≡ Check). absurd (cc);
+      writes = tt;
+    }
 
-check_holds : (before after : OutsideAt) (end : CheckEnd) → CheckMeets before after end
+-- a script that was run, or out of memory before that
+pub ran : (setting : Setting) (before after : OutsideAt) (end : RunEnd) (status : Status) → status ≡ run_status end
+    → RunMeets setting before after end → StopsAtStep before.source after.source (run_status end)
+    → RunsWholly setting before after (run_status end) → RunsOver setting before after status
+ran setting before after end status same meets near_it wholly =
+    subst (λ (s : Status). RunsOver setting before after s) (sym same)
+    (record { script = record { end = end; status_is = refl; meets = meets }; near = near_it; wholly = wholly })
+
+pub not_run : (setting : Setting) (source : SourceAt) (sink : SinkAt) (status : Status) → status ≡ common_status Memory
+    → RunsOver setting (outside source sink) (outside source sink) status
+not_run setting source sink status same =
+    let meets = out_of_memory setting source sink in
+    ran setting (outside source sink) (outside source sink) (Common Memory) status same meets
+    (near setting (outside source sink) (outside source sink) (Common Memory) meets)
+    (complete setting (outside source sink) (outside source sink) (Common Memory) meets)
+
+check_holds : (setting : Setting) (before after : OutsideAt) (end : CheckEnd) → CheckMeets before after end
     → StopsAtLine before.source after.source (check_status end) → ChecksWholly before after (check_status end)
-    → Holds Check before after (check_status end)
-check_holds before after end meets near complete = record {
+    → Holds setting Check before after (check_status end)
+check_holds setting before after end meets near complete = record {
   headline = record { end = end; status_is = refl; meets = meets };
   read = read_rose meets.calls.reads;
   write = write_rose meets.calls.writes;
   calls = meets.calls;
   near = near;
   complete = λ (e : Check ≡ Run). absurd (cc);
+  near_step = λ (e : Check ≡ Run). absurd (cc);
+  generates = λ packets (e : Check ≡ Generate packets). absurd (cc);
   bearer = λ config (e : Check ≡ Um config). absurd (cc);
   near_event = λ config (e : Check ≡ Um config). absurd (cc);
   legs = λ config (e : Check ≡ Dup config). absurd (cc);
@@ -156,8 +191,8 @@ check_holds before after end meets near complete = record {
   writes = tt;
 }
 
-usage_holds : (before after : OutsideAt) (status : Status) → UsageMeets before after status → Holds Other before after status
-usage_holds before after status u =
+usage_holds : (setting : Setting) (before after : OutsideAt) (status : Status) → UsageMeets before after status → Holds setting Other before after status
+usage_holds setting before after status u =
     let calls = usage_calls before after status u in
     record {
       headline = u;
@@ -166,6 +201,8 @@ usage_holds before after status u =
       calls = calls;
       near = λ bytes known stop. absurd (other_code status.code 4 (usage_code _ _ status u.prints) (inl refl) stop);
       complete = λ (e : Other ≡ Run). absurd (cc);
+      near_step = λ (e : Other ≡ Run). absurd (cc);
+      generates = λ packets (e : Other ≡ Generate packets). absurd (cc);
       bearer = λ config (e : Other ≡ Um config). absurd (cc);
       near_event = λ config (e : Other ≡ Um config). absurd (cc);
       legs = λ config (e : Other ≡ Dup config). absurd (cc);
@@ -193,10 +230,10 @@ no_code code n (inl e) (inr f) g = omega arith
 no_code code n (inr e) (inl f) g = omega arith
 no_code code n (inr e) (inr f) g = omega arith
 
-profile_holds : (version : Version) (before after : OutsideAt) (status : Status) → ProfileMeets version before after status
+profile_holds : (setting : Setting) (version : Version) (before after : OutsideAt) (status : Status) → ProfileMeets version before after status
     → WritesWholly version before after status
-    → Holds (Profile version) before after status
-profile_holds version before after status p complete =
+    → Holds setting (Profile version) before after status
+profile_holds setting version before after status p complete =
     let other = profile_code _ _ version status p.prints in
     let calls : CallsTo before after status.code = record {
       reads = subst (λ (s : SourceAt). ReadsTo before.source s status.code) (sym p.unread)
@@ -210,6 +247,8 @@ profile_holds version before after status p complete =
       calls = calls;
       near = λ bytes known stop. absurd (no_code status.code 4 other (inl refl) stop);
       complete = λ (e : Profile version ≡ Run). absurd (cc);
+      near_step = λ (e : Profile version ≡ Run). absurd (cc);
+      generates = λ packets (e : Profile version ≡ Generate packets). absurd (cc);
       bearer = λ config (e : Profile version ≡ Um config). absurd (cc);
       near_event = λ config (e : Profile version ≡ Um config). absurd (cc);
       legs = λ config (e : Profile version ≡ Dup config). absurd (cc);
@@ -218,21 +257,91 @@ profile_holds version before after status p complete =
       writes = complete;
     }
 
+-- ---- with the word `generate`
+
+status_writes : (run : Transcript (List ℕ)) (packets : ℕ) (a b : SinkAt) (status : Status) → PrintsEnd run packets a b status
+    → WritesTo a b status.code
+status_writes run packets a b status (generated.Written end m same all none) = AllWritten none (not_seven end same)
+  where
+    not_seven : (end : GenerateEnd) → status ≡ generate_status end → status.code ≡ 7 → ⊥
+    not_seven (ends.Done count) is e = let clash : 0 ≡ 7 = sym (code_of is) ∙ e in omega arith
+    not_seven (ends.Outstanding place o) is e = let clash : 5 ≡ 7 = sym (code_of is) ∙ e in omega arith
+    not_seven (ends.Spent place counter) is e = let clash : 10 ≡ 7 = sym (code_of is) ∙ e in omega arith
+status_writes run packets a b status (generated.Cut end m same part last) = WriteStopped last (code_of same)
+status_writes run packets a b status (generated.Unwritten same kept) =
+    AllWritten (subst (λ (s : SinkAt). NoWriteFailed a s) (sym kept) (none_failed a))
+    (λ (e : status.code ≡ 7). (let clash : 9 ≡ 7 = sym (code_of same) ∙ e in omega arith))
+
+-- it isn't that of a line, or of a read
+not_code : (n : ℕ) → (n ≡ 4) ⊎ (n ≡ 6) → (end : GenerateEnd) → (generate_status end).code ≡ n → ⊥
+not_code n (inl f) (ends.Done count) e = omega arith
+not_code n (inr f) (ends.Done count) e = omega arith
+not_code n (inl f) (ends.Outstanding place o) e = omega arith
+not_code n (inr f) (ends.Outstanding place o) e = omega arith
+not_code n (inl f) (ends.Spent place counter) e = omega arith
+not_code n (inr f) (ends.Spent place counter) e = omega arith
+
+generate_code : (run : Transcript (List ℕ)) (packets : ℕ) (a b : SinkAt) (status : Status) (n : ℕ) → PrintsEnd run packets a b status
+    → (n ≡ 4) ⊎ (n ≡ 6) → status.code ≡ n → ⊥
+generate_code run packets a b status n (generated.Written end m same all none) f e = not_code n f end (sym (code_of same) ∙ e)
+generate_code run packets a b status n (generated.Cut end m same part last) (inl f) e =
+    let clash : 7 ≡ 4 = sym (code_of same) ∙ e ∙ f in omega arith
+generate_code run packets a b status n (generated.Cut end m same part last) (inr f) e =
+    let clash : 7 ≡ 6 = sym (code_of same) ∙ e ∙ f in omega arith
+generate_code run packets a b status n (generated.Unwritten same kept) (inl f) e =
+    let clash : 9 ≡ 4 = sym (code_of same) ∙ e ∙ f in omega arith
+generate_code run packets a b status n (generated.Unwritten same kept) (inr f) e =
+    let clash : 9 ≡ 6 = sym (code_of same) ∙ e ∙ f in omega arith
+
+same_packets : {packets other : ℕ} → Generate packets ≡ Generate other → packets ≡ other
+same_packets e = cc
+
+generate_holds : (setting : Setting) (packets : ℕ) (before after : OutsideAt) (status : Status)
+    → GenerateMeets (run_of setting (script packets)) packets before after status
+    → GeneratesWholly (run_of setting (script packets)) packets before after status
+    → Holds setting (Generate packets) before after status
+generate_holds setting packets before after status m wholly =
+    let run = run_of setting (script packets) in
+    let calls : CallsTo before after status.code = record {
+      reads = subst (λ (s : SourceAt). ReadsTo before.source s status.code) (sym m.unread)
+          (AllRead (no_read_failed before.source) (generate_code run packets before.sink after.sink status 6 m.prints (inr refl)));
+      writes = status_writes run packets before.sink after.sink status m.prints;
+    } in
+    record {
+      headline = m;
+      read = read_rose calls.reads;
+      write = write_rose calls.writes;
+      calls = calls;
+      near = λ bytes known stop. absurd (generate_code run packets before.sink after.sink status 4 m.prints (inl refl) stop);
+      complete = λ (e : Generate packets ≡ Run). absurd (cc);
+      near_step = λ (e : Generate packets ≡ Run). absurd (cc);
+      generates = λ other (e : Generate packets ≡ Generate other).
+          subst (λ (n : ℕ). GeneratesWholly (run_of setting (script n)) n before after status) (same_packets e) wholly;
+      bearer = λ config (e : Generate packets ≡ Um config). absurd (cc);
+      near_event = λ config (e : Generate packets ≡ Um config). absurd (cc);
+      legs = λ config (e : Generate packets ≡ Dup config). absurd (cc);
+      near_leg_event = λ config (e : Generate packets ≡ Dup config). absurd (cc);
+      checks = λ (e : Generate packets ≡ Check). absurd (cc);
+      writes = tt;
+    }
+
 -- ---- with the word `um`
 
 same_config : {config other : UmConfig} → Um config ≡ Um other → config ≡ other
 same_config e = cc
 
-um_holds : (config : UmConfig) (before after : OutsideAt) (end : ScriptEnd) → UmMeets config before after end
+um_holds : (setting : Setting) (config : UmConfig) (before after : OutsideAt) (end : ScriptEnd) → UmMeets config before after end
     → StopsAtEvent before.source after.source (script_status end) → RunsWhollyUm config before after (script_status end)
-    → Holds (Um config) before after (script_status end)
-um_holds config before after end meets near complete = record {
+    → Holds setting (Um config) before after (script_status end)
+um_holds setting config before after end meets near complete = record {
   headline = record { end = end; status_is = refl; meets = meets };
   read = read_rose meets.calls.reads;
   write = write_rose meets.calls.writes;
   calls = meets.calls;
   near = λ bytes known (stop : (script_status end).code ≡ 4). near bytes known (inl stop);
   complete = λ (e : Um config ≡ Run). absurd (cc);
+  near_step = λ (e : Um config ≡ Run). absurd (cc);
+  generates = λ packets (e : Um config ≡ Generate packets). absurd (cc);
   bearer = λ other (e : Um config ≡ Um other). subst (λ (c : UmConfig). RunsWhollyUm c before after (script_status end)) (same_config e) complete;
   near_event = λ other (e : Um config ≡ Um other). near;
   legs = λ other (e : Um config ≡ Dup other). absurd (cc);
@@ -246,16 +355,18 @@ um_holds config before after end meets near complete = record {
 same_legs : {config other : DupConfig} → Dup config ≡ Dup other → config ≡ other
 same_legs e = cc
 
-dup_holds : (config : DupConfig) (before after : OutsideAt) (end : DupScriptEnd) → DupMeets config before after end
+dup_holds : (setting : Setting) (config : DupConfig) (before after : OutsideAt) (end : DupScriptEnd) → DupMeets config before after end
     → StopsAtDupEvent before.source after.source (dup_script_status end) → RunsWhollyDup config before after (dup_script_status end)
-    → Holds (Dup config) before after (dup_script_status end)
-dup_holds config before after end meets near complete = record {
+    → Holds setting (Dup config) before after (dup_script_status end)
+dup_holds setting config before after end meets near complete = record {
   headline = record { end = end; status_is = refl; meets = meets };
   read = read_rose meets.calls.reads;
   write = write_rose meets.calls.writes;
   calls = meets.calls;
   near = λ bytes known (stop : (dup_script_status end).code ≡ 4). near bytes known (inl stop);
   complete = λ (e : Dup config ≡ Run). absurd (cc);
+  near_step = λ (e : Dup config ≡ Run). absurd (cc);
+  generates = λ packets (e : Dup config ≡ Generate packets). absurd (cc);
   bearer = λ other (e : Dup config ≡ Um other). absurd (cc);
   near_event = λ other (e : Dup config ≡ Um other). absurd (cc);
   legs = λ other (e : Dup config ≡ Dup other). subst (λ (c : DupConfig). RunsWhollyDup c before after (dup_script_status end)) (same_legs e) complete;
@@ -266,47 +377,52 @@ dup_holds config before after end meets near complete = record {
 
 -- ---- by the form of the words
 
-holds_at : {before after : OutsideAt} (form found kind : Form) (status is : Status) → found ≡ form → found ≡ kind → status ≡ is
-    → Holds kind before after is → Holds form before after status
-holds_at {before = before} {after = after} form found kind status is e f same h =
-    subst (λ (s : Status). Holds form before after s) (sym same) (subst (λ (x : Form). Holds x before after is) (sym f ∙ e) h)
+holds_at : {before after : OutsideAt} (setting : Setting) (form found kind : Form) (status is : Status) → found ≡ form → found ≡ kind → status ≡ is
+    → Holds setting kind before after is → Holds setting form before after status
+holds_at {before = before} {after = after} setting form found kind status is e f same h =
+    subst (λ (s : Status). Holds setting form before after s) (sym same) (subst (λ (x : Form). Holds setting x before after is) (sym f ∙ e) h)
 
-pub runs : {before after : OutsideAt} (form found : Form) (end : RunEnd) (status : Status) → found ≡ form → found ≡ Run
-    → status ≡ run_status end → RunMeets before after end
-    → StopsAtLine before.source after.source (run_status end) → RunsWholly before after (run_status end) → Holds form before after status
-runs {before = before} {after = after} form found end status e f same meets near complete =
-    holds_at form found Run status (run_status end) e f same (run_holds before after end meets near complete)
+pub runs : {before after : OutsideAt} (setting : Setting) (form found : Form) (status : Status) → found ≡ form → found ≡ Run
+    → RunsOver setting before after status → Holds setting form before after status
+runs {before = before} {after = after} setting form found status e f o =
+    holds_at setting form found Run status status e f refl (run_holds setting before after status o)
 
-pub checks_at : {before after : OutsideAt} (form found : Form) (end : CheckEnd) (status : Status) → found ≡ form → found ≡ Check
+pub generates_at : {before after : OutsideAt} (setting : Setting) (form found : Form) (packets : ℕ) (status : Status) → found ≡ form
+    → found ≡ Generate packets → GenerateMeets (run_of setting (script packets)) packets before after status
+    → GeneratesWholly (run_of setting (script packets)) packets before after status → Holds setting form before after status
+generates_at {before = before} {after = after} setting form found packets status e f m wholly =
+    holds_at setting form found (Generate packets) status status e f refl (generate_holds setting packets before after status m wholly)
+
+pub checks_at : {before after : OutsideAt} (setting : Setting) (form found : Form) (end : CheckEnd) (status : Status) → found ≡ form → found ≡ Check
     → status ≡ check_status end → CheckMeets before after end
     → StopsAtLine before.source after.source (check_status end) → ChecksWholly before after (check_status end)
-    → Holds form before after status
-checks_at {before = before} {after = after} form found end status e f same meets near complete =
-    holds_at form found Check status (check_status end) e f same (check_holds before after end meets near complete)
+    → Holds setting form before after status
+checks_at {before = before} {after = after} setting form found end status e f same meets near complete =
+    holds_at setting form found Check status (check_status end) e f same (check_holds setting before after end meets near complete)
 
-pub reports : {before after : OutsideAt} (form found : Form) (status : Status) → found ≡ form → found ≡ Other
-    → UsageMeets before after status → Holds form before after status
-reports {before = before} {after = after} form found status e f u =
-    holds_at form found Other status status e f refl (usage_holds before after status u)
+pub reports : {before after : OutsideAt} (setting : Setting) (form found : Form) (status : Status) → found ≡ form → found ≡ Other
+    → UsageMeets before after status → Holds setting form before after status
+reports {before = before} {after = after} setting form found status e f u =
+    holds_at setting form found Other status status e f refl (usage_holds setting before after status u)
 
-pub prints_at : {before after : OutsideAt} (form found : Form) (version : Version) (status : Status) → found ≡ form → found ≡ Profile version
-    → ProfileMeets version before after status → WritesWholly version before after status → Holds form before after status
-prints_at {before = before} {after = after} form found version status e f p complete =
-    holds_at form found (Profile version) status status e f refl (profile_holds version before after status p complete)
+pub prints_at : {before after : OutsideAt} (setting : Setting) (form found : Form) (version : Version) (status : Status) → found ≡ form → found ≡ Profile version
+    → ProfileMeets version before after status → WritesWholly version before after status → Holds setting form before after status
+prints_at {before = before} {after = after} setting form found version status e f p complete =
+    holds_at setting form found (Profile version) status status e f refl (profile_holds setting version before after status p complete)
 
-pub runs_bearer : {before after : OutsideAt} (form found : Form) (config : UmConfig) (end : ScriptEnd) (status : Status) → found ≡ form
+pub runs_bearer : {before after : OutsideAt} (setting : Setting) (form found : Form) (config : UmConfig) (end : ScriptEnd) (status : Status) → found ≡ form
     → found ≡ Um config → status ≡ script_status end → UmMeets config before after end
     → StopsAtEvent before.source after.source (script_status end) → RunsWhollyUm config before after (script_status end)
-    → Holds form before after status
-runs_bearer {before = before} {after = after} form found config end status e f same meets near complete =
-    holds_at form found (Um config) status (script_status end) e f same (um_holds config before after end meets near complete)
+    → Holds setting form before after status
+runs_bearer {before = before} {after = after} setting form found config end status e f same meets near complete =
+    holds_at setting form found (Um config) status (script_status end) e f same (um_holds setting config before after end meets near complete)
 
-pub runs_legs : {before after : OutsideAt} (form found : Form) (config : DupConfig) (end : DupScriptEnd) (status : Status) → found ≡ form
+pub runs_legs : {before after : OutsideAt} (setting : Setting) (form found : Form) (config : DupConfig) (end : DupScriptEnd) (status : Status) → found ≡ form
     → found ≡ Dup config → status ≡ dup_script_status end → DupMeets config before after end
     → StopsAtDupEvent before.source after.source (dup_script_status end) → RunsWhollyDup config before after (dup_script_status end)
-    → Holds form before after status
-runs_legs {before = before} {after = after} form found config end status e f same meets near complete =
-    holds_at form found (Dup config) status (dup_script_status end) e f same (dup_holds config before after end meets near complete)
+    → Holds setting form before after status
+runs_legs {before = before} {after = after} setting form found config end status e f same meets near complete =
+    holds_at setting form found (Dup config) status (dup_script_status end) e f same (dup_holds setting config before after end meets near complete)
 
 -- ---- with the words `encode` and `decode`
 
@@ -316,16 +432,18 @@ values_hold : (job : Job) (before after : OutsideAt) (end : ValuesEnd) → Value
 values_hold job before after end meets near wholly =
     record { meets = record { end = end; status_is = refl; meets = meets }; near = near; wholly = wholly }
 
-values_holds : (way : Way) (name : List ℕ) (before after : OutsideAt) (end : ValuesEnd) → ValuesMeet (job_of way name) before after end
+values_holds : (setting : Setting) (way : Way) (name : List ℕ) (before after : OutsideAt) (end : ValuesEnd) → ValuesMeet (job_of way name) before after end
     → StopsAtValue before.source after.source (values_status end)
-    → Holds (Values way) before after (values_status end)
-values_holds way name before after end meets near = record {
+    → Holds setting (Values way) before after (values_status end)
+values_holds setting way name before after end meets near = record {
   headline = (name, record { end = end; status_is = refl; meets = meets });
   read = read_rose meets.calls.reads;
   write = write_rose meets.calls.writes;
   calls = meets.calls;
   near = λ bytes known (stop : (values_status end).code ≡ 4). near bytes known (inl stop);
   complete = λ (e : Values way ≡ Run). absurd (cc);
+  near_step = λ (e : Values way ≡ Run). absurd (cc);
+  generates = λ packets (e : Values way ≡ Generate packets). absurd (cc);
   bearer = λ config (e : Values way ≡ Um config). absurd (cc);
   near_event = λ config (e : Values way ≡ Um config). absurd (cc);
   legs = λ config (e : Values way ≡ Dup config). absurd (cc);
@@ -337,12 +455,12 @@ values_holds way name before after end meets near = record {
 same_way : {way other : Way} → Values way ≡ Values other → way ≡ other
 same_way e = cc
 
-pub converts : {before after : OutsideAt} (form found : Form) (way : Way) (name : List ℕ) (end : ValuesEnd) (status : Status) → found ≡ form
+pub converts : {before after : OutsideAt} (setting : Setting) (form found : Form) (way : Way) (name : List ℕ) (end : ValuesEnd) (status : Status) → found ≡ form
     → found ≡ Values way → status ≡ values_status end → ValuesMeet (job_of way name) before after end
     → StopsAtValue before.source after.source (values_status end) → AnswersWholly (job_of way name) before after (values_status end)
-    → Holds form before after status
-converts {before = before} {after = after} form found way name end status e f same meets near wholly =
-    holds_at form found (Values way) status (values_status end) e f same (values_holds way name before after end meets near)
+    → Holds setting form before after status
+converts {before = before} {after = after} setting form found way name end status e f same meets near wholly =
+    holds_at setting form found (Values way) status (values_status end) e f same (values_holds setting way name before after end meets near)
 
 -- what is promised of the type that was named, by the name that the code took
 pub named : {before after : OutsideAt} (form found : Form) (way : Way) (name taken : List ℕ) (end : ValuesEnd) (status : Status)
@@ -379,6 +497,9 @@ um_is_none config way e = cc
 pub dup_is_none : (config : DupConfig) → IsNone (Dup config)
 dup_is_none config way e = cc
 
+pub generate_is_none : (packets : ℕ) → IsNone (Generate packets)
+generate_is_none packets way e = cc
+
 pub other_is_none : IsNone Other
 other_is_none way e = cc
 
@@ -389,3 +510,7 @@ timed found config e h = subst (λ (f : Form). IsTimed f) e h
 -- and its quota is one that an entity takes
 pub fitting : (found : Form) (config : DupConfig) → found ≡ Dup config → IsTimed found → IsTimed (Dup config)
 fitting found config e h = subst (λ (f : Form). IsTimed f) e h
+
+-- and its script isn't too long
+pub few : (found : Form) (packets : ℕ) → found ≡ Generate packets → IsTimed found → packets ≤ 100000
+few found packets e h = subst (λ (f : Form). IsTimed f) e h

@@ -6,7 +6,9 @@ use Rattle.command_defs.specs.Ends.{UsageMeets}
 use Rattle.command_defs.specs.Outside.{OutsideAt}
 use Rattle.command_run.specs.declared.end.RunEnd.{RunEnd}
 use Rattle.command_run.specs.Ends.{run_status}
-use Rattle.command_run.specs.Run.{RunMeets}
+use Rattle.command_run.specs.Run.{Setting, run_of, RunMeets}
+use Rattle.command_generate.specs.Script.{script}
+use Rattle.command_generate.specs.Generate.{GenerateMeets}
 use Rattle.command_check.specs.declared.end.CheckEnd.{CheckEnd}
 use Rattle.command_check.specs.Report.{check_status, CheckMeets}
 use Rattle.profile.specs.declared.version.Version.TheVariants.{One, Two}
@@ -53,6 +55,14 @@ dup_form_with None quota = forms.Other
 abbrev pub dup_form : List ℕ → List ℕ → Form
 dup_form bits quota = dup_form_with (sn_bits_of bits) (number_of 4 4096 quota)
 
+-- the word after `generate`: 1 to 100,000 packets
+abbrev pub generate_form_with : Option ℕ → Form
+generate_form_with (Some packets) = forms.Generate packets
+generate_form_with None = forms.Other
+
+abbrev pub generate_form : List ℕ → Form
+generate_form packets = generate_form_with (number_of 1 100000 packets)
+
 -- the word before the name of a type: `encode` or `decode`
 abbrev pub values_form : List ℕ → Form
 values_form word =
@@ -65,20 +75,21 @@ type_of [] = []
 type_of (word ∷ []) = []
 type_of (word ∷ name ∷ words) = name
 
--- the words of a form: one, `profile 2`, `encode TYPE`, `decode TYPE`, `um N T`, or `duplicate N Q`
+-- the words of a form: one, `profile 2`, `generate N`, `encode TYPE`, `decode TYPE`, `um N T`, or `duplicate N Q`
 abbrev pub form_of : List (List ℕ) → Form
 form_of (word ∷ []) = form_of_one word
 form_of (word ∷ number ∷ []) =
-    if bytes_eq word (codes "profile") && bytes_eq number (codes "2") then forms.Profile Two else values_form word
+    if bytes_eq word (codes "profile") && bytes_eq number (codes "2") then forms.Profile Two else (
+    if bytes_eq word (codes "generate") then generate_form number else values_form word)
 form_of (word ∷ bits ∷ last ∷ []) =
     if bytes_eq word (codes "um") then um_form bits last else (if bytes_eq word (codes "duplicate") then dup_form bits last else forms.Other)
 form_of words = forms.Other
 
--- with the word `run`
-pub record RunsScript (before after : OutsideAt) (status : Status) : Type 0 where
+-- with the word `run`, over units that answer so, with this codec of their messages
+pub record RunsScript (setting : Setting) (before after : OutsideAt) (status : Status) : Type 0 where
   pub end : RunEnd
   pub status_is : status ≡ run_status end
-  pub meets : RunMeets before after end
+  pub meets : RunMeets setting before after end
 
 -- with the word `check`
 pub record ChecksModule (before after : OutsideAt) (status : Status) : Type 0 where
@@ -104,19 +115,21 @@ pub record ConvertsValues (job : Job) (before after : OutsideAt) (status : Statu
   pub status_is : status ≡ values_status end
   pub meets : ValuesMeet job before after end
 
-abbrev pub FormMeets : Form → OutsideAt → OutsideAt → Status → Type 0
-FormMeets forms.Run before after status = RunsScript before after status
-FormMeets forms.Check before after status = ChecksModule before after status
-FormMeets (forms.Profile version) before after status = ProfileMeets version before after status
-FormMeets (forms.Um config) before after status = RunsBearer config before after status
-FormMeets (forms.Dup config) before after status = RunsLegs config before after status
-FormMeets (forms.Values way) before after status = (name : List ℕ) × ConvertsValues (job_of way name) before after status
-FormMeets forms.Other before after status = UsageMeets before after status
+abbrev pub FormMeets : Setting → Form → OutsideAt → OutsideAt → Status → Type 0
+FormMeets setting forms.Run before after status = RunsScript setting before after status
+FormMeets setting (forms.Generate packets) before after status = GenerateMeets (run_of setting (script packets)) packets before after status
+FormMeets setting forms.Check before after status = ChecksModule before after status
+FormMeets setting (forms.Profile version) before after status = ProfileMeets version before after status
+FormMeets setting (forms.Um config) before after status = RunsBearer config before after status
+FormMeets setting (forms.Dup config) before after status = RunsLegs config before after status
+FormMeets setting (forms.Values way) before after status = (name : List ℕ) × ConvertsValues (job_of way name) before after status
+FormMeets setting forms.Other before after status = UsageMeets before after status
 
 -- with the word `profile` all of the text is written, where no write fails
 abbrev pub WritesProfile : Form → OutsideAt → OutsideAt → Status → Type 0
 WritesProfile (forms.Profile version) before after status = WritesWholly version before after status
 WritesProfile forms.Run before after status = Unit {0}
+WritesProfile (forms.Generate packets) before after status = Unit {0}
 WritesProfile forms.Check before after status = Unit {0}
 WritesProfile (forms.Um config) before after status = Unit {0}
 WritesProfile (forms.Dup config) before after status = Unit {0}

@@ -1,2 +1,3 @@
 -- Internal.
 pub mod Timed
+pub mod Over

@@ -3,6 +3,8 @@
 //! or encodes and decodes values of its types.
 #![tactic(auto)]
 
+#[cfg(test)]
+mod failing_runs;
 mod plain_words;
 #[cfg(test)]
 mod tests;
@@ -11,6 +13,7 @@ pub mod top;
 mod value_rows;
 
 use gnb_base::standard::{StdSink, StdSource};
+use site::Site;
 use std::env;
 use std::io::ErrorKind;
 use std::process::ExitCode;
@@ -33,7 +36,13 @@ fn main(rt: HostRuntime) -> ExitCode {
     }
     let mut input = StdSource::new(rt.stdin());
     let mut output = StdSink::new(rt.stdout());
-    let status = top::gnb(alloc, words.as_slice(), &mut input, &mut output);
+    let status = top::gnb(
+        alloc,
+        words.as_slice(),
+        &mut input,
+        &mut output,
+        Site::new(),
+    );
     let _ = plain_words::explain(&rt, status);
     ExitCode::from(status.code)
 }

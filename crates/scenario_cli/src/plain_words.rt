@@ -66,7 +66,7 @@ pub fn explain(rt: &impl Eprint, status: Status) -> io::Result<()> {
     } = status;
     match code {
         2 => eprintln!(rt;
-            "gnb: usage: gnb run < SCRIPT, or gnb check < MODULE, or gnb encode TYPE < VALUES, or gnb decode TYPE < VALUES, or gnb profile, or gnb profile 2, or gnb um N T < SCRIPT, or gnb duplicate N Q < SCRIPT"
+            "gnb: usage: gnb run < SCRIPT, or gnb generate N, or gnb check < MODULE, or gnb encode TYPE < VALUES, or gnb decode TYPE < VALUES, or gnb profile, or gnb profile 2, or gnb um N T < SCRIPT, or gnb duplicate N Q < SCRIPT"
         ),
         3 if place == 0 && reason == 3 => eprintln!(rt; "gnb: the module has no type of this name"),
         3 if reason == 20 => eprintln!(rt; "gnb: the module is not the profile, version 1"),

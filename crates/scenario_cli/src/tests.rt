@@ -7,8 +7,8 @@ use crate::value_rows::VALUES;
 use command_defs::Status;
 use gnb_base::memory::{MemorySink, MemorySource};
 use profile::{PROFILE_TEXT, PROFILE_TEXT_2};
+use site::Site;
 use std::alloc::{AllocError, Global};
-use std::cmp::min;
 use std::process::Abort;
 
 /// One packet goes from the core to the terminal.
@@ -17,27 +17,6 @@ const SCRIPT: &str =
 
 const TRANSCRIPT: &str =
     "> static u1 A 1 1 12 1 64\n> offer u1 b1 dl 45\nput A.up1/1 u1 b1 dl - 30FF00010000000145\n> get A.up1/1\ngot A.up1/1 u1 b1 dl - 30FF00010000000145\nput A.du1/1 u1 b1 dl 0 34FF000F00000001000000840200000000000000800045\n> get A.du1/1\ngot A.du1/1 u1 b1 dl 0 34FF000F00000001000000840200000000000000800045\nput r/u1/b1/dl/1 u1 b1 dl 0 800045\n> air u1 b1 dl\ngot r/u1/b1/dl/1 u1 b1 dl 0 800045\ndeliver u1 b1 dl 0 45\nend 5\n";
-
-/// Where each line of the script after its header ends, and the lines that its event gives.
-const STEPS: [(usize, &str); 5] = [
-    (39, "> static u1 A 1 1 12 1 64\n"),
-    (
-        57,
-        "> offer u1 b1 dl 45\nput A.up1/1 u1 b1 dl - 30FF00010000000145\n",
-    ),
-    (
-        69,
-        "> get A.up1/1\ngot A.up1/1 u1 b1 dl - 30FF00010000000145\nput A.du1/1 u1 b1 dl 0 34FF000F00000001000000840200000000000000800045\n",
-    ),
-    (
-        81,
-        "> get A.du1/1\ngot A.du1/1 u1 b1 dl 0 34FF000F00000001000000840200000000000000800045\nput r/u1/b1/dl/1 u1 b1 dl 0 800045\n",
-    ),
-    (
-        94,
-        "> air u1 b1 dl\ngot r/u1/b1/dl/1 u1 b1 dl 0 800045\ndeliver u1 b1 dl 0 45\n",
-    ),
-];
 
 /// Each refusal that a short script may meet.
 const REFUSALS: &str =
@@ -71,16 +50,16 @@ const MODULE: &str = "module text\nM DEFINITIONS AUTOMATIC TAGS ::= BEGIN\nT ::=
 
 /// What a call is given, and the numbers of the reads and writes that fail. A space stands between two words.
 #[derive(Clone, Copy)]
-struct Call<'a> {
-    word: &'a str,
-    input: &'a str,
-    piece: usize,
-    failing_reads: &'a [u64],
-    failing_writes: &'a [u64],
+pub(crate) struct Call<'a> {
+    pub(crate) word: &'a str,
+    pub(crate) input: &'a str,
+    pub(crate) piece: usize,
+    pub(crate) failing_reads: &'a [u64],
+    pub(crate) failing_writes: &'a [u64],
 }
 
 /// What a call answers, what the sink then holds, and how many writes there were.
-type Answer = (Status, Vec<u8>, u64);
+pub(crate) type Answer = (Status, Vec<u8>, u64);
 
 /// The words of a text that has a space between two of them.
 fn words_of(alloc: Global, text: &str) -> Result<Vec<String>, AllocError> {
@@ -97,13 +76,13 @@ fn answer_of(
     source: &mut MemorySource,
     sink: &mut MemorySink,
 ) -> Result<Answer, AllocError> {
-    let status = gnb(alloc, words, source, sink);
+    let status = gnb(alloc, words, source, sink, Site::new());
     let held = Vec::from_slice(alloc, sink.bytes_held())?;
     Ok((status, held, sink.calls()))
 }
 
 impl Call<'_> {
-    fn answer(&self, alloc: Global) -> Result<Answer, AllocError>
+    pub(crate) fn answer(&self, alloc: Global) -> Result<Answer, AllocError>
         requires { 0 < self.now.piece }
     {
         let words = words_of(alloc, self.word)?;
@@ -116,7 +95,7 @@ impl Call<'_> {
     }
 }
 
-fn status(code: u8, place: u64, reason: u16) -> Status {
+pub(crate) fn status(code: u8, place: u64, reason: u16) -> Status {
     Status {
         code,
         place,
@@ -198,6 +177,28 @@ const BEARERS: [Row; 15] = [
     ("duplicate 12", TWO_LEGS, (2, 0, 0), "stop 2 0 0\n"),
     ("duplicate 12 3", TWO_LEGS, (2, 0, 0), "stop 2 0 0\n"),
     ("duplicate 12 4097", TWO_LEGS, (2, 0, 0), "stop 2 0 0\n"),
+];
+
+/// Scripts that are made.
+const GENERATED: [Row; 8] = [
+    (
+        "generate 1",
+        SCRIPT,
+        (0, 0, 0),
+        "generated 1 delivered 1 returns 0 events 8 quiet 1\n",
+    ),
+    (
+        "generate 100",
+        SCRIPT,
+        (0, 0, 0),
+        "generated 100 delivered 100 returns 1 events 611 quiet 1\n",
+    ),
+    ("generate", SCRIPT, (2, 0, 0), "stop 2 0 0\n"),
+    ("generate 0", SCRIPT, (2, 0, 0), "stop 2 0 0\n"),
+    ("generate 01", SCRIPT, (2, 0, 0), "stop 2 0 0\n"),
+    ("generate +1", SCRIPT, (2, 0, 0), "stop 2 0 0\n"),
+    ("generate 100001", SCRIPT, (2, 0, 0), "stop 2 0 0\n"),
+    ("generate 1 1", SCRIPT, (2, 0, 0), "stop 2 0 0\n"),
 ];
 
 /// Modules that are checked.
@@ -330,6 +331,11 @@ fn whole_runs_of_a_bearer(rt: HostRuntime) {
 }
 
 #[test]
+fn generated_runs(rt: HostRuntime) {
+    come_to(&rt, rt.alloc(), &GENERATED);
+}
+
+#[test]
 fn whole_checks(rt: HostRuntime) {
     come_to(&rt, rt.alloc(), &CHECKS);
 }
@@ -361,6 +367,14 @@ fn profile_texts(rt: HostRuntime) {
     assert!(rt; writes_text(rt.alloc(), "profile", &[], 0, PROFILE_TEXT));
     assert!(rt; writes_text(rt.alloc(), "profile 2", &[], 0, PROFILE_TEXT_2));
     assert!(rt; writes_text(rt.alloc(), "profile", &[2], 7, &PROFILE_TEXT[..4096]));
+}
+
+/// Of a generated script nothing is read, and nothing stands where its one write fails.
+#[test]
+fn one_line(rt: HostRuntime) {
+    let text = b"generated 2 delivered 2 returns 0 events 14 quiet 1\n";
+    assert!(rt; writes_text(rt.alloc(), "generate 2", &[], 0, text));
+    assert!(rt; writes_text(rt.alloc(), "generate 2", &[1], 7, b""));
 }
 
 /// A script of one event with this text as its module.
@@ -395,127 +409,6 @@ fn scripts_with_a_text(rt: HostRuntime) {
     assert!(rt; text_comes_to(alloc, PROFILE_TEXT, status(0, 0, 0), output));
     let output = "differs HandoverRequest\nstop 3 0 20\n";
     assert!(rt; text_comes_to(alloc, PROFILE_TEXT_2, status(3, 0, 20), output));
-}
-
-/// Writes what the script's lines among its first bytes give, and then the stop line of a failed
-/// read.
-fn text_at(alloc: Global, taken: usize) -> Result<String, AllocError> {
-    let mut text = String::new(alloc);
-    for &(end, lines) in &STEPS {
-        if end <= taken {
-            text.push_str(lines)?;
-        }
-    }
-    let stop = format!(in alloc; "stop 6 {taken} 0\n")?;
-    text.push_str(stop.as_str())?;
-    Ok(text)
-}
-
-/// Whether the script of which the read with this number fails ends at so many octets, after what the lines before it gave.
-fn ends_with_read(alloc: Global, piece: usize, number: u64, taken: usize) -> bool
-    requires { 0 < piece }
-{
-    let call = Call {
-        word: "run",
-        input: SCRIPT,
-        piece,
-        failing_reads: &[number],
-        failing_writes: &[],
-    };
-    let Ok(text) = text_at(alloc, taken) else {
-        return false;
-    };
-    match call.answer(alloc) {
-        Ok((answer, held, _)) => {
-            answer == status(6, taken as u64, 0) && held.as_slice() == text.as_bytes()
-        }
-        Err(_) => false,
-    }
-}
-
-/// The read with each number fails in turn: what the lines before it gave stands, and then the stop
-/// line.
-#[test]
-fn failing_reads(rt: HostRuntime) {
-    each_read_fails(&rt, rt.alloc(), 1, 96);
-    each_read_fails(&rt, rt.alloc(), 16, 8);
-    each_read_fails(&rt, rt.alloc(), 4096, 3);
-}
-
-fn each_read_fails(rt: &impl Abort, alloc: Global, piece: usize, reads: u64)
-    requires { 0 < piece }
-{
-    for number in 1..reads {
-        let taken = min(SCRIPT.len(), ((number - 1) as usize).saturating_mul(piece));
-        assert!(rt;
-            ends_with_read(alloc, piece, number, taken),
-            "{number} of {piece}"
-        );
-    }
-}
-
-/// How the script ends of which a write fails.
-#[derive(Clone, Copy, PartialEq, Eq)]
-enum Written {
-    /// No write had the number that fails: the whole text stands.
-    Whole,
-    /// A front of it stands, and no write came after it.
-    Front,
-    Differs,
-}
-
-fn written_if(good: bool, written: Written) -> Written {
-    if good { written } else { Written::Differs }
-}
-
-/// What the script writes of which the write with this number fails.
-fn written_with(alloc: Global, piece: usize, number: u64) -> Written
-    requires { 0 < piece }
-{
-    let call = Call {
-        word: "run",
-        input: SCRIPT,
-        piece,
-        failing_reads: &[],
-        failing_writes: &[number],
-    };
-    match call.answer(alloc) {
-        Ok((answer, held, calls)) => written_as(answer, held.as_slice(), calls, piece, number),
-        Err(_) => Written::Differs,
-    }
-}
-
-fn written_as(answer: Status, held: &[u8], calls: u64, piece: usize, number: u64) -> Written {
-    if answer.code == 0 {
-        let is_whole = held == TRANSCRIPT.as_bytes() && calls.checked_add(1) == Some(number);
-        return written_if(is_whole, Written::Whole);
-    }
-    let is_front = answer == status(7, 0, 0) && TRANSCRIPT.as_bytes().starts_with(held);
-    let is_last = calls == number;
-    let is_long = piece > 1 || (held.len() as u64).checked_add(1) == Some(number);
-    written_if(is_front && is_last && is_long, Written::Front)
-}
-
-/// The write with each number fails in turn: a front of the text stands, and no write comes after
-/// it.
-#[test]
-fn failing_writes(rt: HostRuntime) {
-    each_write_fails(&rt, rt.alloc(), 1);
-    each_write_fails(&rt, rt.alloc(), 16);
-    each_write_fails(&rt, rt.alloc(), 4096);
-}
-
-fn each_write_fails(rt: &impl Abort, alloc: Global, piece: usize)
-    requires { 0 < piece }
-{
-    for number in 1..1000 {
-        let written = written_with(alloc, piece, number);
-        if written == Written::Whole {
-            return;
-        }
-        assert!(rt; written == Written::Front, "{number} of {piece}");
-    }
-    assert!(rt; false);
 }
 
 /// A module that is none, and what a check of it writes.
@@ -634,10 +527,30 @@ fn sizes(rt: HostRuntime) -> Result<(), AllocError> {
     Ok(())
 }
 
-/// One offer more than half the space of numbers of an unacknowledged bearer, none of which is given.
+/// The beginning of a script of one bearer.
+const ONE_BEARER: &str = "module builtin\nstatic u1 A 1 1 12 1 64\n";
+
+/// An uplink packet, of which nothing reaches a CU-UP.
+const UPLINK: &str = "offer u1 b1 ul 00\nair u1 b1 ul\nack u1 b1 ul\n";
+
+/// One uplink packet more than half the space of numbers, none of which is delivered, and one offer more than that of an unacknowledged
+/// bearer, none of which is given.
 #[test]
 fn outstanding_counts(rt: HostRuntime) -> Result<(), AllocError> {
     let alloc = rt.alloc();
+    let packets = UPLINK.repeat(alloc, 2049)?;
+    let input = format!(in alloc; "{ONE_BEARER}{packets}")?;
+    let text = "outstanding u1 b1 ul 2049 2048\nstop 5 6147 0\n";
+    assert!(rt;
+        ends_as(
+            alloc,
+            "run",
+            input.as_str(),
+            status(5, 6147, 0),
+            text,
+            false
+        )
+    );
     let input = "offer 00\n".repeat(alloc, 2049)?;
     let text = "> offer 00\nput #2049 2048 880000\noutstanding 2049 2048\nstop 5 2049 0\n";
     assert!(rt;

@@ -1,11 +1,16 @@
 //! The top call.
 
-ghost use Rattle.std.specs.Prelude.{◌≡◌, map};
+ghost use Rattle.std.specs.Prelude.{◌≡◌, ◌≤◌, ℕ, map};
 ghost use Rattle.std.specs.String.{string_bytes};
 ghost use Rattle.gnb_base.specs.Outside.{Rose};
 ghost use Rattle.command_defs.specs.Ends.{StopsAtLine, UsageMeets};
 ghost use Rattle.command_defs.specs.Outside.{outside, CallsTo};
+ghost use Rattle.message_codec_defs.specs.Codecs.{profile_codec};
+ghost use Rattle.command_run.specs.Ends.{StopsAtEvent as StopsAtStep};
+ghost use Rattle.command_run.specs.Run.{setting_of, run_of};
 ghost use Rattle.command_run.specs.Whole.{RunsWholly};
+ghost use Rattle.command_generate.specs.Script.{script};
+ghost use Rattle.command_generate.specs.Generate.{GenerateMeets, GeneratesWholly};
 ghost use Rattle.command_check.specs.Whole.{ChecksWholly};
 ghost use Rattle.command_um.specs.declared.config.UmConfig.{UmConfig as Config};
 ghost use Rattle.command_um.specs.Ends.{StopsAtEvent};
@@ -17,24 +22,31 @@ ghost use Rattle.command_values.specs.declared.way.Way.{Way as Direction};
 ghost use Rattle.command_values.specs.Ends.{StopsAtValue};
 ghost use Rattle.command_values.specs.Values.{job_of};
 ghost use Rattle.command_values.specs.Whole.{AnswersWholly};
-ghost use Rattle.scenario_cli.specs.Gnb.{form_of_one, um_form as um_form_of, dup_form as dup_form_of, values_form as values_form_of, type_of, form_of as form_of_words, FormMeets, WritesProfile, ConvertsValues};
+ghost use Rattle.scenario_cli.specs.Gnb.{form_of_one, um_form as um_form_of, dup_form as dup_form_of, generate_form as generate_form_of, values_form as values_form_of, type_of, form_of as form_of_words, FormMeets, WritesProfile, ConvertsValues};
 ghost use Rattle.scenario_cli.specs.inside.Timed.{IsTimed};
+ghost use Rattle.scenario_cli.specs.inside.Over.{RunsOver};
 
 use command_check::check_input;
 use command_defs::{CommonEnd, Status};
 use command_dup::{DupConfig, run_duplicate};
+use command_generate::run_generated;
 use command_output::{common_status, stop_line, write_lines};
 use command_profile::write_profile;
 use command_run::run_script;
 use command_um::{UmConfig, run_um};
 use command_values::{Way, run_values};
 use gnb_base::outside::{Sink, Source};
+use message_codec::ProfileCodec;
 use profile::Version;
 use script_words::forms::{number, sn_bits};
 use std::alloc::Global;
+use world_steps::Units;
 
 /// The ticks of a timer at most.
 const MOST_TICKS: u32 = 1000;
+
+/// The packets of a generated script at most.
+const MOST_PACKETS: u32 = 100_000;
 
 /// The packets of a bearer with duplication at least, and at most.
 const LEAST_QUOTA: u32 = 4;
@@ -46,6 +58,8 @@ const MOST_QUOTA: u32 = 4096;
 pub enum Form {
     /// A script is run.
     Run,
+    /// A script of so many packets is made and run.
+    Generate(u32),
     /// A module is checked.
     Check,
     /// The text of the profile's module in this version is written.
@@ -105,6 +119,17 @@ fn dup_form(bits: &[u8], quota: &[u8]) -> Form
     Form::Dup(DupConfig { sn, quota })
 }
 
+/// The form of `generate` with the number of packets that this word is.
+fn generate_form(packets: &[u8]) -> Form
+    ensures exact { result ≡ generate_form_of packets.now }
+    ensures timed { IsTimed result }
+{
+    match number(packets, 1, MOST_PACKETS) {
+        Some(packets) => Form::Generate(packets),
+        None => Form::Other,
+    }
+}
+
 /// The form of a word with the name of a type.
 fn values_form(word: &str) -> Form
     ensures { result ≡ values_form_of word.now }
@@ -138,6 +163,7 @@ fn form_of(words: &[String]) -> Form
         [word, number] if word.as_str() == "profile" && number.as_str() == "2" => {
             Form::Profile(Version::Two)
         }
+        [word, packets] if word.as_str() == "generate" => generate_form(packets.as_bytes()),
         [word, _] => values_form(word.as_str()),
         [word, bits, ticks] if word.as_str() == "um" => {
             um_form(bits.as_bytes(), ticks.as_bytes())
@@ -165,14 +191,51 @@ fn report_usage<S: Source, K: Sink>(alloc: Global, input: &S, output: &mut K) ->
     }
 }
 
-/// The program, with its words, its input and its output.
-pub fn gnb<S: Source, K: Sink>(
+/// Runs a script over these units, whose messages are those of the profile.
+fn run_over<S: Source, K: Sink, U: Units<ProfileCodec> + Drop>(
+    alloc: Global,
+    units: U,
+    input: &mut S,
+    output: &mut K,
+) -> Status
+    ensures { RunsOver (setting_of profile_codec U.answer) (outside (S.at input.old) (K.at output.old))
+        (outside (S.at input.new) (K.at output.new)) result }
+{
+    match ProfileCodec::new(alloc) {
+        Ok(codec) => run_script(alloc, codec, units, input, output).status(),
+        Err(_) => common_status(CommonEnd::Memory),
+    }
+}
+
+/// Runs a script of so many packets over these units, likewise.
+fn generate_over<S: Source, K: Sink, U: Units<ProfileCodec> + Drop>(
+    alloc: Global,
+    units: U,
+    packets: u32,
+    input: &S,
+    output: &mut K,
+) -> Status
+    requires { packets ≤ 100000 }
+    ensures meets { GenerateMeets (run_of (setting_of profile_codec U.answer) (script packets)) packets
+        (outside (S.at input.now) (K.at output.old)) (outside (S.at input.now) (K.at output.new)) result }
+    ensures complete { GeneratesWholly (run_of (setting_of profile_codec U.answer) (script packets)) packets
+        (outside (S.at input.now) (K.at output.old)) (outside (S.at input.now) (K.at output.new)) result }
+{
+    match ProfileCodec::new(alloc) {
+        Ok(codec) => run_generated(alloc, codec, units, packets, input, output),
+        Err(_) => common_status(CommonEnd::Memory),
+    }
+}
+
+/// The program, with its words, its input, its output, and the units of `run` and `generate`.
+pub fn gnb<S: Source, K: Sink, U: Units<ProfileCodec> + Drop>(
     alloc: Global,
     words: &[String],
     input: &mut S,
     output: &mut K,
+    units: U,
 ) -> Status
-    ensures headline { FormMeets (form_of_words (map string_bytes words.now))
+    ensures headline { FormMeets (setting_of profile_codec U.answer) (form_of_words (map string_bytes words.now))
         (outside (S.at input.old) (K.at output.old))
         (outside (S.at input.new) (K.at output.new)) result }
     ensures read { result.code ≡ 6 → Rose (S.at input.old).faults (S.at input.new).faults }
@@ -186,9 +249,17 @@ pub fn gnb<S: Source, K: Sink>(
     ensures near { StopsAtLine (S.at input.old) (S.at input.new) result }
 
     // A whole script is run, where its bytes are reported and no call fails, unless memory runs
-    // out.
+    // out. A stop in one of its events is near that event too.
     ensures complete { form_of_words (map string_bytes words.now) ≡ Form.Run
-        → RunsWholly (outside (S.at input.old) (K.at output.old))
+        → RunsWholly (setting_of profile_codec U.answer) (outside (S.at input.old) (K.at output.old))
+        (outside (S.at input.new) (K.at output.new)) result }
+    ensures near_step { form_of_words (map string_bytes words.now) ≡ Form.Run
+        → StopsAtStep (S.at input.old) (S.at input.new) result }
+
+    // A generated script is summed up, where no write fails and its run goes on to its end, unless memory runs out.
+    ensures generates { (packets : ℕ) → form_of_words (map string_bytes words.now) ≡ Form.Generate packets
+        → GeneratesWholly (run_of (setting_of profile_codec U.answer) (script packets)) packets
+        (outside (S.at input.old) (K.at output.old))
         (outside (S.at input.new) (K.at output.new)) result }
 
     // So is a whole script of one unacknowledged bearer, and a stop at one of its lines is near it
@@ -230,7 +301,8 @@ pub fn gnb<S: Source, K: Sink>(
         (outside (S.at input.new) (K.at output.new)) result }
 {
     match form_of(words) {
-        Form::Run => run_script(alloc, input, output).status(),
+        Form::Run => run_over(alloc, units, input, output),
+        Form::Generate(packets) => generate_over(alloc, units, packets, input, output),
         Form::Check => check_input(alloc, input, output).status(),
         Form::Profile(version) => write_profile(version, input, output),
         Form::Um(config) => run_um(alloc, config, input, output).status(),

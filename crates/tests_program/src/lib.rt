@@ -1,4 +1,4 @@
-//! Tests of what the program stands on: the outside, lines of input, the runner, and whole inputs of `check`.
+//! Tests of what the program stands on: the outside, lines of input, and whole inputs of `check`.
 #![tactic(auto)]
 
 #[cfg(test)]
@@ -7,5 +7,3 @@ mod check;
 mod lines;
 #[cfg(test)]
 mod outside;
-#[cfg(test)]
-mod runner;

@@ -1,9 +1,9 @@
 -- Internal: what a run did before its last line is written, and the writing of that line.
-use Rattle.std.specs.Prelude.{◌≡◌, List, [], ◌∷◌}
+use Rattle.std.specs.Prelude.{◌≡◌, ℕ, List, [], ◌∷◌}
 use Rattle.gnb_base.specs.Outside.{SourceAt, SinkAt}
 use Rattle.input_defs.specs.Faults.{NoReadFailed, LastReadFailed}
 use Rattle.input_defs.specs.Split.{InputSplit, rest_of, TakesInput}
-use Rattle.run_model.specs.declared.event.StaticEvent.{StaticEvent}
+use Rattle.scenario_text.specs.declared.event.Event.{Event}
 use Rattle.scenario_text.specs.declared.line.OutLine.{OutLine}
 use Rattle.command_defs.specs.declared.CommonEnd.TheVariants.{ReadFault, WriteFault, Memory}
 use Rattle.input_module.specs.declared.stop.ModuleStop.{ModuleStop}
@@ -15,13 +15,13 @@ use Rattle.command_output.specs.Writes.{WritesAll, WritesFront}
 use Rattle.command_run.specs.declared.end.RunEnd.{RunEnd}
 use Rattle.command_run.specs.declared.end.RunEnd.TheVariants.{NoModule, Script, Common}
 use Rattle.command_run.specs.Ends.{run_last_lines, end_text}
-use Rattle.command_run.specs.Run.{AreScript, RunEndMeets, run_text}
+use Rattle.command_run.specs.Run.{Setting, AreScript, RunEndMeets, run_text}
 
 -- the run's text was written, or a front of it
-abbrev pub PrintsTo : SinkAt → SinkAt → List StaticEvent → RunEnd → Type 0
-PrintsTo before after events (Common WriteFault) = PrintsFront before after (run_text events)
-PrintsTo before after events (Common Memory) = PrintsFront before after (run_text events)
-PrintsTo before after events end = Prints before after (run_text events)
+abbrev pub PrintsTo : SinkAt → SinkAt → List ℕ → RunEnd → Type 0
+PrintsTo before after text (Common WriteFault) = PrintsFront before after text
+PrintsTo before after text (Common Memory) = PrintsFront before after text
+PrintsTo before after text end = Prints before after text
 
 abbrev pub ReadsUntil : SourceAt → SourceAt → RunEnd → Type 0
 ReadsUntil before after (Common (ReadFault taken)) = LastReadFailed before after
@@ -37,13 +37,13 @@ end_of_stop (stops.NoModule line column reason) = NoModule line column reason
 end_of_stop (stops.Script place reason) = Script place reason
 end_of_stop (stops.Input end) = Common (end_of_input end)
 
-pub record RunsTo (before after : OutsideAt) (end : RunEnd) : Type 0 where
+pub record RunsTo (setting : Setting) (before after : OutsideAt) (end : RunEnd) : Type 0 where
   pub split : InputSplit
-  pub events : List StaticEvent
+  pub events : List Event
   pub input : TakesInput before.source after.source split
   pub script : AreScript (rest_of before.source after.source) split events
-  pub ends : RunEndMeets (rest_of before.source after.source) split events end
-  pub prints : PrintsTo before.sink after.sink events end
+  pub ends : RunEndMeets setting (rest_of before.source after.source) split events end
+  pub prints : PrintsTo before.sink after.sink (run_text setting events) end
   pub reads : ReadsUntil before.source after.source end
   pub writes : WritesUntil before.sink after.sink end
 

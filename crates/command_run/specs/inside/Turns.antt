@@ -1,5 +1,5 @@
 -- Internal: what reading, understanding and applying one line does.
-use Rattle.std.specs.Prelude.{◌≡◌, ℕ, true, false, List, ◌∷◌, Option, Some, None, Result, Ok, Err}
+use Rattle.std.specs.Prelude.{◌≡◌, ℕ, true, false, List, [], ◌∷◌, Option, Some, None, Result, Ok, Err}
 use Rattle.gnb_base.specs.declared.lines.Line.{Line}
 use Rattle.gnb_base.specs.Outside.{SourceAt, SinkAt}
 use Rattle.gnb_base.specs.Reading.{Reading, NextMeets}
@@ -13,41 +13,52 @@ use Rattle.input_module.specs.declared.module.GivenModule.{GivenModule}
 use Rattle.input_module.specs.declared.module.GivenModule.TheVariants as given
 use Rattle.input_module.specs.declared.stop.ModuleStop.{ModuleStop}
 use Rattle.input_module.specs.Taking.{StopsTaking, HasModule}
-use Rattle.run_model.specs.declared.event.StaticEvent.{StaticEvent}
+use Rattle.scenario_text.specs.declared.event.Event.{Event}
 use Rattle.scenario_text.specs.declared.line.OutLine.{OutLine}
 use Rattle.scenario_text.specs.declared.line.OutLine.TheVariants as lines
-use Rattle.scenario_text.specs.Grammar.{is_skipped}
+use Rattle.scenario_text.specs.Grammar.{is_skipped, event_of}
+use Rattle.scenario_text.specs.Texts.{InRange}
 use Rattle.scenario_text.specs.Print.{print}
-use Rattle.run_model.specs.OneBearer.{OneBearer, one_happens}
-use Rattle.static_runner.specs.declared.runner.Runner.{Runner}
-use Rattle.static_runner.specs.Shows.{Shows, Goes}
 use Rattle.command_defs.specs.declared.CommonEnd.TheVariants.{WriteFault, Memory}
 use Rattle.command_defs.specs.Ends.{end_of_input}
 use Rattle.command_output.specs.Writes.{WritesAll, WritesFront}
 use Rattle.command_run.specs.declared.end.RunEnd.{RunEnd}
 use Rattle.command_run.specs.declared.end.RunEnd.TheVariants.{Differs, Script, Common}
-use Rattle.command_run.specs.Run.{IsProfile}
+use Rattle.run_defs.specs.States.{RunStep, Stop, goes, stops}
+use Rattle.run_defs.specs.Runs.{happens}
+use Rattle.run_defs.specs.UnitRuns.{Records, unit_world}
+use Rattle.run_links.specs.declared.ground.Ground.{Ground}
+use Rattle.run_links.specs.Grounds.{OctetOutcome, OctetCore, state_of}
+use Rattle.run_links.specs.Told.{EndsAt}
+use Rattle.world_steps.specs.declared.cause.Cause.{Cause}
+use Rattle.world_steps.specs.Gives.{printed_steps, stop_by, EventStops}
+use Rattle.world.specs.Worlds.{WorldAt}
+use Rattle.command_run.specs.declared.script.Happening.{Happening}
+use Rattle.command_run.specs.Ends.{end_at}
+use Rattle.command_run.specs.Run.{Setting, IsProfile}
 use Rattle.command_run.specs.inside.Stops.{end_of_stop}
 use Rattle.command_run.specs.declared.script.Meaning.{Meaning}
 use Rattle.command_run.specs.declared.script.Meaning.TheVariants as meanings
-use Rattle.run_model.specs.Runnable.{InRange, runnable_event_of, whole_event}
 
 -- ---- the parts of a run at one moment
 
-pub record RunnerAt : Type 0 where
-  pub runner : Runner
+abbrev pub world_at : Records → OctetCore → Ground → Option Cause → WorldAt
+world_at units core links stop = record { state = state_of units core links; stop = stop }
+
+pub record WorkAt : Type 0 where
+  pub world : WorldAt
   pub sink : SinkAt
 
-abbrev pub runner_at : Runner → SinkAt → RunnerAt
-runner_at runner sink = record { runner = runner; sink = sink }
+abbrev pub work_at : WorldAt → SinkAt → WorkAt
+work_at world sink = record { world = world; sink = sink }
 
 pub record RunAt : Type 0 where
   pub reading : Reading
   pub source : SourceAt
-  pub work : RunnerAt
+  pub work : WorkAt
 
-abbrev pub run_at : Reading → SourceAt → Runner → SinkAt → RunAt
-run_at reading source runner sink = record { reading = reading; source = source; work = runner_at runner sink }
+abbrev pub run_at : Reading → SourceAt → WorldAt → SinkAt → RunAt
+run_at reading source world sink = record { reading = reading; source = source; work = work_at world sink }
 
 -- ---- the profile
 
@@ -72,14 +83,14 @@ ProfileMeets before after reading (Err end) = ProfileStops before after reading 
 -- ---- a line after the module
 
 -- it is an event
-pub record IsEvent (text : List ℕ) (event : StaticEvent) : Type 0 where
+pub record IsEvent (text : List ℕ) (event : Event) : Type 0 where
   pub one : is_skipped text ≡ false
-  pub read : runnable_event_of text ≡ Ok event
+  pub read : event_of text ≡ Ok event
   pub range : InRange event
 
 -- it is refused, or memory ran out
 pub data LineStops (line : Line) (end : RunEnd) : Type 0 where
-  Refused : (reason : _) → is_skipped line.text ≡ false → runnable_event_of line.text ≡ Err reason → end ≡ Script line.number reason
+  Refused : (reason : _) → is_skipped line.text ≡ false → event_of line.text ≡ Err reason → end ≡ Script line.number reason
       → LineStops line end
   NoMemory : end ≡ Common Memory → LineStops line end
 
@@ -90,50 +101,69 @@ Means line (Err end) = LineStops line end
 
 -- ---- an event is applied
 
--- The runner goes on, and these are the lines after the line of the event.
-abbrev pub GoesOn : Runner → Runner → StaticEvent → List OutLine → Type 0
-GoesOn old new event printed = (one : Option OneBearer) → Shows old one → Goes new printed (one_happens one event)
+abbrev pub outcome_at : Setting → WorldAt → Event → OctetOutcome
+outcome_at setting world event = happens (unit_world setting.codec setting.answer) event world.state
 
-pub record Applies (old new : RunnerAt) (event : StaticEvent) : Type 0 where
-  pub printed : List OutLine
-  pub goes : GoesOn old.runner new.runner event printed
-  pub writes : WritesAll old.sink new.sink (print (lines.Happens (whole_event event) ∷ printed))
+-- the lines that an event prints, whether the run goes on or stops
+abbrev pub told_by : OctetOutcome → List OutLine
+told_by (goes steps after) = printed_steps steps
+told_by (stops steps why) = printed_steps steps
 
--- a write failed after a front of the lines, or memory ran out before the first
-pub data ApplyStops (old new : RunnerAt) (event : StaticEvent) (end : RunEnd) : Type 0 where
-  Faulty : end ≡ Common WriteFault → (printed : List OutLine) → GoesOn old.runner new.runner event printed
-      → WritesFront old.sink new.sink (print (lines.Happens (whole_event event) ∷ printed)) → ApplyStops old new event end
-  NoRoom : end ≡ Common Memory → new.sink ≡ old.sink → ApplyStops old new event end
+-- what is written of an event
+abbrev pub text_at : Setting → WorldAt → Event → List ℕ
+text_at setting world event = print (lines.Happens event ∷ told_by (outcome_at setting world event))
 
-abbrev pub ApplyMeets : RunnerAt → RunnerAt → StaticEvent → Result (Unit {0}) RunEnd → Type 0
-ApplyMeets old new event (Ok done) = Applies old new event
-ApplyMeets old new event (Err end) = ApplyStops old new event end
+-- The run goes on, or it stops so.
+abbrev pub Comes : OctetOutcome → WorldAt → List OutLine → Option Cause → Type 0
+Comes outcome new printed None = EndsAt [] outcome printed new.state × (new.stop ≡ None)
+Comes outcome new printed (Some cause) = (why : Stop) × (stop_by cause ≡ Some why) × EventStops [] outcome printed (Some why)
+
+abbrev pub IsHappening : Setting → Event → WorldAt → WorldAt → Happening → Type 0
+IsHappening setting event old new h = Comes (outcome_at setting old event) new h.lines h.cause
+
+pub record Applies (setting : Setting) (old new : WorkAt) (event : Event) : Type 0 where
+  pub steps : List (RunStep (List ℕ))
+  pub goes_on : outcome_at setting old.world event ≡ goes steps new.world.state
+  pub going : new.world.stop ≡ None
+  pub writes : WritesAll old.sink new.sink (text_at setting old.world event)
+
+-- The run stops in the event; or a write failed after a front of its lines, or memory ran out before the first.
+pub data ApplyStops (setting : Setting) (old new : WorkAt) (line : ℕ × Event) (end : RunEnd) : Type 0 where
+  Ended : (steps : List (RunStep (List ℕ))) (cause : Cause) (why : Stop) → stop_by cause ≡ Some why
+      → outcome_at setting old.world line.1 ≡ stops steps why → end ≡ end_at line.0 cause
+      → WritesAll old.sink new.sink (text_at setting old.world line.1) → ApplyStops setting old new line end
+  Faulty : end ≡ Common WriteFault → WritesFront old.sink new.sink (text_at setting old.world line.1) → ApplyStops setting old new line end
+  NoRoom : end ≡ Common Memory → new.sink ≡ old.sink → ApplyStops setting old new line end
+
+abbrev pub ApplyMeets : Setting → WorkAt → WorkAt → ℕ × Event → Result (Unit {0}) RunEnd → Type 0
+ApplyMeets setting old new line (Ok done) = Applies setting old new line.1
+ApplyMeets setting old new line (Err end) = ApplyStops setting old new line end
 
 -- ---- one turn
 
 -- the line was skipped, or it was an event, which was applied
-pub data LineApplies (old new : RunnerAt) (text : List ℕ) (events : ℕ) : Type 0 where
-  Skips : events ≡ 0 → is_skipped text ≡ true → new ≡ old → LineApplies old new text events
-  Happens : events ≡ 1 → (event : StaticEvent) → IsEvent text event → Applies old new event → LineApplies old new text events
+pub data LineApplies (setting : Setting) (old new : WorkAt) (text : List ℕ) (events : ℕ) : Type 0 where
+  Skips : events ≡ 0 → is_skipped text ≡ true → new ≡ old → LineApplies setting old new text events
+  Happens : events ≡ 1 → (event : Event) → IsEvent text event → Applies setting old new event → LineApplies setting old new text events
 
-pub record TakesLine (old new : RunAt) (events : ℕ) : Type 0 where
+pub record TakesLine (setting : Setting) (old new : RunAt) (events : ℕ) : Type 0 where
   pub line : Line
   pub meets : NextMeets old.reading new.reading old.source new.source (Ok (Some line))
-  pub applies : LineApplies old.work new.work line.text events
+  pub applies : LineApplies setting old.work new.work line.text events
 
 pub record TakesEnd (old new : RunAt) : Type 0 where
   pub meets : NextMeets old.reading new.reading old.source new.source (Ok None)
   pub same : new.work ≡ old.work
 
-pub data TurnStops (old new : RunAt) (end : RunEnd) : Type 0 where
+pub data TurnStops (setting : Setting) (old new : RunAt) (end : RunEnd) : Type 0 where
   Unread : (why : InputEnd) → StopsReading old.reading new.reading old.source new.source why → end ≡ Common (end_of_input why)
-      → new.work ≡ old.work → TurnStops old new end
+      → new.work ≡ old.work → TurnStops setting old new end
   Unapplied : (line : Line) → NextMeets old.reading new.reading old.source new.source (Ok (Some line)) → LineStops line end
-      → new.work ≡ old.work → TurnStops old new end
-  Unwritten : (line : Line) (event : StaticEvent) → NextMeets old.reading new.reading old.source new.source (Ok (Some line))
-      → IsEvent line.text event → ApplyStops old.work new.work event end → TurnStops old new end
+      → new.work ≡ old.work → TurnStops setting old new end
+  Halted : (line : Line) (event : Event) → NextMeets old.reading new.reading old.source new.source (Ok (Some line))
+      → IsEvent line.text event → ApplyStops setting old.work new.work (line.number, event) end → TurnStops setting old new end
 
-abbrev pub TurnMeets : RunAt → RunAt → Result (Option ℕ) RunEnd → Type 0
-TurnMeets old new (Ok None) = TakesEnd old new
-TurnMeets old new (Ok (Some events)) = TakesLine old new events
-TurnMeets old new (Err end) = TurnStops old new end
+abbrev pub TurnMeets : Setting → RunAt → RunAt → Result (Option ℕ) RunEnd → Type 0
+TurnMeets setting old new (Ok None) = TakesEnd old new
+TurnMeets setting old new (Ok (Some events)) = TakesLine setting old new events
+TurnMeets setting old new (Err end) = TurnStops setting old new end

@@ -1,4 +1,0 @@
-pub mod Ends
-pub mod Run
-pub mod Whole
-pub mod inside

@@ -1,3 +1,0 @@
--- Internal: what ties the functions of a run together.
-pub mod Turns
-pub mod Stops

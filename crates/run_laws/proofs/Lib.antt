@@ -1,4 +1,0 @@
-pub mod Lists
-pub mod Kept
-pub mod Steps
-pub mod Runs

@@ -1,4 +1,0 @@
-pub mod Tables
-pub mod OneRun
-pub mod Sound
-pub mod Runnables

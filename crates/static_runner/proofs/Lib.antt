@@ -1,3 +1,0 @@
-pub mod Octets
-pub mod Goes
-pub mod Same

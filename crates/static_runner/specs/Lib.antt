@@ -1,5 +1,0 @@
-pub mod Sender
-pub mod Header
-pub mod Units
-pub mod Delivers
-pub mod Shows
