@@ -1,16 +1,26 @@
 #!/usr/bin/env python3
-"""Measures the words of the program at two sizes each: processor time, its ratio between the sizes, and peak memory; beside it what writing the same bytes alone takes,
-another reading of the specification where one is here, and Erlang's asn1 where it is installed. A word that the program doesn't have yet is said so.
+"""Measures the words of the program at two sizes each, of which the larger one is twice the smaller: processor time and its ratio between the sizes, and peak memory. Beside that
+stands what others take: `cat` to write the same bytes, and `awk` to read and write the same lines; another reading of the specification, where one is here; and Erlang's asn1,
+where it is installed.
 
-`run` is measured on scripts of one static downlink bearer whose packets are confirmed, `generate` on its number, `encode` on so many values of a module of plain types, and `decode` on what `encode` printed.
-Of Erlang the calls alone are measured: it reads no JSON and prints nothing.
+| Row | What a size counts |
+|---|---|
+| `run` | packets of a static downlink bearer, each offered, sent, carried, confirmed, and its delivery status got |
+| `run`, control | control messages: those of `start`, put again at each tick |
+| `generate` | its number |
+| `encode` | values of a module of plain types, as JSON |
+| `decode` | the same values, as octets |
+
+The other reading is measured on fewer (a row says on how many), and told as how many times as fast the program is on these; where it prints something else this is said. Of Erlang the
+calls alone are measured: it reads no JSON and prints nothing. A word that the program doesn't have is said so.
 
 Nothing here is proved, and a measurement is one of this machine at this time: other work on it shows.
 
-Usage: tools/bench.py [--small N] [--large N] [--program COMMAND] [--other COMMAND]
+Usage: tools/bench.py [--part K] [--program COMMAND] [--other COMMAND]      (--part K: the sizes are so many times smaller)
 """
 
 import argparse
+import dataclasses
 import json
 import os
 import pathlib
@@ -20,11 +30,11 @@ import subprocess
 import sys
 import tempfile
 import time
+import typing
 
 import other_reading
 
 PROGRAM = other_reading.TOP / "crates/scenario_cli/out/scenario_cli"
-WORDS = ("run", "generate", "encode", "decode")
 MODULE = """M DEFINITIONS AUTOMATIC TAGS ::= BEGIN
 T ::= SEQUENCE {number INTEGER (0..4294967295), flag BOOLEAN, kind ENUMERATED {a, b, c}, octets OCTET STRING,
   list SEQUENCE (SIZE (1..8)) OF INTEGER (0..255), name PrintableString (SIZE (1..150, ...)) OPTIONAL, ...}
@@ -33,8 +43,11 @@ END
 ERLANG = pathlib.Path(__file__).resolve().with_name("bench_asn1.escript")
 USAGE = 2
 MEBIBYTE = 1024  # in KiB
-# the largest number of `generate`; the script of so many packets is no longer than 16 MiB
-LARGEST = 100_000
+# `start` puts a message of each CU-UP and DU, and each tick puts them again
+STARTED = 8
+# so many times fewer for the other reading than for the program
+FEWER = 50
+LARGEST_PART = 10_000
 
 
 class Unmeasured(Exception):
@@ -74,122 +87,161 @@ def measure(command, given, taken):
 # ---- inputs
 
 
-def script(packets):
+@dataclasses.dataclass(frozen=True)
+class Call:
+    """A call: its words, and the file of its input."""
+
+    words: list
+    given: pathlib.Path
+
+
+@dataclasses.dataclass(frozen=True)
+class Row:
+    """What is measured: its name, what a size counts, the larger size, and the call of a size."""
+
+    name: str
+    unit: str
+    size: int
+    call: typing.Callable
+
+
+def written(path, lines):
+    path.write_text("\n".join(lines) + "\n")
+    return path
+
+
+def packets(size, folder, _):
     """A script of so many packets, each taken to the terminal and confirmed to the CU-UP."""
     lines = ["module builtin", "static u1 A 1 1 12 1 4096"]
-    for number in range(packets):
+    for number in range(size):
         lines += [f"offer u1 b1 dl {number:08X}", "get A.up1/1", "get A.du1/1", "air u1 b1 dl", "ack u1 b1 dl", "get A.up1/2"]
-    return lines
+    return Call(["run"], written(folder / "packets", lines))
 
 
-def values(count):
-    """So many values of the plain module as JSON."""
-    for number in range(count):
-        value = {"number": number * 40503 % 2**32, "flag": number % 2 == 0, "kind": "abc"[number % 3], "octets": f"{number:016X}" * (1 + number % 4),
-                 "list": [number % 256] * (1 + number % 8), "name": f"value {number}"}
-        yield json.dumps(value if number % 5 else value | {"name": "Z"}, separators=(",", ":"))
+def messages(size, folder, _):
+    """A script that puts so many control messages."""
+    return Call(["run"], written(folder / "messages", ["module builtin", "start", *["tick"] * (size // STARTED - 1)]))
 
 
-def call_of(word, size, folder, program):
-    """The words of a call, and the file of its input."""
-    given = folder / f"{word}-{size}.in"
-    if word == "generate":
-        given.write_text("")
-        return ["generate", str(size)], given
-    if word == "run":
-        given.write_text("\n".join(script(size)) + "\n")
-        return ["run"], given
-    lines = values(size) if word == "encode" else encoded(size, folder, program)
-    given.write_text("\n".join(["module text", MODULE.strip(), *lines]) + "\n")
-    return [word, "T"], given
+def generated(size, folder, _):
+    return Call(["generate", str(size)], written(folder / "nothing", []))
 
 
-def encoded(size, folder, program):
+def value_of(number):
+    """A value of the plain module as JSON."""
+    value = {"number": number * 40503 % 2**32, "flag": number % 2 == 0, "kind": "abc"[number % 3], "octets": f"{number:016X}" * (1 + number % 4),
+             "list": [number % 256] * (1 + number % 8), "name": f"value {number}"}
+    return json.dumps(value if number % 5 else value | {"name": "Z"}, separators=(",", ":"))
+
+
+def values(size, folder, _):
+    return Call(["encode", "T"], written(folder / "values", ["module text", MODULE.strip(), *map(value_of, range(size))]))
+
+
+def octets(size, folder, program):
     """What the program's `encode` prints of the values."""
-    words, given = call_of("encode", size, folder, program)
-    taken = folder / "encoded"
-    status, _, _ = measure([*program, *words], given, taken)
+    call, taken = values(size, folder, program), folder / "encoded"
+    status, _, _ = measure([*program, *call.words], call.given, taken)
     if status:
-        raise Unmeasured("needs encode, which isn't a word of it yet" if status == USAGE else f"encode ended with status {status}")
-    return taken.read_text().splitlines()
+        raise Unmeasured("needs encode, which isn't a word of it" if status == USAGE else f"encode ended with status {status}")
+    return Call(["decode", "T"], written(folder / "octets", ["module text", MODULE.strip(), *taken.read_text().splitlines()]))
 
+
+# scripts and inputs of the larger sizes are just below 16 MiB
+ROWS = (
+    Row("run", "packets", 180_000, packets),
+    Row("run, control", "messages", 1_000_000, messages),
+    Row("generate", "packets", 100_000, generated),
+    Row("encode", "values", 100_000, values),
+    Row("decode", "values", 100_000, octets),
+)
 
 # ---- measurements
 
 
-def measured(command, words, given, taken):
-    status, seconds, memory = measure([*command, *words], given, taken)
+def measured(command, call, taken):
+    status, seconds, memory = measure([*command, *call.words], call.given, taken)
     if status:
-        raise Unmeasured("isn't a word of it yet" if status == USAGE else f"ended with status {status}")
+        raise Unmeasured("isn't a word of it" if status == USAGE else f"ended with status {status}")
     return seconds, memory
 
 
-def erlang(word, size, folder, program):
-    """The seconds of Erlang's asn1, where it is installed and has such calls."""
-    if word not in ("encode", "decode") or shutil.which("escript") is None:
-        return None
-    (folder / "M.asn1").write_text(MODULE)
-    (folder / "hex").write_text("\n".join(encoded(size, folder, program)) + "\n")
-    ran = subprocess.run(["escript", ERLANG, folder, word, folder / "hex"], capture_output=True, text=True, check=False)
-    return float(ran.stdout) if ran.returncode == 0 else None
-
-
-def row_of(word, size, folder, program, other):
-    """A row of the table: seconds and memory of the program, and the seconds of writing its output alone, of the other reading, and of Erlang."""
-    words, given = call_of(word, size, folder, program)
-    taken, copy = folder / "taken", folder / "copy"
-    seconds, memory = measured(program, words, given, taken)
+def copied(call, taken, copy):
+    """The seconds that `cat` takes to write an output, and that `awk` takes to read the lines of an input and write those of the output."""
     _, writing, _ = measure(["cat"], taken, copy)
-    alike, theirs = "", None
-    if other:
-        theirs, _ = measured(other, words, given, copy)
-        alike = "" if copy.read_bytes() == taken.read_bytes() else " (prints something else)"
-    return {"word": word, "size": size, "seconds": seconds, "memory": memory, "writing": writing, "other": theirs, "alike": alike,
-            "erlang": erlang(word, size, folder, program)}
+    _, reading_lines, _ = measure(["awk", "END { print NR }"], call.given, copy)
+    _, writing_lines, _ = measure(["awk", "{ print }"], taken, copy)
+    return writing, reading_lines + writing_lines
 
 
-def optional(seconds):
-    return "-" if seconds is None else f"{seconds:.3f}"
+def erlang(row, size, folder, program):
+    """The seconds of Erlang's asn1, where it is installed and has such calls."""
+    if row.name not in ("encode", "decode") or shutil.which("escript") is None:
+        return "-"
+    (folder / "M.asn1").write_text(MODULE)
+    lines = octets(size, folder, program).given.read_text().splitlines()
+    written(folder / "hex", lines[lines.index("END") + 1 :])
+    ran = subprocess.run(["escript", ERLANG, folder, row.name, folder / "hex"], capture_output=True, text=True, check=False)
+    return f"{float(ran.stdout):.3f}" if ran.returncode == 0 else "failed"
 
 
-def text_of(row, first):
-    """A row as words; the second size of a word has the ratio of its time to the first one's."""
-    ratio = f"{row['seconds'] / first['seconds']:.2f}" if first and first["seconds"] else "-"
-    cells = [row["word"], row["size"], optional(row["seconds"]), ratio, f"{row['memory'] / MEBIBYTE:.1f}", optional(row["writing"]), optional(row["other"]) + row["alike"],
-             optional(row["erlang"])]
-    return "| " + " | ".join(map(str, cells)) + " |"
+def times_as_fast(row, size, folder, commands):
+    """How many times as fast as the other reading the program is, on fewer; and whether both print the same."""
+    program, other = commands
+    if not other:
+        return "-"
+    call, ours, theirs = row.call(size, folder, program), folder / "ours", folder / "theirs"
+    seconds, _ = measured(program, call, ours)
+    _, their_seconds, _ = measure([*other, *call.words], call.given, theirs)
+    alike = "" if theirs.read_bytes() == ours.read_bytes() else ", prints something else"
+    return f"{their_seconds / seconds:.0f} (on {size}{alike})" if seconds else f"- (on {size}{alike})"
 
 
-def table(sizes, folder, program, other):
-    yield f"| Word | Size | Seconds | Times the smaller size's (size: {sizes[1] / sizes[0]:.2f}) | Peak MiB | Writing alone, seconds | Other reading, seconds | Erlang, seconds |"
-    yield "|---|---|---|---|---|---|---|---|"
-    for word in WORDS:
+def cells_of(row, size, first, folder, commands):
+    """The seconds of a row, and its cells after the name."""
+    program, _ = commands
+    taken = folder / "taken"
+    call = row.call(size, folder, program)
+    seconds, memory = measured(program, call, taken)
+    writing, lines = copied(call, taken, folder / "copy")
+    ratio = f"{seconds / first:.2f}" if first else "-"
+    faster = "" if first is None else times_as_fast(row, max(size // FEWER, STARTED), folder, commands)
+    written_size = taken.stat().st_size / 1024 / MEBIBYTE
+    return seconds, [f"{seconds:.3f}", ratio, f"{memory / MEBIBYTE:.1f}", f"{written_size:.1f}", f"{writing:.3f}", f"{lines:.3f}", faster, erlang(row, size, folder, program)]
+
+
+HEADS = ("Word", "Size", "Seconds", "Times the smaller size's", "Peak MiB", "Output MiB", "Its bytes alone, seconds", "Its lines alone, seconds", "Times as fast as another reading",
+         "Erlang, seconds")
+
+
+def table(part, folder, commands):
+    yield "| " + " | ".join(HEADS) + " |"
+    yield "|" + "---|" * len(HEADS)
+    for row in ROWS:
         first = None
-        for size in sizes:
+        for size in (max(row.size // part // 2, STARTED), max(row.size // part, 2 * STARTED)):
             try:
-                row = row_of(word, size, folder, program, other)
+                first, cells = cells_of(row, size, first, folder, commands)
             except Unmeasured as why:
-                yield f"| {word} | {size} | {why} | | | | | |"
-                continue
-            yield text_of(row, first)
-            first = row
+                first, cells = None, [str(why)] + [""] * (len(HEADS) - 3)
+            yield f"| {row.name} | {size:,} {row.unit} | " + " | ".join(cells) + " |"
 
 
 def main():
     asked = argparse.ArgumentParser(description=__doc__, formatter_class=argparse.RawDescriptionHelpFormatter)
-    asked.add_argument("--small", type=int, default=500)
-    asked.add_argument("--large", type=int, default=2000)
+    asked.add_argument("--part", type=int, default=1)
     asked.add_argument("--program", default=str(PROGRAM), help="the command that is measured")
     asked.add_argument("--other", default=f"{sys.executable} {other_reading.OTHER}" if other_reading.OTHER.exists() else "", help="the other reading; '' for none")
     given = asked.parse_args()
-    if not 1 <= given.small < given.large <= LARGEST:
-        asked.error(f"the sizes are two numbers from 1 to {LARGEST}, the smaller one first")
+    if not 1 <= given.part <= LARGEST_PART:
+        print(f"bench: --part is a number from 1 to {LARGEST_PART}, and it is {given.part}", file=sys.stderr)
+        return USAGE
     program = shlex.split(given.program)
     if not program or shutil.which(program[0]) is None:
         print(f"bench: '{given.program}' is no program that can be run; ./gnb builds the one that is measured", file=sys.stderr)
         return USAGE
     with tempfile.TemporaryDirectory() as folder:
-        for line in table((given.small, given.large), pathlib.Path(folder), program, shlex.split(given.other)):
+        for line in table(given.part, pathlib.Path(folder), (program, shlex.split(given.other))):
             print(line, flush=True)
     return 0
 

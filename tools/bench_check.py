@@ -24,14 +24,21 @@ esac
 # the other program prints something else
 OTHER = PROGRAM.replace("cat", "tail -n 1")
 NUMBER = r"[0-9]+\.[0-9]+"
+# processor time is counted in ticks of the system, so a short call may have none
+RATIO = rf"({NUMBER}|-)"
+MEASURED = rf"{NUMBER} \| {NUMBER} \| {NUMBER} \| {NUMBER}"
+FASTER = r"([0-9]+|-) \(on 8, prints something else\)"
+EMPTY = r"  \|" * 7
 ROWS = [
-    r"\| Word \| Size \| Seconds .*\| Other reading, seconds \| Erlang, seconds \|",
-    r"\|(---\|){8}",
-    rf"\| run \| 10 \| {NUMBER} \| - \| {NUMBER} \| {NUMBER} \| {NUMBER} \(prints something else\) \| - \|",
-    rf"\| run \| 40 \| {NUMBER} \| ({NUMBER}|-) \| {NUMBER} \| {NUMBER} \| {NUMBER} \(prints something else\) \| - \|",
-    *[rf"\| generate \| {size} \| ended with status 4 \| \| \| \| \| \|" for size in (10, 40)],
-    *[rf"\| encode \| {size} \| isn't a word of it yet \| \| \| \| \| \|" for size in (10, 40)],
-    *[rf"\| decode \| {size} \| needs encode, which isn't a word of it yet \| \| \| \| \| \|" for size in (10, 40)],
+    r"\| Word \| Size \| Seconds .*\| Times as fast as another reading \| Erlang, seconds \|",
+    r"\|(---\|){10}",
+    rf"\| run \| 18 packets \| {NUMBER} \| - \| {MEASURED} \|  \| - \|",
+    rf"\| run \| 36 packets \| {NUMBER} \| {RATIO} \| {MEASURED} \| {FASTER} \| - \|",
+    rf"\| run, control \| 100 messages \| {NUMBER} \| - \| {MEASURED} \|  \| - \|",
+    rf"\| run, control \| 200 messages \| {NUMBER} \| {RATIO} \| {MEASURED} \| {FASTER} \| - \|",
+    *[rf"\| generate \| {size} packets \| ended with status 4 \|{EMPTY}" for size in (10, 20)],
+    *[rf"\| encode \| {size} values \| isn't a word of it \|{EMPTY}" for size in (10, 20)],
+    *[rf"\| decode \| {size} values \| needs encode, which isn't a word of it \|{EMPTY}" for size in (10, 20)],
 ]
 
 
@@ -40,7 +47,7 @@ def check_table(folder):
     for path, text in ((program, PROGRAM), (other, OTHER)):
         path.write_text(text)
         path.chmod(0o755)
-    ran = stories.run_tool("bench", "--small", "10", "--large", "40", "--program", str(program), "--other", str(other))
+    ran = stories.run_tool("bench", "--part", "5000", "--program", str(program), "--other", str(other))
     assert ran.returncode == 0, ran.stderr
     lines = ran.stdout.splitlines()
     for line, awaited in zip(lines, ROWS, strict=True):
@@ -51,8 +58,8 @@ def check_wrong(folder):
     ran = stories.run_tool("bench", "--program", str(folder / "none"))
     said = f"bench: '{folder / 'none'}' is no program that can be run; ./gnb builds the one that is measured\n"
     assert (ran.returncode, ran.stdout, ran.stderr) == (2, "", said), ran.stderr
-    ran = stories.run_tool("bench", "--small", "5", "--large", "5")
-    assert ran.returncode == 2 and "from 1 to 100000, the smaller one first" in ran.stderr, ran.stderr
+    ran = stories.run_tool("bench", "--part", "0")
+    assert (ran.returncode, ran.stdout, ran.stderr) == (2, "", "bench: --part is a number from 1 to 10000, and it is 0\n"), ran.stderr
 
 
 UP_ROWS = [

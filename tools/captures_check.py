@@ -1,6 +1,6 @@
 #!/usr/bin/env python3
-"""Checks tools/to_pcapng.py: the captures of the stories in tools/data and of the examples, by a small reader of pcapng; what is said of a wrong input; and, where tshark is
-installed, that Wireshark reads every packet of GTP-U with its extension headers, and finds none malformed.
+"""Checks tools/to_pcapng.py: the captures of the examples, by a small reader of pcapng; what is said of a wrong input; and, where tshark is installed, that Wireshark reads
+every packet of GTP-U with its extension headers, and finds none malformed.
 
 Nothing here is a proof.
 
@@ -21,11 +21,11 @@ import transcripts
 
 # what a packet on N3 is, worked out by hand: IPv4 from 10.0.0.1 to 10.1.2.1, UDP 2152, and the octets of the line
 FIRST = bytes.fromhex("4500002500004000401124C60A0000010A010201" "08680868001162F8" "30FF00010000000145")
-# who puts, on which kind of link, in lines of tools/data/handover-between-gnbs.out
+# who puts, on which kind of link, in lines of examples/handover-with-data-in-flight.out
 ENDS = {
-    3: ("N3", "core", "A.up1"), 8: ("F1-U-DL", "A.up1", "A.du1"), 13: ("Xn-C", "A.cp", "B.cp"), 16: ("E1", "B.cp", "B.up1"), 20: ("F1-C", "B.cp", "B.du1"),
-    28: ("Xn-U-DL", "A.up1", "B.up1"), 49: ("RRC", "A.du1", "u1"), 53: ("Uu-UL", "u1", "B.du1"), 59: ("N2", "B.cp", "core"), 65: ("N3", "core", "A.up1"),
-    80: ("F1-U-UL", "A.du1", "A.up1"), 92: ("Xn-U-DL", "A.up1", "B.up1"), 109: ("Xn-U-UL", "A.up1", "B.up1"), 112: ("Uu-DL", "B.du1", "u1"),
+    3: ("N3", "core", "A.up1"), 10: ("F1-U-DL", "A.up1", "A.du1"), 25: ("Uu-DL", "A.du1", "u1"), 32: ("F1-U-UL", "A.du1", "A.up1"), 34: ("Xn-C", "A.cp", "B.cp"),
+    37: ("E1", "B.cp", "B.up1"), 41: ("F1-C", "B.cp", "B.du1"), 49: ("Xn-U-DL", "A.up1", "B.up1"), 69: ("Xn-U-UL", "A.up1", "B.up1"), 74: ("RRC", "A.du1", "u1"),
+    80: ("Uu-UL", "u1", "B.du1"), 88: ("N2", "B.cp", "core"), 94: ("N3", "core", "A.up1"), 109: ("F1-U-UL", "A.du1", "A.up1"), 121: ("Xn-U-DL", "A.up1", "B.up1"),
 }
 BEGIN = "> static u1 A 1 1 12 1 64\n"
 WRONG = [
@@ -137,7 +137,7 @@ def check_by_hand():
     _, names, packets = read_capture(to_pcapng.capture(endpoints.read_with_ends(stories.EXAMPLES / "first-packet.out"), "put"))
     assert packets[0] == ("N3", 2_000_001, FIRST, "line 3, event 2: put A.up1/1 u1 b1 dl -; 12-bit PDCP SN; no COUNT"), packets[0]
     assert names[bytes([10, 3, 0, 1])] == "u1" and names[bytes([10, 1, 3, 1])] == "A.du1"
-    found = {line.number: (ends.kind.name, ends.sender, ends.receiver) for line, ends, _ in endpoints.read_with_ends(stories.DATA / "handover-between-gnbs.out") if ends}
+    found = {line.number: (ends.kind.name, ends.sender, ends.receiver) for line, ends, _ in endpoints.read_with_ends(stories.EXAMPLES / "handover-with-data-in-flight.out") if ends}
     for number, ends in ENDS.items():
         assert found[number] == ends, f"line {number}: {found[number]}, not {ends}"
 

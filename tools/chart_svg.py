@@ -3,6 +3,7 @@
 Nothing here is proved.
 """
 
+import functools
 import html
 
 from chart_rows import Arrow, Mark, whose
@@ -49,12 +50,21 @@ text { fill: #111; }
 # ---- places
 
 
+def gaps(chart):
+    return max(len(chart.nodes) - 1, 1)
+
+
+def spacing(chart):
+    """The room between two lifelines; few lifelines share the width of the legend."""
+    return max(SPACING, (legend_width() - FIRST - MARGIN) // gaps(chart))
+
+
 def width_of(chart):
-    return FIRST + SPACING * max(len(chart.nodes) - 1, 3) + MARGIN
+    return FIRST + spacing(chart) * gaps(chart) + MARGIN
 
 
 def place(chart, node):
-    return FIRST + SPACING * chart.nodes.index(node)
+    return FIRST + spacing(chart) * chart.nodes.index(node)
 
 
 def lane_place(chart, node, is_right, number):
@@ -224,6 +234,7 @@ def legend_elements(y):
     return parts + [f'<circle cx="{x}" cy="{y - 3}" r="3" class="flies"/>', text(x + 9, y, "in flight at the end", "small")]
 
 
+@functools.cache
 def legend_width():
     return 32 + sum(56 + len(words) * 5 for _, words in LEGEND) + sum(34 + len(words) * 5 for _, words in SIGNS) + 120
 

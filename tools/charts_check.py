@@ -1,6 +1,6 @@
 #!/usr/bin/env python3
-"""Checks tools/to_chart.py: that the charts of the stories in tools/data and of the examples are well-formed, that each line of a transcript is drawn at its lifelines and in its
-order, that the pictures in docs are those of today, and what is said of a wrong input. Where mscgen is installed it is asked whether it reads the texts.
+"""Checks tools/to_chart.py: that the charts of the examples are well-formed, that each line of a transcript is drawn at its lifelines and in its order, that the pictures in docs
+are those of today, and what is said of a wrong input. Where mscgen is installed it is asked whether it reads the texts.
 
 Nothing here is a proof.
 
@@ -27,9 +27,8 @@ SVG = "{http://www.w3.org/2000/svg}"
 PICTURES = stories.TOOLS.parent / "docs/pictures"
 # the pictures of docs: the story, its range of events, and the title
 DRAWN = {
-    "handover-between-dus": (None, "A terminal moves from one DU of gNB A to the other one"),
-    "handover-between-gnbs": (None, "A terminal moves from gNB A to gNB B"),
-    "lost-on-f1-u": (None, "A frame is lost on F1-U downlink and put again"),
+    "handover-with-data-in-flight": (None, "An Xn handover with data in flight"),
+    "lost-on-f1-u": (None, "A frame is lost on F1-U downlink, and its repair"),
 }
 # a longer chart is made, but not drawn here: that would take seconds
 DRAWN_ROWS = 1000
@@ -39,7 +38,7 @@ WRONG = [
     (BEGIN + "lost A.du1/1 2\n", ":2: 2 are lost on A.du1/1, and 0 stand there"),
     (BEGIN + "deliver u1 b1 ul 0 45\n", ":2: nothing was got before this delivery"),
 ]
-# the rows of tools/data/lost-on-f1-u.out up to the return of the lost packet, as a person would write them
+# the rows of examples/lost-on-f1-u.out up to the return of the lost packet, as a person would write them
 ROWS = """
 1 static u1 A 1 1 12 1 64
 2 offer u1 b1 dl 01
@@ -78,7 +77,7 @@ def text_of(row):
 
 
 def check_by_hand():
-    chart = chart_rows.make(endpoints.read_with_ends(stories.DATA / "lost-on-f1-u.out"))
+    chart = chart_rows.make(endpoints.read_with_ends(stories.EXAMPLES / "lost-on-f1-u.out"))
     assert chart.nodes == ["u1", "A.du1", "A.up1", "core"], chart.nodes
     for row, awaited in zip(chart.rows, ROWS):
         assert text_of(row) == awaited, f"{text_of(row)!r}, not {awaited!r}"
@@ -151,9 +150,9 @@ def check_story(path):
 
 def check_ranges():
     """A range of events has the rows of these events alone, with the lanes that reach into it."""
-    found = endpoints.read_with_ends(stories.DATA / "handover-between-gnbs.out")
-    whole, part = chart_rows.make(found), chart_rows.make(found, 9, 13)
-    assert [text_of(row) for row in part.rows] == [text_of(row) for row in whole.rows if 9 <= row.event <= 13]
+    found = endpoints.read_with_ends(stories.EXAMPLES / "handover-with-data-in-flight.out")
+    whole, part = chart_rows.make(found), chart_rows.make(found, 14, 19)
+    assert [text_of(row) for row in part.rows] == [text_of(row) for row in whole.rows if 14 <= row.event <= 19]
     assert any(flight.put_row < 0 for flight in part.flights) and "A.up1" in part.nodes
     check_picture(part, chart_svg.picture(part, "a part"))
 
@@ -183,7 +182,7 @@ def check_words():
 
 
 def check_wrong_words():
-    story = str(stories.DATA / "lost-on-f1-u.out")
+    story = str(stories.EXAMPLES / "lost-on-f1-u.out")
     for words, awaited in ((["--events", "0-3"], "'0-3' is no range of events"), (["--events", "4-2"], "'4-2' is no range"), (["--html", "--msc"], "not allowed with")):
         ran = stories.run_tool("to_chart", *words, story)
         assert ran.returncode == 2 and awaited in ran.stderr.splitlines()[-1], ran.stderr
@@ -192,7 +191,7 @@ def check_wrong_words():
 
 
 def picture_of(story, events, title):
-    chart = chart_rows.make(endpoints.read_with_ends(stories.DATA / f"{story}.out"), *(events or ()))
+    chart = chart_rows.make(endpoints.read_with_ends(stories.EXAMPLES / f"{story}.out"), *(events or ()))
     return chart_svg.picture(chart, title)
 
 

@@ -1,20 +1,19 @@
 #!/usr/bin/env python3
 """Decodes random and spoilt octets of messages by the word `decode` and by another reading of the same specification, and compares what they print.
 
-The octets are those of the control messages in tools/data, some with bytes changed and some cut off, as values of the three interfaces' types.
+The octets are those of the control messages in examples/, some with bytes changed and some cut off, as values of the three interfaces' types.
 The other reading is a program that takes the word, a type and an input, as ours does. Without one this is said, and the check passes.
 
 Usage: tools/random_values.py [--count N] [--seed S] [COMMAND ..]
 """
 
 import functools
-import pathlib
 import re
 import sys
 
 import other_reading
 
-DATA = pathlib.Path(__file__).resolve().parent / "data"
+EXAMPLES = other_reading.TOP / "examples"
 TYPES = ["F1AP-PDU", "E1AP-PDU", "XnAP-PDU"]
 HEADERS = ["module builtin", "module builtin 2"]
 MESSAGE = re.compile(r"^put #\d+ \S+ \S+ u\d+ ([0-9A-F]+)$", re.MULTILINE)
@@ -22,9 +21,8 @@ MESSAGE = re.compile(r"^put #\d+ \S+ \S+ u\d+ ([0-9A-F]+)$", re.MULTILINE)
 
 @functools.cache
 def messages():
-    """The octets of all control messages of the recorded stories."""
-    files = sorted(it for it in DATA.rglob("*") if it.is_file())
-    return [bytes.fromhex(found) for file in files for found in MESSAGE.findall(file.read_text())]
+    """The octets of all control messages of the examples."""
+    return [bytes.fromhex(found) for file in sorted(EXAMPLES.glob("*.out")) for found in MESSAGE.findall(file.read_text())]
 
 
 def spoilt(chance, octets):
@@ -48,5 +46,5 @@ def told(status, output):
 
 if __name__ == "__main__":
     if not messages():
-        sys.exit("tools/data has no control messages")
+        sys.exit("examples/ has no control messages")
     sys.exit(other_reading.compare(__doc__, "values", 300, make, told))

@@ -1,5 +1,4 @@
-"""The transcripts by which the tools are tested: those of the stories in tools/data, and those of the examples that scripts of `run` have; and how a tool is
-given a wrong input."""
+"""The transcripts by which the tools of docs/lab.md are tested, those of the examples that are scripts of `run`; and how a tool is given a wrong input."""
 
 import pathlib
 import subprocess
@@ -7,12 +6,12 @@ import sys
 import tempfile
 
 TOOLS = pathlib.Path(__file__).resolve().parent
-DATA, EXAMPLES = TOOLS / "data", TOOLS.parent / "examples"
+EXAMPLES = TOOLS.parent / "examples"
 
 
 def transcripts():
     """The transcripts with at least one event."""
-    paths = [path.with_suffix(".out") for folder in (DATA, EXAMPLES) for path in sorted(folder.glob("*.script"))]
+    paths = [path.with_suffix(".out") for path in sorted(EXAMPLES.glob("*.script"))]
     return [path for path in paths if path.read_text().startswith(">")]
 
 
