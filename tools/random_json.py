@@ -305,4 +305,4 @@ def told(status, output):
 
 
 if __name__ == "__main__":
-    sys.exit(other_reading.compare(__doc__, "calls of encode and decode", 300, maker_of_calls, told, asks=True))
+    sys.exit(other_reading.compare(__doc__, "calls of encode and decode", 300, make, told, asks=True))

@@ -248,7 +248,7 @@ const CHECKS: [Row; 12] = [
 ];
 
 /// Lines after a module, and words that are no form.
-const LINES: [Row; 11] = [
+const LINES: [Row; 12] = [
     (
         "decode T",
         "module text\nM DEFINITIONS AUTOMATIC TAGS ::= BEGIN\nT ::= BOOLEAN\nEND\n80\n00\n",
@@ -266,6 +266,7 @@ const LINES: [Row; 11] = [
         (3, 0, 3),
         "module 0 0 3\nstop 3 0 3\n",
     ),
+    ("decode Z", MODULE, (3, 0, 3), "module 0 0 3\nstop 3 0 3\n"),
     (
         "decode T",
         "module text\nM DEFINITIONS AUTOMATIC TAGS ::= BEGIN\nT ::= REAL\nEND\n80\n",
@@ -563,5 +564,66 @@ fn outstanding_counts(rt: HostRuntime) -> Result<(), AllocError> {
             false
         )
     );
+    Ok(())
+}
+
+/// A line of `encode` or `decode` with octets of an OCTET STRING, the status that it comes to, and what is written: `#` stands for 16,384 of them.
+type Long = (&'static str, &'static str, (u8, u64, u16), &'static str);
+
+/// As many octets have a head of their own, and a last part of no octets after them. A spelling has 131,072 octets at most, its heads among them.
+const LONG: [Long; 5] = [
+    ("encode T", "\"#\"", (0, 0, 0), "C1#00\n"),
+    ("decode T", "C1#00", (0, 0, 0), "\"#\"\n"),
+    (
+        "decode T",
+        "C1#",
+        (8, 5, 1),
+        "wrong 131080 1 -\nstop 8 5 1\n",
+    ),
+    (
+        "decode T",
+        "C1#C1",
+        (8, 5, 4),
+        "wrong 131080 4 -\nstop 8 5 4\n",
+    ),
+    (
+        "encode T",
+        "\"########\"",
+        (8, 5, 104),
+        "wrong 0 104 -\nstop 8 5 104\n",
+    ),
+];
+
+/// A line, or what is written, with zeros for each `#`.
+fn long_line(alloc: Global, before: &str, line: &str, zeros: &str) -> Result<String, AllocError> {
+    let line = line.replace(alloc, '#', zeros)?;
+    format!(in alloc; "{before}{line}")
+}
+
+/// Whether a line of such octets comes to this.
+fn line_comes_to(alloc: Global, zeros: &str, row: Long) -> bool {
+    let (words, line, (code, place, reason), written) = row;
+    let module = "module text\nM DEFINITIONS AUTOMATIC TAGS ::= BEGIN\nT ::= OCTET STRING\nEND\n";
+    let Ok(input) = long_line(alloc, module, line, zeros) else {
+        return false;
+    };
+    let Ok(text) = long_line(alloc, "", written, zeros) else {
+        return false;
+    };
+    let wanted = status(code, place, reason);
+    ends_as(alloc, words, input.as_str(), wanted, text.as_str(), true)
+}
+
+#[test]
+fn long_values(rt: HostRuntime) -> Result<(), AllocError> {
+    let zeros = "00".repeat(rt.alloc(), 16_384)?;
+    for &row in &LONG {
+        assert!(rt;
+            line_comes_to(rt.alloc(), zeros.as_str(), row),
+            "{} of {}",
+            row.0,
+            row.1
+        );
+    }
     Ok(())
 }

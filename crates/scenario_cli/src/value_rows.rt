@@ -3,7 +3,7 @@
 use crate::tests::Row;
 
 /// Values of each form of type, both ways.
-pub(crate) const VALUES: [Row; 24] = [
+pub(crate) const VALUES: [Row; 25] = [
     (
         "encode T",
         "module text\nM DEFINITIONS AUTOMATIC TAGS ::= BEGIN\nT ::= SEQUENCE {a BOOLEAN, b INTEGER (0..255)}\nEND\n{\"a\":true,\"b\":200}\n",
@@ -81,6 +81,12 @@ pub(crate) const VALUES: [Row; 24] = [
         "module text\nM DEFINITIONS AUTOMATIC TAGS ::= BEGIN\nS PROTOCOL-IES ::= {{ID 1 CRITICALITY reject TYPE BOOLEAN PRESENCE mandatory}, ...}\nT ::= ProtocolIE-Container {{S}}\nEND\n[{\"criticality\":\"reject\",\"id\":1,\"value\":true}]\n[]\n",
         (8, 7, 103),
         "00010001000180\nwrong 0 103 -\nstop 8 7 103\n",
+    ),
+    (
+        "decode T",
+        "module text\nM DEFINITIONS AUTOMATIC TAGS ::= BEGIN\nS PROTOCOL-IES ::= {{ID 1 CRITICALITY reject TYPE BOOLEAN PRESENCE mandatory}, ...}\nT ::= ProtocolIE-Container {{S}}\nEND\n0000\n",
+        (8, 6, 10),
+        "wrong 0 10 -\nstop 8 6 10\n",
     ),
     (
         "decode T",

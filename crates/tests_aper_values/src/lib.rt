@@ -1,7 +1,9 @@
-//! Tests of whole values of aligned PER by public calls alone: spellings that others worked out, read and written, and octets that are
+//! Tests of whole values of aligned PER by public calls alone: spellings that others worked out, read and written, also many times, and octets that are
 //! refused.
 #![tactic(auto)]
 
+#[cfg(test)]
+mod codec;
 #[cfg(test)]
 mod refusals;
 #[cfg(test)]
