@@ -259,18 +259,22 @@ profile_holds setting version before after status p complete =
 
 -- ---- with the word `generate`
 
+same_code : (status is : Status) (n : ℕ) → status ≡ is → status.code ≡ n → is.code ≡ n
+same_code status is n same e = sym (code_of {status = status} {is = is} same) ∙ e
+
+not_seven : (end : GenerateEnd) → (generate_status end).code ≡ 7 → ⊥
+not_seven (ends.Done count) e = omega arith
+not_seven (ends.Outstanding place o) e = omega arith
+not_seven (ends.Spent place counter) e = omega arith
+
 status_writes : (run : Transcript (List ℕ)) (packets : ℕ) (a b : SinkAt) (status : Status) → PrintsEnd run packets a b status
     → WritesTo a b status.code
-status_writes run packets a b status (generated.Written end m same all none) = AllWritten none (not_seven end same)
-  where
-    not_seven : (end : GenerateEnd) → status ≡ generate_status end → status.code ≡ 7 → ⊥
-    not_seven (ends.Done count) is e = let clash : 0 ≡ 7 = sym (code_of is) ∙ e in omega arith
-    not_seven (ends.Outstanding place o) is e = let clash : 5 ≡ 7 = sym (code_of is) ∙ e in omega arith
-    not_seven (ends.Spent place counter) is e = let clash : 10 ≡ 7 = sym (code_of is) ∙ e in omega arith
+status_writes run packets a b status (generated.Written end m same all none) =
+    AllWritten none (λ (e : status.code ≡ 7). not_seven end (same_code status (generate_status end) 7 same e))
 status_writes run packets a b status (generated.Cut end m same part last) = WriteStopped last (code_of same)
 status_writes run packets a b status (generated.Unwritten same kept) =
     AllWritten (subst (λ (s : SinkAt). NoWriteFailed a s) (sym kept) (none_failed a))
-    (λ (e : status.code ≡ 7). (let clash : 9 ≡ 7 = sym (code_of same) ∙ e in omega arith))
+    (λ (e : status.code ≡ 7). (let clash : 9 ≡ 7 = same_code status (common_status Memory) 7 same e in omega arith))
 
 -- it isn't that of a line, or of a read
 not_code : (n : ℕ) → (n ≡ 4) ⊎ (n ≡ 6) → (end : GenerateEnd) → (generate_status end).code ≡ n → ⊥
@@ -283,15 +287,15 @@ not_code n (inr f) (ends.Spent place counter) e = omega arith
 
 generate_code : (run : Transcript (List ℕ)) (packets : ℕ) (a b : SinkAt) (status : Status) (n : ℕ) → PrintsEnd run packets a b status
     → (n ≡ 4) ⊎ (n ≡ 6) → status.code ≡ n → ⊥
-generate_code run packets a b status n (generated.Written end m same all none) f e = not_code n f end (sym (code_of same) ∙ e)
+generate_code run packets a b status n (generated.Written end m same all none) f e = not_code n f end (same_code status (generate_status end) n same e)
 generate_code run packets a b status n (generated.Cut end m same part last) (inl f) e =
-    let clash : 7 ≡ 4 = sym (code_of same) ∙ e ∙ f in omega arith
+    let clash : 7 ≡ n = same_code status (common_status WriteFault) n same e in omega arith
 generate_code run packets a b status n (generated.Cut end m same part last) (inr f) e =
-    let clash : 7 ≡ 6 = sym (code_of same) ∙ e ∙ f in omega arith
+    let clash : 7 ≡ n = same_code status (common_status WriteFault) n same e in omega arith
 generate_code run packets a b status n (generated.Unwritten same kept) (inl f) e =
-    let clash : 9 ≡ 4 = sym (code_of same) ∙ e ∙ f in omega arith
+    let clash : 9 ≡ n = same_code status (common_status Memory) n same e in omega arith
 generate_code run packets a b status n (generated.Unwritten same kept) (inr f) e =
-    let clash : 9 ≡ 6 = sym (code_of same) ∙ e ∙ f in omega arith
+    let clash : 9 ≡ n = same_code status (common_status Memory) n same e in omega arith
 
 same_packets : {packets other : ℕ} → Generate packets ≡ Generate other → packets ≡ other
 same_packets e = cc

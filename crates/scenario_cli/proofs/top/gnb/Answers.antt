@@ -20,7 +20,7 @@ returns-in-Generate g c =
 
 pub returns-in-Check : goal.returns-in-Check
 returns-in-Check g c =
-    let h = checks_at (setting_of profile_codec g.U.Units.answer) _ _ _ _ c.form_of.ensures.exact c.in-Check.is c.status-in-Check.ensures c.check_input.ensures.meets c.check_input.ensures.near c.check_input.ensures.complete in
+    let h = checks_at (setting_of profile_codec g.U.Units.answer) _ _ _ _ c.form_of.ensures.exact c.in-Check.is c.status.ensures c.check_input.ensures.meets c.check_input.ensures.near c.check_input.ensures.complete in
     let no = not_values _ _ _ c.form_of.ensures.exact c.in-Check.is check_is_none in
     record { headline = h.headline; read = h.read; write = h.write; calls = h.calls; near = h.near; complete = h.complete; near_step = h.near_step; generates = h.generates; bearer = h.bearer; near_event = h.near_event; legs = h.legs; near_leg_event = h.near_leg_event; checks = h.checks; writes = h.writes; values = λ way e. absurd (no way e); near_value = λ way e. absurd (no way e); answers = λ way e. absurd (no way e) }
 
