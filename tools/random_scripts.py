@@ -178,7 +178,7 @@ def more(chance, plans, transcript):
         for _ in range(chance.choice([0, 0, 1, 3])):
             events.insert(chance.randint(0, len(events)), packet(chance, ue, bearers))
         return events
-    return [on_links(chance, links) if chance.random() < 0.7 else beside_links(chance, ue, bearers, links) for _ in range(chance.randint(1, 5))]
+    return [on_links(chance, links) if chance.random() < 0.7 else beside_links(chance, ue, bearers, links) for _ in range(chance.randint(2, 10))]
 
 
 def begun(chance):

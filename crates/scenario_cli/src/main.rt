@@ -6,6 +6,7 @@
 #[cfg(test)]
 mod failing_runs;
 mod plain_words;
+pub mod product;
 #[cfg(test)]
 mod tests;
 pub mod top;
@@ -13,7 +14,6 @@ pub mod top;
 mod value_rows;
 
 use gnb_base::standard::{StdSink, StdSource};
-use site::Site;
 use std::env;
 use std::io::ErrorKind;
 use std::process::ExitCode;
@@ -36,13 +36,7 @@ fn main(rt: HostRuntime) -> ExitCode {
     }
     let mut input = StdSource::new(rt.stdin());
     let mut output = StdSink::new(rt.stdout());
-    let status = top::gnb(
-        alloc,
-        words.as_slice(),
-        &mut input,
-        &mut output,
-        Site::new(),
-    );
+    let status = product::base_station(alloc, words.as_slice(), &mut input, &mut output);
     let _ = plain_words::explain(&rt, status);
     ExitCode::from(status.code)
 }
