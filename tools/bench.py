@@ -19,7 +19,6 @@ Nothing here is proved, and a measurement is one of this machine at this time: o
 Usage: tools/bench.py [--part K] [--program COMMAND] [--other COMMAND]      (--part K: the sizes are so many times smaller)
 """
 
-import argparse
 import dataclasses
 import json
 import os
@@ -33,6 +32,7 @@ import time
 import typing
 
 import other_reading
+import transcripts
 
 PROGRAM = other_reading.TOP / "crates/scenario_cli/out/scenario_cli"
 MODULE = """M DEFINITIONS AUTOMATIC TAGS ::= BEGIN
@@ -228,14 +228,13 @@ def table(part, folder, commands):
 
 
 def main():
-    asked = argparse.ArgumentParser(description=__doc__, formatter_class=argparse.RawDescriptionHelpFormatter)
+    asked = transcripts.Asked(__doc__)
     asked.add_argument("--part", type=int, default=1)
     asked.add_argument("--program", default=str(PROGRAM), help="the command that is measured")
     asked.add_argument("--other", default=f"{sys.executable} {other_reading.OTHER}" if other_reading.OTHER.exists() else "", help="the other reading; '' for none")
     given = asked.parse_args()
     if not 1 <= given.part <= LARGEST_PART:
-        print(f"bench: --part is a number from 1 to {LARGEST_PART}, and it is {given.part}", file=sys.stderr)
-        return USAGE
+        asked.error(f"--part is a number from 1 to {LARGEST_PART}, and it is {given.part}")
     program = shlex.split(given.program)
     if not program or shutil.which(program[0]) is None:
         print(f"bench: '{given.program}' is no program that can be run; ./gnb builds the one that is measured", file=sys.stderr)

@@ -9,7 +9,6 @@ Nothing here is proved, and a measurement is one of this machine at this time: o
 Usage: tools/bench_up.py [--small N] [--large N] [--program FILE]
 """
 
-import argparse
 import os
 import pathlib
 import shutil
@@ -18,6 +17,7 @@ import tempfile
 
 import bench
 import other_reading
+import transcripts
 
 PROGRAM = other_reading.TOP / "crates/tests_up/out/tests_up_tests"
 TEST = "packets::carries_packets"
@@ -47,7 +47,7 @@ def print_table(program, sizes, folder):
 
 
 def main():
-    asked = argparse.ArgumentParser(description=__doc__, formatter_class=argparse.RawDescriptionHelpFormatter)
+    asked = transcripts.Asked(__doc__)
     asked.add_argument("--small", type=int, default=100_000)
     asked.add_argument("--large", type=int, default=400_000)
     asked.add_argument("--program", default=str(PROGRAM), help="the tests of tests_up")

@@ -2,7 +2,7 @@
 """Measures `decode` and `encode` on lines of the profile's messages, at two sizes: processor time and its ratio between the sizes, lines a second, peak memory, and how many
 times as fast as another reading of the specification the program is, where one is here (it is measured on fewer lines).
 
-The lines are the F1AP messages of tools/data over and over, as octets, and as the JSON that the program makes of them. An input has 16 MiB at most, so many lines are given in
+The lines are the F1AP messages of the examples over and over, as octets, and as the JSON that the program makes of them. An input has 16 MiB at most, so many lines are given in
 several calls; their times are added, and the peak is that of the greatest.
 
 Nothing here is proved, and a measurement is one of this machine at this time: other work on it shows.
@@ -86,7 +86,7 @@ def print_table(commands, sizes, folder):
     program, _ = commands
     messages = sorted({it for it in random_values.messages() if is_message(program, it, folder)})
     if not messages:
-        raise bench.Unmeasured(f"tools/data has no message that decodes as {TYPE}")
+        raise bench.Unmeasured(f"the examples have no message that decodes as {TYPE}")
     octets = [it.hex().upper() for it in messages]
     _, _, shown = run(program, "decode", octets, folder)
     print(f"| Word | Lines | Seconds | Times the smaller size's (size: {sizes[1] / sizes[0]:.2f}) | Lines a second | Peak MiB | Times as fast as the other reading |")

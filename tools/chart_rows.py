@@ -57,10 +57,11 @@ class Mark:
 
 @dataclasses.dataclass
 class Row:
-    """A row of a chart: the event that begins in it, what is drawn in it, what is put in it, and of which terminal and bearer that is."""
+    """A row of a chart: the event that begins in it, what is drawn in it, what is put in it, and of which terminal and bearer that is. The title has what the label leaves out."""
 
     event: int
     label: str = ""
+    title: str = ""
     refused: str = ""
     event_of: tuple = (None, None)
     content: object = None
@@ -178,7 +179,8 @@ class Maker:
 
     def take(self, line, ends, bits):
         if line.kind == "event":
-            self.rows.append(Row(line.event, label_of_event(line), event_of=whose(line)))
+            label, whole = label_of_event(line), line.text.removeprefix("> ")
+            self.rows.append(Row(line.event, label, whole if whole != label else "", event_of=whose(line)))
             self.of_step = whose(line)
         elif line.kind == "put":
             self.put(line, ends, bits)

@@ -162,7 +162,7 @@ def event_elements(chart, row):
     parts = [path(f"M4 .5H{width_of(chart) - 4}", "rule"), text(26, MIDDLE + 1, str(row.event), "event number"), text(32, MIDDLE + 1, row.label, "event")]
     if row.refused:
         parts.append(text(EVENTS_WIDTH + 8, MIDDLE + 1, f"refused: {row.refused}", "refused halo"))
-    return group(row.event_of, "piece begins", "", parts)
+    return group(row.event_of, "piece begins", row.title, parts)
 
 
 def arrow_elements(chart, row):

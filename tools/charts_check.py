@@ -25,10 +25,16 @@ from captures_check import WRONG as WRONG_TRANSCRIPTS
 
 SVG = "{http://www.w3.org/2000/svg}"
 PICTURES = stories.TOOLS.parent / "docs/pictures"
-# the pictures of docs: the story, its range of events, and the title
+# the pictures of docs: the story, and the title
 DRAWN = {
-    "handover-with-data-in-flight": (None, "An Xn handover with data in flight"),
-    "lost-on-f1-u": (None, "A frame is lost on F1-U downlink, and its repair"),
+    "usual-day": "A usual day",
+    "handover-with-data-in-flight": "An Xn handover with data in flight",
+    "missed-access": "A missed access and the way back",
+    "late-sn-status": "A late SN status",
+    "cancelled-handover": "A cancelled handover",
+    "lost-on-f1-u": "Loss on F1-U and its repair",
+    "second-handover": "A second handover while the End Marker is under way",
+    "foreign-octets": "Foreign octets",
 }
 # a longer chart is made, but not drawn here: that would take seconds
 DRAWN_ROWS = 1000
@@ -183,22 +189,22 @@ def check_words():
 
 def check_wrong_words():
     story = str(stories.EXAMPLES / "lost-on-f1-u.out")
-    for words, awaited in ((["--events", "0-3"], "'0-3' is no range of events"), (["--events", "4-2"], "'4-2' is no range"), (["--html", "--msc"], "not allowed with")):
+    no_range = "argument --events: '{}' is no range of events, as 3-20"
+    for words, awaited in ((["--events", "0-3"], no_range.format("0-3")), (["--events", "4-2"], no_range.format("4-2")), (["--html", "--msc"], "not allowed with argument --html")):
         ran = stories.run_tool("to_chart", *words, story)
-        assert ran.returncode == 2 and awaited in ran.stderr.splitlines()[-1], ran.stderr
+        assert ran.returncode == 2 and re.fullmatch(f"to_chart: .*{awaited}\n", ran.stderr), ran.stderr
     ran = stories.run_tool("to_chart", "--events", "17-19", story)
     assert (ran.returncode, ran.stderr) == (2, f"to_chart: {story}: there is no event 19: the transcript has 18\n"), ran.stderr
 
 
-def picture_of(story, events, title):
-    chart = chart_rows.make(endpoints.read_with_ends(stories.EXAMPLES / f"{story}.out"), *(events or ()))
-    return chart_svg.picture(chart, title)
+def picture_of(story, title):
+    return chart_svg.picture(chart_rows.make(endpoints.read_with_ends(stories.EXAMPLES / f"{story}.out")), title)
 
 
 def check_docs(is_to_write):
     """Whether the pictures of docs are those that the tool draws."""
-    for story, (events, title) in DRAWN.items():
-        path, text = PICTURES / f"{story}.svg", picture_of(story, events, title)
+    for story, title in DRAWN.items():
+        path, text = PICTURES / f"{story}.svg", picture_of(story, title)
         if is_to_write:
             path.parent.mkdir(exist_ok=True)
             path.write_text(text)

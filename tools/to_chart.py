@@ -74,7 +74,7 @@ def drawn(found, given):
 
 
 def main():
-    asked = argparse.ArgumentParser(description=__doc__, formatter_class=argparse.RawDescriptionHelpFormatter)
+    asked = transcripts.Asked(__doc__)
     form = asked.add_mutually_exclusive_group()
     form.add_argument("--html", action="store_true", help="an HTML page with a filter")
     form.add_argument("--msc", action="store_true", help="the text that mscgen draws")

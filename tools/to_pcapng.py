@@ -11,7 +11,6 @@ Nothing here is proved, and nothing here is a capture of a network: it shows wha
 Usage: tools/to_pcapng.py [--at sender|receiver] TRANSCRIPT CAPTURE      (`-` is standard input or output)
 """
 
-import argparse
 import struct
 import sys
 
@@ -141,7 +140,7 @@ def capture(found, kind):
 
 
 def main():
-    asked = argparse.ArgumentParser(description=__doc__, formatter_class=argparse.RawDescriptionHelpFormatter)
+    asked = transcripts.Asked(__doc__)
     asked.add_argument("--at", choices=("sender", "receiver"), default="sender", help="where the capture is taken: what is put (the default), or what is got")
     asked.add_argument("transcript")
     asked.add_argument("capture")

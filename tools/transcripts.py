@@ -3,7 +3,9 @@
 Nothing here is proved.
 """
 
+import argparse
 import dataclasses
+import pathlib
 import re
 import sys
 
@@ -275,6 +277,16 @@ def write_file(path, data):
         return
     with open(path, "wb") as out:
         out.write(data)
+
+
+class Asked(argparse.ArgumentParser):
+    """The words that a tool takes. What is wrong with them is said in one line, as what is wrong with an input."""
+
+    def __init__(self, usage):
+        super().__init__(prog=pathlib.Path(sys.argv[0]).stem, description=usage, formatter_class=argparse.RawDescriptionHelpFormatter)
+
+    def error(self, message):
+        self.exit(2, f"{self.prog}: {message}\n")
 
 
 def report(tool, path, wrong):
