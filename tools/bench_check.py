@@ -1,6 +1,6 @@
 #!/usr/bin/env python3
 """Checks tools/bench.py on a small program in place of ours: one that copies its input for `run`, fails for `generate`, and has no other word; and
-tools/bench_up.py on one that does nothing, or fails.
+tools/bench_up.py and tools/bench_codec.py on ones that do nothing, or fail.
 
 Nothing here is a proof, and no time is judged.
 
@@ -85,12 +85,32 @@ def check_up(folder):
     assert (ran.returncode, ran.stdout, ran.stderr) == (2, "", said), ran.stderr
 
 
+CODEC_ROWS = [
+    r"\| Calls \| Values \| Seconds .*\| Values a second \| Peak MiB \| Erlang, seconds \|",
+    r"\|(---\|){7}",
+    *[rf"\| {word} \| {size} \| {NUMBER} \| ({NUMBER}|-) \| ([0-9,]+|-) \| {NUMBER} \| ({NUMBER}|-) \|" for word in ("decode", "encode") for size in (8, 32)],
+]
+
+
+def check_codec(folder):
+    program = folder / "codec"
+    program.write_text('#!/bin/sh\n[ "$1" = codec::reads_values ] || [ "$1" = codec::writes_values ] && [ "$VALUES" -ne 40 ]\n')
+    program.chmod(0o755)
+    ran = stories.run_tool("bench_codec", "--small", "8", "--large", "32", "--program", str(program))
+    assert ran.returncode == 0, ran.stderr
+    for line, awaited in zip(ran.stdout.splitlines(), CODEC_ROWS, strict=True):
+        assert re.fullmatch(awaited, line), f"{line!r} isn't {awaited!r}"
+    ran = stories.run_tool("bench_codec", "--small", "8", "--large", "40", "--program", str(program))
+    assert (ran.returncode, ran.stderr) == (1, "bench_codec: decode of 40 values: the test ended with status 1\n"), ran.stderr
+
+
 def main():
     with tempfile.TemporaryDirectory() as folder:
         check_table(pathlib.Path(folder))
         check_wrong(pathlib.Path(folder))
         check_up(pathlib.Path(folder))
-    print("the table of measurements has its rows")
+        check_codec(pathlib.Path(folder))
+    print("the tables of measurements have their rows")
 
 
 if __name__ == "__main__":

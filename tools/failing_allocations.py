@@ -1,6 +1,6 @@
 #!/usr/bin/env python3
-"""Lets each request for memory fail in turn: of the program, in each example that has an input (tools/examples.py); or, where crates of tests are named, of
-each of their tests.
+"""Lets each request for memory fail in turn: of the program, in each example that has an input (tools/examples.py), and in each call of `encode` and `decode` that its
+tests have a row of; or, where crates of tests are named, of each of their tests.
 
 Every run of the program must end with status 9 and a front of what is printed where none fails. Every test must pass: those of tests_up, tests_du_node and
 tests_cu_control do where the step in which memory ran out answers that and nothing else, a later step answers it too, and another unit then does the steps as
@@ -11,8 +11,10 @@ A C compiler makes the library that lets a request fail; where there is none thi
 Usage: tools/failing_allocations.py [CRATE]..
 """
 
+import ast
 import os
 import pathlib
+import re
 import shutil
 import subprocess
 import sys
@@ -22,6 +24,7 @@ from examples import call_of, is_input
 
 TOP = pathlib.Path(__file__).resolve().parents[1]
 PROGRAM = TOP / "crates/scenario_cli/out/scenario_cli"
+ROWS = TOP / "crates/scenario_cli/src/value_rows.rt"
 USAGE = 2
 # a test that can be as long as one likes is short here
 PACKETS = "3"
@@ -36,27 +39,35 @@ def answer(library, words, given, number):
 # ---- the program
 
 
-def each_fails(library, path):
-    words, given = call_of(path)
+def calls():
+    """The calls of the program: a name, the words, and the input."""
+    for path in sorted(path for path in (TOP / "examples").iterdir() if is_input(path)):
+        yield path.name, *call_of(path)
+    rows = re.findall(r'\(\s*"((?:en|de)code [^"]+)",\s*"((?:[^"\\]|\\.)*)",', ROWS.read_text())
+    for number, (words, given) in enumerate(rows, 1):
+        yield f"row {number}, {words}", words.split(), ast.literal_eval(f'"{given}"').encode()
+
+
+def each_fails(library, name, words, given):
     command = [PROGRAM, *words]
     status, transcript, said = answer(library, command, given, 0)
-    requests = int(said)
+    requests = int(said.splitlines()[-1])
     if status == 9 or requests == 0:
         return f"status {status} with {requests} requests, where none fails"
     for number in range(1, requests + 1):
         status, front, _ = answer(library, command, given, number)
         if status != 9 or not transcript.startswith(front):
             return f"request {number} failed: status {status}, {front!r}"
-    print(f"{path.name}: each of {requests} requests failed in turn, with status 9 and a front of what is printed")
+    print(f"{name}: each of {requests} requests failed in turn, with status 9 and a front of what is printed")
     return None
 
 
-def examples_fail(library):
+def calls_fail(library):
     subprocess.run([TOP / "gnb", "run"], input=b"module builtin\n", stdout=subprocess.DEVNULL, check=True)
-    for path in sorted(path for path in (TOP / "examples").iterdir() if is_input(path)):
-        wrong = each_fails(library, path)
+    for name, words, given in calls():
+        wrong = each_fails(library, name, words, given)
         if wrong:
-            print(f"{path.name}: {wrong}")
+            print(f"{name}: {wrong}")
             return 1
     return 0
 
@@ -107,7 +118,7 @@ def main():
         library = f"{folder}/failing.so"
         subprocess.run([compiler, "-shared", "-fPIC", "-o", library, TOP / "tools/failing_allocations.c", "-ldl"], check=True)
         if not crates:
-            return examples_fail(library)
+            return calls_fail(library)
         return max(tests_pass(library, crate) for crate in crates)
 
 
