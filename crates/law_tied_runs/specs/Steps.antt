@@ -1,5 +1,5 @@
 -- A run and the two parts of one bearer, step by step: what the run does, the orders that it is for the parts, and what is owed of it.
-use Rattle.std.specs.Prelude.{◌≡◌, ◌⊎◌, ℕ, true, List, [], Some, ⊤}
+use Rattle.std.specs.Prelude.{◌≡◌, ℕ, true, List, [], Some, ⊤}
 use Rattle.std.specs.List.{AllByRecursion}
 use Rattle.gnb_types.specs.declared.names.Gnb.{Gnb}
 use Rattle.gnb_types.specs.declared.names.SnBits.{SnBits}
@@ -25,9 +25,10 @@ use Rattle.law_core_ties.specs.law_put_ties.law_tie_facts.law_bearer_lists.law_c
 use Rattle.law_core_ties.specs.law_put_ties.law_tie_facts.law_bearer_lists.law_bearer_orders.Happenings.{Beside}
 use Rattle.law_core_ties.specs.law_put_ties.law_tie_facts.law_run_units.Happenings.{UpRecord, DuRecord}
 use Rattle.law_core_ties.specs.law_put_ties.law_tie_facts.law_run_bearers.Bearers.{Numbering, contexts_of}
-use Rattle.law_core_ties.specs.law_put_ties.law_tie_facts.Ties.{RunState, Owned, owned_at, IsMirror}
+use Rattle.law_core_ties.specs.law_put_ties.law_tie_facts.Ties.{RunState, Owned, owned_at}
 use Rattle.law_core_ties.specs.law_put_ties.law_tie_facts.Asked.{RunCause, IsUpStep, AllAsk, down_after, up_after, AreTied, step_asks}
 use Rattle.law_core_ties.specs.law_put_ties.Puts.{IsDuStep, AllLead, orders_up, puts_of}
+use Rattle.law_up_ties.specs.Fresh.{UplinksAreFresh}
 use Rattle.law_core_ties.specs.Core.{PathLeads, IsOffer, orders_offered, IsCoreStep, orders_told}
 use Rattle.law_core_rows.specs.Shown.{goal_by, IsOne}
 use Rattle.law_own_events.specs.Passed.{Passes}
@@ -67,16 +68,7 @@ module _ (reading : Reading) (n : Numbering) (ue : UeId) (bearer : BearerId) (sn
   abbrev pub IsTied : Point → Type 0
   IsTied p = AreTied n ue bearer sn quota p.state p.down p.up
 
-  -- ---- a CU-UP acts: each of its orders asks what it does, and on what it opens for the bearer nothing stands
-
-  abbrev pub IsEmptyAt : Point → TunnelEnd → Owned → Type 0
-  IsEmptyAt q end o =
-      (standing q.state end ≡ Some []) × IsMirror o.kind (q.down.members o.context) (q.up.members o.context) end.teid []
-
-  abbrev pub OpensEmpty : Point → Point → Type 0
-  OpensEmpty p q =
-      (end : TunnelEnd) (o : Owned) → owned_at n ue bearer q.state.units end ≡ Some o
-      → (owned_at n ue bearer p.state.units end ≡ Some o) ⊎ IsEmptyAt q end o
+  -- ---- a CU-UP acts: each of its orders asks what it does, and on an uplink whose TEID was not given yet the part has nothing
 
   pub record CuUpActs (p q : Point) : Type 0 where
     pub gnb : Gnb
@@ -89,7 +81,7 @@ module _ (reading : Reading) (n : Numbering) (ue : UeId) (bearer : BearerId) (sn
     pub acts : IsUpStep reading p.state q.state gnb number cause input outputs left
     pub asks : AllAsk n ue bearer p.state.units sn quota p.down p.up (contexts_of n ue bearer p.state.units)
         (step_asks n ue bearer p.state gnb number cause input beside)
-    pub opens : OpensEmpty p q
+    pub fresh : UplinksAreFresh n ue bearer p.state gnb number p.up
     pub down : q.down ≡ down_after n ue bearer p.state.units sn quota p.down (contexts_of n ue bearer p.state.units)
         (step_asks n ue bearer p.state gnb number cause input beside)
     pub up : q.up ≡ up_after n ue bearer p.state.units sn quota p.up (contexts_of n ue bearer p.state.units)
