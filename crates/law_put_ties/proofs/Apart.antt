@@ -117,7 +117,7 @@ module _ (n : Numbering) (ue : UeId) (bearer : BearerId) (units : PlainUnits) wh
     one_owned e = let both : Some w ≡ Some o = sym there ∙ owned_same end to q e ∙ is in cc
 
     apart : is_end end to q ≡ false → o.context ≡ w.context → Differs w.kind q o.kind end.teid
-    apart no same = they_differ r.part.bearer w.kind o.kind q end.teid has_q has_end far
+    apart no same = they_differ theirs.part.bearer w.kind o.kind q end.teid has_q has_end far
       where
         x : IsAt end.node end.teid o
         x = at_end end.node end.teid o is
@@ -130,7 +130,7 @@ module _ (n : Numbering) (ue : UeId) (bearer : BearerId) (units : PlainUnits) wh
             same_place n (place x.gnb x.number x.owner.context) (place y.gnb y.number y.owner.context)
             (sym (ap (λ (v : Owned). v.context) x.is) ∙ same ∙ ap (λ (v : Owned). v.context) y.is)
 
-        abbrev here : UpRecord
+        here : UpRecord
         here = up_of units y.gnb y.number
 
         found_here : find nat_cmp here.tunnels end.teid ≡ Some x.owner

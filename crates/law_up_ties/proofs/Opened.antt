@@ -315,7 +315,7 @@ module _ (reading : Reading) (n : Numbering) (ue : UeId) (bearer : BearerId) (s 
       found : find nat_cmp v.tunnels teid ≡ Some f.0
       found = then_found teid f.0 f.1
 
-      abbrev as_owned : UpTunnel → Owned
+      as_owned : UpTunnel → Owned
       as_owned a = record { context = n.number_of (place gnb number a.context); kind = a.kind }
 
       owned_so : (a : UpTunnel) → is_bearer ue bearer a.ue a.bearer ≡ true → owned_by n ue bearer gnb number (Some a) ≡ Some (as_owned a)
@@ -486,7 +486,7 @@ module _ (reading : Reading) (n : Numbering) (ue : UeId) (bearer : BearerId) (s 
     unfolding with_uplink
     adds_one first q is are c = by opens.owner.kind refl
       where
-        abbrev after : UpPart
+        after : UpPart
         after = record q { bearer = record q.bearer { uplinks = q.bearer.uplinks ++ first ∷ [] } }
 
         other : (kind : TunnelKind) → opens.owner.kind ≡ kind → is_one_of (ends_of kind after.bearer) teid ≡ is_one_of (ends_of kind q.bearer) teid → Result
