@@ -180,20 +180,20 @@ module _ (reading : Reading) (n : Numbering) (ue : UeId) (bearer : BearerId) (sn
     mirrors : (end : TunnelEnd) (o : Owned) (items : List RunItem) → owned_at n ue bearer q.state.units end ≡ Some o → standing q.state end ≡ Some items
         → IsMirror o.kind (q.down.members o.context) (q.up.members o.context) end.teid items
     mirrors end o items is there =
-        let was : owned_at n ue bearer p.state.units end ≡ Some o = sym (a.owners end) ∙ is in
+        let was : owned_at n ue bearer p.state.units end ≡ Some o = sym (a.rest.owners end) ∙ is in
         subst (λ (f : ℕ → down_parts.Member). IsMirror o.kind (f o.context) (q.up.members o.context) end.teid items) (sym downs_same)
         (subst (λ (f : ℕ → up_parts.Member). IsMirror o.kind (p.down.members o.context) (f o.context) end.teid items) (sym ups_same)
-        (tied.mirrors end o items was (sym (a.tunnels end o was) ∙ there)))
+        (tied.mirrors end o items was (sym (a.rest.tunnels end o was) ∙ there)))
 
     its_down : (x : ℕ) → downs.IsIn sn quota (q.down.members x) (contexts_of n ue bearer q.state.units x)
     its_down x =
         subst (λ (f : ℕ → down_parts.Member). downs.IsIn sn quota (f x) (contexts_of n ue bearer q.state.units x)) (sym downs_same)
-        (subst (λ (c : Contexts). downs.IsIn sn quota (p.down.members x) (c x)) (sym a.contexts) (tied.down x))
+        (subst (λ (c : Contexts). downs.IsIn sn quota (p.down.members x) (c x)) (sym a.rest.contexts) (tied.down x))
 
     its_up : (x : ℕ) → ups.IsIn (q.up.members x) (contexts_of n ue bearer q.state.units x)
     its_up x =
         subst (λ (f : ℕ → up_parts.Member). ups.IsIn (f x) (contexts_of n ue bearer q.state.units x)) (sym ups_same)
-        (subst (λ (c : Contexts). ups.IsIn (p.up.members x) (c x)) (sym a.contexts) (tied.up x))
+        (subst (λ (c : Contexts). ups.IsIn (p.up.members x) (c x)) (sym a.rest.contexts) (tied.up x))
 
     pub beside_then : Then
     beside_then = (

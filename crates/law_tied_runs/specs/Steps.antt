@@ -64,6 +64,12 @@ IsOfTerminal (up.acknowledges count rest) = ⊤
 IsOfTerminal (up.reports fmc bits) = ⊤
 IsOfTerminal order = ⊥
 
+-- what a step leaves of the bearer: its contexts, whose its tunnels are, and what stands there
+pub record IsLeft (n : Numbering) (ue : UeId) (bearer : BearerId) (s t : RunState) : Type 0 where
+  pub contexts : contexts_of n ue bearer t.units ≡ contexts_of n ue bearer s.units
+  pub owners : (end : TunnelEnd) → owned_at n ue bearer t.units end ≡ owned_at n ue bearer s.units end
+  pub tunnels : (end : TunnelEnd) (o : Owned) → owned_at n ue bearer s.units end ≡ Some o → standing t end ≡ standing s end
+
 module _ (reading : Reading) (n : Numbering) (ue : UeId) (bearer : BearerId) (sn : SnBits) (quota : ℕ) where
   abbrev pub IsTied : Point → Type 0
   IsTied p = AreTied n ue bearer sn quota p.state p.down p.up
@@ -129,9 +135,7 @@ module _ (reading : Reading) (n : Numbering) (ue : UeId) (bearer : BearerId) (sn
   -- ---- all else: the bearer's contexts and tunnels stay, and the parts go on by orders of the terminal and its radio
 
   pub record StaysBeside (p q : Point) : Type 0 where
-    pub contexts : contexts_of n ue bearer q.state.units ≡ contexts_of n ue bearer p.state.units
-    pub owners : (end : TunnelEnd) → owned_at n ue bearer q.state.units end ≡ owned_at n ue bearer p.state.units end
-    pub tunnels : (end : TunnelEnd) (o : Owned) → owned_at n ue bearer p.state.units end ≡ Some o → standing q.state end ≡ standing p.state end
+    pub rest : IsLeft n ue bearer p.state q.state
     pub radio : List down.Order
     pub terminal : List up.Order
     pub of_radio : AllByRecursion IsOfRadio radio
