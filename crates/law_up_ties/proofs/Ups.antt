@@ -58,6 +58,9 @@ new_mirror forwarding_down target first teid = refl
 new_mirror f1u_uplink target first teid = refl
 new_mirror forwarding_up target first teid = refl
 
+abbrev added_to : up_parts.Member → ℕ → up_parts.Member
+added_to m first = record m { bearer = record m.bearer { uplinks = m.bearer.uplinks ++ first ∷ [] } }
+
 no_ups : (xs : List up_parts.Item) → xs ≡ [] → ups_of [] ≡ xs
 unfolding ups_of
 no_ups xs is = sym is
@@ -181,7 +184,7 @@ module _ (reading : Reading) (n : Numbering) (ue : UeId) (bearer : BearerId) (sn
         unfolding down.run down.after up.run up.after
         added_mirror q first =
             no_ups (((up.run u (up.adds x first ∷ [])).members x).uplink teid)
-            (ap (λ (m : up_parts.Member). m.uplink teid) (set_here u.members x _) ∙ fresh teid opens.new)
+            (ap (λ (m : up_parts.Member). m.uplink teid) (set_here u.members x (added_to (u.members x) first)) ∙ fresh teid opens.new)
 
         pub opened_mirror : IsMirror o.kind (after_down.members o.context) (after_up.members o.context) teid []
         opened_mirror = by (result reading n ue bearer s t gnb number cause input outputs v step sound teid o opens).1
