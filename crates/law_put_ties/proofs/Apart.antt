@@ -9,7 +9,7 @@ use Rattle.gnb_types.specs.declared.names.NodeId.TheVariants.{CuCp, CuUp as up_i
 use Rattle.gnb_types.specs.declared.names.UeId.{UeId}
 use Rattle.gnb_types.specs.declared.names.BearerId.{BearerId}
 use Rattle.gnb_types.specs.declared.keys.TunnelEnd.{TunnelEnd}
-use Rattle.gnb_types.specs.Orders.{tunnel_cmp}
+use Rattle.gnb_types.specs.Orders.{node_cmp, tunnel_cmp}
 use Rattle.gnb_types.proofs.OrderLemmas.{tunnel_total, tunnel_exact}
 use Rattle.tables.specs.Tables.{find, at}
 use Rattle.unit_defs.specs.UpRecords.{UpTunnel, TunnelKind, n3, f1u_uplink}
@@ -117,7 +117,7 @@ module _ (n : Numbering) (ue : UeId) (bearer : BearerId) (units : PlainUnits) wh
     one_owned e = let both : Some w ≡ Some o = sym there ∙ owned_same end to q e ∙ is in cc
 
     apart : is_end end to q ≡ false → o.context ≡ w.context → Differs w.kind q o.kind end.teid
-    apart no same = they_differ theirs.part.bearer w.kind o.kind q end.teid has_q has_end far
+    apart not same = they_differ theirs.part.bearer w.kind o.kind q end.teid has_q has_end far
       where
         x : IsAt end.node end.teid o
         x = at_end end.node end.teid o is
@@ -159,7 +159,7 @@ module _ (n : Numbering) (ue : UeId) (bearer : BearerId) (units : PlainUnits) wh
         far : end.teid ≢ q
         far e =
             let ends : end ≡ end_of to q = λ i. record { node = nodes i; teid = e i } in
-            clash (sym no ∙ ap (λ (v : TunnelEnd). eq_by_cmp tunnel_cmp v (end_of to q)) ends ∙ end_tie (end_of to q))
+            clash (sym not ∙ ap (λ (v : TunnelEnd). eq_by_cmp tunnel_cmp v (end_of to q)) ends ∙ end_tie (end_of to q))
 
     -- N3: by the context alone
     pub on_n3 : o.kind ≡ n3 → w.kind ≡ n3 → (o.context == w.context) ≡ is_end end to q
@@ -167,13 +167,13 @@ module _ (n : Numbering) (ue : UeId) (bearer : BearerId) (units : PlainUnits) wh
       where
         by : (t : Bool) → is_end end to q ≡ t → (o.context == w.context) ≡ t
         by true e = ap (λ (v : Owned). v.context == w.context) (sym (one_owned e)) ∙ number_same w.context
-        by false no = unless (o.context == w.context) refl
+        by false not = unless (o.context == w.context) refl
           where
             unless : (t : Bool) → (o.context == w.context) ≡ t → t ≡ false
             unless false e = refl
             unless true e =
                 absurd (subst (λ (c : TunnelKind). Differs c q n3 end.teid) theirs
-                (subst (λ (c : TunnelKind). Differs w.kind q c end.teid) ours (apart no (eqb-true o.context w.context e))))
+                (subst (λ (c : TunnelKind). Differs w.kind q c end.teid) ours (apart not (eqb-true o.context w.context e))))
 
     -- uplinks: by the context and the TEID
     pub on_uplinks : o.kind ≡ f1u_uplink → w.kind ≡ f1u_uplink → (o.context == w.context && end.teid == q) ≡ is_end end to q
@@ -183,14 +183,14 @@ module _ (n : Numbering) (ue : UeId) (bearer : BearerId) (units : PlainUnits) wh
         by true e =
             (λ i. (ap (λ (v : Owned). v.context == w.context) (sym (one_owned e)) ∙ number_same w.context) i
             && (ap (λ (k : TunnelEnd). k.teid == q) (end_same end to q e) ∙ number_same q) i)
-        by false no = unless (o.context == w.context) refl (end.teid == q) refl
+        by false not = unless (o.context == w.context) refl (end.teid == q) refl
           where
             unless : (t : Bool) → (o.context == w.context) ≡ t → (v : Bool) → (end.teid == q) ≡ v → t && v ≡ false
             unless false e v f = refl
             unless true e false f = refl
             unless true e true f =
                 absurd (subst (λ (c : TunnelKind). Differs c q f1u_uplink end.teid) theirs
-                (subst (λ (c : TunnelKind). Differs w.kind q c end.teid) ours (apart no (eqb-true o.context w.context e))) (eqb-true end.teid q f))
+                (subst (λ (c : TunnelKind). Differs w.kind q c end.teid) ours (apart not (eqb-true o.context w.context e))) (eqb-true end.teid q f))
 
     -- and of two kinds they are two
     pub of_kinds : (w.kind ≡ o.kind → ⊥) → is_end end to q ≡ false

@@ -130,7 +130,7 @@ set_put f x q item y t = by (y == x) refl (t == q) refl
         ∙ ap (λ z. (f z).uplink t) (sym (eqb-true y x e)) ∙ sym (append-nil ((f y).uplink t))
 
 -- all else of the part's contexts stays, and so does the terminal's place
-record Stays (u v : up_parts.Part) : Type 0 where
+pub record Stays (u v : up_parts.Part) : Type 0 where
   pub station : v.station ≡ u.station
   pub there : (y : ℕ) → (v.members y).is_there ≡ (u.members y).is_there
   pub flags : (y : ℕ) → (v.members y).flags ≡ (u.members y).flags
