@@ -216,10 +216,10 @@ bearer_test a b = by (eq_by_cmp bearer_cmp a b) refl
     tie = ap is_eq (tied_itself bearer_total a)
 
     unless : (v : Bool) → (b.0 == a.0) ≡ v → eq_by_cmp bearer_cmp a b ≡ false → false ≡ v
-    unless false f no = refl
-    unless true f no =
+    unless false f not = refl
+    unless true f not =
         let same : a ≡ b = λ i. record { 0 = sym (eqb-true b.0 a.0 f) i } in
-        clash (sym no ∙ ap (λ (c : BearerId). eq_by_cmp bearer_cmp a c) (sym same) ∙ tie)
+        clash (sym not ∙ ap (λ (c : BearerId). eq_by_cmp bearer_cmp a c) (sym same) ∙ tie)
 
     by : (t : Bool) → eq_by_cmp bearer_cmp a b ≡ t → t ≡ (b.0 == a.0)
     by true e =
@@ -230,22 +230,24 @@ bearer_test a b = by (eq_by_cmp bearer_cmp a b) refl
 one_teid : (bearer : BearerId) (ts : List Tunnel) (teid : ℕ) → teids_of bearer ts ≡ teid ∷ [] → teid_of ts bearer ≡ teid
 one_teid bearer [] teid is = absurd cc
 one_teid bearer (t ∷ ts) teid is =
-    ap (λ (b : Bool). if b then t.teid else teid_of ts bearer) (sym (bearer_test bearer t.bearer)) ∙ by (eq_by_cmp bearer_cmp bearer t.bearer) is
+    ap (λ (b : Bool). if b then t.teid else teid_of ts bearer) (sym (bearer_test bearer t.bearer))
+    ∙ by (eq_by_cmp bearer_cmp bearer t.bearer) is (one_teid bearer ts teid)
   where
-    by : (b : Bool) → (if b then t.teid ∷ [] else []) ++ teids_of bearer ts ≡ teid ∷ [] → (if b then t.teid else teid_of ts bearer) ≡ teid
-    by true e = cc
-    by false e = one_teid bearer ts teid e
+    by : (b : Bool) → (if b then t.teid ∷ [] else []) ++ teids_of bearer ts ≡ teid ∷ [] → (teids_of bearer ts ≡ teid ∷ [] → teid_of ts bearer ≡ teid)
+        → (if b then t.teid else teid_of ts bearer) ≡ teid
+    by true e later = cc
+    by false e later = later e
 
 -- ---- an offered packet
 
 module _ (reading : Reading) (n : Numbering) (ue : UeId) (bearer : BearerId) (sn : SnBits) (quota : ℕ) (s t : RunState) (who : UeId) (which : BearerId)
     (p : List ℕ) (path : CorePath) (step : IsOffer reading s t who which p path) (sound : AreSound s t) (d : down_parts.Part) (u : up_parts.Part)
     (tied : AreTied n ue bearer sn quota s d u) (lead : is_bearer ue bearer who which ≡ true → PathLeads n ue bearer s d) where
-  abbrev to : ℕ
-  to = teid_of path.n3 which
+  abbrev its_teid : ℕ
+  its_teid = teid_of path.n3 which
 
   abbrev outputs : Outs
-  outputs = packet path.up to who which Dl Absent (fresh p) ∷ []
+  outputs = packet path.up its_teid who which Dl Absent (fresh p) ∷ []
 
   abbrev noted : RunState
   noted = offered (plain_world reading) (entity who which Dl) s
@@ -254,8 +256,8 @@ module _ (reading : Reading) (n : Numbering) (ue : UeId) (bearer : BearerId) (sn
   unfolding put_out_all
   went =
       and_no_more (plain_world reading) Core None
-      (put_on_tunnel (plain_world reading) (record { node = path.up; teid = to })
-      (record { key = entity who which Dl; count = None; content = (plain_world reading).lay_n3 to p }) noted)
+      (put_on_tunnel (plain_world reading) (record { node = path.up; teid = its_teid })
+      (record { key = entity who which Dl; count = None; content = (plain_world reading).lay_n3 its_teid p }) noted)
       t step.lines step.goes_on
 
   follows : (end : TunnelEnd) → standing t end ≡ after_puts end Core None (map (written_put (sn_of s)) outputs) (standing s end)
@@ -265,15 +267,15 @@ module _ (reading : Reading) (n : Numbering) (ue : UeId) (bearer : BearerId) (sn
   units_same = units_put (plain_world reading) Core None (map (written_put (sn_of s)) outputs) noted t went
 
   -- of the bearer
-  own_listed : is_bearer ue bearer who which ≡ true → tunnels_put ue bearer outputs ≡ record { to = path.up; teid = to; load = fresh p } ∷ []
+  own_listed : is_bearer ue bearer who which ≡ true → tunnels_put ue bearer outputs ≡ record { to = path.up; teid = its_teid; load = fresh p } ∷ []
   unfolding tunnels_put
-  own_listed own = ap (λ (b : Bool). (if b then record { to = path.up; teid = to; load = fresh p } ∷ [] else []) ++ []) own
+  own_listed own = ap (λ (b : Bool). (if b then record { to = path.up; teid = its_teid; load = fresh p } ∷ [] else []) ++ []) own
 
   other_listed : is_bearer ue bearer who which ≡ false → tunnels_put ue bearer outputs ≡ []
   unfolding tunnels_put
-  other_listed other = ap (λ (b : Bool). (if b then record { to = path.up; teid = to; load = fresh p } ∷ [] else []) ++ []) other
+  other_listed other = ap (λ (b : Bool). (if b then record { to = path.up; teid = its_teid; load = fresh p } ∷ [] else []) ++ []) other
 
-  its_owner : is_bearer ue bearer who which ≡ true → owned_on n ue bearer s.units path.up to ≡ Some (record { context = d.path; kind = n3 })
+  its_owner : is_bearer ue bearer who which ≡ true → owned_on n ue bearer s.units path.up its_teid ≡ Some (record { context = d.path; kind = n3 })
   its_owner own =
       let pl = lead own in
       let ue_is : ue ≡ who = ue_exact ue who ((Equal-is (ue_cmp ue who)).0 (first_of (eq_by_cmp ue_cmp ue who) (eq_by_cmp bearer_cmp bearer which) own)) in
@@ -281,7 +283,7 @@ module _ (reading : Reading) (n : Numbering) (ue : UeId) (bearer : BearerId) (sn
       bearer_exact bearer which ((Equal-is (bearer_cmp bearer which)).0 (second_of (eq_by_cmp ue_cmp ue who) (eq_by_cmp bearer_cmp bearer which) own)) in
       let both : Some path ≡ Some pl.path = sym step.there ∙ ap (find ue_cmp s.core.paths) (sym ue_is) ∙ pl.there in
       let same : path ≡ pl.path = cc in
-      let teid_is : to ≡ pl.teid = (λ i. teid_of ((same i).n3) (sym bearer_is i)) ∙ one_teid bearer pl.path.n3 pl.teid pl.one in
+      let teid_is : its_teid ≡ pl.teid = (λ i. teid_of ((same i).n3) (sym bearer_is i)) ∙ one_teid bearer pl.path.n3 pl.teid pl.one in
       (λ i. owned_on n ue bearer s.units ((same i).up) (teid_is i)) ∙ pl.leads
 
   abbrev Tied : down_parts.Part → Type 0
@@ -294,11 +296,11 @@ module _ (reading : Reading) (n : Numbering) (ue : UeId) (bearer : BearerId) (sn
       (offer_stays d p)
       (λ end o is kind. offer_comes d p o.context
       ∙ ap (λ (b : Bool). (d.members o.context).n3 ++ (if b then down_parts.fresh p ∷ [] else []))
-      (on_n3 n ue bearer s.units sound.owned end o is path.up to (record { context = d.path; kind = n3 }) (its_owner own) kind refl)
-      ∙ ap (λ (zs : List down_parts.Item). (d.members o.context).n3 ++ zs) (sym (append-nil (if is_end end path.up to then down_parts.fresh p ∷ [] else [])))
+      (on_n3 n ue bearer s.units sound.owned end o is path.up its_teid (record { context = d.path; kind = n3 }) (its_owner own) kind refl)
+      ∙ ap (λ (zs : List down_parts.Item). (d.members o.context).n3 ++ zs) (sym (append-nil (if is_end end path.up its_teid then down_parts.fresh p ∷ [] else [])))
       ∙ ap (λ (ps : List OnTunnel). (d.members o.context).n3 ++ items_on item_of end ps) (sym (own_listed own)))
       (λ end o is other. subst (λ (ps : List OnTunnel). AllByRecursion (λ (k : OnTunnel). is_end end k.to k.teid ≡ false) ps) (sym (own_listed own))
-      (of_kinds n ue bearer s.units sound.owned end o is path.up to (record { context = d.path; kind = n3 }) (its_owner own) (λ h. other (sym h)), tt))
+      (of_kinds n ue bearer s.units sound.owned end o is path.up its_teid (record { context = d.path; kind = n3 }) (its_owner own) (λ h. other (sym h)), tt))
   by false other =
       core_tied n ue bearer sn quota s t sound d u tied outputs (ap (λ (w : PlainUnits). w.ups) units_same) follows d (stays_as_is d)
       (λ end o is kind. sym (ap (λ (ps : List OnTunnel). (d.members o.context).n3 ++ items_on item_of end ps) (other_listed other)
@@ -396,8 +398,8 @@ module _ (ue : UeId) (bearer : BearerId) (up : NodeId) (teid : ℕ) where
     where
       by : (b : Bool) → is_bearer ue bearer w c ≡ b → AllByRecursion (λ (k : OnTunnel). (k.to ≡ up) × (k.teid ≡ teid)) (tunnels_put ue bearer os)
           → AllByRecursion (λ (k : OnTunnel). (k.to ≡ up) × (k.teid ≡ teid)) ((if b then record { to = to; teid = q; load = load } ∷ [] else []) ++ tunnels_put ue bearer os)
-      by true own again = (((all.0 own).0, (all.0 own).1), again)
-      by false own again = again
+      by true own later = (((all.0 own).0, (all.0 own).1), later)
+      by false own later = later
   all_ends (control to u message ∷ os) all = all_ends os all.1
   all_ends (radio u b dir epoch tag pdu ∷ os) all = all_ends os all.1
   all_ends (deliver u b dir count q ∷ os) all = all_ends os all.1
@@ -418,11 +420,11 @@ module _ (ue : UeId) (bearer : BearerId) (up : NodeId) (teid : ℕ) where
             → items_put places ue bearer x os ≡ items_on item_of end (tunnels_put ue bearer os)
             → (if a && b && x == places to q then told.item_of load else []) ++ items_put places ue bearer x os
             ≡ items_on item_of end ((if a && b then record { to = to; teid = q; load = load } ∷ [] else []) ++ tunnels_put ue bearer os)
-        by false e b f again = again
-        by true e false f again = again
-        by true e true f again =
+        by false e b f later = later
+        by true e false f later = later
+        by true e true f later =
             let its = all.0 (λ i. e i && f i) in
-            (λ i. (if x == places (its.0 i) (its.1 i) then told.item_of (its.2 i) else []) ++ again i)
+            (λ i. (if x == places (its.0 i) (its.1 i) then told.item_of (its.2 i) else []) ++ later i)
             ∙ ap (λ (c : Bool). (if c then down_parts.end_marker ∷ [] else []) ++ items_on item_of end (tunnels_put ue bearer os)) test
             ∙ sym (λ i. (if is_end end (its.0 i) (its.1 i) then item_of (its.2 i) else []) ++ items_on item_of end (tunnels_put ue bearer os))
     placed (control to u message ∷ os) all = placed os all.1
