@@ -39,7 +39,7 @@ use Rattle.law_put_ties.specs.law_tie_facts.law_tunnel_steps.law_steps.Causes.{b
 use Rattle.law_put_ties.proofs.law_tie_facts.law_tunnel_steps.law_steps.Frames.{HasUnits, units_by, act_units}
 use Rattle.law_put_ties.specs.law_tie_facts.law_tunnel_steps.Standing.{standing, is_end, with_item, after_put, after_puts, after_taking}
 use Rattle.law_put_ties.proofs.law_tie_facts.law_tunnel_steps.Tracks.{acts_so}
-use Rattle.law_put_ties.specs.law_tie_facts.law_bearer_lists.law_context_orders.Orders.{UpPart, part_with, part_of_bearer, part_in, part_of, UpOrder, makes, adds, switches, freezes, knows, resumes, releases, closes, takes, polls, on_switch, on_freeze, on_status, on_resume, kept_in, begun, done, carried}
+use Rattle.law_put_ties.specs.law_tie_facts.law_bearer_lists.law_context_orders.Orders.{UpPart, part_with, part_of_bearer, part_in, part_of, UpOrder, makes, adds, switches, freezes, knows, resumes, releases, closes, takes, polls, on_switch, on_freeze, on_status, on_resume, on_release, kept_in, begun, done, carried}
 use Rattle.law_put_ties.specs.law_tie_facts.law_bearer_lists.law_context_orders.Inputs.{orders_of}
 use Rattle.law_put_ties.specs.law_tie_facts.law_bearer_lists.law_context_orders.Shown.{is_bearer, is_on, on_bearer, Comes, Follows}
 use Rattle.law_put_ties.proofs.law_tie_facts.law_open_tunnels.Links.{end_of}
@@ -57,12 +57,7 @@ use Rattle.law_put_ties.proofs.Stands.{ups_stay}
 
 -- ---- what stands on a tunnel that wasn't open comes of the outputs
 
-module _ {M L P : Type 0} (end : TunnelEnd) (node : NodeId) (taken : Option ℕ) (Q : Item L → Type 0) where
-  -- what an output puts is so
-  abbrev IsPut : Put M L P → Type 0
-  IsPut (packet to teid ue bearer dir tag load) = Q (record { key = entity ue bearer dir; count = count_beside tag taken; content = load })
-  IsPut output = Unit {0}
-
+module _ {L : Type 0} (Q : Item L → Type 0) where
   abbrev There : Option (List (Item L)) → Type 0
   There None = Unit {0}
   There (Some items) = AllByRecursion Q items
@@ -71,23 +66,29 @@ module _ {M L P : Type 0} (end : TunnelEnd) (node : NodeId) (taken : Option ℕ)
   and_one [] item all is = (is, tt)
   and_one (x ∷ xs) item all is = (all.0, and_one xs item all.1 is)
 
-  one_there : (output : Put M L P) (o : Option (List (Item L))) → IsPut output → There o → There (after_put end node taken output o)
+module _ {M L P : Type 0} (end : TunnelEnd) (node : NodeId) (taken : Option ℕ) (Q : Item L → Type 0) where
+  -- what an output puts is so
+  abbrev IsPut : Put M L P → Type 0
+  IsPut (packet to teid ue bearer dir tag load) = Q (record { key = entity ue bearer dir; count = count_beside tag taken; content = load })
+  IsPut output = Unit {0}
+
+  one_there : (output : Put M L P) (o : Option (List (Item L))) → IsPut output → There Q o → There Q (after_put end node taken output o)
   one_there (packet to teid ue bearer dir tag load) o is all = by (is_end end to teid) o all
     where
-      by : (t : Bool) (o : Option (List (Item L))) → There o
-          → There (if t then with_item (record { key = entity ue bearer dir; count = count_beside tag taken; content = load }) o else o)
+      by : (t : Bool) (o : Option (List (Item L))) → There Q o
+          → There Q (if t then with_item (record { key = entity ue bearer dir; count = count_beside tag taken; content = load }) o else o)
       by true None h = tt
-      by true (Some items) h = and_one items _ h is
+      by true (Some items) h = and_one Q items _ h is
       by false o h = h
   one_there (opened teid) o is all = by (is_end end node teid) o all
     where
-      by : (t : Bool) (o : Option (List (Item L))) → There o → There (if t then Some (unwrap_or o []) else o)
+      by : (t : Bool) (o : Option (List (Item L))) → There Q o → There Q (if t then Some (unwrap_or o []) else o)
       by true None h = tt
       by true (Some items) h = h
       by false o h = h
   one_there (closed teid) o is all = by (is_end end node teid) o all
     where
-      by : (t : Bool) (o : Option (List (Item L))) → There o → There (if t then None else o)
+      by : (t : Bool) (o : Option (List (Item L))) → There Q o → There Q (if t then None else o)
       by true o h = tt
       by false o h = h
   one_there (control to ue message) o is all = all
@@ -98,8 +99,8 @@ module _ {M L P : Type 0} (end : TunnelEnd) (node : NodeId) (taken : Option ℕ)
   one_there (failed ue cause) o is all = all
   one_there (no reason) o is all = all
 
-  all_there : (outputs : List (Put M L P)) (o : Option (List (Item L))) → AllByRecursion IsPut outputs → There o
-      → There (after_puts end node taken outputs o)
+  all_there : (outputs : List (Put M L P)) (o : Option (List (Item L))) → AllByRecursion IsPut outputs → There Q o
+      → There Q (after_puts end node taken outputs o)
   all_there [] o each all = all
   all_there (output ∷ outputs) o each all = all_there outputs (after_put end node taken output o) each.1 (one_there output o each.0 all)
 
@@ -107,12 +108,13 @@ module _ {M L P : Type 0} (end : TunnelEnd) (node : NodeId) (taken : Option ℕ)
 
 none_of_bearer : (ue : UeId) (bearer : BearerId) (os : Outs) → on_bearer ue bearer os ≡ [] → AllByRecursion (λ o. is_on ue bearer o ≡ false) os
 none_of_bearer ue bearer [] is = tt
-none_of_bearer ue bearer (o ∷ os) is = by (is_on ue bearer o) refl is
+none_of_bearer ue bearer (o ∷ os) is = by (is_on ue bearer o) refl is (none_of_bearer ue bearer os)
   where
     by : (t : Bool) → is_on ue bearer o ≡ t → cond t (o ∷ on_bearer ue bearer os) (on_bearer ue bearer os) ≡ []
+        → (on_bearer ue bearer os ≡ [] → AllByRecursion (λ o. is_on ue bearer o ≡ false) os)
         → (is_on ue bearer o ≡ false) × AllByRecursion (λ o. is_on ue bearer o ≡ false) os
-    by true e is = absurd cc
-    by false e is = (e, none_of_bearer ue bearer os is)
+    by true e is later = absurd cc
+    by false e is later = (e, later is)
 
 abbrev IsOther : UeId → BearerId → RunItem → Type 0
 IsOther ue bearer item = is_bearer ue bearer item.key.ue item.key.bearer ≡ false
@@ -148,10 +150,12 @@ as_ends forwarding_up b = refl
 
 left_one : (xs : List ℕ) (t q : ℕ) → is_one_of (filter (λ (k : ℕ). not (k == t)) xs) q ≡ true → is_one_of xs q ≡ true
 left_one [] t q is = is
-left_one (x ∷ xs) t q is = by (not (x == t)) is
+left_one (x ∷ xs) t q is = by (not (x == t)) is (left_one xs t q)
   where
-    or_so : (a : Bool) → (is_one_of (filter (λ (k : ℕ). not (k == t)) xs) q ≡ true → is_one_of xs q ≡ true)
-        → a || is_one_of (filter (λ (k : ℕ). not (k == t)) xs) q ≡ true → a || is_one_of xs q ≡ true
+    Fewer_so : Type 0
+    Fewer_so = is_one_of (filter (λ (k : ℕ). not (k == t)) xs) q ≡ true → is_one_of xs q ≡ true
+
+    or_so : (a : Bool) → Fewer_so → a || is_one_of (filter (λ (k : ℕ). not (k == t)) xs) q ≡ true → a || is_one_of xs q ≡ true
     or_so true f h = refl
     or_so false f h = f h
 
@@ -159,9 +163,10 @@ left_one (x ∷ xs) t q is = by (not (x == t)) is
     either true h = refl
     either false h = h
 
-    by : (b : Bool) → is_one_of (cond b (x ∷ filter (λ (k : ℕ). not (k == t)) xs) (filter (λ (k : ℕ). not (k == t)) xs)) q ≡ true → is_one_of (x ∷ xs) q ≡ true
-    by true h = or_so (x == q) (left_one xs t q) h
-    by false h = either (x == q) (left_one xs t q h)
+    by : (b : Bool) → is_one_of (cond b (x ∷ filter (λ (k : ℕ). not (k == t)) xs) (filter (λ (k : ℕ). not (k == t)) xs)) q ≡ true → Fewer_so
+        → is_one_of (x ∷ xs) q ≡ true
+    by true h f = or_so (x == q) f h
+    by false h f = either (x == q) (f h)
 
 fewer_n3 : (kind : TunnelKind) (e : Ends) (q : ℕ) → is_one_of (ends_in kind (without_n3 e)) q ≡ true → is_one_of (ends_in kind e) q ≡ true
 fewer_n3 n3 e q is = clash is
@@ -378,7 +383,7 @@ module _ (reading : Reading) (n : Numbering) (ue : UeId) (bearer : BearerId) (s 
 
         others : AllByRecursion (IsOther ue bearer) items
         others =
-            subst (There {M = Message Token} {P = Written Pdu} end (node_of cause) (count_of cause) (IsOther ue bearer)) followed
+            subst (There (IsOther ue bearer)) followed
             (all_there end (node_of cause) (count_of cause) (IsOther ue bearer) (map (written_put (sn_of s)) outputs) None
             (others_put (sn_of s) end (node_of cause) (count_of cause) ue bearer outputs (none_of_bearer ue bearer outputs none)) tt)
 

@@ -1,5 +1,6 @@
 -- A step of a CU-UP keeps the tie, and is orders of the parts that ask what they do.
 use Rattle.std.proofs.Common.{inl, inr, ◌≡◌, ◌⊎◌, ℕ, Bool, true, false, List, [], ◌∷◌, ◌++◌, map, Option, Some, None, refl, sym, ap, subst, ◌∙◌}
+use Rattle.std.specs.Prelude.{if◌then◌else◌}
 use Rattle.gnb_types.specs.declared.names.Gnb.{Gnb}
 use Rattle.gnb_types.specs.declared.names.NodeId.{NodeId}
 use Rattle.gnb_types.specs.declared.names.NodeId.TheVariants.{CuCp, CuUp as up_id, Du, Core, Ue}
@@ -180,7 +181,7 @@ module _ (reading : Reading) (n : Numbering) (ue : UeId) (bearer : BearerId) (sn
         made_mirror kind polls is = absurd cc
 
         added_mirror : (q : UpPart) (first : ℕ)
-            → IsMirror f1u_uplink ((down.run d (downs.orders_of x b q (adds first))).members x) ((up.run u (ups.orders_of x b q (adds first))).members x) teid []
+            → IsMirror f1u_uplink ((down.run d (downs.orders_of {P = Pdu} x b q (adds first))).members x) ((up.run u (ups.orders_of {P = Pdu} x b q (adds first))).members x) teid []
         unfolding down.run down.after up.run up.after
         added_mirror q first =
             no_ups (((up.run u (up.adds x first ∷ [])).members x).uplink teid)
