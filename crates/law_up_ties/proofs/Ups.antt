@@ -200,8 +200,8 @@ module _ (reading : Reading) (n : Numbering) (ue : UeId) (bearer : BearerId) (sn
             by (inr added) =
                 by_one o.kind (adds added.first) (Some added.before) o.context added.orders_are added.present
                 (context_is added.before.instance added.instance (sym (ap (instance_in r.next_teid) added.present)))
-                (subst (λ (kind : TunnelKind). IsMirror kind ((down.run d (downs.orders_of x b added.before (adds added.first))).members x)
-                ((up.run u (ups.orders_of x b added.before (adds added.first))).members x) teid [])
+                (subst (λ (kind : TunnelKind). IsMirror kind ((down.run d (downs.orders_of {P = Pdu} x b added.before (adds added.first))).members x)
+                ((up.run u (ups.orders_of {P = Pdu} x b added.before (adds added.first))).members x) teid [])
                 (sym (ap (λ (w : Owned). w.kind) opens.is ∙ added.kind)) (added_mirror added.before added.first))
 
       -- ---- all tunnels
