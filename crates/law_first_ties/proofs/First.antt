@@ -40,17 +40,17 @@ number_same a = grind arith
 
 -- ---- nothing stands on a tunnel
 
-nothing_stands : (end : TunnelEnd) (items : List RunItem) → standing set_up end ≡ Some items → items ≡ []
+pub nothing_stands : (end : TunnelEnd) (items : List RunItem) → standing set_up end ≡ Some items → items ≡ []
 unfolding find put at
 nothing_stands end items is = found_has tunnel_cmp (λ (zs : List RunItem). zs ≡ []) set_up.tunnels end items (refl, (refl, (refl, tt))) is
 
 -- ---- nor is anything in a list of the parts
 
 module _ (n : Numbering) (teid : ℕ) (d : Downlink) where
-  abbrev downs_then : ℕ → down_parts.Member
+  abbrev pub downs_then : ℕ → down_parts.Member
   downs_then = (down.run (down_parts.start (first n) teid) (down.switches (first n) d 0 ∷ [])).members
 
-  abbrev ups_then : ℕ → up_parts.Member
+  abbrev pub ups_then : ℕ → up_parts.Member
   ups_then = (up_parts.start (first n) teid).members
 
   -- what a switch leaves of a member's lists
@@ -65,11 +65,11 @@ module _ (n : Numbering) (teid : ℕ) (d : Downlink) where
   started : {X : Type 0} (part : down_parts.Member → X) (none : X) → part (down_parts.new_member false teid) ≡ none → part down_parts.no_member ≡ none
       → (z : ℕ) → part ((down_parts.start (first n) teid).members z) ≡ none
   unfolding down_parts.start
-  started part none new no z = by (z == first n)
+  started part none new other z = by (z == first n)
     where
       by : (t : Bool) → part (if t then down_parts.new_member false teid else down_parts.no_member) ≡ none
       by true = new
-      by false = no
+      by false = other
 
   no_n3 : (y : ℕ) → (downs_then y).n3 ≡ []
   unfolding down.run down.after
@@ -84,13 +84,13 @@ module _ (n : Numbering) (teid : ℕ) (d : Downlink) where
   ups_started : {X : Type 0} (part : up_parts.Member → X) (none : X) → part (up_parts.new_member false teid) ≡ none → part up_parts.no_member ≡ none
       → (z : ℕ) → part (ups_then z) ≡ none
   unfolding up_parts.start
-  ups_started part none new no z = by (z == first n)
+  ups_started part none new other z = by (z == first n)
     where
       by : (t : Bool) → part (if t then up_parts.new_member false teid else up_parts.no_member) ≡ none
       by true = new
-      by false = no
+      by false = other
 
-  empty_mirror : (kind : TunnelKind) (y q : ℕ) → IsMirror kind (downs_then y) (ups_then y) q []
+  pub empty_mirror : (kind : TunnelKind) (y q : ℕ) → IsMirror kind (downs_then y) (ups_then y) q []
   unfolding downs_of ups_of
   empty_mirror n3 y q = sym (no_n3 y)
   empty_mirror forwarding_down y q = sym (no_forwarded y)
@@ -99,14 +99,14 @@ module _ (n : Numbering) (teid : ℕ) (d : Downlink) where
 
 -- ---- the bearer's context
 
-abbrev its_context : Option UpPart
+abbrev pub its_context : Option UpPart
 its_context = part_in terminal bearer (Some (up_context (new_cu_up {M = Message Token} {C = Token} A 1) plan 1))
 
 some_it : {X : Type 0} (o : Option X) → is_some o ≡ true → (x : X) × (o ≡ Some x)
 some_it None is = absurd cc
 some_it (Some x) is = (x, refl)
 
-its_part : (p : UpPart) × (its_context ≡ Some p)
+pub its_part : (p : UpPart) × (its_context ≡ Some p)
 unfolding find made
 its_part = some_it its_context refl
 

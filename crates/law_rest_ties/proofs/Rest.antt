@@ -39,7 +39,7 @@ use Rattle.law_tunnel_book.proofs.Books.{holds_own}
 use Rattle.law_own_events.specs.law_run_facts.Facts.{Hold, PutFits, PutsFit}
 use Rattle.law_own_events.specs.Passed.{Passes, not_yet, further}
 use Rattle.law_own_events.specs.law_own_steps.Own.{IsActed}
-use Rattle.law_own_events.proofs.law_run_facts.Steps.{taken_fits}
+use Rattle.law_own_events.proofs.law_run_facts.Steps.{taken_has}
 use Rattle.law_own_events.proofs.law_run_facts.Later.{made_later, facts_hold_to}
 use Rattle.law_own_events.proofs.law_run_tunnels.Held.{Later}
 use Rattle.law_own_events.proofs.law_run_tunnels.Runs.{Named, kept, first}
@@ -193,7 +193,7 @@ module _ (reading : Reading) (events : List Event) (event : Event) (before : Run
       let holds : Hold (Named s.units (free s p)) s = held_past s.units (free s p) s p (give_same s.units) in
       no_items s.units (free s p) (node_of cause) (count_of cause) outputs quiet
       ((kept s.units (free s p) reading).answers (sn_of s) s.units units (node_of cause) (count_of cause) (given_of cause) outputs holds.units
-      (taken_fits (plain_world reading) (Named s.units (free s p)) other cause s holds acted.stands) acted.answers
+      (taken_has (plain_world reading) (Named s.units (free s p)) other cause s holds acted.stands) acted.answers
       (still reading (sn_of s) s.units units (node_of cause) (given_of cause) outputs quiet acted.answers).gives_none).1
 
 -- ---- so the bearer's contexts and tunnels stay
