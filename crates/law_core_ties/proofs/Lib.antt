@@ -1,0 +1,2 @@
+pub mod Cores
+pub use Rattle.law_put_ties.proofs as law_put_ties

@@ -1,0 +1,3 @@
+pub mod Puts
+pub mod Worked
+pub use Rattle.law_tie_facts.specs as law_tie_facts

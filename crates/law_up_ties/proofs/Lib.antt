@@ -1,0 +1,3 @@
+pub mod Opened
+pub mod Ups
+pub use Rattle.law_put_ties.proofs as law_put_ties
