@@ -49,7 +49,7 @@ use Rattle.command_values.specs.Ends.{values_status, StopsAtValue}
 use Rattle.command_values.specs.Values.{Job, job_of, ValuesMeet}
 use Rattle.command_values.specs.Whole.{AnswersWholly}
 use Rattle.scenario_cli.specs.declared.top.Form.TheVariants.{Run, Generate, Check, Profile, Um, Dup, Values, Other}
-use Rattle.scenario_cli.specs.Gnb.{FormMeets, WritesProfile, ConvertsValues, RunsScript}
+use Rattle.scenario_cli.specs.Gnb.{FormMeets, WritesProfile, ConvertsValues}
 use Rattle.scenario_cli.specs.inside.Timed.{IsTimed}
 use Rattle.scenario_cli.specs.inside.Over.{RunsOver}
 
