@@ -4,7 +4,7 @@ use Rattle.std.proofs.Common.{◌≡◌, ◌==◌, ℕ, Bool, true, false, ◌&&
 use Rattle.std.proofs.lemmas.List.{append-nil}
 use Rattle.std.specs.Prelude.{is_some, if◌then◌else◌}
 use Rattle.std.specs.List.{AllByRecursion}
-use Rattle.std.specs.Ordering.{nat_cmp, is_eq, eq_by_cmp}
+use Rattle.std.specs.Ordering.{is_eq, eq_by_cmp}
 use Rattle.std.specs.Cmp.{Equal-is, tied_itself}
 use Rattle.gnb_types.specs.declared.names.Gnb.{Gnb}
 use Rattle.gnb_types.specs.declared.names.NodeId.{NodeId}
@@ -24,7 +24,7 @@ use Rattle.tables.specs.Tables.{find}
 use Rattle.message_types.specs.declared.rrc.Token.{Token}
 use Rattle.message_types.specs.declared.xn.CoreMessage.TheVariants as cores
 use Rattle.transaction_defs.specs.Callees.{Verdict, new, again, stale, verdict, taken, kept_reply}
-use Rattle.unit_defs.specs.Ways.{Message, f1, e1, xn, core, rrc, Pdu, Load, fresh, end_marker, Output, control, packet, radio, deliver, dropped, held, opened, closed, failed, no, Answer, gives, spent}
+use Rattle.unit_defs.specs.Ways.{Message, f1, e1, xn, core, rrc, Pdu, fresh, end_marker, Output, control, packet, radio, deliver, dropped, held, opened, closed, failed, no, Answer, gives, spent}
 use Rattle.unit_defs.specs.UpRecords.{UpTunnel, TunnelKind, n3, f1u_uplink, forwarding_down, forwarding_up}
 use Rattle.unit_defs.specs.Transactions.{Kind, request, reply, transfer, kind_of, Transactions, replied, request_by, answered_again, on_request}
 use Rattle.unit_defs.specs.Messages.{channel, teid_of}
@@ -59,7 +59,7 @@ use Rattle.law_put_ties.specs.law_tie_facts.Ties.{RunState, RunItem, Owned, owne
 use Rattle.law_put_ties.specs.law_tie_facts.Asked.{AreTied, AreSound}
 use Rattle.law_put_ties.proofs.law_tie_facts.Ends.{clash}
 use Rattle.law_put_ties.proofs.law_tie_facts.Puts.{Outs, put_there, downs_both, downs_written, ups_written, IsOwn, own_from, stays_so}
-use Rattle.law_du_inputs.specs.Puts.{OnTunnel, is_of, tunnels_put}
+use Rattle.law_du_inputs.specs.Puts.{OnTunnel, tunnels_put}
 use Rattle.law_core_rows.specs.Shown as told
 use Rattle.law_core_rows.specs.Shown.{teids_of, IsPath, Goal, goal_by, to_first, orders_to, IsOne, items_put, IsAfter, Follows}
 use Rattle.law_core_rows.proofs.Rows.{letter_follows}

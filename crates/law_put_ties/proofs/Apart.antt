@@ -16,7 +16,6 @@ use Rattle.unit_defs.specs.UpRecords.{UpTunnel, TunnelKind, n3, f1u_uplink}
 use Rattle.unit_defs.specs.UpBearers.{is_one_of}
 use Rattle.unit_defs.specs.CuUp.{new_cu_up}
 use Rattle.law_tie_facts.specs.law_tunnel_steps.run_defs.Units.{up_of}
-use Rattle.law_tie_facts.specs.law_bearer_lists.law_bearer_orders.Happenings.{Contexts}
 use Rattle.law_tie_facts.specs.law_bearer_lists.law_context_orders.Orders.{UpPart, part_of}
 use Rattle.law_tie_facts.specs.law_bearer_lists.law_context_orders.Shown.{is_bearer}
 use Rattle.law_tie_facts.proofs.law_open_tunnels.Links.{end_of}

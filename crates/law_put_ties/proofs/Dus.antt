@@ -3,7 +3,6 @@ use Rattle.std.proofs.Common.{◌≡◌, ◌==◌, ℕ, Bool, true, false, ◌&&
 use Rattle.std.proofs.lemmas.List.{append-nil}
 use Rattle.std.specs.Prelude.{is_some, if◌then◌else◌}
 use Rattle.std.specs.List.{AllByRecursion}
-use Rattle.std.specs.Ordering.{nat_cmp}
 use Rattle.gnb_types.specs.declared.names.Gnb.{Gnb}
 use Rattle.gnb_types.specs.declared.names.NodeId.{NodeId}
 use Rattle.gnb_types.specs.declared.names.NodeId.TheVariants.{CuCp, CuUp as up_id, Du as du_id, Core, Ue}
@@ -12,15 +11,14 @@ use Rattle.gnb_types.specs.declared.names.UeId.{UeId}
 use Rattle.gnb_types.specs.declared.names.BearerId.{BearerId}
 use Rattle.gnb_types.specs.declared.names.Dir.TheVariants.{Dl, Ul}
 use Rattle.gnb_types.specs.declared.keys.TunnelEnd.{TunnelEnd}
-use Rattle.tables.specs.Tables.{find}
 use Rattle.message_types.specs.declared.rrc.Token.{Token}
-use Rattle.unit_defs.specs.Ways.{Message, Pdu, packet_pdu, report_pdu, Load, fresh, numbered, frame, uplink, status, end_marker, Input, control_input, packet_input, radio_input, confirm_input, offer_input, tick_input, order_input, Answer, gives, spent}
+use Rattle.unit_defs.specs.Ways.{Message, Pdu, packet_pdu, report_pdu, Load, fresh, numbered, frame, uplink, status, end_marker, Input, control_input, packet_input, radio_input, confirm_input, offer_input, tick_input, order_input, Answer}
 use Rattle.unit_defs.specs.UpRecords.{UpTunnel, TunnelKind, n3, f1u_uplink, forwarding_down, forwarding_up}
-use Rattle.unit_defs.specs.Du.{missing, is_missing, du_acts}
+use Rattle.unit_defs.specs.Du.{missing, is_missing}
 use Rattle.law_tie_facts.specs.law_tunnel_steps.run_defs.Lines.{RunLine}
-use Rattle.law_tie_facts.specs.law_tunnel_steps.run_defs.Units.{up_of, du_of, with_du}
+use Rattle.law_tie_facts.specs.law_tunnel_steps.run_defs.Units.{du_of, with_du}
 use Rattle.law_tie_facts.specs.law_tunnel_steps.run_defs.Written.{written_put}
-use Rattle.law_tie_facts.specs.law_tunnel_steps.run_defs.States.{Lengths, sn_of}
+use Rattle.law_tie_facts.specs.law_tunnel_steps.run_defs.States.{sn_of}
 use Rattle.law_tie_facts.specs.law_tunnel_steps.run_defs.Runs.{Reading, plain_world, plain_way}
 use Rattle.law_tie_facts.specs.law_tunnel_steps.law_steps.Causes.{node_of, count_of}
 use Rattle.law_tie_facts.proofs.law_tunnel_steps.law_steps.Frames.{HasUnits, units_by, act_units}
@@ -35,23 +33,21 @@ use Rattle.law_tie_facts.specs.law_bearer_lists.law_context_orders.Orders.{UpPar
 use Rattle.law_tie_facts.specs.law_bearer_lists.law_bearer_orders.Happenings.{Contexts}
 use Rattle.law_tie_facts.specs.law_bearer_lists.law_bearer_orders.Down as downs
 use Rattle.law_tie_facts.specs.law_bearer_lists.law_bearer_orders.Up as ups
-use Rattle.law_tie_facts.specs.law_bearer_lists.law_up_orders.Up.{IsUp, up_of as said_up}
+use Rattle.law_tie_facts.specs.law_bearer_lists.law_up_orders.Up.{up_of as said_up}
 use Rattle.law_tie_facts.proofs.law_open_tunnels.Links.{end_of}
-use Rattle.law_tie_facts.specs.law_open_tunnels.Open.{StandWhereOpen}
 use Rattle.law_tie_facts.specs.law_owner_facts.Owned.{AreOwned}
-use Rattle.law_tie_facts.specs.law_run_tunnels.Own.{IsOwnAt, TunnelsHoldTheirOwn}
+use Rattle.law_tie_facts.specs.law_run_tunnels.Own.{IsOwnAt}
 use Rattle.law_tie_facts.specs.law_run_units.Happenings.{DuRecord}
 use Rattle.law_tie_facts.specs.law_run_bearers.Things.{PlainUnits}
 use Rattle.law_tie_facts.specs.law_run_bearers.Bearers.{Numbering, contexts_of}
-use Rattle.law_tie_facts.specs.Ties.{RunState, RunItem, Owned, owned_on, owned_at, downs_of, up_item, ups_of, IsMirror, Mirrors}
+use Rattle.law_tie_facts.specs.Ties.{RunState, RunItem, Owned, owned_on, owned_at, downs_of, up_item, ups_of, IsMirror}
 use Rattle.law_tie_facts.specs.Asked.{RunCause, AreTied, AreSound}
-use Rattle.law_tie_facts.proofs.Ends.{clash}
-use Rattle.law_tie_facts.proofs.Puts.{Outs, downs_at, ups_at, put_there, downs_both, ups_both, downs_written, ups_written, IsOwn, own_from, stays_so}
+use Rattle.law_tie_facts.proofs.Puts.{Outs, put_there, ups_both, downs_written, ups_written, IsOwn, own_from, stays_so}
 use Rattle.law_du_inputs.specs.Changes.{DuPart, Change, takes, renews, sets_up, ends, stays, part_of, change_by}
 use Rattle.law_du_inputs.specs.Puts.{OnTunnel, is_of, tunnels_put, on_uplink, of_number, of_part, of_change, carried_of, Puts}
 use Rattle.law_du_puts.specs.Inputs.{ups_by}
 use Rattle.law_du_puts.proofs.Letters.{input_puts}
-use Rattle.law_du_steps.specs.Steps.{rest_of, order_of}
+use Rattle.law_du_steps.specs.Steps.{order_of}
 use Rattle.law_put_ties.specs.Puts.{IsDuStep, IsAtStation, LeadsUp, order_up, owned_to, AllLead, orders_up, puts_of}
 use Rattle.law_put_ties.proofs.Apart.{on_same, contexts_same, found_on, owned_same, on_uplinks, of_kinds}
 use Rattle.law_put_ties.proofs.Stands.{all_right, some_standing, takes_none, items_are, ups_stay}

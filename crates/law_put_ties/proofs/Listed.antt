@@ -1,12 +1,11 @@
 -- What is put on a tunnel of the bearer, of all that is put for the bearer.
-use Rattle.std.proofs.Common.{◌≡◌, ◌==◌, ℕ, Bool, true, false, List, [], ◌∷◌, ◌++◌, refl, sym, ap, ◌∙◌}
+use Rattle.std.proofs.Common.{◌≡◌, Bool, true, false, List, [], ◌∷◌, ◌++◌, refl, ap, ◌∙◌}
 use Rattle.std.specs.Prelude.{if◌then◌else◌}
 use Rattle.std.specs.List.{AllByRecursion}
 use Rattle.gnb_types.specs.declared.names.UeId.{UeId}
 use Rattle.gnb_types.specs.declared.names.BearerId.{BearerId}
 use Rattle.gnb_types.specs.declared.keys.TunnelEnd.{TunnelEnd}
-use Rattle.message_types.specs.declared.rrc.Token.{Token}
-use Rattle.unit_defs.specs.Ways.{Message, Load, Pdu, control, packet, radio, deliver, dropped, held, opened, closed, failed, no}
+use Rattle.unit_defs.specs.Ways.{Load, Pdu, control, packet, radio, deliver, dropped, held, opened, closed, failed, no}
 use Rattle.law_tie_facts.specs.law_bearer_lists.chain_defs.Parts as down_parts
 use Rattle.law_tie_facts.specs.law_bearer_lists.uplink_defs.Parts as up_parts
 use Rattle.law_tie_facts.specs.law_bearer_lists.law_chain_rows.Shown.{item_of}

@@ -5,22 +5,20 @@ use Rattle.std.specs.List.{AllByRecursion}
 use Rattle.std.specs.Ordering.{eq_by_cmp}
 use Rattle.std.specs.Cmp.{Equal-is}
 use Rattle.gnb_types.specs.declared.names.NodeId.{NodeId}
-use Rattle.gnb_types.specs.declared.names.NodeId.TheVariants.{Core}
 use Rattle.gnb_types.specs.declared.keys.TunnelEnd.{TunnelEnd}
 use Rattle.gnb_types.specs.Orders.{tunnel_cmp}
 use Rattle.gnb_types.proofs.OrderLemmas.{tunnel_exact}
-use Rattle.unit_defs.specs.Ways.{Message, Load, Pdu, Put}
-use Rattle.message_types.specs.declared.rrc.Token.{Token}
+use Rattle.unit_defs.specs.Ways.{Put}
 use Rattle.law_tie_facts.specs.law_tunnel_steps.run_defs.Lines.{RunLine}
 use Rattle.law_tie_facts.specs.law_tunnel_steps.run_defs.Units.{Units}
-use Rattle.law_tie_facts.specs.law_tunnel_steps.run_defs.Written.{Written, written_put}
+use Rattle.law_tie_facts.specs.law_tunnel_steps.run_defs.Written.{written_put}
 use Rattle.law_tie_facts.specs.law_tunnel_steps.run_defs.States.{State, World, Lengths, goes, stops, told_before, ◌next◌, Within}
 use Rattle.law_tie_facts.specs.law_tunnel_steps.run_defs.Steps.{check_spans, put_out_all}
 use Rattle.law_tie_facts.specs.law_tunnel_steps.law_steps.Causes.{Cause, by_order, by_tick, by_octets, by_octets_on, by_attach, by_release, by_offer, by_item, by_air, by_ack, by_letter, node_of}
 use Rattle.law_tie_facts.proofs.law_tunnel_steps.law_steps.Frames.{HasUnits, then_units, keep_put_all, keep_checked, units_by}
-use Rattle.law_tie_facts.specs.law_tunnel_steps.Standing.{standing, after_puts, after_taking}
+use Rattle.law_tie_facts.specs.law_tunnel_steps.Standing.{after_puts, after_taking}
 use Rattle.law_tie_facts.proofs.law_tunnel_steps.Tracks.{comes_after}
-use Rattle.law_tie_facts.specs.Ties.{RunState, RunItem}
+use Rattle.law_tie_facts.specs.Ties.{RunItem}
 use Rattle.law_tie_facts.specs.Asked.{RunCause}
 use Rattle.law_tie_facts.proofs.Ends.{clash, others_leave, written_leaves}
 use Rattle.law_tie_facts.proofs.Puts.{Outs, put_there}

@@ -1,6 +1,6 @@
 -- A tunnel that a step of a CU-UP opens for the bearer: nothing stands there after the step, and it is of a context that the step makes, or
 -- an uplink that it adds.
-use Rattle.std.proofs.Common.{inl, inr, ◌≡◌, ◌≢◌, ◌⊎◌, ◌≤◌, ◌==◌, ℕ, ◌+◌, Bool, true, false, cond, not, ◌&&◌, ◌||◌, List, [], ◌∷◌, ◌++◌, filter, map, Option, Some, None, refl, sym, ap, subst, ◌∙◌, arith}
+use Rattle.std.proofs.Common.{inl, inr, ◌≡◌, ◌⊎◌, ◌≤◌, ◌==◌, ℕ, ◌+◌, Bool, true, false, cond, not, ◌&&◌, ◌||◌, List, [], ◌∷◌, ◌++◌, filter, map, Option, Some, None, refl, sym, ap, subst, ◌∙◌, arith}
 use Rattle.std.specs.Prelude.{is_some, unwrap_or, if◌then◌else◌}
 use Rattle.std.specs.List.{AllByRecursion}
 use Rattle.std.specs.Ordering.{nat_cmp, is_eq, eq_by_cmp}
@@ -13,11 +13,11 @@ use Rattle.gnb_types.specs.declared.names.BearerId.{BearerId}
 use Rattle.gnb_types.specs.declared.keys.TunnelEnd.{TunnelEnd}
 use Rattle.gnb_types.specs.declared.outputs.Tag.TheVariants.{Absent}
 use Rattle.gnb_types.specs.Orders.{ue_cmp, bearer_cmp, node_cmp, tunnel_cmp}
-use Rattle.gnb_types.proofs.OrderLemmas.{ue_total, bearer_total, node_total, node_exact, tunnel_exact}
+use Rattle.gnb_types.proofs.OrderLemmas.{node_total, node_exact, tunnel_exact}
 use Rattle.tables.specs.Tables.{find, at}
 use Rattle.tables.proofs.TableLaws.{at-put}
 use Rattle.message_types.specs.declared.rrc.Token.{Token}
-use Rattle.unit_defs.specs.Ways.{Message, Load, Pdu, control, packet, radio, deliver, dropped, held, opened, closed, failed, no, Put, Input, Answer, gives, spent, nothing, ◌then◌}
+use Rattle.unit_defs.specs.Ways.{Message, Pdu, control, packet, radio, deliver, dropped, held, opened, closed, failed, no, Put, Input, Answer, gives, spent, nothing, ◌then◌}
 use Rattle.unit_defs.specs.UpRecords.{UpBearer, UpContext, UpTunnel, TunnelKind, n3, f1u_uplink, forwarding_down, forwarding_up}
 use Rattle.unit_defs.specs.UpBearers.{teid_in, is_one_of, released, with_uplink, switched, frozen_to, with_status, resumed, framed}
 use Rattle.unit_defs.specs.UpItems.{took}
@@ -43,7 +43,7 @@ use Rattle.law_put_ties.specs.law_tie_facts.law_bearer_lists.law_context_orders.
 use Rattle.law_put_ties.specs.law_tie_facts.law_bearer_lists.law_context_orders.Inputs.{orders_of}
 use Rattle.law_put_ties.specs.law_tie_facts.law_bearer_lists.law_context_orders.Shown.{is_bearer, is_on, on_bearer, Comes, Follows}
 use Rattle.law_put_ties.proofs.law_tie_facts.law_open_tunnels.Links.{end_of}
-use Rattle.law_put_ties.specs.law_tie_facts.law_owner_facts.Owned.{ends_of, has_such, has_end, up_context_names, up_names, UpOwns}
+use Rattle.law_put_ties.specs.law_tie_facts.law_owner_facts.Owned.{ends_of, has_end, up_context_names, up_names, UpOwns}
 use Rattle.law_put_ties.specs.law_tie_facts.law_run_tunnels.Own.{IsOwnAt}
 use Rattle.law_put_ties.specs.law_tie_facts.law_run_units.Happenings.{UpRecord}
 use Rattle.law_put_ties.specs.law_tie_facts.law_run_bearers.Things.{PlainUnits}
@@ -52,7 +52,7 @@ use Rattle.law_put_ties.specs.law_tie_facts.Ties.{RunState, RunItem, Owned, owne
 use Rattle.law_put_ties.specs.law_tie_facts.Asked.{RunCause, TakesThere, IsUpStep, AreSound}
 use Rattle.law_put_ties.proofs.law_tie_facts.Ends.{clash, IsOwner, owner_is, own_leave}
 use Rattle.law_put_ties.proofs.law_tie_facts.Puts.{Outs}
-use Rattle.law_put_ties.proofs.Apart.{place, found_on, IsAt, at_end}
+use Rattle.law_put_ties.proofs.Apart.{place, found_on}
 use Rattle.law_put_ties.proofs.Stands.{ups_stay}
 
 -- ---- what stands on a tunnel that wasn't open comes of the outputs

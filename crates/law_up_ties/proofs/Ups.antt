@@ -1,15 +1,14 @@
 -- A step of a CU-UP keeps the tie, and is orders of the parts that ask what they do.
-use Rattle.std.proofs.Common.{inl, inr, ◌≡◌, ◌⊎◌, ℕ, Bool, true, false, List, [], ◌∷◌, ◌++◌, map, Option, Some, None, refl, sym, ap, subst, ◌∙◌}
+use Rattle.std.proofs.Common.{inl, inr, ◌≡◌, ◌⊎◌, ℕ, Bool, true, List, [], ◌∷◌, ◌++◌, map, Option, Some, None, refl, sym, ap, subst, ◌∙◌}
 use Rattle.std.specs.Prelude.{if◌then◌else◌}
 use Rattle.gnb_types.specs.declared.names.Gnb.{Gnb}
-use Rattle.gnb_types.specs.declared.names.NodeId.{NodeId}
-use Rattle.gnb_types.specs.declared.names.NodeId.TheVariants.{CuCp, CuUp as up_id, Du, Core, Ue}
+use Rattle.gnb_types.specs.declared.names.NodeId.TheVariants.{CuUp as up_id}
 use Rattle.gnb_types.specs.declared.names.SnBits.{SnBits}
 use Rattle.gnb_types.specs.declared.names.UeId.{UeId}
 use Rattle.gnb_types.specs.declared.names.BearerId.{BearerId}
 use Rattle.gnb_types.specs.declared.keys.TunnelEnd.{TunnelEnd}
 use Rattle.message_types.specs.declared.rrc.Token.{Token}
-use Rattle.unit_defs.specs.Ways.{Message, Pdu, Input}
+use Rattle.unit_defs.specs.Ways.{Pdu, Input}
 use Rattle.unit_defs.specs.UpRecords.{TunnelKind, n3, f1u_uplink, forwarding_down, forwarding_up}
 use Rattle.law_put_ties.specs.law_tie_facts.law_tunnel_steps.run_defs.Units.{up_of, with_up}
 use Rattle.law_put_ties.specs.law_tie_facts.law_tunnel_steps.run_defs.Runs.{Reading, Plain, plain_world, plain_way}
@@ -30,18 +29,17 @@ use Rattle.law_put_ties.proofs.law_tie_facts.law_bearer_lists.law_bearer_orders.
 use Rattle.law_put_ties.proofs.law_tie_facts.law_bearer_lists.law_bearer_orders.Up as up_steps
 use Rattle.law_put_ties.specs.law_tie_facts.law_run_units.Happenings.{UpRecord, kept_of}
 use Rattle.law_put_ties.specs.law_tie_facts.law_run_bearers.Things.{PlainUnits, takes as gets, after_things}
-use Rattle.law_put_ties.specs.law_tie_facts.law_run_bearers.Bearers.{Place, Numbering, if_of, at_place, contexts_of, asked, after_changes, instance_in, if_given, changes_over, AllInOrder}
+use Rattle.law_put_ties.specs.law_tie_facts.law_run_bearers.Bearers.{Numbering, if_of, at_place, contexts_of, asked, after_changes, instance_in, if_given, changes_over, AllInOrder}
 use Rattle.law_run_bearers.proofs.Bearers.{things_go}
-use Rattle.law_put_ties.specs.law_tie_facts.Ties.{RunState, RunItem, Owned, owned_on, owned_at, downs_of, ups_of, IsMirror}
+use Rattle.law_put_ties.specs.law_tie_facts.Ties.{RunState, RunItem, Owned, owned_at, downs_of, ups_of, IsMirror}
 use Rattle.law_put_ties.specs.law_tie_facts.Asked.{RunCause, IsUpStep, context_at, beside_of, AllAsk, down_after, up_after, AreTied, AreSound, step_asks as its_asks}
-use Rattle.law_put_ties.proofs.law_tie_facts.law_open_tunnels.Links.{end_of}
 use Rattle.law_put_ties.proofs.law_tie_facts.Puts.{Outs}
 use Rattle.law_put_ties.proofs.Apart.{place, contexts_same}
 use Rattle.law_put_ties.proofs.Stands.{ups_stay}
 use Rattle.law_run_ties.proofs.Steps.{step_asks, ends_mirror}
 use Rattle.law_run_ties.proofs.Runs.{down_runs, up_runs}
 use Rattle.law_up_ties.specs.Fresh.{UplinksAreFresh}
-use Rattle.law_up_ties.proofs.Opened.{number_same, units_then, owners_stay, IsOpened, opened_here, opened_at, nothing_stands, IsMade, IsAdded, result}
+use Rattle.law_up_ties.proofs.Opened.{number_same, units_then, owners_stay, IsOpened, opened_at, nothing_stands, IsMade, IsAdded, result}
 
 -- what is asked of a context is what happens to it
 same_after : (ue : UeId) (bearer : BearerId) (x : ℕ) (b : Beside) (os : List (UpOrder Pdu)) (cs : Contexts)
