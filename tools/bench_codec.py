@@ -62,7 +62,8 @@ def row_of(program, word, count, folder, first):
     ratio = f"{seconds / first:.2f}" if first else "-"
     rate = f"{count / seconds:,.0f}" if seconds else "-"
     theirs = erlang(word, count, folder)
-    return seconds, f"| {word} | {count} | {seconds:.3f} | {ratio} | {rate} | {memory / bench.MEBIBYTE:.1f} | {bench.optional(theirs)} |"
+    compared = "-" if theirs is None else f"{theirs:.3f}"
+    return seconds, f"| {word} | {count} | {seconds:.3f} | {ratio} | {rate} | {memory / bench.MEBIBYTE:.1f} | {compared} |"
 
 
 def print_table(program, sizes, folder):

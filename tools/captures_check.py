@@ -17,7 +17,6 @@ import endpoints
 import packet_reader
 import stories
 import to_pcapng
-import transcripts
 
 # what a packet on N3 is, worked out by hand: IPv4 from 10.0.0.1 to 10.1.2.1, UDP 2152, and the octets of the line
 FIRST = bytes.fromhex("4500002500004000401124C60A0000010A010201" "08680868001162F8" "30FF00010000000145")
