@@ -278,7 +278,7 @@ fn failing_reads(rt: HostRuntime) {
 /// How a script ends of which a write fails.
 #[derive(Clone, Copy, PartialEq, Eq)]
 enum Written {
-    /// No write had the number that fails: the whole text stands.
+    /// There were fewer writes than the number that fails: the whole text stands.
     Whole,
     /// A front of it stands, and no write came after it.
     Front,
@@ -325,7 +325,7 @@ fn written_as(
     number: u64,
 ) -> Written {
     if answer.code == 0 {
-        let is_whole = held == transcript && calls.checked_add(1) == Some(number);
+        let is_whole = held == transcript && calls < number;
         return written_if(is_whole, Written::Whole);
     }
     let is_front = answer == status(7, 0, 0) && transcript.starts_with(held);
@@ -334,10 +334,19 @@ fn written_as(
     written_if(is_front && is_last && is_long, Written::Front)
 }
 
-fn each_write_fails(rt: &impl Abort, alloc: Global, script: (&str, &str), piece: usize)
-    requires { 0 < piece }
+/// Of a script every fourth write fails in turn, from this one on.
+fn each_write_fails(
+    rt: &impl Abort,
+    alloc: Global,
+    script: (&str, &str),
+    piece: usize,
+    first: u64,
+)
+    requires piece { 0 < piece }
+    requires first { first < 5 }
 {
-    for number in 1..10_000 {
+    for round in 0..2_500 {
+        let number = 4 * round + first;
         let written = written_with(alloc, script, piece, number);
         if written == Written::Whole {
             return;
@@ -347,14 +356,35 @@ fn each_write_fails(rt: &impl Abort, alloc: Global, script: (&str, &str), piece:
     assert!(rt; false);
 }
 
-/// The write with each number fails in turn: a front of the text stands, and no write comes after it.
-#[test]
-fn failing_writes(rt: HostRuntime) -> Result<(), AllocError> {
-    let alloc = rt.alloc();
+/// A front of the text of each script stands, and no write comes after the one that fails. A quarter of the writes is a test, so that each
+/// ends within a test's time.
+fn writes_fail(rt: &impl Abort, alloc: Global, first: u64) -> Result<(), AllocError>
+    requires { first < 5 }
+{
     for &(steps, piece, _) in &CALLS {
         let input = script_of(alloc, steps)?;
         let transcript = transcript_of(alloc, steps)?;
-        each_write_fails(&rt, alloc, (input.as_str(), transcript.as_str()), piece);
+        each_write_fails(rt, alloc, (input.as_str(), transcript.as_str()), piece, first);
     }
     Ok(())
+}
+
+#[test]
+fn failing_writes_from_the_first(rt: HostRuntime) -> Result<(), AllocError> {
+    writes_fail(&rt, rt.alloc(), 1)
+}
+
+#[test]
+fn failing_writes_from_the_second(rt: HostRuntime) -> Result<(), AllocError> {
+    writes_fail(&rt, rt.alloc(), 2)
+}
+
+#[test]
+fn failing_writes_from_the_third(rt: HostRuntime) -> Result<(), AllocError> {
+    writes_fail(&rt, rt.alloc(), 3)
+}
+
+#[test]
+fn failing_writes_from_the_fourth(rt: HostRuntime) -> Result<(), AllocError> {
+    writes_fail(&rt, rt.alloc(), 4)
 }

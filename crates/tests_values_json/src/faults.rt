@@ -252,9 +252,17 @@ fn is_refused(alloc: Global, m: &Module, name: &str, text: &[u8], wrong: Wrong) 
     }
 }
 
-fn are_refused(rt: &impl Abort, alloc: Global, m: &Module, rows: &[Row]) {
-    for &row in rows {
-        let (name, text, wrong) = row;
+fn have_shapes(rt: &impl Abort, alloc: Global, m: &Module) {
+    for &(name, text, wrong) in &SHAPES {
+        assert!(rt;
+            is_refused(alloc, m, name, text.as_bytes(), wrong),
+            "{name}: {text}"
+        );
+    }
+}
+
+fn have_ranges(rt: &impl Abort, alloc: Global, m: &Module) {
+    for &(name, text, wrong) in &RANGES {
         assert!(rt;
             is_refused(alloc, m, name, text.as_bytes(), wrong),
             "{name}: {text}"
@@ -263,12 +271,17 @@ fn are_refused(rt: &impl Abort, alloc: Global, m: &Module, rows: &[Row]) {
 }
 
 #[test]
-fn faults(rt: HostRuntime) {
+fn shapes(rt: HostRuntime) {
     match read_module(rt.alloc(), TYPES) {
-        Ok((module, _)) => {
-            are_refused(&rt, rt.alloc(), &module, &SHAPES);
-            are_refused(&rt, rt.alloc(), &module, &RANGES);
-        }
+        Ok((module, _)) => have_shapes(&rt, rt.alloc(), &module),
+        Err(_) => assert!(rt; false),
+    }
+}
+
+#[test]
+fn ranges(rt: HostRuntime) {
+    match read_module(rt.alloc(), TYPES) {
+        Ok((module, _)) => have_ranges(&rt, rt.alloc(), &module),
         Err(_) => assert!(rt; false),
     }
 }

@@ -6,6 +6,4 @@ mod faults;
 #[cfg(test)]
 mod printed;
 #[cfg(test)]
-mod read;
-#[cfg(test)]
 mod vectors;
