@@ -2,7 +2,7 @@
 """Lets each request for memory fail in turn: of the program, in each example that has an input (tools/examples.py), and in each call of `encode` and `decode` that its
 tests have a row of; or, where crates of tests are named, of each of their tests.
 
-Every run of the program must end with status 9 and a front of what is printed where none fails. Every test must pass: those of tests_up, tests_du_node and
+Every run of the program must end with status 9 and a front of what is printed where none fails; or, where it can do without what it asked for, as where none fails. Every test must pass: those of tests_up, tests_du_node and
 tests_cu_control do where the step in which memory ran out answers that and nothing else, a later step answers it too, and another unit then does the steps as
 they should be; so do those of tests_transactions, of a call. Tests of other crates mostly fail where memory runs out.
 
@@ -54,11 +54,14 @@ def each_fails(library, name, words, given):
     requests = int(said.splitlines()[-1])
     if status == 9 or requests == 0:
         return f"status {status} with {requests} requests, where none fails"
+    needless = 0
     for number in range(1, requests + 1):
-        status, front, _ = answer(library, command, given, number)
-        if status != 9 or not transcript.startswith(front):
-            return f"request {number} failed: status {status}, {front!r}"
-    print(f"{name}: each of {requests} requests failed in turn, with status 9 and a front of what is printed")
+        ended, front, _ = answer(library, command, given, number)
+        if (ended, front) == (status, transcript):
+            needless += 1
+        elif ended != 9 or not transcript.startswith(front):
+            return f"request {number} failed: status {ended}, {len(front)} octets"
+    print(f"{name}: each of {requests} requests failed in turn, {requests - needless} with status 9 and a front of what is printed, {needless} as if none failed")
     return None
 
 
