@@ -335,13 +335,7 @@ fn written_as(
 }
 
 /// Of a script every fourth write fails in turn, from this one on.
-fn each_write_fails(
-    rt: &impl Abort,
-    alloc: Global,
-    script: (&str, &str),
-    piece: usize,
-    first: u64,
-)
+fn each_write_fails(rt: &impl Abort, alloc: Global, script: (&str, &str), piece: usize, first: u64)
     requires piece { 0 < piece }
     requires first { first < 5 }
 {
@@ -364,7 +358,13 @@ fn writes_fail(rt: &impl Abort, alloc: Global, first: u64) -> Result<(), AllocEr
     for &(steps, piece, _) in &CALLS {
         let input = script_of(alloc, steps)?;
         let transcript = transcript_of(alloc, steps)?;
-        each_write_fails(rt, alloc, (input.as_str(), transcript.as_str()), piece, first);
+        each_write_fails(
+            rt,
+            alloc,
+            (input.as_str(), transcript.as_str()),
+            piece,
+            first,
+        );
     }
     Ok(())
 }
