@@ -23,9 +23,9 @@ def answer(command, words, text):
     return ran.returncode, ran.stdout
 
 
-def compare(usage, what, count, make, told, plain=None, asks=False):
+def compare(usage, what, count, make, told, plain=None, asks=False, chosen="random"):
     """Compares so many calls, each with words and an input made by chance; `told` names what a status and an output came to, and `plain` is the
-    other reading where none is named. Where calls are made with its help (`asks`), `make` takes it before chance."""
+    other reading where none is named. Where calls are made with its help (`asks`), `make` takes it before chance. `chosen` is how they were chosen."""
     asked = argparse.ArgumentParser(description=usage, formatter_class=argparse.RawDescriptionHelpFormatter)
     asked.add_argument("--count", type=int, default=count)
     asked.add_argument("--seed", type=int, default=1)
@@ -33,7 +33,7 @@ def compare(usage, what, count, make, told, plain=None, asks=False):
     given = asked.parse_args()
     other = given.command or plain or ([sys.executable, str(OTHER)] if OTHER.exists() else None)
     if other is None:
-        print(f"no other reading is here: {given.count} random {what} are not compared")
+        print(f"no other reading is here: {given.count} {chosen} {what} are not compared")
         return 0
     chances = [random.Random(given.seed * 1_000_003 + number) for number in range(given.count)]
     outcomes = collections.Counter()
@@ -43,8 +43,8 @@ def compare(usage, what, count, make, told, plain=None, asks=False):
         both = pool.map(lambda call: (answer(PROGRAM, *call), answer(other, *call)), calls)
         for (words, text), (ours, theirs) in zip(calls, both):
             if ours != theirs:
-                print(f"random {what} differ: {words}\n{text}\n-- ours: {ours}\n-- theirs: {theirs}")
+                print(f"{chosen} {what} differ: {words}\n{text}\n-- ours: {ours}\n-- theirs: {theirs}")
                 return 1
             outcomes[told(*ours)] += 1
-    print(f"{given.count} random {what} are alike; by status: {dict(sorted(outcomes.items()))}")
+    print(f"{given.count} {chosen} {what} are alike; by status: {dict(sorted(outcomes.items()))}")
     return 0
