@@ -2,14 +2,12 @@
 use Rattle.std.proofs.Common.{◌≡◌, ℕ, ◌<◌, List, ◌++◌, length, Result, Ok, Err, refl, sym, ap, subst, ◌∙◌}
 use Rattle.aper_defs.specs.declared.reason.Reason.{Reason}
 use Rattle.aper_defs.specs.Trees.{Tree}
-use Rattle.aper_defs.specs.Fields.{Path}
 use Rattle.aper_defs.specs.Reading.{Fault}
 use Rattle.aper_feeding_defs.specs.Feeding.{stage, wrong}
 use Rattle.aper_types.specs.Types.{tree}
 use Rattle.aper_values.specs.declared.value.Value.{Value}
 use Rattle.aper_values.specs.Views.{view}
 use Rattle.aper_frames.specs.Frames.{path_of}
-use Rattle.aper_frames.specs.Paths.{path_view}
 use Rattle.aper_reading.specs.declared.error.DecodeError.{DecodeError}
 use Rattle.aper_reading.specs.declared.error.DecodeError.TheVariants as errors
 use Rattle.aper_steps.specs.declared.step.Next.{Next}
@@ -19,6 +17,7 @@ use Rattle.aper_decoder.specs.declared.decoder.State.TheVariants as states
 use Rattle.aper_decoder.specs.declared.decoder.Step.{Step}
 use Rattle.aper_decoder.specs.declared.decoder.Step.TheVariants as steps
 use Rattle.aper_decoder.specs.Feeding.{Feeding, reading, there, refused, failed, Reads, StaysRefused, Feeds}
+use Rattle.aper_decoder.proofs.Refusals.{same_fault}
 use Rattle.aper_decoder.specs.inside.States.{state_view, type_of, IsStateSound, IsSameType, Advances, Answers, AnswersRefusal, UnlessFailed}
 
 module _ (new : Reader) (answer : Result Step DecodeError) (after : State) where
@@ -47,9 +46,7 @@ refused_then : (new : Reader) (answer : Result Step DecodeError) (after : State)
     → StaysRefused (record { bit = bit; reason = reason; path = path_of new.frames }) (state_view after new.kept.items new.frames) answer
 refused_then new (Ok step) after bit reason a h = absurd a
 refused_then new (Err (errors.Refused place why path)) after bit reason a h = (
-  sym (ap (λ (n : ℕ). (let f : Fault = record { bit = n; reason = why; path = path_view path.items } in f)) a.0
-      ∙ ap (λ (r : Reason). (let f : Fault = record { bit = bit; reason = r; path = path_view path.items } in f)) a.1
-      ∙ ap (λ (p : Path). (let f : Fault = record { bit = bit; reason = reason; path = p } in f)) a.2),
+  same_fault bit reason (path_of new.frames) place why path.items a.0 a.1 a.2,
   ap (λ (s : State). state_view s new.kept.items new.frames) h,
 )
 refused_then new (Err errors.Memory) after bit reason a h = ap (λ (s : State). state_view s new.kept.items new.frames) h
@@ -68,7 +65,7 @@ feeds old new (states.Reading next) (states.Reading n) after piece answer h a u 
     (record { fault = h.1.fault; is = h.1.is; at = more_then new answer after n a u ∙ ap reading h.1.kept })
 feeds old new (states.Reading next) (states.Done v used) after piece answer h a u =
     subst (Reads (type_of old) old.kept.items piece (state_view after new.kept.items new.frames)) (sym a)
-    (record { value = view v; size = h.1.size; is = h.1.is; used_is = h.1.used_is; at = done_then new answer after v used a u })
+    (record { value = view v; size = h.1.size; is = h.1.is; used_is = h.1.used_is; within = h.1.within; at = done_then new answer after v used a u })
 feeds old new (states.Reading next) (states.Refused bit reason) after piece answer h a u =
     reads_refused (type_of old) old.kept.items piece (record { bit = bit; reason = reason; path = path_of new.frames })
     (state_view after new.kept.items new.frames) answer h.1 (refused_then new answer after bit reason a u)

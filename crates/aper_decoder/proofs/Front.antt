@@ -25,7 +25,7 @@ long_stage t A B long =
     same_stage A B long (run (asks_whole t) (at_first (A ++ B))) (run (asks_whole t) (at_first A))
     (run_front A B long (asks_whole t) 0 [] (omega arith))
 
-either_way : (n size : ℕ) (P : Type 0) → (n ≤ size → P) → (size < n → P) → P
+pub either_way : (n size : ℕ) (P : Type 0) → (n ≤ size → P) → (size < n → P) → P
 either_way n size P short long = by_cases (nat_le n size) (λ b. P) (λ h. short (at_most n size h)) (λ h. long (grind (arith, nat_tests)))
 
 pub front_stage : (t : Tree) (octets : List ℕ) → stage t (take 131073 octets) ≡ stage t octets
@@ -47,3 +47,6 @@ more_front n a b =
 
 pub front_grows : (n : ℕ) (a b : List ℕ) → length (take n a) ≤ length (take n (a ++ b))
 front_grows n a b = omega (arith, length-take n a, length-take n (a ++ b), length-append a b)
+
+pub front_short : (octets : List ℕ) → length (take 131073 octets) ≤ length octets
+front_short octets = omega (arith, length-take 131073 octets)

@@ -1,5 +1,5 @@
 -- One more piece.
-use Rattle.std.proofs.Common.{◌≡◌, ℕ, ◌-◌, ◌*◌, ◌/◌, ◌≤◌, List, ◌++◌, length, take, Result, Ok, Err, refl, sym, ap, subst, ◌∙◌, arith}
+use Rattle.std.proofs.Common.{◌≡◌, ℕ, ◌-◌, ◌*◌, ◌/◌, ◌≤◌, List, ◌++◌, length, take, Result, Ok, Err, refl, sym, ap, subst, ◌∙◌, arith, length-append}
 use Rattle.std.specs.Prelude.{IfOk}
 use Rattle.asn1_assignments.specs.declared.assignment.Syntax.{Syntax}
 use Rattle.gnb_types.specs.declared.items.Memory.{Memory}
@@ -7,7 +7,7 @@ use Rattle.aper_defs.specs.declared.reason.Reason.{Reason}
 use Rattle.aper_defs.specs.declared.reason.Reason.TheVariants as reasons
 use Rattle.aper_defs.specs.Trees.{Tree}
 use Rattle.aper_defs.specs.Reading.{Fault}
-use Rattle.aper_feeding_defs.specs.Feeding.{Stage, stage, whole, cut, wrong, refused_for}
+use Rattle.aper_feeding_defs.specs.Feeding.{Stage, stage, stage_of, whole, cut, wrong, refused_for}
 use Rattle.aper_proof_resuming.proofs.Turned.{with_more}
 use Rattle.aper_types.specs.Types.{tree}
 use Rattle.aper_values.specs.Views.{view}
@@ -23,7 +23,7 @@ use Rattle.aper_decoder.specs.declared.decoder.State.{State}
 use Rattle.aper_decoder.specs.declared.decoder.State.TheVariants as states
 use Rattle.aper_decoder.specs.inside.Reading.{cursor_at, Stands, IsReadingAt, IsEnd, StandsThen}
 use Rattle.aper_decoder.specs.inside.States.{type_of, front, IsFed, IsSameType, PieceEnds, Cuts, Ends, StateAfter, ReadsPiece}
-use Rattle.aper_decoder.proofs.Front.{front_stage, more_front, front_grows}
+use Rattle.aper_decoder.proofs.Front.{front_stage, more_front, front_grows, front_short}
 
 module _ (m : Syntax) (t : Tree) (kept piece octets : List ℕ) (is : octets ≡ front (kept ++ piece)) (spot : Spot) (next : Next) (fs : List Frame) where
   pub more_stands : Stands m (length (front kept)) spot next fs → Stands m (length octets) spot next fs
@@ -81,8 +81,9 @@ module _ (old new : Reader) (piece : List ℕ) (same : IsSameType old new) (kept
       → ReadsPiece old piece new state
   reads_piece (ends.Whole v place) (states.Done w used) e h = record {
     size = place / 8;
-    is = staged (whole (view w) (place / 8)) (e.is ∙ ap (λ x. whole (view x) (place / 8)) (sym h.0));
+    is = staged (whole (view w) (place / 8)) (ap stage_of e.is.is ∙ ap (λ x. whole (view x) (place / 8)) (sym h.0));
     used_is = h.1;
+    within = omega (arith, e.stands, h.1, front_short new.kept.items, ap length kept, length-append old.kept.items piece);
   }
   reads_piece (ends.Whole v place) (states.Reading n) e h = absurd h
   reads_piece (ends.Whole v place) (states.Refused b r) e h = absurd h
@@ -91,13 +92,13 @@ module _ (old new : Reader) (piece : List ℕ) (same : IsSameType old new) (kept
       let fault : Fault = record { bit = bit; reason = reason; path = path_of new.frames } in
       record {
         fault = fault;
-        is = staged (cut fault) (e.is.0 ∙ refused_cut reason fault h.0);
+        is = staged (cut fault) (ap stage_of e.is.0 ∙ refused_cut reason fault h.0);
         kept = kept;
         fed = subst (IsFed new) (sym h.1) (record { reading = e.is.1; stands = e.stands });
       }
   reads_piece (ends.Wrong bit reason next) (states.Refused b r) e h =
       let fault : Fault = record { bit = bit; reason = reason; path = path_of new.frames } in
-      staged _ (e.is.0 ∙ refused_wrong reason fault h.2
+      staged _ (ap stage_of e.is.0 ∙ refused_wrong reason fault h.2
       ∙ ap (λ (n : ℕ). wrong (record { bit = n; reason = reason; path = path_of new.frames })) (sym h.0)
       ∙ ap (λ (x : Reason). wrong (record { bit = b; reason = x; path = path_of new.frames })) (sym h.1))
   reads_piece (ends.Wrong bit reason next) (states.Done w used) e h = absurd h

@@ -1,16 +1,17 @@
 -- One turn.
-use Rattle.std.proofs.Common.{◌≡◌, ℕ, ◌*◌, ◌/◌, ◌≤◌, List, ◌++◌, length, Result, Ok, Err, refl, sym, ap, subst, ◌∙◌}
+use Rattle.std.proofs.Common.{◌≡◌, ℕ, ◌*◌, ◌≤◌, List, [], ◌++◌, length, Result, Ok, Err, refl, sym, ap, subst, ◌∙◌, append-nil}
 use Rattle.std.specs.Prelude.{IfOk}
 use Rattle.asn1_assignments.specs.declared.assignment.Syntax.{Syntax}
 use Rattle.gnb_types.specs.declared.items.Memory.{Memory}
 use Rattle.aper_defs.specs.Trees.{Tree}
 use Rattle.aper_defs.specs.Reading.{Cursor, run}
-use Rattle.aper_feeding_defs.specs.Feeding.{stage, whole}
+use Rattle.aper_proof_followed.proofs.Shut.{octets_kept}
 use Rattle.aper_types.specs.Types.{tree}
 use Rattle.aper_values.specs.declared.value.Value.{Value}
 use Rattle.aper_values.specs.Views.{view}
 use Rattle.aper_frames.specs.declared.frame.Frame.{Frame}
 use Rattle.aper_frames.specs.Frames.{path_of}
+use Rattle.aper_proof_followed.specs.aper_proof_pieces.Onto.{onto}
 use Rattle.aper_proof_resuming.specs.Reading.{IsReading}
 use Rattle.aper_proof_resuming.proofs.Turned.{turned, ended, stopped}
 use Rattle.aper_steps.specs.declared.step.Next.{Next}
@@ -26,6 +27,13 @@ use Rattle.aper_decoder.specs.declared.turns.Turned.TheVariants as turneds
 use Rattle.aper_decoder.specs.inside.Reading.{cursor_at, IsSpotInside, Stands, IsReadingAt, IsTurned, TurnedStands, IsKept, HaltsTurns}
 
 module _ (m : Syntax) (old new : Cursor) (before after : Spot) (fs gs : List Frame) (next : Next) where
+  -- the octets stay the same up to the value
+  same_octets : (v : Value) → TakesStep (tree m) next old new fs gs (Ok (onwards.Whole v)) → new.octets ≡ old.octets
+  same_octets v h =
+      sym (append-nil new.octets)
+      ∙ octets_kept (next_left (tree m) next fs) (onto [] old) (view v) (onto [] new) (h [])
+      ∙ append-nil old.octets
+
   kept_turned : (t : Tree) (done : Onward) (result : Turned) → IsReading t old.octets old (next_left (tree m) next fs)
       → TakesStep (tree m) next old new fs gs (Ok done) → IsKept new after done result
       → IsTurned m t old.octets after gs result
@@ -38,8 +46,8 @@ module _ (m : Syntax) (old new : Cursor) (before after : Spot) (fs gs : List Fra
   kept_turned t (onwards.Next n) (turneds.End end) r h o = absurd o
   kept_turned t (onwards.Whole v) (turneds.Next k) r h o = absurd o
   kept_turned t (onwards.Whole v) (turneds.End end) r h o =
-      subst (λ x. IsTurned m t old.octets after gs (turneds.End x)) (sym o)
-      (ended t old.octets old (next_left (tree m) next fs) r (view v) new h)
+      subst (λ x. IsTurned m t old.octets after gs (turneds.End x)) (sym o.0)
+      (record { opens = new.opens; is = ended t old.octets old (next_left (tree m) next fs) r (view v) new (same_octets v h) h })
 
   kept_stands : (done : Onward) (result : Turned) → TakesStep (tree m) next old new fs gs (Ok done)
       → OnNext (Ok done) (λ n. IsNextLight m n gs) → OnNext (Ok done) (IsNextBounded new.place) → IsKept new after done result
@@ -56,7 +64,8 @@ module _ (m : Syntax) (old new : Cursor) (before after : Spot) (fs gs : List Fra
   kept_stands (onwards.Next n) (turneds.End end) h light bounded o = absurd o
   kept_stands (onwards.Whole v) (turneds.Next k) h light bounded o = absurd o
   kept_stands (onwards.Whole v) (turneds.End end) h light bounded o =
-      subst (λ x. TurnedStands m old.octets new after gs (turneds.End x)) (sym o) tt
+      subst (λ x. TurnedStands m old.octets new after gs (turneds.End x)) (sym o.0)
+      (subst (λ (os : List ℕ). new.place ≤ 8 * length os) (same_octets v h) o.1)
 
   pub turn_kept : (done : Onward) (result : Result Turned Memory) → old ≡ cursor_at before old.octets
       → TakesStep (tree m) next old new fs gs (Ok done) → IfOk result (IsKept new after done)

@@ -1,5 +1,5 @@
 -- What a decoder that is fed in pieces answers, and what it is at then.
-use Rattle.std.specs.Prelude.{◌≡◌, ℕ, ◌-◌, List, ◌++◌, length, Result, Ok, Err}
+use Rattle.std.specs.Prelude.{◌≡◌, ℕ, ◌-◌, ◌≤◌, List, ◌++◌, length, Result, Ok, Err}
 use Rattle.aper_defs.specs.Trees.{Tree}
 use Rattle.aper_defs.specs.Values as seen
 use Rattle.aper_defs.specs.Reading.{Fault}
@@ -13,7 +13,7 @@ use Rattle.aper_reading.specs.Decoding.{Decodes}
 use Rattle.aper_decoder.specs.declared.decoder.Step.{Step}
 use Rattle.aper_decoder.specs.declared.decoder.Step.TheVariants as steps
 
--- What a decoder is at: the octets that it keeps, after which more are awaited; the value; the refusal; or out of memory.
+-- what a decoder is at: the octets that it keeps, after which more are awaited; the value; the refusal; or out of memory.
 pub data Feeding : Type 0 where
   reading : (kept : List ℕ) → Feeding
   there : (v : seen.Value) → Feeding
@@ -25,15 +25,16 @@ pub record Decoding : Type 0 where
   pub tree : Tree
   pub now : Feeding
 
--- so many octets of the piece after others are of the value
+-- The value is there, and ends after so many octets of the piece.
 pub record Completes (t : Tree) (kept piece : List ℕ) (used : ℕ) (after : Feeding) : Type 0 where
   pub value : seen.Value
   pub size : ℕ
   pub is : stage t (kept ++ piece) ≡ whole value size
   pub used_is : used ≡ size - length kept
+  pub within : used ≤ length piece
   pub at : after ≡ there value
 
--- more octets are awaited
+-- More octets are awaited.
 pub record Awaits (t : Tree) (kept piece : List ℕ) (after : Feeding) : Type 0 where
   pub fault : Fault
   pub is : stage t (kept ++ piece) ≡ cut fault

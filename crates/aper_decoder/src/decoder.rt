@@ -2,16 +2,20 @@
 
 ghost use Rattle.std.specs.Prelude.{◌≡◌, ◌≤◌, ◌<◌, ◌++◌, [], length, take, IfOk};
 ghost use Rattle.aper_types.specs.Types.{tree};
+ghost use Rattle.aper_defs.specs.declared.reason.Reason.TheVariants as reasons;
+ghost use Rattle.aper_reading.specs.Decoding.{Decodes};
+ghost use Rattle.aper_reading.specs.Turns.{IsRefusal};
 ghost use Rattle.aper_decoder.specs.Feeding.{reading, Feeds, Finishes};
-ghost use Rattle.aper_decoder.specs.inside.States.{IsFed, IsStateSound, IsSameType, PieceEnds, StateAfter, IsStateOf, ReadsPiece, Advances, Answers, UnlessFailed, FinishesState};
+ghost use Rattle.aper_decoder.specs.inside.Reading.{end_of};
+ghost use Rattle.aper_decoder.specs.inside.States.{type_of, front, IsFed, IsStateSound, IsSameType, IsNew, PieceEnds, StateAfter, IsStateOf, ReadsPiece, Advances, Answers, UnlessFailed, FinishesState, Gives};
 
 use crate::spot::Spot;
 use crate::turns::{End, take_turns};
 use aper_defs::Reason;
 use aper_frames::Stack;
-use aper_reading::{DecodeError, decode, refused};
+use aper_reading::{DecodeError, refused};
 use aper_resuming::Pending;
-use aper_steps::Next;
+use aper_steps::{Next, begun};
 use aper_values::value::Value;
 use asn1_module::{Module, TypeId};
 use gnb_types::items::Memory;
@@ -78,18 +82,8 @@ impl<'m> Decoder<'m> {
         ensures { result ≡ record { tree = tree module.now id.number; now = reading [] } }
     {
         Decoder {
-            reader: Reader {
-                module,
-                id,
-                alloc,
-                kept: Vec::new(alloc),
-                spot: Spot {
-                    place: 0,
-                    spans: Vec::new(alloc),
-                },
-                frames: Stack::new(alloc),
-            },
-            state: State::Reading(Next::Turn(Pending::Read(id))),
+            reader: Reader::new(alloc, module, id),
+            state: State::Reading(begun(alloc, module, Pending::Read(id))),
         }
     }
 
@@ -114,6 +108,23 @@ impl<'m> Decoder<'m> {
 }
 
 impl<'m> Reader<'m> {
+    /// Before the first octet.
+    fn new(alloc: Global, module: &'m Module, id: TypeId) -> Reader<'m>
+        ensures { IsNew module.now id result }
+    {
+        Reader {
+            module,
+            id,
+            alloc,
+            kept: Vec::new(alloc),
+            spot: Spot {
+                place: 0,
+                spans: Vec::new(alloc),
+            },
+            frames: Stack::new(alloc),
+        }
+    }
+
     /// Takes a piece, where octets are awaited.
     fn advance(&mut self, state: State<'m>, piece: &[u8]) -> State<'m>
         requires { IsStateSound self.old state }
@@ -169,6 +180,48 @@ impl<'m> Reader<'m> {
             State::Failed => Err(DecodeError::Memory),
         }
     }
+
+    /// The value of all octets, with those of a last piece, or their first wrong field.
+    fn end(mut self, next: Next<'m>, piece: &[u8]) -> Result<Value, DecodeError<'m>>
+        requires { IsFed self next }
+        ensures { Decodes (type_of self.entry) (self.entry.kept.items ++ piece.now) result }
+    {
+        match self.take_piece(next, piece) {
+            Ok(end) => self.ended(end),
+            Err(_) => Err(DecodeError::Memory),
+        }
+    }
+
+    /// What turns gave that ended so, where no octets come any more.
+    fn ended(&self, end: End<'m>) -> Result<Value, DecodeError<'m>>
+        ensures { Gives (end_of (length (front self.now.kept.items)) self.now.frames end.entry) result }
+    {
+        match end {
+            End::Whole(value, place) => {
+                let octets = front(self.kept.as_slice());
+                if place == 8 * octets.len() as u64 {
+                    Ok(value)
+                } else {
+                    Err(left_over(self.alloc, place))
+                }
+            }
+            End::Wrong(bit, reason, _) => Err(refused(self.alloc, bit, &self.frames, reason)),
+        }
+    }
+}
+
+/// The value of a type of a module that these octets spell, or their first wrong field: what one piece and the end give.
+pub fn decode<'m>(
+    alloc: Global,
+    module: &'m Module,
+    id: TypeId,
+    octets: &[u8],
+) -> Result<Value, DecodeError<'m>>
+    requires { id.number < length module.now.nodes }
+    ensures { Decodes (tree module.now id.number) octets.now result }
+{
+    let next = begun(alloc, module, Pending::Read(id));
+    Reader::new(alloc, module, id).end(next, octets)
 }
 
 /// What a decoder is at where turns ended, after so many octets of the pieces before.
@@ -208,19 +261,25 @@ fn unless_failed<'m>(state: State<'m>, answer: &Result<Step, DecodeError<'m>>) -
 
 /// What is answered at the end.
 fn finished<'m>(reader: Reader<'m>, state: State<'m>) -> Result<Value, DecodeError<'m>>
-    requires { reader.id.number < length reader.module.now.nodes }
+    requires { IsStateSound reader state }
     ensures { FinishesState reader.entry state.entry result }
 {
     match state {
-        State::Reading(_) => decode(
-            reader.alloc,
-            reader.module,
-            reader.id,
-            reader.kept.as_slice(),
-        ),
+        State::Reading(next) => reader.end(next, &[]),
         State::Done(value, _) => Ok(value),
         State::Refused(bit, reason) => Err(refused(reader.alloc, bit, &reader.frames, reason)),
         State::Failed => Err(DecodeError::Memory),
+    }
+}
+
+/// The refusal of octets that are left after a value.
+fn left_over<'m>(alloc: Global, bit: u64) -> DecodeError<'m>
+    ensures { IsRefusal bit reasons.Tail [] result }
+{
+    DecodeError::Refused {
+        bit,
+        reason: Reason::Tail,
+        path: Vec::new(alloc),
     }
 }
 

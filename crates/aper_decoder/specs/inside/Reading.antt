@@ -1,11 +1,13 @@
 -- Internal: where a decoder has come to, and how its turns end.
-use Rattle.std.specs.Prelude.{◌≡◌, ℕ, ◌*◌, ◌/◌, ◌≤◌, List, map, reverse, length, Result, Ok, Err}
+use Rattle.std.specs.Prelude.{◌≡◌, ℕ, ◌*◌, ◌==◌, ◌≤◌, List, [], map, reverse, length, Result, Ok, Err, if◌then◌else◌}
 use Rattle.asn1_assignments.specs.declared.assignment.Syntax.{Syntax}
+use Rattle.aper_defs.specs.declared.reason.Reason.TheVariants as reasons
 use Rattle.aper_defs.specs.Trees.{Tree}
-use Rattle.aper_defs.specs.Reading.{Cursor, Fault}
+use Rattle.aper_defs.specs.Values as seen
+use Rattle.aper_defs.specs.Asking.{asks_whole}
+use Rattle.aper_defs.specs.Reading.{Cursor, Opened, Fault, at_first, run}
 use Rattle.gnb_types.specs.declared.items.Memory.{Memory}
 use Rattle.aper_cursor.specs.Spans.{span_view}
-use Rattle.aper_feeding_defs.specs.Feeding.{stage, whole, refused_for}
 use Rattle.aper_frames.specs.declared.frame.Frame.{Frame}
 use Rattle.aper_frames.specs.Frames.{path_of}
 use Rattle.aper_types.specs.Types.{tree}
@@ -39,15 +41,20 @@ abbrev pub IsReadingAt : Syntax → Tree → List ℕ → Spot → Next → List
 IsReadingAt m t octets spot next fs = IsReading t octets (cursor_at spot octets) (next_left (tree m) next fs)
 
 -- ---- how turns end
+-- the value is found in the octets, up to a place
+pub record IsFound (t : Tree) (octets : List ℕ) (v : seen.Value) (place : ℕ) : Type 0 where
+  pub opens : List Opened
+  pub is : run (asks_whole t) (at_first octets) ≡ Ok (v, record { octets = octets; place = place; opens = opens })
+
 -- The value is there; or the octets are wrong, or end here, and this comes next where they end.
 abbrev pub IsEnd : Syntax → Tree → List ℕ → Spot → List Frame → End → Type 0
-IsEnd m t octets spot fs (ends.Whole v place) = stage t octets ≡ whole (view v) (place / 8)
+IsEnd m t octets spot fs (ends.Whole v place) = IsFound t octets (view v) place
 IsEnd m t octets spot fs (ends.Wrong bit reason back) =
     let fault : Fault = record { bit = bit; reason = reason; path = path_of fs } in
-    (stage t octets ≡ refused_for reason fault) × IsReadingAt m t octets spot back fs
+    (run (asks_whole t) (at_first octets) ≡ Err fault) × IsReadingAt m t octets spot back fs
 
 abbrev pub StandsThen : Syntax → ℕ → Spot → List Frame → End → Type 0
-StandsThen m size spot fs (ends.Whole v place) = Unit {0}
+StandsThen m size spot fs (ends.Whole v place) = place ≤ 8 * size
 StandsThen m size spot fs (ends.Wrong bit reason back) = Stands m size spot back fs
 
 -- ---- one turn
@@ -63,7 +70,7 @@ TurnedStands m octets c spot fs (turneds.End end) = StandsThen m (length octets)
 abbrev pub IsKept : Cursor → Spot → Onward → Turned → Type 0
 IsKept c spot (onwards.Next next) (turneds.Next other) =
     (other ≡ next) × (c ≡ cursor_at spot c.octets) × IsSpotInside (length c.octets) spot
-IsKept c spot (onwards.Whole v) (turneds.End end) = end ≡ ends.Whole v c.place
+IsKept c spot (onwards.Whole v) (turneds.End end) = (end ≡ ends.Whole v c.place) × (c.place ≤ 8 * length c.octets)
 IsKept c spot (onwards.Next next) (turneds.End end) = ⊥
 IsKept c spot (onwards.Whole v) (turneds.Next other) = ⊥
 
@@ -72,3 +79,12 @@ HaltsTurns place (halts.Wrong reason back) (Ok turned) = turned ≡ turneds.End 
 HaltsTurns place (halts.Wrong reason back) (Err e) = ⊥
 HaltsTurns place halts.Memory (Ok turned) = ⊥
 HaltsTurns place halts.Memory (Err e) = Unit {0}
+
+-- ---- where no octets come any more
+-- a value up to a place, which is all where the octets end there
+abbrev pub alone : ℕ → seen.Value → ℕ → Result seen.Value Fault
+alone size v place = if place == 8 * size then Ok v else Err (record { bit = place; reason = reasons.Tail; path = [] })
+
+abbrev pub end_of : ℕ → List Frame → End → Result seen.Value Fault
+end_of size fs (ends.Whole v place) = alone size (view v) place
+end_of size fs (ends.Wrong bit reason back) = Err (record { bit = bit; reason = reason; path = path_of fs })

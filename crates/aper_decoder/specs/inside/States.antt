@@ -1,12 +1,16 @@
 -- Internal: a decoder's fields as they are seen, and what a piece does to them.
-use Rattle.std.specs.Prelude.{◌≡◌, ℕ, ◌-◌, ◌/◌, ◌<◌, List, ◌++◌, length, take, Result, Ok, Err}
+use Rattle.std.specs.Prelude.{◌≡◌, ℕ, ◌-◌, ◌/◌, ◌<◌, ◌≤◌, List, [], ◌++◌, length, take, Result, Ok, Err}
+use Rattle.asn1_assignments.specs.declared.assignment.Syntax.{Syntax}
+use Rattle.asn1_types.specs.declared.definition.TypeId.{TypeId}
 use Rattle.aper_defs.specs.declared.reason.Reason.{Reason}
 use Rattle.aper_defs.specs.declared.reason.Reason.TheVariants as reasons
 use Rattle.aper_defs.specs.Trees.{Tree}
+use Rattle.aper_defs.specs.Values as seen
 use Rattle.aper_defs.specs.Reading.{Fault}
 use Rattle.aper_feeding_defs.specs.Feeding.{stage, whole, cut, wrong}
 use Rattle.aper_frames.specs.declared.frame.Frame.{Frame}
 use Rattle.aper_frames.specs.Frames.{path_of}
+use Rattle.aper_frames.specs.Paths.{path_view}
 use Rattle.aper_types.specs.Types.{tree}
 use Rattle.aper_values.specs.declared.value.Value.{Value}
 use Rattle.aper_values.specs.Views.{view}
@@ -41,6 +45,15 @@ decoding_of d = record { tree = type_of d.reader; now = state_view d.state d.rea
 abbrev pub front : List ℕ → List ℕ
 front octets = take 131073 octets
 
+-- before the first octet
+pub record IsNew (m : Syntax) (id : TypeId) (r : Reader) : Type 0 where
+  pub module : r.module.now ≡ m
+  pub id_is : r.id ≡ id
+  pub kept : r.kept.items ≡ []
+  pub place : r.spot.place ≡ 0
+  pub spans : r.spot.spans.items ≡ []
+  pub frames : r.frames ≡ []
+
 -- ---- what holds between two pieces
 pub record IsFed (r : Reader) (next : Next) : Type 0 where
   pub reading : IsReadingAt r.module.now (type_of r) (front r.kept.items) r.spot next r.frames
@@ -74,6 +87,7 @@ pub record Ends (old : Reader) (piece : List ℕ) (v : Value) (used : ℕ) : Typ
   pub size : ℕ
   pub is : stage (type_of old) (old.kept.items ++ piece) ≡ whole (view v) size
   pub used_is : used ≡ size - length old.kept.items
+  pub within : used ≤ length piece
 
 abbrev pub ReadsPiece : Reader → List ℕ → Reader → State → Type 0
 ReadsPiece old piece new (states.Reading next) = Cuts old piece new next
@@ -125,3 +139,11 @@ UnlessFailed before (Ok step) after = after ≡ before
 
 abbrev pub FinishesState : Reader → State → Result Value DecodeError → Type 0
 FinishesState r state result = Finishes (type_of r) (state_view state r.kept.items r.frames) result
+
+-- ---- where no octets come any more
+-- what is answered gives this, unless memory runs out
+abbrev pub Gives : Result seen.Value Fault → Result Value DecodeError → Type 0
+Gives found (Ok v) = found ≡ Ok (view v)
+Gives found (Err (errors.Refused bit reason path)) =
+    found ≡ Err (record { bit = bit; reason = reason; path = path_view path.items })
+Gives found (Err errors.Memory) = Unit {0}

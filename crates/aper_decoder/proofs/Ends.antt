@@ -1,0 +1,63 @@
+-- Where no octets come any more.
+use Rattle.std.proofs.Common.{◌≡◌, ℕ, ◌*◌, ◌==◌, ◌≤◌, cond, Bool, true, false, List, [], ◌++◌, length, take, Result, Ok, Err, refl, sym, ap, subst, ◌∙◌, arith, append-nil}
+use Rattle.std.proofs.lemmas.List.{take_all}
+use Rattle.asn1_assignments.specs.declared.assignment.Syntax.{Syntax}
+use Rattle.aper_defs.specs.Trees.{Tree}
+use Rattle.aper_defs.specs.Values as seen
+use Rattle.aper_defs.specs.Reading.{Fault, only, decoded}
+use Rattle.aper_values.specs.declared.value.Value.{Value}
+use Rattle.aper_frames.specs.declared.frame.Frame.{Frame}
+use Rattle.aper_reading.specs.declared.error.DecodeError.{DecodeError}
+use Rattle.aper_reading.specs.declared.error.DecodeError.TheVariants as errors
+use Rattle.aper_reading.specs.Decoding.{Decodes}
+use Rattle.aper_reading.proofs.Front.{front_decoded}
+use Rattle.aper_decoder.specs.declared.spot.Spot.{Spot}
+use Rattle.aper_decoder.specs.declared.turns.End.{End}
+use Rattle.aper_decoder.specs.declared.turns.End.TheVariants as ends
+use Rattle.aper_decoder.specs.declared.decoder.Reader.{Reader}
+use Rattle.aper_decoder.specs.inside.Reading.{IsEnd, end_of}
+use Rattle.aper_decoder.specs.inside.States.{type_of, front, IsSameType, PieceEnds, Gives}
+use Rattle.aper_decoder.proofs.Front.{either_way}
+use Rattle.aper_decoder.proofs.Pieces.{same_type}
+
+end_decoded : (m : Syntax) (t : Tree) (octets : List ℕ) (spot : Spot) (fs : List Frame) (end : End) → IsEnd m t octets spot fs end
+    → decoded t octets ≡ end_of (length octets) fs end
+end_decoded m t octets spot fs (ends.Whole v place) e = ap only e.is
+end_decoded m t octets spot fs (ends.Wrong bit reason next) e = ap only e.0
+
+gives_decodes : (t : Tree) (octets : List ℕ) (found : Result seen.Value Fault) (result : Result Value DecodeError) → decoded t octets ≡ found
+    → Gives found result → Decodes t octets result
+gives_decodes t octets found (Ok v) e h = e ∙ h
+gives_decodes t octets found (Err (errors.Refused bit reason path)) e h = e ∙ h
+gives_decodes t octets found (Err errors.Memory) e h = tt
+
+front_same : (t : Tree) (octets : List ℕ) → decoded t (take 131073 octets) ≡ decoded t octets
+front_same t octets =
+    either_way 131073 (length octets) (decoded t (take 131073 octets) ≡ decoded t octets)
+    (λ h. front_decoded t octets 131073 (omega arith) h)
+    (λ h. ap (decoded t) (take_all 131073 octets (omega (arith, h))))
+
+-- what turns gave that ended so
+ended_decodes : (r : Reader) (end : End) (result : Result Value DecodeError) → PieceEnds r end
+    → Gives (end_of (length (front r.kept.items)) r.frames end) result → Decodes (type_of r) r.kept.items result
+ended_decodes r end result h g =
+    gives_decodes (type_of r) r.kept.items (end_of (length (front r.kept.items)) r.frames end) result
+    (sym (front_same (type_of r) r.kept.items)
+    ∙ end_decoded r.module.now (type_of r) (front r.kept.items) r.spot r.frames end h.is) g
+
+pub last_piece : (old new : Reader) (piece : List ℕ) (end : End) (result : Result Value DecodeError) → IsSameType old new
+    → new.kept.items ≡ old.kept.items ++ piece → PieceEnds new end
+    → Gives (end_of (length (front new.kept.items)) new.frames end) result
+    → Decodes (type_of old) (old.kept.items ++ piece) result
+last_piece old new piece end result same kept h g =
+    subst (λ (t : Tree). Decodes t (old.kept.items ++ piece) result) (same_type old new piece same kept)
+    (subst (λ (os : List ℕ). Decodes (type_of new) os result) kept (ended_decodes new end result h g))
+
+-- no more octets
+pub no_more : (t : Tree) (kept : List ℕ) (result : Result Value DecodeError) → Decodes t (kept ++ []) result → Decodes t kept result
+no_more t kept result h = subst (λ (os : List ℕ). Decodes t os result) (append-nil kept) h
+
+-- ---- a value up to a place
+pub whole_alone : (size place : ℕ) (v : seen.Value) (fs : List Frame) (r : Result seen.Value Fault) → (b : Bool) → (place == 8 * size) ≡ b
+    → cond b (Ok v) r ≡ cond (place == 8 * size) (Ok v) r
+whole_alone size place v fs r b e = ap (λ (x : Bool). cond x (Ok v) r) (sym e)
