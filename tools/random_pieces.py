@@ -1,6 +1,6 @@
 #!/usr/bin/env python3
 """Decodes random octets in random pieces by the decoder that is fed in pieces and by another reading of the same specification, and compares
-what they answer to each piece, and at the end.
+what they answer to each piece, at the end, and to the whole.
 
 The octets are those of random values of the types of random modules, some with bits changed, some cut off and some with others after them, and
 random ones. The other reading is a module `codec.py` in Python. Without one this is said, and the check passes.
@@ -96,7 +96,7 @@ def cuts(chance, size):
 
 
 def answers(other, module, name, octets, pieces):
-    """What the other reading answers to each piece, and at the end, on one line."""
+    """What the other reading answers to each piece, at the end, and to all octets as a whole, on one line."""
     decoder, at, said = other.Decoder(module, name), 0, []
     for piece in pieces:
         try:
@@ -105,12 +105,16 @@ def answers(other, module, name, octets, pieces):
             said.append(told(refused))
         at += piece
     said = [one for answer, alike in itertools.groupby(said) for one in ([f"more {len(list(alike))}"] if answer == "more" else alike)]
+    return "; ".join([*said, ended(other, decoder.finish)]) + " | " + ended(other, lambda: other.decode(module, name, octets))
+
+
+def ended(other, call):
+    """What a call answers that gives a value or a refusal."""
     try:
-        decoder.finish()
-        said.append("value")
+        call()
+        return "value"
     except other.Refused as refused:
-        said.append(told(refused))
-    return "; ".join(said)
+        return told(refused)
 
 
 def told(refused):
@@ -163,7 +167,7 @@ def main():
         if said != theirs:
             print(f"octets in pieces are decoded differently: {line}\n{text.decode()}\n-- ours: {said}\n-- theirs: {theirs}")
             return 1
-        last = said.split("; ")[-1].split()
+        last = said.split(" | ")[0].split("; ")[-1].split()
         outcomes[f"wrong for {last[2]:>2}" if last[0] == "wrong" else last[0]] += 1
     print(f"{len(made)} random octets in pieces are decoded alike; at the end: {dict(sorted(outcomes.items()))}")
     return 0
