@@ -1,6 +1,5 @@
 -- Where no octets come any more.
-use Rattle.std.proofs.Common.{◌≡◌, ℕ, ◌*◌, ◌==◌, ◌≤◌, cond, Bool, true, false, List, [], ◌++◌, length, take, Result, Ok, Err, refl, sym, ap, subst, ◌∙◌, arith, append-nil}
-use Rattle.std.proofs.lemmas.List.{take_all}
+use Rattle.std.proofs.Common.{◌≡◌, ℕ, List, [], ◌++◌, length, Result, Ok, Err, sym, ap, subst, ◌∙◌, append-nil}
 use Rattle.asn1_assignments.specs.declared.assignment.Syntax.{Syntax}
 use Rattle.aper_defs.specs.Trees.{Tree}
 use Rattle.aper_defs.specs.Values as seen
@@ -10,14 +9,13 @@ use Rattle.aper_frames.specs.declared.frame.Frame.{Frame}
 use Rattle.aper_reading.specs.declared.error.DecodeError.{DecodeError}
 use Rattle.aper_reading.specs.declared.error.DecodeError.TheVariants as errors
 use Rattle.aper_reading.specs.Decoding.{Decodes}
-use Rattle.aper_reading.proofs.Front.{front_decoded}
 use Rattle.aper_decoder.specs.declared.spot.Spot.{Spot}
 use Rattle.aper_decoder.specs.declared.turns.End.{End}
 use Rattle.aper_decoder.specs.declared.turns.End.TheVariants as ends
 use Rattle.aper_decoder.specs.declared.decoder.Reader.{Reader}
 use Rattle.aper_decoder.specs.inside.Reading.{IsEnd, end_of}
 use Rattle.aper_decoder.specs.inside.States.{type_of, front, IsSameType, PieceEnds, Gives}
-use Rattle.aper_decoder.proofs.Front.{either_way}
+use Rattle.aper_decoder.proofs.Front.{front_same}
 use Rattle.aper_decoder.proofs.Pieces.{same_type}
 
 end_decoded : (m : Syntax) (t : Tree) (octets : List ℕ) (spot : Spot) (fs : List Frame) (end : End) → IsEnd m t octets spot fs end
@@ -30,12 +28,6 @@ gives_decodes : (t : Tree) (octets : List ℕ) (found : Result seen.Value Fault)
 gives_decodes t octets found (Ok v) e h = e ∙ h
 gives_decodes t octets found (Err (errors.Refused bit reason path)) e h = e ∙ h
 gives_decodes t octets found (Err errors.Memory) e h = tt
-
-front_same : (t : Tree) (octets : List ℕ) → decoded t (take 131073 octets) ≡ decoded t octets
-front_same t octets =
-    either_way 131073 (length octets) (decoded t (take 131073 octets) ≡ decoded t octets)
-    (λ h. front_decoded t octets 131073 (omega arith) h)
-    (λ h. ap (decoded t) (take_all 131073 octets (omega (arith, h))))
 
 -- what turns gave that ended so
 ended_decodes : (r : Reader) (end : End) (result : Result Value DecodeError) → PieceEnds r end
@@ -56,8 +48,3 @@ last_piece old new piece end result same kept h g =
 -- no more octets
 pub no_more : (t : Tree) (kept : List ℕ) (result : Result Value DecodeError) → Decodes t (kept ++ []) result → Decodes t kept result
 no_more t kept result h = subst (λ (os : List ℕ). Decodes t os result) (append-nil kept) h
-
--- ---- a value up to a place
-pub whole_alone : (size place : ℕ) (v : seen.Value) (fs : List Frame) (r : Result seen.Value Fault) → (b : Bool) → (place == 8 * size) ≡ b
-    → cond b (Ok v) r ≡ cond (place == 8 * size) (Ok v) r
-whole_alone size place v fs r b e = ap (λ (x : Bool). cond x (Ok v) r) (sym e)

@@ -11,7 +11,7 @@ use Rattle.aper_values.specs.declared.value.Value.{Value}
 use Rattle.aper_values.specs.Views.{view}
 use Rattle.aper_frames.specs.declared.frame.Frame.{Frame}
 use Rattle.aper_frames.specs.Frames.{path_of}
-use Rattle.aper_proof_followed.specs.aper_proof_pieces.Onto.{onto}
+use Rattle.aper_proof_pieces.specs.Onto.{onto}
 use Rattle.aper_proof_resuming.specs.Reading.{IsReading}
 use Rattle.aper_proof_resuming.proofs.Turned.{turned, ended, stopped}
 use Rattle.aper_steps.specs.declared.step.Next.{Next}

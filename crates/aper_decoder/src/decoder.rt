@@ -3,6 +3,7 @@
 ghost use Rattle.std.specs.Prelude.{◌≡◌, ◌≤◌, ◌<◌, ◌++◌, [], length, take, IfOk};
 ghost use Rattle.aper_types.specs.Types.{tree};
 ghost use Rattle.aper_defs.specs.declared.reason.Reason.TheVariants as reasons;
+ghost use Rattle.aper_frames.specs.Frames.{path_of};
 ghost use Rattle.aper_reading.specs.Decoding.{Decodes};
 ghost use Rattle.aper_reading.specs.Turns.{IsRefusal};
 ghost use Rattle.aper_decoder.specs.Feeding.{reading, Feeds, Finishes};
@@ -12,8 +13,8 @@ ghost use Rattle.aper_decoder.specs.inside.States.{type_of, front, IsFed, IsStat
 use crate::spot::Spot;
 use crate::turns::{End, take_turns};
 use aper_defs::Reason;
-use aper_frames::Stack;
-use aper_reading::{DecodeError, refused};
+use aper_frames::{Stack, path_of};
+use aper_reading::DecodeError;
 use aper_resuming::Pending;
 use aper_steps::{Next, begun};
 use aper_values::value::Value;
@@ -269,6 +270,16 @@ fn finished<'m>(reader: Reader<'m>, state: State<'m>) -> Result<Value, DecodeErr
         State::Done(value, _) => Ok(value),
         State::Refused(bit, reason) => Err(refused(reader.alloc, bit, &reader.frames, reason)),
         State::Failed => Err(DecodeError::Memory),
+    }
+}
+
+/// The refusal at this place.
+fn refused<'m>(alloc: Global, bit: u64, frames: &Stack<'m>, reason: Reason) -> DecodeError<'m>
+    ensures { IsRefusal bit reason (path_of frames.now) result }
+{
+    match path_of(alloc, frames) {
+        Ok(path) => DecodeError::Refused { bit, reason, path },
+        Err(_) => DecodeError::Memory,
     }
 }
 

@@ -52,10 +52,10 @@ other_place a b h = grind (arith, nat_tests)
 
 -- the octets up to the limit, and those after them
 module _ (A B : List ℕ) (long : bit_limit + 8 ≤ 8 * length A) where
-  pub near : ℕ → List Opened → Cursor
+  near : ℕ → List Opened → Cursor
   near place opens = record { octets = A; place = place; opens = opens }
 
-  pub far : ℕ → List Opened → Cursor
+  far : ℕ → List Opened → Cursor
   far place opens = record { octets = A ++ B; place = place; opens = opens }
 
   longer : bit_limit + 8 ≤ 8 * length (A ++ B)
@@ -212,7 +212,7 @@ module _ (A B : List ℕ) (long : bit_limit + 8 ≤ 8 * length A) where
       by_room (Some reason) f g = cc
 
   -- the same, but for the octets
-  abbrev pub Alike : Result (seen.Value × Cursor) Fault → Result (seen.Value × Cursor) Fault → Type 0
+  abbrev Alike : Result (seen.Value × Cursor) Fault → Result (seen.Value × Cursor) Fault → Type 0
   Alike (Ok x) (Ok y) =
       (x.0 ≡ y.0) × (x.1.place ≡ y.1.place) × (x.1.octets ≡ A ++ B) × (y.1.octets ≡ A) × (y.1.place ≤ bit_limit)
   Alike (Ok x) (Err g) = ⊥
@@ -226,7 +226,7 @@ module _ (A B : List ℕ) (long : bit_limit + 8 ≤ 8 * length A) where
   step_front p place opens (Ok x) first second h = h x refl
   step_front p place opens (Err reason) first second h = refl
 
-  pub run_front : (p : Prog) (place : ℕ) (opens : List Opened) → place ≤ bit_limit
+  run_front : (p : Prog) (place : ℕ) (opens : List Opened) → place ≤ bit_limit
       → Alike (run p (far place opens)) (run p (near place opens))
   unfolding run near far
   run_front (done v) place opens h = (refl, refl, refl, refl, h)

@@ -76,7 +76,7 @@ fn decode_front<'m>(
 }
 
 /// The refusal at this place.
-pub fn refused<'m>(alloc: Global, bit: u64, frames: &Stack<'m>, reason: Reason) -> DecodeError<'m>
+fn refused<'m>(alloc: Global, bit: u64, frames: &Stack<'m>, reason: Reason) -> DecodeError<'m>
     ensures { IsRefusal bit reason (path_of frames.now) result }
 {
     match path_of(alloc, frames) {

@@ -8,5 +8,5 @@ mod goes_on;
 mod list;
 mod sequence;
 
-pub use decoder::{decode, refused};
+pub use decoder::decode;
 pub use error::DecodeError;
