@@ -33,7 +33,7 @@ module _ (m : Syntax) (id : TypeId) (r : Reader) (is : IsNew m id r) (next : Nex
     (light : (fs : List Frame) → IsPendingLight m (pendings.Read id) fs → IsNextLight m next fs)
     (bounded : (place : ℕ) → IsNextBounded place next) where
   pub new_type : type_of r ≡ tree m id.number
-  new_type = ap (λ x. tree x r.id.number) is.module ∙ ap (λ (i : TypeId). tree m i.number) is.id_is
+  new_type = ap (λ x. tree x r.id.number) is.module_is ∙ ap (λ (i : TypeId). tree m i.number) is.id_is
 
   nothing : front r.kept.items ≡ []
   nothing = ap front is.kept
@@ -60,11 +60,11 @@ module _ (m : Syntax) (id : TypeId) (r : Reader) (is : IsNew m id r) (next : Nex
   new_fed =
       let reading : IsReadingAt r.module.now (type_of r) (front r.kept.items) r.spot next r.frames =
       subst (λ (fs : List Frame). IsReadingAt r.module.now (type_of r) (front r.kept.items) r.spot next fs) (sym is.frames)
-      (subst (λ (x : Syntax). IsReadingAt x (type_of r) (front r.kept.items) r.spot next []) (sym is.module)
+      (subst (λ (x : Syntax). IsReadingAt x (type_of r) (front r.kept.items) r.spot next []) (sym is.module_is)
       (subst (λ (t : Tree). IsReadingAt m t (front r.kept.items) r.spot next []) (sym new_type)
       (subst (λ (os : List ℕ). IsReadingAt m (tree m id.number) os r.spot next []) (sym nothing) first_reading))) in
       let stands : Stands r.module.now (length (front r.kept.items)) r.spot next r.frames =
       subst (λ (fs : List Frame). Stands r.module.now (length (front r.kept.items)) r.spot next fs) (sym is.frames)
-      (subst (λ (x : Syntax). Stands x (length (front r.kept.items)) r.spot next []) (sym is.module)
+      (subst (λ (x : Syntax). Stands x (length (front r.kept.items)) r.spot next []) (sym is.module_is)
       (subst (λ (os : List ℕ). Stands m (length os) r.spot next []) (sym nothing) first_stands)) in
       record { reading = reading; stands = stands }

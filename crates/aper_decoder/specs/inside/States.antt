@@ -47,7 +47,7 @@ front octets = take 131073 octets
 
 -- before the first octet
 pub record IsNew (m : Syntax) (id : TypeId) (r : Reader) : Type 0 where
-  pub module : r.module.now ≡ m
+  pub module_is : r.module.now ≡ m
   pub id_is : r.id ≡ id
   pub kept : r.kept.items ≡ []
   pub place : r.spot.place ≡ 0
