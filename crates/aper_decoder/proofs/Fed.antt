@@ -6,7 +6,6 @@ use Rattle.aper_defs.specs.Reading.{Fault}
 use Rattle.aper_feeding_defs.specs.Feeding.{stage, wrong}
 use Rattle.aper_types.specs.Types.{tree}
 use Rattle.aper_values.specs.declared.value.Value.{Value}
-use Rattle.aper_values.specs.Views.{view}
 use Rattle.aper_frames.specs.Frames.{path_of}
 use Rattle.aper_reading.specs.declared.error.DecodeError.{DecodeError}
 use Rattle.aper_reading.specs.declared.error.DecodeError.TheVariants as errors
@@ -30,7 +29,7 @@ module _ (new : Reader) (answer : Result Step DecodeError) (after : State) where
       (subst (λ (a : Result Step DecodeError). UnlessFailed (states.Reading n) a after) e h)
 
   done_then : (v : Value) (used : ℕ) → answer ≡ Ok (steps.Done used) → UnlessFailed (states.Done v used) answer after
-      → seen_after ≡ there (view v)
+      → seen_after ≡ there v
   done_then v used e h =
       ap (λ (s : State). state_view s new.kept.items new.frames)
       (subst (λ (a : Result Step DecodeError). UnlessFailed (states.Done v used) a after) e h)
@@ -65,7 +64,7 @@ feeds old new (states.Reading next) (states.Reading n) after piece answer h a u 
     (record { fault = h.1.fault; is = h.1.is; at = more_then new answer after n a u ∙ ap reading h.1.kept })
 feeds old new (states.Reading next) (states.Done v used) after piece answer h a u =
     subst (Reads (type_of old) old.kept.items piece (state_view after new.kept.items new.frames)) (sym a)
-    (record { value = view v; size = h.1.size; is = h.1.is; used_is = h.1.used_is; within = h.1.within; at = done_then new answer after v used a u })
+    (record { value = v; size = h.1.size; is = h.1.is; used_is = h.1.used_is; within = h.1.within; at = done_then new answer after v used a u })
 feeds old new (states.Reading next) (states.Refused bit reason) after piece answer h a u =
     reads_refused (type_of old) old.kept.items piece (record { bit = bit; reason = reason; path = path_of new.frames })
     (state_view after new.kept.items new.frames) answer h.1 (refused_then new answer after bit reason a u)

@@ -1,9 +1,11 @@
 -- What a decoder that is fed in pieces answers, and what it is at then.
 use Rattle.std.specs.Prelude.{◌≡◌, ℕ, ◌-◌, ◌≤◌, List, ◌++◌, length, Result, Ok, Err}
+use Rattle.asn1_types.specs.declared.definition.TypeId.{TypeId}
+use Rattle.asn1_assignments.specs.declared.assignment.Syntax.{Syntax}
 use Rattle.aper_defs.specs.Trees.{Tree}
-use Rattle.aper_defs.specs.Values as seen
 use Rattle.aper_defs.specs.Reading.{Fault}
 use Rattle.aper_feeding_defs.specs.Feeding.{stage, whole, cut, wrong}
+use Rattle.aper_types.specs.Types.{tree}
 use Rattle.aper_frames.specs.Paths.{path_view}
 use Rattle.aper_values.specs.declared.value.Value.{Value}
 use Rattle.aper_values.specs.Views.{view}
@@ -16,20 +18,24 @@ use Rattle.aper_decoder.specs.declared.decoder.Step.TheVariants as steps
 -- what a decoder is at: the octets that it keeps, after which more are awaited; the value; the refusal; or out of memory.
 pub data Feeding : Type 0 where
   reading : (kept : List ℕ) → Feeding
-  there : (v : seen.Value) → Feeding
+  there : (v : Value) → Feeding
   refused : (fault : Fault) → Feeding
   failed : Feeding
 
--- A decoder as its callers see it: the type, and what it is at.
+-- A decoder as its callers see it: a type of a module, and what it is at.
 pub record Decoding : Type 0 where
-  pub tree : Tree
+  pub types : Syntax
+  pub id : TypeId
   pub now : Feeding
+
+abbrev pub tree_of : Decoding → Tree
+tree_of d = tree d.types d.id.number
 
 -- The value is there, and ends after so many octets of the piece.
 pub record Completes (t : Tree) (kept piece : List ℕ) (used : ℕ) (after : Feeding) : Type 0 where
-  pub value : seen.Value
+  pub value : Value
   pub size : ℕ
-  pub is : stage t (kept ++ piece) ≡ whole value size
+  pub is : stage t (kept ++ piece) ≡ whole (view value) size
   pub used_is : used ≡ size - length kept
   pub within : used ≤ length piece
   pub at : after ≡ there value
@@ -50,7 +56,7 @@ Reads t kept piece after (Err (errors.Refused bit reason path)) =
 Reads t kept piece after (Err errors.Memory) = after ≡ failed
 
 -- after the value
-abbrev pub StaysThere : seen.Value → (after : Feeding) → Result Step DecodeError → Type 0
+abbrev pub StaysThere : Value → (after : Feeding) → Result Step DecodeError → Type 0
 StaysThere v after result = (result ≡ Ok (steps.Done 0)) × (after ≡ there v)
 
 -- after a refusal
@@ -73,13 +79,10 @@ RefusesStill fault (Err (errors.Refused bit reason path)) =
     fault ≡ record { bit = bit; reason = reason; path = path_view path.items }
 RefusesStill fault (Err errors.Memory) = Unit {0}
 
-abbrev pub IsValue : seen.Value → Result Value DecodeError → Type 0
-IsValue v (Ok value) = view value ≡ v
-IsValue v (Err error) = ⊥
 
 -- The end of all pieces: what the octets that are kept give as a whole.
 abbrev pub Finishes : Tree → Feeding → Result Value DecodeError → Type 0
 Finishes t (reading kept) result = Decodes t kept result
-Finishes t (there v) result = IsValue v result
+Finishes t (there v) result = result ≡ Ok v
 Finishes t (refused fault) result = RefusesStill fault result
 Finishes t failed result = result ≡ Err errors.Memory

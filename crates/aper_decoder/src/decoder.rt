@@ -6,7 +6,7 @@ ghost use Rattle.aper_defs.specs.declared.reason.Reason.TheVariants as reasons;
 ghost use Rattle.aper_frames.specs.Frames.{path_of};
 ghost use Rattle.aper_reading.specs.Decoding.{Decodes};
 ghost use Rattle.aper_reading.specs.Turns.{IsRefusal};
-ghost use Rattle.aper_decoder.specs.Feeding.{reading, Feeds, Finishes};
+ghost use Rattle.aper_decoder.specs.Feeding.{reading, tree_of, Feeds, Finishes};
 ghost use Rattle.aper_decoder.specs.inside.Reading.{end_of};
 ghost use Rattle.aper_decoder.specs.inside.States.{type_of, front, IsFed, IsStateSound, IsSameType, IsNew, PieceEnds, StateAfter, IsStateOf, ReadsPiece, Advances, Answers, UnlessFailed, FinishesState, Gives};
 
@@ -66,10 +66,14 @@ pub struct Decoder<'m> {
 }
 
 impl<'m> Model for Decoder<'m> {
+    ghost use Rattle.std.specs.Coded.{codes};
+    ghost use Rattle.aper_values.specs.contracts.value.Value as value;
     ghost use Rattle.aper_decoder.specs.Feeding.{Decoding};
     ghost use Rattle.aper_decoder.specs.inside.States.{decoding_of, IsSound};
 
     ghost Value = { Decoding };
+
+    ghost coded = { Prim.hlevel (codes, value.the_row.coded) };
 
     ghost view = { decoding_of };
 
@@ -80,7 +84,7 @@ impl<'m> Decoder<'m> {
     /// A decoder of a value of this type, without octets.
     pub fn new(alloc: Global, module: &'m Module, id: TypeId) -> Decoder<'m>
         requires { id.number < length module.now.nodes }
-        ensures { result ≡ record { tree = tree module.now id.number; now = reading [] } }
+        ensures { result ≡ record { types = module.now; id = id; now = reading [] } }
     {
         Decoder {
             reader: Reader::new(alloc, module, id),
@@ -90,8 +94,9 @@ impl<'m> Decoder<'m> {
 
     /// One more piece.
     pub fn feed(&mut self, piece: &[u8]) -> Result<Step, DecodeError<'m>>
-        ensures tree { self.new.tree ≡ self.old.tree }
-        ensures answer { Feeds self.old.tree self.old.now piece.now self.new.now result }
+        ensures types { self.new.types ≡ self.old.types }
+        ensures id { self.new.id ≡ self.old.id }
+        ensures answer { Feeds (tree_of self.old) self.old.now piece.now self.new.now result }
     {
         let before = std::mem::replace(&mut self.state, State::Failed);
         let state = self.reader.advance(before, piece);
@@ -102,7 +107,7 @@ impl<'m> Decoder<'m> {
 
     /// The value that all pieces gave, or the first wrong field of the octets.
     pub fn finish(self) -> Result<Value, DecodeError<'m>>
-        ensures { Finishes self.tree self.now result }
+        ensures { Finishes (tree_of self.entry) self.entry.now result }
     {
         finished(self.reader, self.state)
     }

@@ -31,7 +31,7 @@ use Rattle.aper_decoder.specs.inside.Reading.{Stands, IsReadingAt, IsEnd, Stands
 
 abbrev pub state_view : State → List ℕ → List Frame → Feeding
 state_view (states.Reading next) kept fs = reading kept
-state_view (states.Done v used) kept fs = there (view v)
+state_view (states.Done v used) kept fs = there v
 state_view (states.Refused bit reason) kept fs = refused (record { bit = bit; reason = reason; path = path_of fs })
 state_view states.Failed kept fs = failed
 
@@ -39,7 +39,7 @@ abbrev pub type_of : Reader → Tree
 type_of r = tree r.module.now r.id.number
 
 abbrev pub decoding_of : Inside → Decoding
-decoding_of d = record { tree = type_of d.reader; now = state_view d.state d.reader.kept.items d.reader.frames }
+decoding_of d = record { types = d.reader.module.now; id = d.reader.id; now = state_view d.state d.reader.kept.items d.reader.frames }
 
 -- what is looked at
 abbrev pub front : List ℕ → List ℕ
