@@ -5,4 +5,4 @@ mod decoder;
 mod spot;
 mod turns;
 
-pub use decoder::{Decoder, Step};
+pub use decoder::{Decoder, Step, decode};
