@@ -1,11 +1,10 @@
 -- Before the first octet.
-use Rattle.std.proofs.Common.{◌≡◌, ℕ, ◌+◌, ◌*◌, ◌<◌, ◌≤◌, List, [], length, take, map, refl, sym, ap, subst, ◌∙◌, arith}
+use Rattle.std.proofs.Common.{◌≡◌, ℕ, ◌*◌, ◌<◌, List, [], length, map, sym, ap, subst, ◌∙◌, arith}
 use Rattle.std.specs.Prelude.{reverse}
 use Rattle.asn1_assignments.specs.declared.assignment.Syntax.{Syntax}
 use Rattle.asn1_types.specs.declared.definition.TypeId.{TypeId}
 use Rattle.aper_defs.specs.Trees.{Tree}
 use Rattle.aper_defs.specs.Questions.{Prog}
-use Rattle.aper_defs.specs.Asking.{asks_whole}
 use Rattle.aper_defs.specs.Reading.{Cursor, at_first}
 use Rattle.aper_cursor.specs.declared.cursor.Span.{Span}
 use Rattle.aper_cursor.specs.Spans.{span_view}
@@ -19,7 +18,6 @@ use Rattle.aper_proof_resuming.specs.Reading.{IsReading}
 use Rattle.aper_proof_resuming.proofs.Turned.{at_beginning}
 use Rattle.aper_steps.specs.declared.step.Next.{Next}
 use Rattle.aper_steps.specs.Steps.{next_left, IsPendingLight, IsNextLight, IsNextBounded}
-use Rattle.aper_decoder.specs.declared.spot.Spot.{Spot}
 use Rattle.aper_decoder.specs.declared.decoder.Reader.{Reader}
 use Rattle.aper_decoder.specs.inside.Reading.{cursor_at, Stands, IsReadingAt}
 use Rattle.aper_decoder.specs.inside.States.{type_of, front, IsNew, IsFed}

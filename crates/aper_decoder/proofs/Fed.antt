@@ -1,5 +1,5 @@
 -- What is answered to a piece, and what a decoder is at then.
-use Rattle.std.proofs.Common.{◌≡◌, ℕ, ◌<◌, List, ◌++◌, length, Result, Ok, Err, refl, sym, ap, subst, ◌∙◌}
+use Rattle.std.proofs.Common.{◌≡◌, ℕ, ◌<◌, List, ◌++◌, length, Result, Ok, Err, sym, ap, subst, ◌∙◌}
 use Rattle.aper_defs.specs.declared.reason.Reason.{Reason}
 use Rattle.aper_defs.specs.Trees.{Tree}
 use Rattle.aper_defs.specs.Reading.{Fault}

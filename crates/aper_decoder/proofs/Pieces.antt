@@ -1,5 +1,5 @@
 -- One more piece.
-use Rattle.std.proofs.Common.{◌≡◌, ℕ, ◌-◌, ◌*◌, ◌/◌, ◌≤◌, List, ◌++◌, length, take, Result, Ok, Err, refl, sym, ap, subst, ◌∙◌, arith, length-append}
+use Rattle.std.proofs.Common.{◌≡◌, ℕ, ◌-◌, ◌/◌, List, ◌++◌, length, take, Result, Ok, Err, refl, sym, ap, subst, ◌∙◌, arith, length-append}
 use Rattle.std.specs.Prelude.{IfOk}
 use Rattle.asn1_assignments.specs.declared.assignment.Syntax.{Syntax}
 use Rattle.gnb_types.specs.declared.items.Memory.{Memory}
@@ -22,7 +22,7 @@ use Rattle.aper_decoder.specs.declared.decoder.Reader.{Reader}
 use Rattle.aper_decoder.specs.declared.decoder.State.{State}
 use Rattle.aper_decoder.specs.declared.decoder.State.TheVariants as states
 use Rattle.aper_decoder.specs.inside.Reading.{cursor_at, Stands, IsReadingAt, IsEnd, StandsThen}
-use Rattle.aper_decoder.specs.inside.States.{type_of, front, IsFed, IsSameType, PieceEnds, Cuts, Ends, StateAfter, ReadsPiece}
+use Rattle.aper_decoder.specs.inside.States.{type_of, front, IsFed, IsSameType, PieceEnds, Ends, StateAfter, ReadsPiece}
 use Rattle.aper_decoder.proofs.Front.{front_stage, more_front, front_grows, front_short}
 
 module _ (m : Syntax) (t : Tree) (kept piece octets : List ℕ) (is : octets ≡ front (kept ++ piece)) (spot : Spot) (next : Next) (fs : List Frame) where

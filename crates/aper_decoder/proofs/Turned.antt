@@ -1,10 +1,10 @@
 -- One turn.
-use Rattle.std.proofs.Common.{◌≡◌, ℕ, ◌*◌, ◌≤◌, List, [], ◌++◌, length, Result, Ok, Err, refl, sym, ap, subst, ◌∙◌, append-nil}
+use Rattle.std.proofs.Common.{◌≡◌, ℕ, ◌*◌, ◌≤◌, List, [], length, Result, Ok, Err, sym, ap, subst, ◌∙◌, append-nil}
 use Rattle.std.specs.Prelude.{IfOk}
 use Rattle.asn1_assignments.specs.declared.assignment.Syntax.{Syntax}
 use Rattle.gnb_types.specs.declared.items.Memory.{Memory}
 use Rattle.aper_defs.specs.Trees.{Tree}
-use Rattle.aper_defs.specs.Reading.{Cursor, run}
+use Rattle.aper_defs.specs.Reading.{Cursor}
 use Rattle.aper_proof_followed.proofs.Shut.{octets_kept}
 use Rattle.aper_types.specs.Types.{tree}
 use Rattle.aper_values.specs.declared.value.Value.{Value}

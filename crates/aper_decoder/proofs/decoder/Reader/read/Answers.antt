@@ -1,4 +1,4 @@
-use Rattle.std.proofs.Common.{◌≡◌, ◌++◌, length, ap, subst}
+use Rattle.std.proofs.Common.{◌≡◌, ◌++◌, subst}
 use Rattle.std.specs.Prelude.{IfOk}
 use Rattle.aper_decoder.specs.inside.States.{PieceEnds, StateAfter}
 use Rattle.aper_decoder.proofs.Pieces.{reads_piece}

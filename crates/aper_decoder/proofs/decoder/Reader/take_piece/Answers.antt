@@ -1,4 +1,4 @@
-use Rattle.std.proofs.Common.{◌≡◌, ◌++◌, sym, ap, ◌∙◌}
+use Rattle.std.proofs.Common.{◌≡◌, ◌++◌, ap, ◌∙◌}
 use Rattle.aper_decoder.specs.declared.decoder.Reader.{Reader}
 use Rattle.aper_decoder.specs.inside.Reading.{IsReadingAt}
 use Rattle.aper_decoder.specs.inside.States.{type_of, front}
