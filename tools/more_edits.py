@@ -33,7 +33,7 @@ QUICK_LINES = 45
 DAYS_STEP = 50
 PARTS = ("src", "specs", "proofs")
 FUNCTION = re.compile(r"( *)(?:pub(?:\([a-z ]+\))? )?(?:const )?fn (\w+)")
-IMPLEMENTATION = re.compile(r"impl(?:<.*?>)? (?:(\w[\w:]*)(?:<(.*)>)? for )?&?(\w[\w:]*)")
+IMPLEMENTATION = re.compile(r"impl(?:<(.*?)>)? (?:(\w[\w:]*)(?:<(.*)>)? for )?&?(\w[\w:]*)")
 
 
 class Function:
@@ -85,8 +85,10 @@ def owner_of(implementation):
     """What a check calls the type of an `impl` line, with the trait and the types that this is of: `MemoryFromAllocError::`."""
     if not implementation:
         return ""
-    trait, arguments, owner = (it or "" for it in implementation.groups())
-    return "".join([owner.split("::")[-1], trait.split("::")[-1], *re.findall(r"(?<!')\b[A-Z]\w*", arguments)]) + "::"
+    own, trait, arguments, owner = (it or "" for it in implementation.groups())
+    parameters = {parameter.split(":")[0].strip() for parameter in own.split(",")}
+    given = [argument for argument in re.findall(r"(?<!')\b[A-Z]\w*", arguments) if argument not in parameters]
+    return "".join([owner.split("::")[-1], trait.split("::")[-1], *given]) + "::"
 
 
 def functions_in(folder, path):
