@@ -18,14 +18,12 @@ use Rattle.aper_proof_places.proofs.PlacedAll.{placed}
 use Rattle.aper_proof_values.proofs.Found.{Ends, found_ask}
 use Rattle.aper_proof_values.proofs.FoundBits.{units_are}
 use Rattle.aper_proof_values.proofs.FoundValues.{found}
-use Rattle.aper_proof_values.proofs.FoundWhole.{decoded_spells}
 use Rattle.aper_proof_spelled.proofs.Spelled.{spelled_decoded}
 use Rattle.aper_loose_defs.specs.Loose.{LooseWhole}
 use Rattle.aper_loose_defs.specs.Wrong.{AllAgree, place_after, IsWrongFor, way_of, WrongAt}
 use Rattle.aper_loose_defs.specs.Sets.{HasSets}
 use Rattle.aper_proof_loose.proofs.Determined.{is_ask, limit_after}
-use Rattle.law_aper_wrong.proofs.WrongPlaces.{none_further, closed_room, wrong_found}
-use Rattle.law_aper_refusals.specs.Told.{Tells}
+use Rattle.aper_proof_refused.proofs.WrongPlaces.{none_further, closed_room}
 use Rattle.aper_proof_alive.proofs.Allowed.{allowed}
 use Rattle.aper_proof_alive.proofs.Steps.{Steps, joined_is, parted_ask, parted_take}
 use Rattle.aper_proof_alive.proofs.Alive.{Live}
@@ -314,18 +312,3 @@ refused_wrong t octets fault b sets e = go (run (asks_whole t) (at_first octets)
         stuck_wrong t octets fault b e
         (stuck (asks_whole t) (at_first octets) fault (omega arith) (always_whole t sets 0 (omega arith))
         (is ∙ ap (λ (z : Fault). let r : Result (Value × Cursor) Fault = Err z in r) (same_fault f fault h)))
-
--- ---- what octets tell
-pub told : (t : Tree) (octets : List ℕ) (r : Result Value Fault) → IsBounded t → HasSets t → decoded t octets ≡ r → Tells t octets r
-told t octets (Ok v) b sets e = decoded_spells t v octets b e
-told t octets (Err fault) b sets e = refused_wrong t octets fault b sets e
-
-pub tells : (t : Tree) (octets : List ℕ) (r : Result Value Fault) → IsBounded t → Tells t octets r → decoded t octets ≡ r
-tells t octets (Ok v) b h = spelled_decoded t v octets b h
-tells t octets (Err fault) b h = wrong_found t octets fault b h
-
-pub tells_one : (t : Tree) (octets : List ℕ) (r s : Result Value Fault) → IsBounded t → Tells t octets r → Tells t octets s → r ≡ s
-tells_one t octets r s b h k = sym (tells t octets r b h) ∙ tells t octets s b k
-
-pub tells_some : (t : Tree) (octets : List ℕ) → IsBounded t → HasSets t → (r : Result Value Fault) × Tells t octets r
-tells_some t octets b sets = (decoded t octets, told t octets (decoded t octets) b sets refl)
