@@ -90,12 +90,13 @@ module _ (of : ℕ → Tree) where
 
   is_new : (id : ℕ) (rows : List IeRow) → has_slot id (slots (rows_of of rows)) ≡ false → IsNew id (map ie_id rows)
   is_new id [] h = tt
-  is_new id (row ∷ rows) h = go (row.id == id) refl h
+  is_new id (row ∷ rows) h = go (row.id == id) refl h (λ g. is_new id rows g)
     where
       go : (b : Bool) → (row.id == id) ≡ b → cond b true (has_slot id (slots (rows_of of rows))) ≡ false
+          → (has_slot id (slots (rows_of of rows)) ≡ false → IsNew id (map ie_id rows))
           → (row.id ≡ id → ⊥) × IsNew id (map ie_id rows)
-      go true e g = absurd (true_not_false g)
-      go false e g = (not_same row.id id e, is_new id rows g)
+      go true e g more = absurd (true_not_false g)
+      go false e g more = (not_same row.id id e, more g)
 
   own_ids : (rows : List IeRow) → RowsWithin rows → AreOwnIds (slots (rows_of of rows))
   own_ids [] h = tt
