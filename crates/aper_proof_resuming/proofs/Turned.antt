@@ -1,15 +1,14 @@
 -- The turns of a decoder, from the first one to where they end, and with more octets.
-use Rattle.std.proofs.Common.{◌≡◌, ℕ, ◌/◌, List, [], ◌++◌, Ok, Err, refl, sym, ap, ◌∙◌, append_assoc, append-nil}
+use Rattle.std.proofs.Common.{◌≡◌, ℕ, List, [], ◌++◌, Result, Ok, Err, refl, sym, ap, ◌∙◌, append_assoc, append-nil}
 use Rattle.aper_defs.specs.declared.reason.Reason.{Reason}
 use Rattle.aper_defs.specs.Trees.{Tree}
 use Rattle.aper_defs.specs.Values.{Value}
 use Rattle.aper_defs.specs.Fields.{Path}
 use Rattle.aper_defs.specs.Questions.{Prog}
 use Rattle.aper_defs.specs.Asking.{asks_whole}
-use Rattle.aper_defs.specs.Reading.{Cursor, at_first, run}
+use Rattle.aper_defs.specs.Reading.{Cursor, Fault, at_first, run}
 use Rattle.aper_proof_pieces.specs.Onto.{onto}
 use Rattle.aper_asking.specs.Going.{fault_at}
-use Rattle.aper_feeding_defs.specs.Feeding.{stage, stage_of, whole, refused_for}
 use Rattle.aper_proof_resuming.specs.Reading.{IsReading}
 
 no_more : (c : Cursor) → onto [] c ≡ c
@@ -40,15 +39,17 @@ module _ (t : Tree) (kept : List ℕ) (c : Cursor) (left : Prog) (r : IsReading 
   turned rest d same asked = record { octets = same ∙ r.octets; asked = λ more. r.asked more ∙ asked more }
 
   -- the value is there
-  pub ended : (v : Value) (d : Cursor) → ((more : List ℕ) → run left (onto more c) ≡ Ok (v, onto more d))
-      → stage t kept ≡ whole v (d.place / 8)
-  ended v d asked =
-      ap (λ (os : List ℕ). stage t os) (sym (append-nil kept))
-      ∙ ap stage_of (r.asked [] ∙ asked [])
+  pub ended : (v : Value) (d : Cursor) → d.octets ≡ c.octets → ((more : List ℕ) → run left (onto more c) ≡ Ok (v, onto more d))
+      → run (asks_whole t) (at_first kept) ≡ Ok (v, record { octets = kept; place = d.place; opens = d.opens })
+  ended v d same asked =
+      ap (λ (os : List ℕ). run (asks_whole t) (at_first os)) (sym (append-nil kept))
+      ∙ r.asked [] ∙ asked []
+      ∙ ap (λ (os : List ℕ). (let f : Result (Value × Cursor) Fault = Ok (v, record { octets = os; place = d.place; opens = d.opens }) in f))
+      (append-nil d.octets ∙ same ∙ r.octets)
 
   -- the octets are wrong, or end here
   pub stopped : (reason : Reason) (way : Path) (d : Cursor) → run left c ≡ Err (fault_at d reason way)
-      → stage t kept ≡ refused_for reason (fault_at d reason way)
+      → run (asks_whole t) (at_first kept) ≡ Err (fault_at d reason way)
   stopped reason way d wrong =
-      ap (λ (os : List ℕ). stage t os) (sym (append-nil kept))
-      ∙ ap stage_of (r.asked [] ∙ ap (run left) (no_more c) ∙ wrong)
+      ap (λ (os : List ℕ). run (asks_whole t) (at_first os)) (sym (append-nil kept))
+      ∙ r.asked [] ∙ ap (run left) (no_more c) ∙ wrong

@@ -33,7 +33,7 @@ use Rattle.aper_steps.specs.declared.step.Onward.{Onward}
 use Rattle.aper_steps.specs.declared.step.Onward.TheVariants as onwards
 use Rattle.aper_steps.specs.declared.step.Halted.TheVariants as halts
 use Rattle.aper_steps.specs.Steps.{string_value, next_left, IsPendingLight, IsNextLight, IsNextBounded, TakesStep, OnNext, IsProgressInside, IsOnward, halted_by}
-use Rattle.aper_steps.proofs.Begun.{reads_inside}
+use Rattle.aper_steps.proofs.Strings.{reads_inside}
 
 -- ---- turns
 module _ (m : Syntax) (pending : Pending) (old new : Cursor) (before fs : List Frame) where

@@ -4,4 +4,4 @@
 
 mod step;
 
-pub use step::{Halted, Next, Onward, take_step};
+pub use step::{Halted, Next, Onward, begun, take_step};

@@ -113,7 +113,7 @@ fn halted_by<'m>(stopped: Stopped<'m>) -> Halted<'m>
 }
 
 /// What comes next, where a string begins too.
-fn begun<'m>(alloc: Global, m: &Module, pending: Pending<'m>) -> Next<'m>
+pub fn begun<'m>(alloc: Global, m: &Module, pending: Pending<'m>) -> Next<'m>
     requires { IsPendingInside (length m.now.nodes) pending }
     ensures same { (fs : List Frame) → next_left (tree m.now) result fs ≡ left (tree m.now) pending.entry fs }
     ensures light { (fs : List Frame) → IsPendingLight m.now pending.entry fs → IsNextLight m.now result fs }

@@ -1,4 +1,4 @@
-use Rattle.aper_steps.proofs.Begun.{begun_light}
+use Rattle.aper_steps.proofs.Strings.{begun_light}
 use Rattle.aper_steps.proofs.step.begun.Goals as goal
 
 pub returns-clause-light : goal.returns-clause-light

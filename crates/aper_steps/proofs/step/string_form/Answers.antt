@@ -1,4 +1,4 @@
-use Rattle.aper_steps.proofs.Begun.{bits_form, octets_form, characters_form}
+use Rattle.aper_steps.proofs.Strings.{bits_form, octets_form, characters_form}
 use Rattle.aper_steps.proofs.step.string_form.Goals as goal
 
 pub returns-in-BitString : goal.returns-in-BitString

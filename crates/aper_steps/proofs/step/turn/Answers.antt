@@ -1,6 +1,6 @@
 use Rattle.std.proofs.Common.{subst}
 use Rattle.aper_resuming.specs.Turns.{Lessens}
-use Rattle.aper_steps.proofs.Begun.{reads_inside}
+use Rattle.aper_steps.proofs.Strings.{reads_inside}
 use Rattle.aper_steps.proofs.Taken.{turn_inside}
 use Rattle.aper_steps.proofs.step.turn.Goals as goal
 
