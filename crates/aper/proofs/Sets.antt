@@ -18,7 +18,7 @@ use Rattle.asn1_module.specs.Module.{find_type, ie_rows, ie_rows_of, procedure_r
 use Rattle.asn1_module.specs.Targets.{definition_at, all_of}
 use Rattle.asn1_bounds_laws.specs.Proper.{Each, IsNew, AreOnce, ie_id, IsBodyWithin}
 use Rattle.asn1_bounds_laws.proofs.ModuleBounds.{proper}
-use Rattle.aper_defs.specs.Trees.{Tree, Slot, slots, has_slot}
+use Rattle.aper_defs.specs.Trees.{Tree, slots, has_slot}
 use Rattle.aper_loose_defs.specs.Sets.{AreOwnIds, IsSet, LeavesId, EachSet, EachSetOfParts, EachSetOfRows, EachSetOfProcedures, EachSetOfOutcome, HasSets, LeavesIds}
 use Rattle.aper_proof_answers.proofs.NumberFacts.{by_cases, below, not_below, same, is_same}
 use Rattle.aper_types.specs.Types.{parts_of, rows_of, outcome_of, procedures_of, named_tree, definition_tree, tree_by, tree}
