@@ -12,18 +12,17 @@ use Rattle.asn1_assignments.specs.declared.assignment.Body.{Body}
 use Rattle.asn1_assignments.specs.declared.assignment.IeRow.{IeRow}
 use Rattle.asn1_assignments.specs.declared.assignment.ProcedureRow.{ProcedureRow}
 use Rattle.asn1_assignments.specs.declared.assignment.Assignment.{Assignment}
-use Rattle.asn1_graph.specs.Graph.{number_of}
+use Rattle.asn1_assignments.specs.Index.{number_of}
 use Rattle.asn1_assignments.specs.declared.assignment.Syntax.{Syntax}
 use Rattle.asn1_module.specs.Links.{IesBelow, ProceduresBelow}
 use Rattle.asn1_module.specs.Module.{type_of, find_type, ie_rows_of, ie_rows, procedure_rows_of, procedure_rows, IsModule}
 use Rattle.asn1_module.specs.Targets.{definition_of, definition_at, all_of, referred, element_rows, message_rows}
-use Rattle.asn1_module.specs.Numbers.{number_in, all_numbers, numbers_in, body_at, found_in}
+use Rattle.asn1_graph.specs.Numbers.{number_in, all_numbers, numbers_in}
+use Rattle.asn1_module.specs.Numbers.{body_at, found_in}
+use Rattle.asn1_graph.proofs.NumberLemmas.{length-all_numbers}
+use Rattle.asn1_module.specs.declared.names.Kind.{Kind}
+use Rattle.asn1_module.specs.Names.{kind_of_body, kind_of_name}
 use Rattle.asn1_module.proofs.Facts.{type_below, ies_below, procedures_below}
-
-pub length-all_numbers : (assignments : List Assignment) (nodes : List Node) → length (all_numbers assignments nodes) ≡ length nodes
-unfolding all_numbers
-length-all_numbers assignments [] = refl
-length-all_numbers assignments (node ∷ nodes) = ap suc (length-all_numbers assignments nodes)
 
 pub number_at : (assignments : List Assignment) (nodes : List Node) (i : ℕ) (d : Option ℕ) → i < length nodes
     → get_or (all_numbers assignments nodes) i d ≡ number_in assignments (definition_of (slice_get nodes i))
@@ -81,6 +80,23 @@ unfolding procedure_rows found
 procedures_found name [] = refl
 procedures_found name (a ∷ assignments) =
     ap (λ (o : Option (List ProcedureRow)). cond (is_text a.name name) (procedure_rows_of a.body) o) (procedures_found name assignments)
+
+kinds_found : (name : List ℕ) (assignments : List Assignment)
+    → kind_of_name name assignments ≡ found (λ (body : Body). Some (kind_of_body body)) name assignments
+unfolding kind_of_name found
+kinds_found name [] = refl
+kinds_found name (a ∷ assignments) =
+    ap (λ (o : Option Kind). cond (is_text a.name name) (Some (kind_of_body a.body)) o) (kinds_found name assignments)
+
+pub kind_numbered : (name : List ℕ) (assignments : List Assignment)
+    → kind_of_name name assignments ≡ option_map kind_of_body (body_at assignments (number_of name assignments))
+kind_numbered name assignments =
+    kinds_found name assignments ∙ found_numbered (λ (body : Body). Some (kind_of_body body)) name assignments
+    ∙ same (body_at assignments (number_of name assignments))
+  where
+    same : (o : Option Body) → found_in (λ (body : Body). Some (kind_of_body body)) o ≡ option_map kind_of_body o
+    same None = refl
+    same (Some body) = refl
 
 pub type_numbered : (name : List ℕ) (assignments : List Assignment)
     → find_type name assignments ≡ found_in type_of (body_at assignments (number_of name assignments))

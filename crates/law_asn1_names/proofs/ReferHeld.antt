@@ -8,8 +8,9 @@ use Rattle.asn1_types.specs.declared.definition.Definition.{Definition}
 use Rattle.asn1_types.specs.declared.definition.Node.{Node}
 use Rattle.asn1_assignments.specs.declared.assignment.Assignment.{Assignment}
 use Rattle.asn1_assignments.specs.declared.assignment.Syntax.{Syntax}
+use Rattle.asn1_assignments.specs.Index.{number_of}
 use Rattle.asn1_module.specs.asn1_graph.declared.graph.Edge.{Edge}
-use Rattle.asn1_module.specs.asn1_graph.Graph.{edge, number_of, numbered_edges, node_edges, nodes_edges, parts_edges, vertex_count, edges_of}
+use Rattle.asn1_module.specs.asn1_graph.Graph.{edge, numbered_edges, node_edges, nodes_edges, parts_edges, vertex_count, edges_of}
 use Rattle.asn1_module.specs.asn1_graph.Paths.{IsAmong, IsStep, Leads, first, further}
 use Rattle.asn1_module.specs.Links.{IsLinked}
 use Rattle.law_asn1_names.specs.Held.{Mention, Given, HoldsName, Refers, directly, further as and_further}

@@ -14,8 +14,9 @@ use Rattle.asn1_types.specs.declared.definition.Node.{Node}
 use Rattle.asn1_types.specs.Members.{additions_of}
 use Rattle.asn1_assignments.specs.declared.assignment.Assignment.{Assignment}
 use Rattle.asn1_assignments.specs.declared.assignment.Syntax.{Syntax}
+use Rattle.asn1_assignments.specs.Index.{number_of}
 use Rattle.asn1_module.specs.asn1_graph.declared.graph.Edge.{Edge}
-use Rattle.asn1_module.specs.asn1_graph.Graph.{edge, number_of, member_edges, numbered_edges, node_edges, nodes_edges, range_edges, parts_edges, vertex_count, edges_of}
+use Rattle.asn1_module.specs.asn1_graph.Graph.{edge, member_edges, numbered_edges, node_edges, nodes_edges, range_edges, parts_edges, vertex_count, edges_of}
 use Rattle.asn1_module.specs.asn1_graph.Paths.{IsAmong, IsStep, Leads, first, further}
 use Rattle.asn1_module.specs.declared.names.Kind.TheVariants as kinds
 use Rattle.asn1_module.specs.Links.{AreBelow, PartsBelow, IsInside, AreOrdered, IsLinked}
