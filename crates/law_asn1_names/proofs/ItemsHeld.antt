@@ -1,6 +1,6 @@
 -- Numbers, sizes and lists of names hold no name of upper form.
-use Rattle.std.proofs.Common.{◌≡◌, ℕ, List, [], ◌∷◌, refl}
-use Rattle.std.specs.Prelude.{Bool, Option, Some, None, ℤ, pos}
+use Rattle.std.proofs.Common.{ℕ, List, [], refl}
+use Rattle.std.specs.Prelude.{Bool, Option, ℤ, pos}
 use Rattle.asn1_tokens.specs.declared.token.Word.TheVariants as words
 use Rattle.asn1_tokens.specs.declared.token.Sign.TheVariants as signs
 use Rattle.asn1_tokens.specs.declared.token.Token.TheVariants as tokens

@@ -1,5 +1,5 @@
 -- The assignments that a module's items give are its assignments, and what these hold is what the types in them refer by.
-use Rattle.std.proofs.Common.{◌≡◌, ℕ, zero, suc, ◌+◌, ◌-◌, ◌<◌, ◌≤◌, List, [], ◌∷◌, ◌++◌, length, take, drop, cond, refl, sym, ap, ◌∙◌, subst, append_assoc, append-nil, arith, length-append}
+use Rattle.std.proofs.Common.{◌≡◌, ℕ, zero, suc, ◌-◌, ◌<◌, ◌≤◌, List, [], ◌∷◌, ◌++◌, length, take, drop, cond, refl, sym, ap, ◌∙◌, subst, append_assoc, append-nil, arith, length-append}
 use Rattle.std.specs.Prelude.{Option, Some, None, slice_get}
 use Rattle.asn1_tokens.specs.declared.token.Word.TheVariants as words
 use Rattle.asn1_tokens.specs.declared.token.Sign.TheVariants as signs
@@ -18,7 +18,7 @@ use Rattle.asn1_module.specs.Names.{kind_of_body, kind_of_name, is_such, is_know
 use Rattle.asn1_value_laws.specs.Items.{The, start_of}
 use Rattle.asn1_value_laws.specs.Module.{MeansBody, a_type, ie_set, procedure_set, MeansAssignments, none, one, MeansModule, a_module}
 use Rattle.law_asn1_names.specs.Held.{Mention, Given, given_kind, held, givens, all_held, given_of, first_not_given, unknown_in}
-use Rattle.law_asn1_names.proofs.Passing.{Passes, ◌then◌, plain_passed, sign_passed, upper_passed, name_given, name_ends, end_ends, begins_with_the, mention_of, mentions_of, mentions-append, IsFrom, AreFrom, Grown, later_grown}
+use Rattle.law_asn1_names.proofs.Passing.{◌then◌, plain_passed, sign_passed, upper_passed, name_given, name_ends, end_ends, begins_with_the, mention_of, mentions_of, mentions-append, IsFrom, AreFrom, Grown, later_grown}
 use Rattle.law_asn1_names.proofs.TypesHeld.{types_held}
 use Rattle.law_asn1_names.proofs.RowsHeld.{ies_held, procedures_held}
 

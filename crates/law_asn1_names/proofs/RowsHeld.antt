@@ -1,7 +1,6 @@
 -- The items of sets hold the names by which the types in their rows refer.
-use Rattle.std.proofs.Common.{◌≡◌, ℕ, List, [], ◌∷◌, ◌++◌, false, refl, sym, ap, ◌∙◌}
-use Rattle.std.specs.Prelude.{Option, Some, None, pos}
-use Rattle.asn1_tokens.specs.declared.token.Word.{Word}
+use Rattle.std.proofs.Common.{◌≡◌, List, refl}
+use Rattle.std.specs.Prelude.{Option, None, pos}
 use Rattle.asn1_tokens.specs.declared.token.Word.TheVariants as words
 use Rattle.asn1_tokens.specs.declared.token.Sign.TheVariants as signs
 use Rattle.asn1_tokens.specs.declared.token.Token.TheVariants as tokens
@@ -13,7 +12,6 @@ use Rattle.asn1_assignments.specs.declared.assignment.Presence.{Presence}
 use Rattle.asn1_assignments.specs.declared.assignment.IeRow.{IeRow}
 use Rattle.asn1_assignments.specs.declared.assignment.ProcedureRow.{ProcedureRow}
 use Rattle.asn1_module.specs.declared.names.Kind.TheVariants as kinds
-use Rattle.asn1_value_laws.specs.Items.{The}
 use Rattle.asn1_value_laws.specs.Rows.{ACriticality, criticality, APresence, presence, AnIe, ie, Outcome, outcome, no_outcome, AProcedure, procedure, Rows, last, more}
 use Rattle.law_asn1_names.specs.Held.{given_kind}
 use Rattle.law_asn1_names.proofs.Passing.{◌then◌, plain_passed, sign_passed, begins_with_the, Grown, not_grown, later_grown, grown_then, grown_both, none_passed}
