@@ -7,5 +7,5 @@ returns-then-contains_key c = stays_noted c.args.self.now c.args.name.now c.args
 
 pub returns : goal.returns
 returns c =
-    key_noted c.args.self.now _ c.args.name.now c.in_ok-name.name c.args.number c.in_ok-name.ensures
+    key_noted c.args.self.now (record { numbers = c.insert.new.self }) c.args.name.now c.in_ok-name.name c.args.number c.in_ok-name.ensures.items
     (sym c.contains_key.ensures ∙ c.if-contains_key.false) c.in_ok-insert.ensures.updates
