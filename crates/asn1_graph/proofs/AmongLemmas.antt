@@ -1,6 +1,5 @@
 -- Steps that are among others.
-use Rattle.std.proofs.Common.{◌≡◌, ℕ, zero, suc, ◌+◌, ◌<◌, ◌≤◌, List, [], ◌∷◌, ◌++◌, length, take, drop, get_or, refl, sym, ap, ◌∙◌, subst, inl, inr, arith}
-use Rattle.std.specs.Prelude.{◌⊎◌}
+use Rattle.std.proofs.Common.{◌≡◌, ℕ, zero, suc, ◌+◌, ◌<◌, ◌≤◌, List, [], ◌∷◌, ◌++◌, length, take, drop, get_or, refl, sym, subst, inl, inr, arith}
 use Rattle.std.proofs.lemmas.List.{take_all}
 use Rattle.asn1_graph.specs.declared.graph.Edge.{Edge}
 use Rattle.asn1_graph.specs.Paths.{IsAmong, AreAmong}
@@ -45,4 +44,4 @@ each_more P es i d lt so_far here e among =
 
 -- what is so of the steps before an index at the end, is so of all
 pub each_of_all : (P : Edge → Type 0) (es : List Edge) (i : ℕ) → length es ≤ i → ((e : Edge) → IsAmong e (take i es) → P e) → (e : Edge) → IsAmong e es → P e
-each_of_all P es i past so_far e among = so_far e (subst (λ (xs : List Edge). IsAmong e xs) (sym (take_all es i past)) among)
+each_of_all P es i past so_far e among = so_far e (subst (λ (xs : List Edge). IsAmong e xs) (sym (take_all i es past)) among)

@@ -1,12 +1,13 @@
 -- By numbers that no step raises, all vertices of a loop have one number.
-use Rattle.std.proofs.Common.{◌≡◌, ◌≢◌, ℕ, suc, ◌+◌, ◌-◌, ◌<◌, ◌≤◌, List, [], ◌∷◌, ◌++◌, length, take, get_or, set, Bool, true, eqb, refl, sym, ap, ◌∙◌, subst, inl, inr, arith, replicate, get_or-set_same, get_or-set_other}
-use Rattle.std.specs.Prelude.{◌⊎◌, Option, Some, None}
+use Rattle.std.proofs.Common.{◌≡◌, ◌≢◌, ℕ, ◌+◌, ◌-◌, ◌<◌, ◌≤◌, List, [], ◌++◌, length, take, drop, get_or, set, Bool, true, eqb, refl, sym, ap, ◌∙◌, subst, inl, inr, arith, replicate, get_or-set_same, get_or-set_other}
+use Rattle.std.specs.Prelude.{◌⊎◌, Some}
 use Rattle.std.proofs.lemmas.List.{get_or-replicate}
+use Rattle.std.proofs.Math.Seq.{take-append_seam}
 use Rattle.std.proofs.lemmas.Bool.{cases_lt}
 use Rattle.gnb_types.proofs.Choices.{by_test, by_choice, clash}
 use Rattle.asn1_graph.specs.declared.graph.Edge.{Edge}
 use Rattle.asn1_graph.specs.Graph.{edge}
-use Rattle.asn1_graph.specs.Paths.{IsAmong, IsStep, Leads, first, further, raised, MarksLoops, IsFirst}
+use Rattle.asn1_graph.specs.Paths.{IsStep, Leads, first, further, raised, MarksLoops, IsFirst}
 use Rattle.asn1_graph.specs.Tables.{Falls, MarksLevel, level_step}
 use Rattle.asn1_graph.proofs.PathLemmas.{at_or_not, raised_cases, raised_fair, raised_false}
 use Rattle.asn1_graph.proofs.AmongLemmas.{each_more, each_of_all}
@@ -120,3 +121,8 @@ none_here count base vertex edges not before k lt loops = elim (cases_lt (base +
   | inl earlier ↦ before k earlier loops
   | inr past ↦ not (subst (λ (v : ℕ). Leads count edges v v) (omega arith) loops)
 ]
+
+-- what was written to the whole of a list
+pub written : (P : List ℕ → Type 0) (new old : List ℕ) (len : ℕ) → length new ≡ len → P new → P (take len (new ++ drop (length new) old))
+written P new old len long p =
+    subst P (sym (ap (λ (n : ℕ). take n (new ++ drop (length new) old)) (sym long) ∙ take-append_seam new (drop (length new) old))) p

@@ -1,6 +1,10 @@
 -- The numbers of the names in types, one for each type.
-use Rattle.std.proofs.Common.{◌≡◌, ℕ, zero, suc, ◌<◌, List, [], ◌∷◌, length, get_or, refl, ap, ◌∙◌, arith}
-use Rattle.std.specs.Prelude.{Option, Some, None}
+use Rattle.std.proofs.Common.{◌≡◌, ℕ, zero, suc, ◌+◌, ◌<◌, List, [], ◌∷◌, length, get_or, Bool, ltb, refl, sym, ap, ◌∙◌, subst, arith}
+use Rattle.std.specs.Prelude.{Option, Some, None, IfSome, position}
+use Rattle.std.specs.List.{position_or_len}
+use Rattle.std.proofs.lemmas.Bool.{ltb-true}
+use Rattle.gnb_types.proofs.Choices.{by_choice}
+use Rattle.asn1_tokens.specs.Words.{is_text}
 use Rattle.asn1_types.specs.declared.definition.Node.{Node}
 use Rattle.asn1_types.specs.declared.definition.Definition.{Definition}
 use Rattle.asn1_assignments.specs.declared.assignment.Assignment.{Assignment}
@@ -38,3 +42,18 @@ by_index index assignments definition indexes = go (name_in definition)
     go : (o : Option (List ℕ)) → number_by (numbered index) o ≡ number_by (λ (name : List ℕ). number_of name assignments) o
     go None = refl
     go (Some name) = indexes name
+
+-- a place of a list, and so the number of a name, stands inside it
+position_fits : {X : Type 0} (base limit : ℕ) (test : X → Bool) (xs : List X) → base + length xs < limit → IfSome (position test xs) (λ n. base + n < limit)
+position_fits base limit test xs fits =
+    by_choice (λ (o : Option ℕ). IfSome o (λ n. base + n < limit)) (ltb (position_or_len test xs) (length xs)) (Some (position_or_len test xs)) None
+    (λ inner. omega (arith, ltb-true _ _ inner, fits)) (λ _. tt)
+
+pub number_fits : (base limit : ℕ) (assignments : List Assignment) (definition : Definition) (target : Option ℕ) → base + length assignments < limit → target ≡ number_in assignments definition
+    → IfSome target (λ n. base + n < limit)
+number_fits base limit assignments definition target fits is =
+    subst (λ (o : Option ℕ). IfSome o (λ n. base + n < limit)) (sym is) (go (name_in definition))
+  where
+    go : (o : Option (List ℕ)) → IfSome (number_by (λ (name : List ℕ). number_of name assignments) o) (λ n. base + n < limit)
+    go None = tt
+    go (Some name) = position_fits base limit (λ (a : Assignment). is_text a.name name) assignments fits

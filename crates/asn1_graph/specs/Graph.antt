@@ -8,8 +8,8 @@ use Rattle.asn1_types.specs.declared.definition.Node.{Node}
 use Rattle.asn1_types.specs.Members.{additions_of}
 use Rattle.asn1_assignments.specs.declared.assignment.Assignment.{Assignment}
 use Rattle.asn1_assignments.specs.declared.assignment.Syntax.{Syntax}
-use Rattle.asn1_assignments.specs.Index.{number_of}
 use Rattle.asn1_graph.specs.declared.graph.Edge.{Edge}
+use Rattle.asn1_graph.specs.Numbers.{number_in}
 
 abbrev pub edge : ℕ → ℕ → Edge
 edge from to = record { from = from; to = to }
@@ -27,18 +27,18 @@ abbrev pub numbered_edges : ℕ → ℕ → Option ℕ → List Edge
 numbered_edges base from None = []
 numbered_edges base from (Some number) = edge from (base + number) ∷ []
 
-abbrev pub named_edges : ℕ → List Assignment → ℕ → List ℕ → List Edge
-named_edges base assignments from name = numbered_edges base from (number_of name assignments)
+-- from a type whose name, where it has one, refers to the assignment of this number; base is the number of types
+abbrev pub definition_edges : ℕ → Option ℕ → ℕ → Definition → List Edge
+definition_edges base target from (types.Sequence members) = all_member_edges from members
+definition_edges base target from (types.Choice members) = all_member_edges from members
+definition_edges base target from (types.SequenceOf size element) = edge from element.number ∷ []
+definition_edges base target from (types.Reference name) = numbered_edges base from target
+definition_edges base target from (types.IeContainer set) = numbered_edges base from target
+definition_edges base target from (types.Pdu set) = numbered_edges base from target
+definition_edges base target from _ = []
 
--- from a type; base is the number of types
 unfoldable pub node_edges : ℕ → List Assignment → ℕ → Definition → List Edge
-node_edges base assignments from (types.Sequence members) = all_member_edges from members
-node_edges base assignments from (types.Choice members) = all_member_edges from members
-node_edges base assignments from (types.SequenceOf size element) = edge from element.number ∷ []
-node_edges base assignments from (types.Reference name) = named_edges base assignments from name
-node_edges base assignments from (types.IeContainer set) = named_edges base assignments from set
-node_edges base assignments from (types.Pdu set) = named_edges base assignments from set
-node_edges base assignments from _ = []
+node_edges base assignments from definition = definition_edges base (number_in assignments definition) from definition
 
 -- from each of these types, of which the first has this number
 unfoldable pub nodes_edges : ℕ → List Assignment → ℕ → List Node → List Edge

@@ -1,9 +1,8 @@
 //! Which types and assignments lead to which.
 
-ghost use Rattle.std.specs.Prelude.{◌≡◌, ◌+◌, ◌-◌, ◌^◌, ◌<◌, ◌++◌, length, List, OnOk, IfOk, IfSome};
-ghost use Rattle.asn1_assignments.specs.declared.assignment.Assignment.{Assignment};
-ghost use Rattle.asn1_graph.specs.Numbers.{number_in, all_numbers, numbers_in};
-ghost use Rattle.asn1_graph.specs.Graph.{member_edges, all_member_edges, numbered_edges, node_edges, nodes_edges, range_edges, parts_edges, edges_of, vertex_count};
+ghost use Rattle.std.specs.Prelude.{◌≡◌, ◌+◌, ◌-◌, ◌^◌, ◌<◌, ◌++◌, length, OnOk, IfOk, IfSome};
+ghost use Rattle.asn1_graph.specs.Numbers.{all_numbers, numbers_in};
+ghost use Rattle.asn1_graph.specs.Graph.{member_edges, all_member_edges, numbered_edges, definition_edges, nodes_edges, range_edges, parts_edges, edges_of, vertex_count};
 
 use asn1_assignments::{Assignment, Syntax};
 use asn1_types::{Component, Definition, Extensible, Items, Node};
@@ -72,7 +71,6 @@ fn push_named(
 }
 
 /// Adds the steps from a type; `base` is the number of types, and `target` that of the assignment which its name refers to.
-#[tactic(auto, unfolding(crate::specs::Graph::node_edges))]
 fn push_node(
     edges: &mut Items<Edge>,
     base: usize,
@@ -80,10 +78,8 @@ fn push_node(
     definition: &Definition,
     target: Option<usize>,
 ) -> Result<(), Memory>
-    ghost assignments: { List Assignment }
-    requires fits { base + length assignments < 2 ^ 64 }
-    requires target { target ≡ number_in assignments definition.now }
-    ensures { OnOk result (edges.new ≡ edges.old ++ node_edges base assignments from definition.now) }
+    requires { IfSome target (λ number. base + number < 2 ^ 64) }
+    ensures { OnOk result (edges.new ≡ edges.old ++ definition_edges base target from definition.now) }
 {
     match definition {
         Definition::Sequence(members) | Definition::Choice(members) => {

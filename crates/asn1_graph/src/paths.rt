@@ -5,7 +5,7 @@ ghost use Rattle.asn1_graph.specs.Paths.{raised, mark_step, depth_step, round_of
 ghost use Rattle.asn1_graph.specs.Tables.{MarksWell, Falls, MarksLevel, level_step};
 
 use crate::graph::Edge;
-use crate::search::{entry, search};
+use crate::search::{entry, searched};
 use crate::steps::Steps;
 use gnb_types::octets::Memory;
 use std::alloc::Global;
@@ -205,7 +205,7 @@ pub fn first_looping(
 ) -> Result<Option<usize>, Memory>
     ensures { IfOk result (λ found. IsFirst (λ k. Leads count edges.now (base + k) (base + k)) (count - base) found) }
 {
-    let found = search(alloc, edges, count)?;
+    let found = searched(alloc, edges, count)?;
     let marks = looping(alloc, edges, count, &found.ranks)?;
     let steps = Steps::new(alloc, edges, count)?;
     for vertex in base..count {
@@ -244,7 +244,7 @@ pub fn depths(alloc: Global, edges: &[Edge], weights: &[u8]) -> Result<Vec<u8>, 
 {
     let count = weights.len();
     let steps = Steps::new(alloc, edges, count)?;
-    let found = search(alloc, edges, count)?;
+    let found = searched(alloc, edges, count)?;
     let some = ordered(alloc, &steps, &found.order)?;
     let mut table = Vec::from_slice(alloc, weights)?;
     deepen_all(&mut table, weights, &some, edges);

@@ -151,7 +151,7 @@ impl<'a> Search<'a> {
 }
 
 /// Searches a graph of so many vertices.
-pub fn search(alloc: Global, edges: &[Edge], count: usize) -> Result<Found, Memory> {
+pub fn searched(alloc: Global, edges: &[Edge], count: usize) -> Result<Found, Memory> {
     let mut search = Search::new(alloc, edges, count)?;
     // A turn follows a step or closes a run.
     let turns = edges.len().saturating_add(count).saturating_add(1);

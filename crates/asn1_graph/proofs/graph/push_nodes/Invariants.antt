@@ -4,6 +4,3 @@ use Rattle.asn1_graph.proofs.graph.push_nodes.Given as goal
 
 abbrev pub invariant-loop-from : goal.invariant-loop-from
 invariant-loop-from l = l.edges ++ nodes_edges (length l.nodes) l.assignments l.from (drop l.from l.nodes) ≡ l.fn.edges ++ nodes_edges (length l.nodes) l.assignments 0 l.nodes
-
-abbrev pub ghost-push_node : goal.ghost-push_node
-ghost-push_node a = a.assignments.now

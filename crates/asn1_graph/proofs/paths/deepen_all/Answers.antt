@@ -10,10 +10,10 @@ loop-init c =
     (own_weights (length c.args.weights.now) c.args.edges.now c.args.weights.now refl))
 
 pub loop-preserved : goal.loop-preserved
-loop-preserved c = depth_keeps_on _ c.args.edges.now c.args.weights.now _ _ _ c.depth_round-2.ensures c.loop.invariant
+loop-preserved c = depth_keeps_on _ c.args.edges.now c.args.weights.now _ _ _ c.depth_round-in-loop.ensures c.loop.invariant
 
 pub loop-smaller : goal.loop-smaller
-loop-smaller c = depth_lessens c.args.weights.now _ _ _ c.args.edges.now c.depth_round-2.ensures c.loop-test.true
+loop-smaller c = depth_lessens c.args.weights.now _ _ _ c.args.edges.now c.depth_round-in-loop.ensures c.loop-test.true
 
 pub returns : goal.returns
-returns c = depth_done _ c.args.edges.now c.args.weights.now _ _ _ c.depth_round-2.ensures c.loop-test.false c.loop.invariant
+returns c = depth_done _ c.args.edges.now c.args.weights.now _ _ _ c.depth_round-in-loop.ensures c.loop-test.false c.loop.invariant

@@ -6,4 +6,4 @@ use Rattle.asn1_graph.proofs.paths.mark_next.Goals as goal
 pub loop-edge-preserved : goal.loop-edge-preserved
 loop-edge-preserved c =
     mark_step_keeps _ c.args.steps.now.edges.now c.args.start _ _ _ _ c.requires.inner
-    (c.of.ensures _ (among_at c.of.result.now c.loop-edge.edge-index _ (omega arith))) c.mark_step.ensures c.loop-edge.invariant
+    (c.of-edge-items.ensures _ (among_at c.of-edge-items.result.now c.loop-edge.edge-index _ (omega arith))) c.mark_step.ensures c.loop-edge.invariant
