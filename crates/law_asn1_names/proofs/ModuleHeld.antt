@@ -135,9 +135,11 @@ unfolding AreParts all_held
 one_held {nodes = nodes} {inside = inside} {all = all} {name = name} {body = body} {assignments = assignments} {ts = ts} {a = a} {b = b} n one_body ends later = record {
   more = one_body.grown.more ++ later.more;
   grows = later.grows ∙ ap (λ (l : List Node). l ++ later.more) one_body.grown.grows ∙ append_assoc nodes one_body.grown.more later.more;
-  parts = subst (AreParts (length nodes) all (record { name = name; place = start_of ts; body = body; end = length inside } ∷ assignments)) (sym items)
-      (part_here nodes one_body.grown.more later.more all inside (record { name = name; place = start_of ts; body = body; end = length inside }) (kind_of_body body) (held kinds.Type a)
-      later.grows one_body.grown.grows refl refl own one_body.grown.inside, later.parts);
+  parts = subst (AreParts (length nodes) all (record { name = name; place = start_of ts; body = body; end = length inside } ∷ assignments)) (sym items) (
+    part_here nodes one_body.grown.more later.more all inside (record { name = name; place = start_of ts; body = body; end = length inside }) (kind_of_body body) (held kinds.Type a)
+        later.grows one_body.grown.grows refl refl own one_body.grown.inside,
+    later.parts,
+  );
   held = ap all_held items ∙ ap (λ (l : List Mention). l ++ all_held (givens b)) own ∙ ap (λ (l : List Mention). mentions_of one_body.grown.more ++ l) later.held
       ∙ sym (mentions-append one_body.grown.more later.more);
 }
