@@ -1,6 +1,5 @@
 -- Which types and assignments lead to which. The vertices are a module's types by their numbers, and then its assignments.
-use Rattle.std.specs.Prelude.{ℕ, zero, suc, ◌+◌, ◌-◌, List, [], ◌∷◌, ◌++◌, length, Option, Some, None, position}
-use Rattle.asn1_tokens.specs.Words.{is_text}
+use Rattle.std.specs.Prelude.{ℕ, zero, suc, ◌+◌, ◌-◌, List, [], ◌∷◌, ◌++◌, length, Option, Some, None}
 use Rattle.asn1_types.specs.declared.definition.Component.{Component}
 use Rattle.asn1_types.specs.declared.definition.Extensible.{Extensible}
 use Rattle.asn1_types.specs.declared.definition.Definition.{Definition}
@@ -10,6 +9,7 @@ use Rattle.asn1_types.specs.Members.{additions_of}
 use Rattle.asn1_assignments.specs.declared.assignment.Assignment.{Assignment}
 use Rattle.asn1_assignments.specs.declared.assignment.Syntax.{Syntax}
 use Rattle.asn1_graph.specs.declared.graph.Edge.{Edge}
+use Rattle.asn1_graph.specs.Numbers.{number_in}
 
 abbrev pub edge : ℕ → ℕ → Edge
 edge from to = record { from = from; to = to }
@@ -22,32 +22,23 @@ member_edges from (member ∷ members) = edge from member.definition.number ∷ 
 abbrev pub all_member_edges : ℕ → Extensible Component → List Edge
 all_member_edges from members = member_edges from members.root ++ member_edges from (additions_of members.additions)
 
--- the number of the assignment of a name
-abbrev pub number_of : List ℕ → List Assignment → Option ℕ
-number_of name assignments = position (λ other. is_text other.name name) assignments
-
 -- from a type to the assignment of the name in it
 abbrev pub numbered_edges : ℕ → ℕ → Option ℕ → List Edge
 numbered_edges base from None = []
 numbered_edges base from (Some number) = edge from (base + number) ∷ []
 
-abbrev pub named_edges : ℕ → List Assignment → ℕ → List ℕ → List Edge
-named_edges base assignments from name = numbered_edges base from (number_of name assignments)
+-- from a type whose name, where it has one, refers to the assignment of this number; base is the number of types
+abbrev pub definition_edges : ℕ → Option ℕ → ℕ → Definition → List Edge
+definition_edges base target from (types.Sequence members) = all_member_edges from members
+definition_edges base target from (types.Choice members) = all_member_edges from members
+definition_edges base target from (types.SequenceOf size element) = edge from element.number ∷ []
+definition_edges base target from (types.Reference name) = numbered_edges base from target
+definition_edges base target from (types.IeContainer set) = numbered_edges base from target
+definition_edges base target from (types.Pdu set) = numbered_edges base from target
+definition_edges base target from _ = []
 
--- from a type; base is the number of types
 unfoldable pub node_edges : ℕ → List Assignment → ℕ → Definition → List Edge
-node_edges base assignments from (types.Sequence members) = all_member_edges from members
-node_edges base assignments from (types.Choice members) = all_member_edges from members
-node_edges base assignments from (types.SequenceOf size element) = edge from element.number ∷ []
-node_edges base assignments from (types.Reference name) = named_edges base assignments from name
-node_edges base assignments from (types.IeContainer set) = named_edges base assignments from set
-node_edges base assignments from (types.Pdu set) = named_edges base assignments from set
-node_edges base assignments from types.Boolean = []
-node_edges base assignments from (types.Integer low high extensible) = []
-node_edges base assignments from (types.Enumerated names) = []
-node_edges base assignments from (types.BitString size) = []
-node_edges base assignments from (types.OctetString size) = []
-node_edges base assignments from (types.PrintableString size) = []
+node_edges base assignments from definition = definition_edges base (number_in assignments definition) from definition
 
 -- from each of these types, of which the first has this number
 unfoldable pub nodes_edges : ℕ → List Assignment → ℕ → List Node → List Edge

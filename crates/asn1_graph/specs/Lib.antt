@@ -1,2 +1,4 @@
 pub mod Graph
+pub mod Numbers
 pub mod Paths
+pub mod Tables

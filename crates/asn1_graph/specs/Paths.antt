@@ -1,11 +1,15 @@
 -- Paths through a module's types and assignments: what reaches itself, and how deep types stand one inside another.
-use Rattle.std.specs.Prelude.{◌≡◌, ℕ, ◌+◌, ◌<◌, ◌≤◌, List, [], ◌∷◌, ◌⊎◌, length, Bool, true, false, ◌||◌, ◌&&◌, ◌==◌, nat_lt, min, slice_set, slice_index, if◌then◌else◌, Option, Some, None, replicate}
+use Rattle.std.specs.Prelude.{◌≡◌, ℕ, ◌+◌, ◌<◌, ◌≤◌, List, [], ◌∷◌, ◌⊎◌, length, Bool, true, false, ◌||◌, ◌&&◌, ◌==◌, nat_lt, min, slice_set, slice_index, if◌then◌else◌, Option, Some, None}
 use Rattle.asn1_graph.specs.declared.graph.Edge.{Edge}
 use Rattle.asn1_graph.specs.Graph.{edge}
 
 abbrev pub IsAmong : Edge → List Edge → Type 0
 IsAmong e [] = ⊥
 IsAmong e (f ∷ es) = (f ≡ e) ⊎ IsAmong e es
+
+-- steps that are all among these
+abbrev pub AreAmong : List Edge → List Edge → Type 0
+AreAmong some edges = (e : Edge) → IsAmong e some → IsAmong e edges
 
 -- a step from one of so many vertices to another
 pub record IsStep (count : ℕ) (edges : List Edge) (a b : ℕ) : Type 0 where
@@ -49,31 +53,9 @@ pub record IsReach (count : ℕ) (edges : List Edge) (start : ℕ) (table : List
   pub marked : (v : ℕ) → 0 < slice_index table v → Leads count edges start v
   pub all : (v : ℕ) → Leads count edges start v → 0 < slice_index table v
 
--- marks an end of each step whose ends both have marks in an earlier table
-unfoldable pub marks_of : (Edge → ℕ) → List ℕ → List ℕ → List Edge → List ℕ
-marks_of end marked table [] = table
-marks_of end marked table (e ∷ es) = marks_of end marked (raised table (end e) (min (slice_index marked e.from) (slice_index marked e.to))).1 es
-
-abbrev pub marks_from : List ℕ → List ℕ → List Edge → List ℕ
-marks_from marked table edges = marks_of (λ e. e.from) marked table edges
-
-abbrev pub marks_to : List ℕ → List ℕ → List Edge → List ℕ
-marks_to marked table edges = marks_of (λ e. e.to) marked table edges
-
--- of the marked vertices, those with a step to a marked one, and of these, those with a step from another of them
-abbrev pub trimmed : List ℕ → List Edge → List ℕ
-trimmed table edges = marks_to (marks_from table (replicate (length table) 0) edges) (replicate (length table) 0) edges
-
 -- each vertex that leads to itself is marked
 abbrev pub MarksLoops : ℕ → List Edge → List ℕ → Type 0
 MarksLoops count edges table = (v : ℕ) → Leads count edges v v → 0 < slice_index table v
-
--- So many vertices have places, each that leads to itself is marked, and a trim takes no mark away: each marked one has a step to a
--- marked one, and one from a marked one.
-pub record IsTrimmed (count : ℕ) (edges : List Edge) (table : List ℕ) : Type 0 where
-  pub size : length table ≡ count
-  pub loops : MarksLoops count edges table
-  pub still : trimmed table edges ≡ table
 
 -- the table tells how deep types stand one inside another, up to the cap
 pub record IsDepth (count : ℕ) (edges : List Edge) (weights table : List ℕ) : Type 0 where

@@ -1,10 +1,10 @@
 //! Which types and assignments lead to which.
 
-ghost use Rattle.std.specs.Prelude.{◌≡◌, ◌+◌, ◌-◌, ◌^◌, ◌<◌, ◌++◌, ◌∷◌, [], length, OnOk, IfOk};
-ghost use Rattle.asn1_graph.specs.Graph.{number_of, member_edges, all_member_edges, named_edges, node_edges, nodes_edges, range_edges, parts_edges, edges_of, vertex_count};
+ghost use Rattle.std.specs.Prelude.{◌≡◌, ◌+◌, ◌-◌, ◌^◌, ◌<◌, ◌++◌, length, OnOk, IfOk, IfSome};
+ghost use Rattle.asn1_graph.specs.Numbers.{all_numbers, numbers_in};
+ghost use Rattle.asn1_graph.specs.Graph.{member_edges, all_member_edges, numbered_edges, definition_edges, nodes_edges, range_edges, parts_edges, edges_of, vertex_count};
 
 use asn1_assignments::{Assignment, Syntax};
-use asn1_tokens::is_text;
 use asn1_types::{Component, Definition, Extensible, Items, Node};
 use gnb_types::octets::Memory;
 use std::alloc::Global;
@@ -51,27 +51,17 @@ fn push_all_members(
     }
 }
 
-/// The number of the assignment of a name.
-pub fn number_of(name: &[u8], assignments: &[Assignment]) -> Option<usize>
-    ensures { result ≡ number_of name.now assignments.now }
-{
-    assignments
-        .iter()
-        .position(|other| is_text(other.name.as_slice(), name))
-}
-
-/// Adds the step from a type to the assignment of the name in it.
+/// Adds the step from a type to the assignment that its name refers to.
 fn push_named(
     edges: &mut Items<Edge>,
     base: usize,
-    assignments: &[Assignment],
     from: usize,
-    name: &[u8],
+    target: Option<usize>,
 ) -> Result<(), Memory>
-    requires { base + length assignments.now < 2 ^ 64 }
-    ensures { OnOk result (edges.new ≡ edges.old ++ named_edges base assignments.now from name.now) }
+    requires { IfSome target (λ number. base + number < 2 ^ 64) }
+    ensures { OnOk result (edges.new ≡ edges.old ++ numbered_edges base from target) }
 {
-    match number_of(name, assignments) {
+    match target {
         None => Ok(()),
         Some(number) => edges.push(Edge {
             from,
@@ -80,17 +70,16 @@ fn push_named(
     }
 }
 
-/// Adds the steps from a type; `base` is the number of types.
-#[tactic(auto, unfolding(crate::specs::Graph::node_edges))]
+/// Adds the steps from a type; `base` is the number of types, and `target` that of the assignment which its name refers to.
 fn push_node(
     edges: &mut Items<Edge>,
     base: usize,
-    assignments: &[Assignment],
     from: usize,
     definition: &Definition,
+    target: Option<usize>,
 ) -> Result<(), Memory>
-    requires { base + length assignments.now < 2 ^ 64 }
-    ensures { OnOk result (edges.new ≡ edges.old ++ node_edges base assignments.now from definition.now) }
+    requires { IfSome target (λ number. base + number < 2 ^ 64) }
+    ensures { OnOk result (edges.new ≡ edges.old ++ definition_edges base target from definition.now) }
 {
     match definition {
         Definition::Sequence(members) | Definition::Choice(members) => {
@@ -100,8 +89,8 @@ fn push_node(
             from,
             to: element.number,
         }),
-        Definition::Reference(name) | Definition::IeContainer(name) | Definition::Pdu(name) => {
-            push_named(edges, base, assignments, from, name.as_slice())
+        Definition::Reference(_) | Definition::IeContainer(_) | Definition::Pdu(_) => {
+            push_named(edges, base, from, target)
         }
         _ => Ok(()),
     }
@@ -113,12 +102,14 @@ fn push_nodes(
     edges: &mut Items<Edge>,
     assignments: &[Assignment],
     nodes: &[Node],
+    targets: &[Option<usize>],
 ) -> Result<(), Memory>
-    requires { length nodes.now + length assignments.now < 2 ^ 64 }
+    requires fits { length nodes.now + length assignments.now < 2 ^ 64 }
+    requires targets { targets.now ≡ all_numbers assignments.now nodes.now }
     ensures { OnOk result (edges.new ≡ edges.old ++ nodes_edges (length nodes.now) assignments.now 0 nodes.now) }
 {
     for (from, node) in nodes.iter().enumerate() {
-        push_node(edges, nodes.len(), assignments, from, &node.definition)?;
+        push_node(edges, nodes.len(), from, &node.definition, targets[from])?;
     }
     Ok(())
 }
@@ -151,15 +142,20 @@ fn push_parts(
     Ok(())
 }
 
-/// The steps of a module.
+/// The steps of a module, by the numbers of the assignments that its names refer to.
 #[tactic(auto, unfolding(crate::specs::Graph::edges_of))]
-pub fn edges_of(alloc: Global, syntax: &Syntax) -> Result<Items<Edge>, Memory>
+pub fn edges_of(
+    alloc: Global,
+    syntax: &Syntax,
+    targets: &[Option<usize>],
+) -> Result<Items<Edge>, Memory>
+    requires { targets.now ≡ numbers_in syntax.now }
     ensures { IfOk result (λ edges. edges ≡ edges_of syntax.now) }
 {
     let nodes = syntax.nodes.as_slice();
     let assignments = syntax.assignments.as_slice();
     let mut edges = Items::new(alloc);
-    push_nodes(&mut edges, assignments, nodes)?;
+    push_nodes(&mut edges, assignments, nodes, targets)?;
     push_parts(&mut edges, nodes.len(), assignments)?;
     Ok(edges)
 }

@@ -20,13 +20,7 @@ weight_of (types.Choice members) = 1
 weight_of (types.SequenceOf size element) = 1
 weight_of (types.IeContainer set) = 1
 weight_of (types.Pdu set) = 1
-weight_of (types.Reference name) = 0
-weight_of types.Boolean = 0
-weight_of (types.Integer low high extensible) = 0
-weight_of (types.Enumerated names) = 0
-weight_of (types.BitString size) = 0
-weight_of (types.OctetString size) = 0
-weight_of (types.PrintableString size) = 0
+weight_of _ = 0
 
 unfoldable pub node_weights : List Node → List ℕ
 node_weights [] = []

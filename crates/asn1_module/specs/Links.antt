@@ -27,15 +27,7 @@ abbrev pub IsInside : ℕ → Definition → Type 0
 IsInside n (types.Sequence members) = PartsBelow n members
 IsInside n (types.Choice members) = PartsBelow n members
 IsInside n (types.SequenceOf size element) = element.number < n
-IsInside n (types.Reference name) = Unit {0}
-IsInside n (types.IeContainer set) = Unit {0}
-IsInside n (types.Pdu set) = Unit {0}
-IsInside n types.Boolean = Unit {0}
-IsInside n (types.Integer low high extensible) = Unit {0}
-IsInside n (types.Enumerated names) = Unit {0}
-IsInside n (types.BitString size) = Unit {0}
-IsInside n (types.OctetString size) = Unit {0}
-IsInside n (types.PrintableString size) = Unit {0}
+IsInside n _ = Unit {0}
 
 -- each type stands behind those inside it; the first of these has number n
 abbrev pub AreOrdered : ℕ → List Node → Type 0

@@ -110,12 +110,4 @@ abbrev pub HasTarget : List Assignment → Definition → Type 0
 HasTarget assignments (types.Reference name) = IsSome (find_type name assignments)
 HasTarget assignments (types.IeContainer set) = IsSome (ie_rows set assignments)
 HasTarget assignments (types.Pdu set) = IsSome (procedure_rows set assignments)
-HasTarget assignments types.Boolean = Unit {0}
-HasTarget assignments (types.Integer low high extensible) = Unit {0}
-HasTarget assignments (types.Enumerated names) = Unit {0}
-HasTarget assignments (types.BitString size) = Unit {0}
-HasTarget assignments (types.OctetString size) = Unit {0}
-HasTarget assignments (types.PrintableString size) = Unit {0}
-HasTarget assignments (types.Sequence members) = Unit {0}
-HasTarget assignments (types.Choice members) = Unit {0}
-HasTarget assignments (types.SequenceOf size element) = Unit {0}
+HasTarget assignments _ = Unit {0}

@@ -34,15 +34,7 @@ unfoldable pub is_known : List Assignment → Definition → Bool
 is_known assignments (types.Reference name) = is_such kinds.Type (kind_of_name name assignments)
 is_known assignments (types.IeContainer set) = is_such kinds.IeSet (kind_of_name set assignments)
 is_known assignments (types.Pdu set) = is_such kinds.ProcedureSet (kind_of_name set assignments)
-is_known assignments types.Boolean = true
-is_known assignments (types.Integer low high extensible) = true
-is_known assignments (types.Enumerated names) = true
-is_known assignments (types.BitString size) = true
-is_known assignments (types.OctetString size) = true
-is_known assignments (types.PrintableString size) = true
-is_known assignments (types.Sequence members) = true
-is_known assignments (types.Choice members) = true
-is_known assignments (types.SequenceOf size element) = true
+is_known assignments _ = true
 
 -- the place of the first name in a type that isn't known
 unfoldable pub first_unknown : List Assignment → List Node → Option ℕ

@@ -4,13 +4,14 @@ ghost use Rattle.std.specs.Prelude.{◌≡◌, ◌==◌, ◌<◌, ◌≤◌, len
 ghost use Rattle.asn1_module.specs.Links.{IsInside, IesBelow, ProceduresBelow};
 ghost use Rattle.asn1_module.specs.Module.{Reads, RefusedSo, IsModule, HasTarget, HasFault, type_of, type_ids, find_type, type_name, is_body_of, ie_rows, ie_rows_of, procedure_rows, procedure_rows_of};
 ghost use Rattle.asn1_module.specs.Targets.{definition_at, referred, all_of, element_rows, message_rows};
-ghost use Rattle.asn1_module.specs.Numbers.{body_at, number_in, found_in};
+ghost use Rattle.asn1_module.specs.Numbers.{body_at, found_in};
+ghost use Rattle.asn1_graph.specs.Numbers.{number_in};
 
 use crate::error::ModuleError;
 use crate::judgement::judge;
-use crate::numbers::numbers_in;
 use crate::position::position_after;
 use asn1_assignments::{Assignment, Body, IeRow, ProcedureRow, Syntax, read_syntax};
+use asn1_graph::numbers_in;
 use asn1_tokens::is_text;
 use asn1_types::{Definition, Fault, ReadError, TypeId};
 use std::alloc::Global;
@@ -28,7 +29,7 @@ impl Model for Module {
     ghost use Rattle.std.specs.Prelude.{◌≡◌};
     ghost use Rattle.asn1_assignments.specs.declared.assignment.Syntax.{Syntax};
     ghost use Rattle.asn1_module.specs.Module.{IsModule};
-    ghost use Rattle.asn1_module.specs.Numbers.{numbers_in};
+    ghost use Rattle.asn1_graph.specs.Numbers.{numbers_in};
 
     ghost Value = { Syntax };
 
@@ -192,10 +193,10 @@ pub fn read_module(alloc: Global, text: &[u8]) -> Result<(Module, usize), Module
         Err(ReadError::Fault(fault)) => return Err(refused(text, fault)),
         Err(ReadError::Memory) => return Err(ModuleError::Memory),
     };
-    match judge(alloc, &syntax)? {
+    let targets = numbers_in(alloc, &syntax)?;
+    match judge(alloc, &syntax, &targets)? {
         Some(fault) => Err(refused(text, fault)),
         None => {
-            let targets = numbers_in(alloc, &syntax)?;
             let end = syntax.end;
             Ok((Module { syntax, targets }, end))
         }

@@ -14,7 +14,8 @@ use Rattle.asn1_module.specs.Names.{first_unknown}
 use Rattle.asn1_graph.specs.Graph.{vertex_count, edges_of}
 use Rattle.asn1_graph.specs.Paths.{IsReach, IsDepth, IsFirst, mark_step, depth_step, depth_cap, round_of}
 use Rattle.asn1_module.specs.Judgement.{weights_of, IsRecursive, IsTooDeep, IsFirstRecursive, IsFirstDeep, IsAt, IsSound, Judged, sound, unknown, recursive, deep}
-use Rattle.asn1_graph.proofs.PathLemmas.{slack, MarksWell, TellsWell, mark_round_keeps, mark_round_less, mark_round_done, no_marks, depth_round_keeps, depth_round_less, depth_round_done, own_weights}
+use Rattle.asn1_graph.specs.Tables.{MarksWell, TellsWell}
+use Rattle.asn1_graph.proofs.PathLemmas.{slack, mark_round_keeps, mark_round_less, mark_round_done, no_marks, depth_round_keeps, depth_round_less, depth_round_done, own_weights}
 use Rattle.asn1_module.proofs.JudgementLemmas.{deep_told, deep_not, length-weights_of}
 
 -- One of two first numbers isn't before the other.

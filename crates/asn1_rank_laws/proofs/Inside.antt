@@ -16,7 +16,8 @@ use Rattle.asn1_module.specs.asn1_assignments.declared.assignment.ProcedureRow.{
 use Rattle.asn1_module.specs.asn1_assignments.declared.assignment.Assignment.{Assignment}
 use Rattle.asn1_module.specs.asn1_assignments.declared.assignment.Syntax.{Syntax}
 use Rattle.asn1_module.specs.asn1_graph.declared.graph.Edge.{Edge}
-use Rattle.asn1_module.specs.asn1_graph.Graph.{edge, number_of, member_edges, numbered_edges, node_edges, nodes_edges, range_edges, parts_edges, vertex_count, edges_of}
+use Rattle.asn1_module.specs.asn1_assignments.Index.{number_of}
+use Rattle.asn1_module.specs.asn1_graph.Graph.{edge, member_edges, numbered_edges, node_edges, nodes_edges, range_edges, parts_edges, vertex_count, edges_of}
 use Rattle.asn1_module.specs.asn1_graph.Paths.{IsAmong, IsStep}
 use Rattle.asn1_module.specs.Links.{AreBelow, IsInside, AreOrdered, OptionBelow, IesBelow, ProceduresBelow, BodyBelow, BodiesBelow, OptionFrom, IesFrom, ProceduresFrom, BodyFrom, AreParted}
 use Rattle.asn1_module.specs.Module.{type_of, find_type, ie_rows_of, ie_rows, procedure_rows_of, procedure_rows, IsModule}
@@ -54,12 +55,7 @@ module _ (P Q : ℕ → Type 0) (more : (n : ℕ) → P n → Q n) where
   each_more names (types.Reference name) h = option_more (find_type name names) h
   each_more names (types.IeContainer set) h = ies_more (all_of (ie_rows set names)) h
   each_more names (types.Pdu set) h = procedures_more (all_of (procedure_rows set names)) h
-  each_more names types.Boolean h = tt
-  each_more names (types.Integer low high extensible) h = tt
-  each_more names (types.Enumerated parts) h = tt
-  each_more names (types.BitString size) h = tt
-  each_more names (types.OctetString size) h = tt
-  each_more names (types.PrintableString size) h = tt
+  each_more names _ h = tt
 
 -- ---- steps from a name to the types in its assignment
 
@@ -140,7 +136,7 @@ nodes_have base names from (node ∷ nodes) (suc i) e lt h =
     (nodes_have base names (from + 1) nodes i e (omega arith)
     (subst (λ (k : ℕ). IsAmong e (node_edges base names k (definition_of (slice_get nodes i)))) (omega arith) h))
 
-type_step : (m : Syntax) (id to : ℕ) → id < length m.nodes → to < vertex_count m
+pub type_step : (m : Syntax) (id to : ℕ) → id < length m.nodes → to < vertex_count m
     → IsAmong (edge id to) (node_edges (length m.nodes) m.assignments id (definition_at m id))
     → IsStep (vertex_count m) (edges_of m) id to
 unfolding edges_of

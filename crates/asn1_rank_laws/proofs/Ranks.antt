@@ -6,7 +6,8 @@ use Rattle.asn1_module.specs.asn1_assignments.declared.assignment.Syntax.{Syntax
 use Rattle.asn1_module.specs.asn1_graph.declared.graph.Edge.{Edge}
 use Rattle.asn1_module.specs.asn1_graph.Graph.{vertex_count, edges_of}
 use Rattle.asn1_module.specs.asn1_graph.Paths.{IsStep, Leads, first, further, IsReach, mark_step, round_of}
-use Rattle.asn1_module.proofs.asn1_graph.PathLemmas.{slack, MarksWell, mark_round_keeps, mark_round_less, mark_round_done, no_marks}
+use Rattle.asn1_module.specs.asn1_graph.Tables.{MarksWell}
+use Rattle.asn1_module.proofs.asn1_graph.PathLemmas.{slack, mark_round_keeps, mark_round_less, mark_round_done, no_marks}
 
 -- ---- how many marks a table has among its first values
 

@@ -10,7 +10,8 @@ use Rattle.asn1_types.specs.Members.{additions_of}
 use Rattle.asn1_module.specs.asn1_assignments.declared.assignment.Assignment.{Assignment}
 use Rattle.asn1_module.specs.asn1_assignments.declared.assignment.Syntax.{Syntax}
 use Rattle.asn1_module.specs.asn1_graph.declared.graph.Edge.{Edge}
-use Rattle.asn1_module.specs.asn1_graph.Graph.{edge, number_of, member_edges, numbered_edges, node_edges, nodes_edges, range_edges, parts_edges, vertex_count, edges_of}
+use Rattle.asn1_module.specs.asn1_assignments.Index.{number_of}
+use Rattle.asn1_module.specs.asn1_graph.Graph.{edge, member_edges, numbered_edges, node_edges, nodes_edges, range_edges, parts_edges, vertex_count, edges_of}
 use Rattle.asn1_module.specs.asn1_graph.Paths.{IsAmong, IsStep, Leads, first, further}
 use Rattle.asn1_module.specs.Links.{AreBelow, IsInside, AreOrdered}
 use Rattle.asn1_module.specs.Module.{IsModule}
@@ -24,7 +25,7 @@ pub among_right : (e : Edge) (xs ys : List Edge) → IsAmong e ys → IsAmong e 
 among_right e [] ys h = h
 among_right e (x ∷ xs) ys h = inr (among_right e xs ys h)
 
-among_cases : (e : Edge) (xs ys : List Edge) → IsAmong e (xs ++ ys) → IsAmong e xs ⊎ IsAmong e ys
+pub among_cases : (e : Edge) (xs ys : List Edge) → IsAmong e (xs ++ ys) → IsAmong e xs ⊎ IsAmong e ys
 among_cases e [] ys h = inr h
 among_cases e (x ∷ xs) ys (inl is) = inl (inl is)
 among_cases e (x ∷ xs) ys (inr h) = elim (among_cases e xs ys h) [ inl l ↦ inl (inr l) | inr r ↦ inr r ]
@@ -64,12 +65,7 @@ node_goes base names from (types.SequenceOf size element) e inside (inr h) = eli
 node_goes base names from (types.Reference name) e inside h = numbered_goes base from (number_of name names) e h
 node_goes base names from (types.IeContainer set) e inside h = numbered_goes base from (number_of set names) e h
 node_goes base names from (types.Pdu set) e inside h = numbered_goes base from (number_of set names) e h
-node_goes base names from types.Boolean e inside h = elim h [ ]
-node_goes base names from (types.Integer low high extensible) e inside h = elim h [ ]
-node_goes base names from (types.Enumerated parts) e inside h = elim h [ ]
-node_goes base names from (types.BitString size) e inside h = elim h [ ]
-node_goes base names from (types.OctetString size) e inside h = elim h [ ]
-node_goes base names from (types.PrintableString size) e inside h = elim h [ ]
+node_goes base names from _ e inside h = elim h [ ]
 
 nodes_go : (base : ℕ) (names : List Assignment) (from : ℕ) (nodes : List Node) (e : Edge) → AreOrdered from nodes
     → IsAmong e (nodes_edges base names from nodes) → Goes base e
@@ -81,13 +77,13 @@ nodes_go base names from (node ∷ nodes) e ordered h =
       | inr r ↦ nodes_go base names (from + 1) nodes e (subst (λ (k : ℕ). AreOrdered k nodes) (omega arith) ordered.1) r
     ]
 
-range_from : (from start count : ℕ) (e : Edge) → IsAmong e (range_edges from start count) → from ≤ e.from
+pub range_from : (from start count : ℕ) (e : Edge) → IsAmong e (range_edges from start count) → from ≤ e.from
 unfolding range_edges
 range_from from start zero e h = elim h [ ]
 range_from from start (suc count) e (inl is) = subst (λ (e : Edge). from ≤ e.from) is (omega arith)
 range_from from start (suc count) e (inr h) = range_from from (start + 1) count e h
 
-parts_from : (vertex start : ℕ) (names : List Assignment) (e : Edge) → IsAmong e (parts_edges vertex start names) → vertex ≤ e.from
+pub parts_from : (vertex start : ℕ) (names : List Assignment) (e : Edge) → IsAmong e (parts_edges vertex start names) → vertex ≤ e.from
 unfolding parts_edges
 parts_from vertex start [] e h = elim h [ ]
 parts_from vertex start (a ∷ names) e h =
@@ -140,7 +136,7 @@ pub leads_to_end : (count : ℕ) (edges : List Edge) (a b : ℕ) → Leads count
 leads_to_end count edges a b (first step) = step.to
 leads_to_end count edges a b (further path step) = step.to
 
-joined : (count : ℕ) (edges : List Edge) (a b c : ℕ) → Leads count edges a b → Leads count edges b c → Leads count edges a c
+pub joined : (count : ℕ) (edges : List Edge) (a b c : ℕ) → Leads count edges a b → Leads count edges b c → Leads count edges a c
 joined count edges a b c path (first step) = further path step
 joined count edges a b c path (further {b = d} more step) = further (joined count edges a b d path more) step
 

@@ -45,12 +45,7 @@ EachOf P names (types.SequenceOf size element) = P element.number
 EachOf P names (types.Reference name) = OfOption P (find_type name names)
 EachOf P names (types.IeContainer set) = EachIe P (all_of (ie_rows set names))
 EachOf P names (types.Pdu set) = EachProcedure P (all_of (procedure_rows set names))
-EachOf P names types.Boolean = Unit {0}
-EachOf P names (types.Integer low high extensible) = Unit {0}
-EachOf P names (types.Enumerated parts) = Unit {0}
-EachOf P names (types.BitString size) = Unit {0}
-EachOf P names (types.OctetString size) = Unit {0}
-EachOf P names (types.PrintableString size) = Unit {0}
+EachOf P names _ = Unit {0}
 
 -- a type of the module of lesser rank than this one
 abbrev pub Lesser : Syntax → (ℕ → ℕ) → ℕ → ℕ → Type 0

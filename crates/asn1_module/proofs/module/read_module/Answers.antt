@@ -22,7 +22,7 @@ invariant_of-result c = (
     linked = linked c.args.text.now c.in-Ok.syntax c.in-Ok.ensures;
     sound = sound_of c.in-Ok.syntax (subst (Judged c.in-Ok.syntax) c.in-None.is c.in_ok-fault.ensures);
   },
-  c.in_ok-targets-in-None.ensures,
+  c.in_ok-targets.ensures,
 )
 
 pub refused-requires : goal.refused-requires
@@ -30,8 +30,8 @@ refused-requires c =
     let told : syntax_of c.args.text.now ≡ Err c.in-Err-Fault.fault = subst (λ (e : ReadError). Fails e (syntax_of c.args.text.now)) c.in-Err-Fault.field-0-is c.in-Err-Fault.ensures in
     subst (HasFault c.args.text.now) (sym c.in-Err-Fault.fault-is) (in_text (is_first_wrong c.args.text.now c.in-Err-Fault.fault told))
 
-pub returns-in_ok-targets-in-None : goal.returns-in_ok-targets-in-None
-returns-in_ok-targets-in-None c = record {
+pub returns-in-None : goal.returns-in-None
+returns-in-None c = record {
   is = is_text_of c.args.text.now c.in-Ok.syntax c.in-Ok.ensures;
   sound = subst (Judged c.in-Ok.syntax) c.in-None.is c.in_ok-fault.ensures;
   ends = refl;
