@@ -13,11 +13,11 @@ use Rattle.asn1_assignments.specs.declared.assignment.IeRow.{IeRow}
 use Rattle.asn1_assignments.specs.declared.assignment.ProcedureRow.{ProcedureRow}
 use Rattle.asn1_assignments.specs.declared.assignment.Assignment.{Assignment}
 use Rattle.asn1_assignments.specs.declared.assignment.Syntax.{Syntax}
-use Rattle.asn1_module.proofs.asn1_reading_laws.Readings.{read_of}
-use Rattle.asn1_module.specs.Module.{find_type, ie_rows, ie_rows_of, procedure_rows, IsModule}
-use Rattle.asn1_module.specs.Targets.{definition_at, all_of}
-use Rattle.asn1_bounds_laws.specs.Proper.{Each, IsNew, AreOnce, ie_id, IsBodyWithin}
-use Rattle.asn1_bounds_laws.proofs.ModuleBounds.{proper}
+use Rattle.asn1_module.proofs.asn1_proof_reading.Readings.{read_of}
+use Rattle.asn1_module.specs.asn1_defs.Targets.{find_type, ie_rows, ie_rows_of, procedure_rows, definition_at, all_of}
+use Rattle.asn1_module.specs.asn1_defs.Modules.{IsModule}
+use Rattle.asn1_proof_module.specs.Proper.{Each, IsNew, AreOnce, ie_id, IsBodyWithin}
+use Rattle.asn1_proof_module.proofs.ModuleBounds.{proper}
 use Rattle.aper_defs.specs.Trees.{Tree, slots, has_slot}
 use Rattle.aper_loose_defs.specs.Sets.{AreOwnIds, IsSet, LeavesId, EachSet, EachSetOfParts, EachSetOfRows, EachSetOfProcedures, EachSetOfOutcome, HasSets, LeavesIds}
 use Rattle.aper_proof_answers.proofs.NumberFacts.{by_cases, below, not_below, same, is_same}

@@ -1,8 +1,9 @@
 -- Steps that are among others.
 use Rattle.std.proofs.Common.{◌≡◌, ℕ, zero, suc, ◌+◌, ◌<◌, ◌≤◌, List, [], ◌∷◌, ◌++◌, length, take, drop, get_or, refl, sym, subst, inl, inr, arith}
 use Rattle.std.proofs.lemmas.List.{take_all}
-use Rattle.asn1_graph.specs.declared.graph.Edge.{Edge}
-use Rattle.asn1_graph.specs.Paths.{IsAmong, AreAmong}
+use Rattle.asn1_defs.specs.declared.graph.Edge.{Edge}
+use Rattle.asn1_defs.specs.Paths.{IsAmong}
+use Rattle.asn1_graph.specs.Walks.{AreAmong}
 
 pub among_at : (es : List Edge) (k : ℕ) (d : Edge) → k < length es → IsAmong (get_or es k d) es
 among_at [] k d lt = absurd (omega arith)

@@ -5,9 +5,10 @@ use Rattle.std.proofs.lemmas.List.{get_or-replicate}
 use Rattle.std.proofs.Math.Seq.{take-append_seam}
 use Rattle.std.proofs.lemmas.Bool.{cases_lt}
 use Rattle.gnb_types.proofs.Choices.{by_test, by_choice, clash}
-use Rattle.asn1_graph.specs.declared.graph.Edge.{Edge}
-use Rattle.asn1_graph.specs.Graph.{edge}
-use Rattle.asn1_graph.specs.Paths.{IsStep, Leads, first, further, raised, MarksLoops, IsFirst}
+use Rattle.asn1_defs.specs.declared.graph.Edge.{Edge}
+use Rattle.asn1_defs.specs.Graph.{edge}
+use Rattle.asn1_defs.specs.Paths.{IsStep, Leads, first, further, IsFirst}
+use Rattle.asn1_graph.specs.Walks.{raised, MarksLoops}
 use Rattle.asn1_graph.specs.Tables.{Falls, MarksLevel, level_step}
 use Rattle.asn1_graph.proofs.PathLemmas.{at_or_not, raised_cases, raised_fair, raised_false}
 use Rattle.asn1_graph.proofs.AmongLemmas.{each_more, each_of_all}

@@ -5,9 +5,10 @@ use Rattle.std.proofs.lemmas.List.{length-set, length-replicate, get_or-replicat
 use Rattle.std.proofs.lemmas.List.Sums.{sum_by-set}
 use Rattle.std.proofs.lemmas.Bool.{ltb-true, ltb-false, lt-ltb, eqb-true, cases_lt}
 use Rattle.gnb_types.proofs.Choices.{by_choice, by_test}
-use Rattle.asn1_graph.specs.declared.graph.Edge.{Edge}
-use Rattle.asn1_graph.specs.Graph.{edge}
-use Rattle.asn1_graph.specs.Paths.{IsAmong, Leads, first, further, raised, mark_step, depth_step, depth_cap, round_of, AreAmong, IsReach, IsDepth, Nests, alone, around}
+use Rattle.asn1_defs.specs.declared.graph.Edge.{Edge}
+use Rattle.asn1_defs.specs.Graph.{edge}
+use Rattle.asn1_defs.specs.Paths.{IsAmong, Leads, first, further, Nests, alone, around}
+use Rattle.asn1_graph.specs.Walks.{raised, mark_step, depth_step, depth_cap, round_of, AreAmong, IsReach, IsDepth}
 use Rattle.asn1_graph.specs.Tables.{MarksWell, TellsWell}
 
 or_cases : (a b : Bool) → a || b ≡ true → (a ≡ true) ⊎ (b ≡ true)

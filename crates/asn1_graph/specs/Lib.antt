@@ -1,4 +1,4 @@
-pub mod Graph
 pub mod Numbers
-pub mod Paths
+pub mod Walks
 pub mod Tables
+pub use Rattle.asn1_defs.specs as asn1_defs

@@ -1,7 +1,8 @@
 -- Internal: what tables say while they are filled.
 use Rattle.std.specs.Prelude.{◌≡◌, ℕ, ◌<◌, ◌≤◌, List, length, slice_index, ◌==◌, if◌then◌else◌}
-use Rattle.asn1_graph.specs.declared.graph.Edge.{Edge}
-use Rattle.asn1_graph.specs.Paths.{IsAmong, Leads, Nests, raised}
+use Rattle.asn1_defs.specs.declared.graph.Edge.{Edge}
+use Rattle.asn1_defs.specs.Paths.{IsAmong, Leads, Nests}
+use Rattle.asn1_graph.specs.Walks.{raised}
 
 -- each mark is right
 pub record MarksWell (count : ℕ) (edges : List Edge) (start : ℕ) (t : List ℕ) : Type 0 where

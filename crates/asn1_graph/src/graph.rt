@@ -2,19 +2,13 @@
 
 ghost use Rattle.std.specs.Prelude.{◌≡◌, ◌+◌, ◌-◌, ◌^◌, ◌<◌, ◌++◌, length, OnOk, IfOk, IfSome};
 ghost use Rattle.asn1_graph.specs.Numbers.{all_numbers, numbers_in};
-ghost use Rattle.asn1_graph.specs.Graph.{member_edges, all_member_edges, numbered_edges, definition_edges, nodes_edges, range_edges, parts_edges, edges_of, vertex_count};
+ghost use Rattle.asn1_defs.specs.Graph.{member_edges, all_member_edges, numbered_edges, definition_edges, nodes_edges, range_edges, parts_edges, edges_of, vertex_count};
 
 use asn1_assignments::{Assignment, Syntax};
+use asn1_defs::Edge;
 use asn1_types::{Component, Definition, Extensible, Items, Node};
 use gnb_types::octets::Memory;
 use std::alloc::Global;
-
-/// One step, from a vertex to another. The vertices are a module's types by their numbers, and then its assignments.
-#[derive(Clone, Copy, PartialEq, Eq)]
-pub struct Edge {
-    pub from: usize,
-    pub to: usize,
-}
 
 /// How many vertices a module has.
 pub fn vertex_count(syntax: &Syntax) -> usize
@@ -24,7 +18,7 @@ pub fn vertex_count(syntax: &Syntax) -> usize
 }
 
 /// Adds the steps from a type to those of its members.
-#[tactic(auto, unfolding(crate::specs::Graph::member_edges))]
+#[tactic(auto, unfolding(asn1_defs::specs::Graph::member_edges))]
 fn push_members(edges: &mut Items<Edge>, from: usize, members: &[Component]) -> Result<(), Memory>
     ensures { OnOk result (edges.new ≡ edges.old ++ member_edges from members.now) }
 {
@@ -36,7 +30,7 @@ fn push_members(edges: &mut Items<Edge>, from: usize, members: &[Component]) -> 
 }
 
 /// Adds the steps from a type to those of the members of its root and of its additions.
-#[tactic(auto, unfolding(crate::specs::Graph::member_edges))]
+#[tactic(auto, unfolding(asn1_defs::specs::Graph::member_edges))]
 fn push_all_members(
     edges: &mut Items<Edge>,
     from: usize,
@@ -97,7 +91,7 @@ fn push_node(
 }
 
 /// Adds the steps from each type.
-#[tactic(auto, unfolding(crate::specs::Graph::nodes_edges))]
+#[tactic(auto, unfolding(asn1_defs::specs::Graph::nodes_edges))]
 fn push_nodes(
     edges: &mut Items<Edge>,
     assignments: &[Assignment],
@@ -125,7 +119,7 @@ fn push_range(edges: &mut Items<Edge>, from: usize, first: usize, end: usize) ->
 }
 
 /// Adds the steps from each assignment; the vertex of the first one is `base`.
-#[tactic(auto, unfolding(crate::specs::Graph::parts_edges))]
+#[tactic(auto, unfolding(asn1_defs::specs::Graph::parts_edges))]
 fn push_parts(
     edges: &mut Items<Edge>,
     base: usize,
@@ -143,7 +137,7 @@ fn push_parts(
 }
 
 /// The steps of a module, by the numbers of the assignments that its names refer to.
-#[tactic(auto, unfolding(crate::specs::Graph::edges_of))]
+#[tactic(auto, unfolding(asn1_defs::specs::Graph::edges_of))]
 pub fn edges_of(
     alloc: Global,
     syntax: &Syntax,

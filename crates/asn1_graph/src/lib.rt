@@ -7,6 +7,6 @@ mod paths;
 mod search;
 mod steps;
 
-pub use graph::{Edge, edges_of, vertex_count};
+pub use graph::{edges_of, vertex_count};
 pub use numbers::numbers_in;
 pub use paths::{depths, first_looping, value_at};

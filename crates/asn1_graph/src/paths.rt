@@ -1,12 +1,13 @@
 //! Paths through a module's types and assignments.
 
 ghost use Rattle.std.specs.Prelude.{◌≡◌, ◌+◌, ◌-◌, ◌<◌, ◌≤◌, ◌↔◌, IfOk, OnOk, IsTrue, length, slice_index, false, replicate};
-ghost use Rattle.asn1_graph.specs.Paths.{raised, mark_step, depth_step, round_of, AreAmong, IsReach, IsDepth, IsFirst, MarksLoops, Leads};
+ghost use Rattle.asn1_graph.specs.Walks.{raised, mark_step, depth_step, round_of, AreAmong, IsReach, IsDepth, MarksLoops};
+ghost use Rattle.asn1_defs.specs.Paths.{IsFirst, Leads};
 ghost use Rattle.asn1_graph.specs.Tables.{MarksWell, Falls, MarksLevel, level_step};
 
-use crate::graph::Edge;
 use crate::search::{entry, searched};
 use crate::steps::Steps;
+use asn1_defs::Edge;
 use gnb_types::octets::Memory;
 use std::alloc::Global;
 
@@ -30,7 +31,7 @@ fn raise(table: &mut [u8], at: usize, value: u8) -> bool
     false
 }
 
-#[tactic(auto, unfolding(crate::specs::Paths::mark_step))]
+#[tactic(auto, unfolding(crate::specs::Walks::mark_step))]
 fn mark_step(table: &mut [u8], start: usize, edge: Edge) -> bool
     ensures { (result, table.new) ≡ mark_step start table.old edge }
 {
@@ -40,7 +41,7 @@ fn mark_step(table: &mut [u8], start: usize, edge: Edge) -> bool
     false
 }
 
-#[tactic(auto, unfolding(crate::specs::Paths::depth_step))]
+#[tactic(auto, unfolding(crate::specs::Walks::depth_step))]
 fn depth_step(table: &mut [u8], weights: &[u8], edge: Edge) -> bool
     ensures { (result, table.new) ≡ depth_step weights.now table.old edge }
 {
@@ -51,7 +52,7 @@ fn depth_step(table: &mut [u8], weights: &[u8], edge: Edge) -> bool
     raise(table, edge.from, depth.min(u16::from(DEPTH_CAP)) as u8)
 }
 
-#[tactic(auto, unfolding(crate::specs::Paths::round_of))]
+#[tactic(auto, unfolding(crate::specs::Walks::round_of))]
 fn mark_round(table: &mut [u8], start: usize, edges: &[Edge]) -> bool
     ensures { (result, table.new) ≡ round_of (mark_step start) false table.old edges.now }
 {
@@ -63,7 +64,7 @@ fn mark_round(table: &mut [u8], start: usize, edges: &[Edge]) -> bool
     changed
 }
 
-#[tactic(auto, unfolding(crate::specs::Paths::round_of))]
+#[tactic(auto, unfolding(crate::specs::Walks::round_of))]
 fn depth_round(table: &mut [u8], weights: &[u8], edges: &[Edge]) -> bool
     ensures { (result, table.new) ≡ round_of (depth_step weights.now) false table.old edges.now }
 {

@@ -5,8 +5,8 @@
 
 ghost use Rattle.std.specs.Prelude.{◌≡◌, slice_index};
 
-use crate::graph::Edge;
 use crate::steps::Steps;
+use asn1_defs::Edge;
 use gnb_types::octets::Memory;
 use std::alloc::Global;
 

@@ -1,9 +1,9 @@
 //! The steps from each vertex.
 
 ghost use Rattle.std.specs.Prelude.{◌≡◌, IfOk};
-ghost use Rattle.asn1_graph.specs.Paths.{AreAmong};
+ghost use Rattle.asn1_graph.specs.Walks.{AreAmong};
 
-use crate::graph::Edge;
+use asn1_defs::Edge;
 use gnb_types::octets::Memory;
 use std::alloc::Global;
 

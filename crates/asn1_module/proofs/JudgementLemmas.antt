@@ -5,10 +5,11 @@ use Rattle.std.proofs.lemmas.List.{length-replicate, take_all}
 use Rattle.std.proofs.lemmas.Bool.{cases_lt}
 use Rattle.asn1_types.specs.declared.definition.Node.{Node}
 use Rattle.asn1_assignments.specs.declared.assignment.Syntax.{Syntax}
-use Rattle.asn1_graph.specs.declared.graph.Edge.{Edge}
-use Rattle.asn1_graph.specs.Graph.{vertex_count, edges_of}
-use Rattle.asn1_graph.specs.Paths.{IsDepth, Nests, IsFirst, Leads}
-use Rattle.asn1_module.specs.Judgement.{node_weights, weights_of, IsTooDeep, IsFirstRecursive}
+use Rattle.asn1_defs.specs.declared.graph.Edge.{Edge}
+use Rattle.asn1_defs.specs.Graph.{vertex_count, edges_of}
+use Rattle.asn1_graph.specs.Walks.{IsDepth}
+use Rattle.asn1_defs.specs.Paths.{Nests, IsFirst, Leads}
+use Rattle.asn1_defs.specs.Judgement.{node_weights, weights_of, IsTooDeep, IsFirstRecursive}
 
 pub deep_told : (count : ℕ) (edges : List Edge) (weights t : List ℕ) (v : ℕ) → IsDepth count edges weights t → v < count → 60 < get_or t v 0 → (d : ℕ) × Nests count edges weights v d × (60 < d)
 deep_told count edges weights t v told lt h = let r = told.reached v lt in (r.0, r.1, omega (arith, r.2))

@@ -14,15 +14,15 @@ use Rattle.asn1_assignments.specs.declared.assignment.ProcedureRow.{ProcedureRow
 use Rattle.asn1_assignments.specs.declared.assignment.Assignment.{Assignment}
 use Rattle.asn1_assignments.specs.Index.{number_of}
 use Rattle.asn1_assignments.specs.declared.assignment.Syntax.{Syntax}
-use Rattle.asn1_module.specs.Links.{IesBelow, ProceduresBelow}
-use Rattle.asn1_module.specs.Module.{type_of, find_type, ie_rows_of, ie_rows, procedure_rows_of, procedure_rows, IsModule}
-use Rattle.asn1_module.specs.Targets.{definition_of, definition_at, all_of, referred, element_rows, message_rows}
+use Rattle.asn1_defs.specs.Links.{IesBelow, ProceduresBelow}
+use Rattle.asn1_defs.specs.Targets.{type_of, find_type, ie_rows_of, ie_rows, procedure_rows_of, procedure_rows, definition_of, definition_at, all_of, referred, element_rows, message_rows}
+use Rattle.asn1_defs.specs.Modules.{IsModule}
 use Rattle.asn1_graph.specs.Numbers.{number_in, all_numbers, numbers_in}
 use Rattle.asn1_module.specs.Numbers.{body_at, found_in}
 use Rattle.asn1_graph.proofs.NumberLemmas.{length-all_numbers}
-use Rattle.asn1_module.specs.declared.names.Kind.{Kind}
-use Rattle.asn1_module.specs.declared.names.Kind.TheVariants as kinds
-use Rattle.asn1_module.specs.Names.{kind_of_body, kind_of_name, is_such, is_known}
+use Rattle.asn1_defs.specs.declared.names.Kind.{Kind}
+use Rattle.asn1_defs.specs.declared.names.Kind.TheVariants as kinds
+use Rattle.asn1_defs.specs.Names.{kind_of_body, kind_of_name, is_such, is_known}
 use Rattle.asn1_module.proofs.Facts.{type_below, ies_below, procedures_below}
 
 pub number_at : (assignments : List Assignment) (nodes : List Node) (i : ℕ) (d : Option ℕ) → i < length nodes

@@ -1,15 +1,16 @@
 //! What is wrong with a module whose text is in the grammar.
 
 ghost use Rattle.std.specs.Prelude.{◌≡◌, ◌<◌, IfOk, length, None};
-ghost use Rattle.asn1_module.specs.Names.{first_unknown};
+ghost use Rattle.asn1_defs.specs.Names.{first_unknown};
 ghost use Rattle.asn1_graph.specs.Numbers.{numbers_in};
-ghost use Rattle.asn1_graph.specs.Graph.{vertex_count, edges_of};
-ghost use Rattle.asn1_graph.specs.Paths.{IsDepth};
-ghost use Rattle.asn1_module.specs.Judgement.{weight_of, node_weights, weights_of, IsFirstRecursive, IsFirstDeep, Judged, IsAt};
+ghost use Rattle.asn1_defs.specs.Graph.{vertex_count, edges_of};
+ghost use Rattle.asn1_graph.specs.Walks.{IsDepth};
+ghost use Rattle.asn1_defs.specs.Judgement.{weight_of, node_weights, weights_of, IsFirstRecursive, IsFirstDeep, Judged, IsAt};
 
 use crate::names::first_unknown;
 use asn1_assignments::Syntax;
-use asn1_graph::{Edge, depths, edges_of, first_looping, value_at, vertex_count};
+use asn1_defs::Edge;
+use asn1_graph::{depths, edges_of, first_looping, value_at, vertex_count};
 use asn1_types::{Definition, Fault, ModuleReason, Node};
 use gnb_types::octets::Memory;
 use std::alloc::Global;
@@ -32,7 +33,7 @@ fn weight_of(definition: &Definition) -> u8
 }
 
 /// The levels that types add.
-#[tactic(auto, unfolding(crate::specs::Judgement::node_weights))]
+#[tactic(auto, unfolding(asn1_defs::specs::Judgement::node_weights))]
 fn node_weights(alloc: Global, nodes: &[Node]) -> Result<Vec<u8>, Memory>
     ensures { IfOk result (λ weights. weights.items ≡ node_weights nodes.now) }
 {

@@ -1,9 +1,11 @@
 //! Modules.
 
 ghost use Rattle.std.specs.Prelude.{◌≡◌, ◌==◌, ◌<◌, ◌≤◌, length, MatchResult, IfSome, slice_get, option_map, Some};
-ghost use Rattle.asn1_module.specs.Links.{IsInside, IesBelow, ProceduresBelow};
-ghost use Rattle.asn1_module.specs.Module.{Reads, RefusedSo, IsModule, HasTarget, HasFault, type_of, type_ids, find_type, type_name, is_body_of, ie_rows, ie_rows_of, procedure_rows, procedure_rows_of};
-ghost use Rattle.asn1_module.specs.Targets.{definition_at, referred, all_of, element_rows, message_rows};
+ghost use Rattle.asn1_defs.specs.Links.{IsInside, IesBelow, ProceduresBelow};
+ghost use Rattle.asn1_defs.specs.Readings.{Reads, HasFault};
+ghost use Rattle.asn1_module.specs.Refusals.{RefusedSo};
+ghost use Rattle.asn1_defs.specs.Modules.{IsModule};
+ghost use Rattle.asn1_defs.specs.Targets.{HasTarget, type_of, type_ids, find_type, type_name, is_body_of, ie_rows, ie_rows_of, procedure_rows, procedure_rows_of, definition_at, referred, all_of, element_rows, message_rows};
 ghost use Rattle.asn1_module.specs.Numbers.{body_at, found_in};
 ghost use Rattle.asn1_graph.specs.Numbers.{number_in};
 
@@ -28,7 +30,7 @@ pub struct Module {
 impl Model for Module {
     ghost use Rattle.std.specs.Prelude.{◌≡◌};
     ghost use Rattle.asn1_assignments.specs.declared.assignment.Syntax.{Syntax};
-    ghost use Rattle.asn1_module.specs.Module.{IsModule};
+    ghost use Rattle.asn1_defs.specs.Modules.{IsModule};
     ghost use Rattle.asn1_graph.specs.Numbers.{numbers_in};
 
     ghost Value = { Syntax };
@@ -53,7 +55,7 @@ fn refused(text: &[u8], fault: Fault) -> ModuleError
 }
 
 /// How many of these are types.
-#[tactic(auto, unfolding(crate::specs::Module::type_ids))]
+#[tactic(auto, unfolding(asn1_defs::specs::Targets::type_ids))]
 fn type_count(assignments: &[Assignment]) -> usize
     ensures { result ≡ length (type_ids assignments.now) }
 {
@@ -67,7 +69,7 @@ fn type_count(assignments: &[Assignment]) -> usize
 }
 
 /// The type among these with this number.
-#[tactic(auto, unfolding(crate::specs::Module::type_ids))]
+#[tactic(auto, unfolding(asn1_defs::specs::Targets::type_ids))]
 fn nth_type(assignments: &[Assignment], i: usize) -> Option<TypeId>
     ensures { result ≡ slice_get (type_ids assignments.now) i }
 {
@@ -94,7 +96,7 @@ fn is_body_of(id: TypeId, body: &Body) -> bool
 }
 
 /// The type of this name among these.
-#[tactic(auto, unfolding(crate::specs::Module::find_type))]
+#[tactic(auto, unfolding(asn1_defs::specs::Targets::find_type))]
 fn find_type(assignments: &[Assignment], name: &[u8]) -> Option<TypeId>
     ensures { result ≡ find_type name.now assignments.now }
 {
@@ -110,7 +112,7 @@ fn find_type(assignments: &[Assignment], name: &[u8]) -> Option<TypeId>
 }
 
 /// The rows of the set of this name among these.
-#[tactic(auto, unfolding(crate::specs::Module::ie_rows))]
+#[tactic(auto, unfolding(asn1_defs::specs::Targets::ie_rows))]
 fn find_ie_rows<'a>(assignments: &'a [Assignment], set: &[u8]) -> Option<&'a [IeRow]>
     ensures { option_map (λ rows. rows.now) result ≡ ie_rows set.now assignments.now }
 {
@@ -126,7 +128,7 @@ fn find_ie_rows<'a>(assignments: &'a [Assignment], set: &[u8]) -> Option<&'a [Ie
 }
 
 /// The rows of the set of this name among these.
-#[tactic(auto, unfolding(crate::specs::Module::procedure_rows))]
+#[tactic(auto, unfolding(asn1_defs::specs::Targets::procedure_rows))]
 fn find_procedure_rows<'a>(assignments: &'a [Assignment], set: &[u8]) -> Option<&'a [ProcedureRow]>
     ensures { option_map (λ rows. rows.now) result ≡ procedure_rows set.now assignments.now }
 {
@@ -257,7 +259,7 @@ impl Module {
     }
 
     /// The name of a type, which is empty for one that has none of its own.
-    #[tactic(auto, unfolding(crate::specs::Module::type_name))]
+    #[tactic(auto, unfolding(asn1_defs::specs::Targets::type_name))]
     pub fn type_name(&self, id: TypeId) -> &[u8]
         ensures { result.now ≡ type_name id self.now.assignments }
     {

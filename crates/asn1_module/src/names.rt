@@ -2,19 +2,12 @@
 
 ghost use Rattle.std.specs.Prelude.{◌≡◌, option_map};
 ghost use Rattle.asn1_graph.specs.Numbers.{number_in, all_numbers};
-ghost use Rattle.asn1_module.specs.Names.{kind_of_body, is_such, is_known, first_unknown};
+ghost use Rattle.asn1_defs.specs.Names.{kind_of_body, is_such, is_known, first_unknown};
 ghost use Rattle.asn1_module.specs.Numbers.{body_at};
 
 use asn1_assignments::{Assignment, Body};
+use asn1_defs::Kind;
 use asn1_types::{Definition, Node};
-
-/// What a name may stand for.
-#[derive(Clone, Copy, PartialEq, Eq)]
-pub enum Kind {
-    Type,
-    IeSet,
-    ProcedureSet,
-}
 
 fn kind_of_body(body: &Body) -> Kind
     ensures { result ≡ kind_of_body body.now }
@@ -41,7 +34,7 @@ fn is_number_of(kind: Kind, number: Option<usize>, assignments: &[Assignment]) -
 
 /// The name in a type is that of a type or set of the kind that stands there; `target` is the number of the assignment that it
 /// refers to.
-#[tactic(auto, unfolding(crate::specs::Names::is_known))]
+#[tactic(auto, unfolding(asn1_defs::specs::Names::is_known))]
 fn is_known(definition: &Definition, target: Option<usize>, assignments: &[Assignment]) -> bool
     requires { target ≡ number_in assignments.now definition.now }
     ensures { result ≡ is_known assignments.now definition.now }
@@ -55,7 +48,7 @@ fn is_known(definition: &Definition, target: Option<usize>, assignments: &[Assig
 }
 
 /// The place of the first name that is not known.
-#[tactic(auto, unfolding(crate::specs::Names::first_unknown))]
+#[tactic(auto, unfolding(asn1_defs::specs::Names::first_unknown))]
 pub fn first_unknown(
     assignments: &[Assignment],
     nodes: &[Node],

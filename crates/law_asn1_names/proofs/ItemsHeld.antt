@@ -7,8 +7,8 @@ use Rattle.asn1_tokens.specs.declared.token.Token.TheVariants as tokens
 use Rattle.asn1_tokens.specs.Stream.{Placed}
 use Rattle.asn1_types.specs.declared.definition.Size.{Size}
 use Rattle.asn1_types.specs.declared.definition.Extensible.{Extensible}
-use Rattle.asn1_module.specs.declared.names.Kind.TheVariants as kinds
-use Rattle.asn1_value_laws.specs.Items.{The, Extends, extends, doesn't, HighBound, given, same, ASize, size, OptionalSize, sized, unsized, AddedNames, none, one as another, Names, mark, last, more}
+use Rattle.asn1_module.specs.asn1_defs.declared.names.Kind.TheVariants as kinds
+use Rattle.asn1_module.specs.asn1_defs.ItemMeanings.{The, Extends, extends, doesn't, HighBound, given, same, ASize, size, OptionalSize, sized, unsized, AddedNames, none, one as another, Names, mark, last, more}
 use Rattle.law_asn1_names.proofs.Passing.{Passes, ◌then◌, none_passed, plain_passed, sign_passed}
 
 -- items that hold nothing, and behind which a name is a type's

@@ -12,11 +12,11 @@ use Rattle.asn1_types.specs.declared.definition.Node.{Node}
 use Rattle.asn1_assignments.specs.declared.assignment.Body.{Body}
 use Rattle.asn1_assignments.specs.declared.assignment.Assignment.{Assignment}
 use Rattle.asn1_assignments.specs.declared.assignment.Syntax.{Syntax}
-use Rattle.asn1_module.specs.declared.names.Kind.{Kind}
-use Rattle.asn1_module.specs.declared.names.Kind.TheVariants as kinds
-use Rattle.asn1_module.specs.Names.{kind_of_body, kind_of_name, is_such, is_known, first_unknown}
-use Rattle.asn1_value_laws.specs.Items.{The, start_of}
-use Rattle.asn1_value_laws.specs.Module.{MeansBody, a_type, ie_set, procedure_set, MeansAssignments, none, one, MeansModule, a_module}
+use Rattle.asn1_module.specs.asn1_defs.declared.names.Kind.{Kind}
+use Rattle.asn1_module.specs.asn1_defs.declared.names.Kind.TheVariants as kinds
+use Rattle.asn1_module.specs.asn1_defs.Names.{kind_of_body, kind_of_name, is_such, is_known, first_unknown}
+use Rattle.asn1_module.specs.asn1_defs.ItemMeanings.{The, start_of}
+use Rattle.asn1_module.specs.asn1_defs.ModuleMeanings.{MeansBody, a_type, ie_set, procedure_set, MeansAssignments, none, one, MeansModule, a_module}
 use Rattle.law_asn1_names.specs.Held.{Mention, Given, given_kind, held, givens, all_held, given_of, first_not_given, unknown_in}
 use Rattle.law_asn1_names.proofs.Passing.{◌then◌, plain_passed, sign_passed, upper_passed, name_given, name_ends, end_ends, begins_with_the, mention_of, mentions_of, mentions-append, IsFrom, AreFrom, Grown, later_grown}
 use Rattle.law_asn1_names.proofs.TypesHeld.{types_held}

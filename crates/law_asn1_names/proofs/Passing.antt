@@ -11,9 +11,9 @@ use Rattle.asn1_types.specs.declared.definition.Definition.TheVariants as types
 use Rattle.asn1_types.specs.declared.definition.Component.{Component}
 use Rattle.asn1_types.specs.declared.definition.Node.{Node}
 use Rattle.asn1_types.specs.Members.{additions_of}
-use Rattle.asn1_module.specs.declared.names.Kind.{Kind}
-use Rattle.asn1_module.specs.declared.names.Kind.TheVariants as kinds
-use Rattle.asn1_value_laws.specs.Items.{The, is, start_of}
+use Rattle.asn1_module.specs.asn1_defs.declared.names.Kind.{Kind}
+use Rattle.asn1_module.specs.asn1_defs.declared.names.Kind.TheVariants as kinds
+use Rattle.asn1_module.specs.asn1_defs.ItemMeanings.{The, is, start_of}
 use Rattle.law_asn1_names.specs.Held.{Mention, Given, given_by, given_kind, kind_behind, held_from, held, given_from, givens}
 
 -- The items from ts to rest hold these names and no assignment begins there; a name behind them is to stand for what `after` says.

@@ -9,10 +9,10 @@ use Rattle.asn1_types.specs.declared.definition.Node.{Node}
 use Rattle.asn1_assignments.specs.declared.assignment.Assignment.{Assignment}
 use Rattle.asn1_assignments.specs.declared.assignment.Syntax.{Syntax}
 use Rattle.asn1_assignments.specs.Index.{number_of}
-use Rattle.asn1_module.specs.asn1_graph.declared.graph.Edge.{Edge}
-use Rattle.asn1_module.specs.asn1_graph.Graph.{edge, numbered_edges, node_edges, nodes_edges, parts_edges, vertex_count, edges_of}
-use Rattle.asn1_module.specs.asn1_graph.Paths.{IsAmong, IsStep, Leads, first, further}
-use Rattle.asn1_module.specs.Links.{IsLinked}
+use Rattle.asn1_module.specs.asn1_defs.declared.graph.Edge.{Edge}
+use Rattle.asn1_module.specs.asn1_defs.Graph.{edge, numbered_edges, node_edges, nodes_edges, parts_edges, vertex_count, edges_of}
+use Rattle.asn1_module.specs.asn1_defs.Paths.{IsAmong, IsStep, Leads, first, further}
+use Rattle.asn1_module.specs.asn1_defs.Links.{IsLinked}
 use Rattle.law_asn1_names.specs.Held.{Mention, Given, HoldsName, Refers, directly, further as and_further}
 use Rattle.law_asn1_names.proofs.Passing.{name_in, mentions_of, IsFrom}
 use Rattle.law_asn1_names.proofs.ModuleHeld.{PartOf, AreParts}

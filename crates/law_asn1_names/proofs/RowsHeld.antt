@@ -11,8 +11,8 @@ use Rattle.asn1_assignments.specs.declared.assignment.Criticality.{Criticality}
 use Rattle.asn1_assignments.specs.declared.assignment.Presence.{Presence}
 use Rattle.asn1_assignments.specs.declared.assignment.IeRow.{IeRow}
 use Rattle.asn1_assignments.specs.declared.assignment.ProcedureRow.{ProcedureRow}
-use Rattle.asn1_module.specs.declared.names.Kind.TheVariants as kinds
-use Rattle.asn1_value_laws.specs.Rows.{ACriticality, criticality, APresence, presence, AnIe, ie, Outcome, outcome, no_outcome, AProcedure, procedure, Rows, last, more}
+use Rattle.asn1_module.specs.asn1_defs.declared.names.Kind.TheVariants as kinds
+use Rattle.asn1_module.specs.asn1_defs.RowMeanings.{ACriticality, criticality, APresence, presence, AnIe, ie, Outcome, outcome, no_outcome, AProcedure, procedure, Rows, last, more}
 use Rattle.law_asn1_names.specs.Held.{given_kind}
 use Rattle.law_asn1_names.proofs.Passing.{◌then◌, plain_passed, sign_passed, begins_with_the, Grown, not_grown, later_grown, grown_then, grown_both, none_passed}
 use Rattle.law_asn1_names.proofs.ItemsHeld.{Bare, number_passed, lower_passed}

@@ -15,13 +15,13 @@ use Rattle.asn1_types.specs.Members.{additions_of}
 use Rattle.asn1_assignments.specs.declared.assignment.Assignment.{Assignment}
 use Rattle.asn1_assignments.specs.declared.assignment.Syntax.{Syntax}
 use Rattle.asn1_assignments.specs.Index.{number_of}
-use Rattle.asn1_module.specs.asn1_graph.declared.graph.Edge.{Edge}
-use Rattle.asn1_module.specs.asn1_graph.Graph.{edge, member_edges, numbered_edges, node_edges, nodes_edges, range_edges, parts_edges, vertex_count, edges_of}
-use Rattle.asn1_module.specs.asn1_graph.Paths.{IsAmong, IsStep, Leads, first, further}
-use Rattle.asn1_module.specs.declared.names.Kind.TheVariants as kinds
-use Rattle.asn1_module.specs.Links.{AreBelow, PartsBelow, IsInside, AreOrdered, IsLinked}
-use Rattle.asn1_rank_laws.proofs.Steps.{among_left, among_right}
-use Rattle.asn1_rank_laws.proofs.Inside.{range_has}
+use Rattle.asn1_module.specs.asn1_defs.declared.graph.Edge.{Edge}
+use Rattle.asn1_module.specs.asn1_defs.Graph.{edge, member_edges, numbered_edges, node_edges, nodes_edges, range_edges, parts_edges, vertex_count, edges_of}
+use Rattle.asn1_module.specs.asn1_defs.Paths.{IsAmong, IsStep, Leads, first, further}
+use Rattle.asn1_module.specs.asn1_defs.declared.names.Kind.TheVariants as kinds
+use Rattle.asn1_module.specs.asn1_defs.Links.{AreBelow, PartsBelow, IsInside, AreOrdered, IsLinked}
+use Rattle.asn1_proof_ranks.proofs.Steps.{among_left, among_right}
+use Rattle.asn1_proof_ranks.proofs.Inside.{range_has}
 use Rattle.law_asn1_names.specs.Held.{Mention, Given, givens, HoldsName, Refers, directly, further as and_further}
 use Rattle.law_asn1_names.proofs.Passing.{name_in, mention_of, mentions_of, AllFrom, IsFrom}
 use Rattle.law_asn1_names.proofs.ModuleHeld.{PartOf, AreParts}

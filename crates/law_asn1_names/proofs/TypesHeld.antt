@@ -10,10 +10,10 @@ use Rattle.asn1_types.specs.declared.definition.Definition.TheVariants as types
 use Rattle.asn1_types.specs.declared.definition.Node.{Node}
 use Rattle.asn1_types.specs.declared.members.Group.{Group}
 use Rattle.asn1_types.specs.Members.{no_parts, node, additions_of}
-use Rattle.asn1_module.specs.declared.names.Kind.{Kind}
-use Rattle.asn1_module.specs.declared.names.Kind.TheVariants as kinds
-use Rattle.asn1_value_laws.specs.Items.{The, start_of, SetName, set_name}
-use Rattle.asn1_value_laws.specs.Types.{Plain, boolean, integer, enumerated, bit_string, octet_string, printable_string, ie_container, pdu, MayBeOptional, optional, required, alternative, Piece, AType, Behind, AMember, Members, Added, Value, Means, reference, worded, plain, sequence_of, empty_sequence, sequence, choice, member, mark, last, more, no_more, one_more}
+use Rattle.asn1_module.specs.asn1_defs.declared.names.Kind.{Kind}
+use Rattle.asn1_module.specs.asn1_defs.declared.names.Kind.TheVariants as kinds
+use Rattle.asn1_module.specs.asn1_defs.ItemMeanings.{The, start_of, SetName, set_name}
+use Rattle.asn1_module.specs.asn1_defs.TypeMeanings.{Plain, boolean, integer, enumerated, bit_string, octet_string, printable_string, ie_container, pdu, MayBeOptional, optional, required, alternative, Piece, AType, Behind, AMember, Members, Added, Value, Means, reference, worded, plain, sequence_of, empty_sequence, sequence, choice, member, mark, last, more, no_more, one_more}
 use Rattle.law_asn1_names.specs.Held.{given_kind, kind_behind}
 use Rattle.law_asn1_names.proofs.Passing.{Passes, ◌then◌, none_passed, is_plain, plain_passed, sign_passed, upper_passed, begins_with_the, mention_of, AllFrom, IsFrom, all_from_less, Grown, not_grown, later_grown, grown_then, grown_both, grown_with, grown_around}
 use Rattle.law_asn1_names.proofs.ItemsHeld.{Bare, extends_passed, number_passed, lower_passed, optional_size_passed, names_passed}

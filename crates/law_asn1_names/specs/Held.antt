@@ -7,9 +7,9 @@ use Rattle.asn1_tokens.specs.declared.token.Token.{Token}
 use Rattle.asn1_tokens.specs.declared.token.Token.TheVariants as tokens
 use Rattle.asn1_tokens.specs.Words.{is_text}
 use Rattle.asn1_tokens.specs.Stream.{Placed, first_token}
-use Rattle.asn1_module.specs.declared.names.Kind.{Kind}
-use Rattle.asn1_module.specs.declared.names.Kind.TheVariants as kinds
-use Rattle.asn1_module.specs.Names.{is_such}
+use Rattle.asn1_module.specs.asn1_defs.declared.names.Kind.{Kind}
+use Rattle.asn1_module.specs.asn1_defs.declared.names.Kind.TheVariants as kinds
+use Rattle.asn1_module.specs.asn1_defs.Names.{is_such}
 
 -- a name by which items refer: what it is to stand for, and where it stands
 pub record Mention : Type 0 where

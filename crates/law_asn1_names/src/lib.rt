@@ -3,10 +3,10 @@
 
 ghost use Rattle.std.specs.Prelude.{◌≡◌, ◌+◌, ◌<◌, ◌↔◌, ℕ, List, ◌∷◌, ◌++◌, length};
 ghost use Rattle.asn1_assignments.specs.declared.assignment.Syntax.{Syntax};
-ghost use Rattle.asn1_reading_laws.specs.Texts.{IsTextOf};
-ghost use Rattle.asn1_module.specs.Names.{first_unknown};
-ghost use Rattle.asn1_module.specs.asn1_graph.Graph.{vertex_count, edges_of};
-ghost use Rattle.asn1_module.specs.asn1_graph.Paths.{Leads};
+ghost use Rattle.asn1_module.specs.asn1_defs.Texts.{IsTextOf};
+ghost use Rattle.asn1_module.specs.asn1_defs.Names.{first_unknown};
+ghost use Rattle.asn1_module.specs.asn1_defs.Graph.{vertex_count, edges_of};
+ghost use Rattle.asn1_module.specs.asn1_defs.Paths.{Leads};
 ghost use Rattle.law_asn1_names.specs.Held.{unknown_in, givens, Refers};
 
 /// The name that a module is refused for as unknown is the first in its text that no assignment gives as what it is to stand for.

@@ -1,5 +1,5 @@
 use Rattle.std.proofs.Common.{◌∷◌, ◌++◌}
-use Rattle.asn1_reading_laws.proofs.Readings.{read_of}
+use Rattle.asn1_proof_reading.proofs.Readings.{read_of}
 use Rattle.asn1_module.proofs.RowLinks.{linked}
 use Rattle.law_asn1_names.specs.Held.{givens}
 use Rattle.law_asn1_names.proofs.ModuleHeld.{module_held}

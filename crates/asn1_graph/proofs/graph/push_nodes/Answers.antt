@@ -1,7 +1,7 @@
 use Rattle.std.proofs.Common.{◌++◌, length, get_or, ap, ◌∙◌, arith}
 use Rattle.std.specs.Prelude.{None}
 use Rattle.asn1_types.specs.declared.definition.Node.{Node}
-use Rattle.asn1_graph.specs.Graph.{definition_edges}
+use Rattle.asn1_defs.specs.Graph.{definition_edges}
 use Rattle.asn1_graph.proofs.GraphLemmas.{nodes_turn}
 use Rattle.asn1_graph.proofs.NumberLemmas.{target_there, targets_long, number_fits}
 use Rattle.asn1_graph.proofs.graph.push_nodes.Goals as goal

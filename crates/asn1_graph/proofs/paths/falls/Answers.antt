@@ -1,5 +1,5 @@
 use Rattle.std.proofs.Common.{arith}
-use Rattle.asn1_graph.specs.Graph.{edge}
+use Rattle.asn1_defs.specs.Graph.{edge}
 use Rattle.asn1_graph.proofs.LoopLemmas.{falls_more, none_falls, all_fall}
 use Rattle.asn1_graph.proofs.paths.falls.Goals as goal
 

@@ -1,5 +1,5 @@
 use Rattle.std.proofs.Common.{ℕ, ◌+◌, ◌<◌}
-use Rattle.asn1_graph.specs.Paths.{Leads}
+use Rattle.asn1_defs.specs.Paths.{Leads}
 use Rattle.asn1_graph.proofs.paths.first_looping.Given as goal
 
 abbrev pub invariant-loop-vertex : goal.invariant-loop-vertex

@@ -1,5 +1,5 @@
 use Rattle.std.proofs.Common.{◌∙◌}
-use Rattle.asn1_graph.specs.Paths.{MarksLoops}
+use Rattle.asn1_graph.specs.Walks.{MarksLoops}
 use Rattle.asn1_graph.proofs.LoopLemmas.{loops_marked, written}
 use Rattle.asn1_graph.proofs.paths.looping.Goals as goal
 

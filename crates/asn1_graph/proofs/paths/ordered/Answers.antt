@@ -1,6 +1,6 @@
 use Rattle.std.proofs.Common.{List, subst}
-use Rattle.asn1_graph.specs.declared.graph.Edge.{Edge}
-use Rattle.asn1_graph.specs.Paths.{IsAmong}
+use Rattle.asn1_defs.specs.declared.graph.Edge.{Edge}
+use Rattle.asn1_defs.specs.Paths.{IsAmong}
 use Rattle.asn1_graph.proofs.AmongLemmas.{append_among}
 use Rattle.asn1_graph.proofs.paths.ordered.Goals as goal
 

@@ -1,4 +1,4 @@
-use Rattle.asn1_graph.specs.Paths.{AreAmong}
+use Rattle.asn1_graph.specs.Walks.{AreAmong}
 use Rattle.asn1_graph.proofs.paths.ordered.Given as goal
 
 abbrev pub invariant-loop-vertex : goal.invariant-loop-vertex

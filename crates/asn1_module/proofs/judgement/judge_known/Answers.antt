@@ -1,5 +1,5 @@
 use Rattle.std.proofs.Common.{subst}
-use Rattle.asn1_module.specs.Judgement.{recursive, IsFirstRecursive}
+use Rattle.asn1_defs.specs.Judgement.{recursive, IsFirstRecursive}
 use Rattle.asn1_module.proofs.judgement.judge_known.Goals as goal
 
 pub returns-in-Some : goal.returns-in-Some

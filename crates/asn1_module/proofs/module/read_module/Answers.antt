@@ -2,9 +2,9 @@ use Rattle.asn1_types.specs.declared.fault.ReadError.{ReadError}
 use Rattle.asn1_types.specs.Reading.{Fails}
 use Rattle.asn1_assignments.specs.Module.{syntax_of}
 use Rattle.std.proofs.Common.{subst, sym, refl, ◌≡◌, Err}
-use Rattle.asn1_module.specs.Judgement.{Judged}
-use Rattle.asn1_module.specs.Module.{HasFault, in_text, in_module}
-use Rattle.asn1_reading_laws.proofs.Readings.{is_text_of, is_first_wrong}
+use Rattle.asn1_defs.specs.Judgement.{Judged}
+use Rattle.asn1_defs.specs.Readings.{HasFault, in_text, in_module}
+use Rattle.asn1_proof_reading.proofs.Readings.{is_text_of, is_first_wrong}
 use Rattle.asn1_module.proofs.TypeCount.{types_bounded}
 use Rattle.asn1_module.proofs.RowLinks.{linked}
 use Rattle.asn1_module.proofs.Facts.{sound_of}
