@@ -9,7 +9,7 @@ use Rattle.asn1_assignments.specs.asn1_types.Members.{additions_of}
 use Rattle.asn1_assignments.specs.declared.assignment.Assignment.{Assignment}
 use Rattle.asn1_assignments.specs.declared.assignment.Syntax.{Syntax}
 use Rattle.asn1_defs.specs.declared.graph.Edge.{Edge}
-use Rattle.asn1_graph.specs.Numbers.{number_in}
+use Rattle.asn1_defs.specs.Numbers.{number_in}
 
 abbrev pub edge : ℕ → ℕ → Edge
 edge from to = record { from = from; to = to }

@@ -19,6 +19,7 @@ pub mod Texts
 -- names, recursion and depth
 pub mod Names
 pub mod Targets
+pub mod Numbers
 pub mod Graph
 pub mod Paths
 pub mod Judgement

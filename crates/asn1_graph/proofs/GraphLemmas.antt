@@ -4,7 +4,7 @@ use Rattle.std.specs.Prelude.{Option}
 use Rattle.asn1_types.specs.declared.definition.Node.{Node}
 use Rattle.asn1_assignments.specs.declared.assignment.Assignment.{Assignment}
 use Rattle.asn1_defs.specs.declared.graph.Edge.{Edge}
-use Rattle.asn1_graph.specs.Numbers.{number_in}
+use Rattle.asn1_defs.specs.Numbers.{number_in}
 use Rattle.asn1_defs.specs.Graph.{edge, definition_edges, node_edges, nodes_edges, range_edges}
 
 pub range_turn : (from to end : ℕ) → to < end → range_edges from to (end - to) ≡ edge from to ∷ range_edges from (to + 1) (end - (to + 1))

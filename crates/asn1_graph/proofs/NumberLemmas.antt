@@ -10,7 +10,7 @@ use Rattle.asn1_types.specs.declared.definition.Definition.{Definition}
 use Rattle.asn1_assignments.specs.declared.assignment.Assignment.{Assignment}
 use Rattle.asn1_assignments.specs.declared.index.NameIndex.{NameIndex}
 use Rattle.asn1_assignments.specs.Index.{number_of, numbered, Indexes}
-use Rattle.asn1_graph.specs.Numbers.{name_in, number_by, number_in, all_numbers}
+use Rattle.asn1_defs.specs.Numbers.{name_in, number_by, number_in, all_numbers}
 
 pub length-all_numbers : (assignments : List Assignment) (nodes : List Node) → length (all_numbers assignments nodes) ≡ length nodes
 unfolding all_numbers

@@ -1,4 +1,3 @@
-pub mod Numbers
 pub mod Walks
 pub mod Tables
 pub use Rattle.asn1_defs.specs as asn1_defs

@@ -1,7 +1,7 @@
 //! Which types and assignments lead to which.
 
 ghost use Rattle.std.specs.Prelude.{◌≡◌, ◌+◌, ◌-◌, ◌^◌, ◌<◌, ◌++◌, length, OnOk, IfOk, IfSome};
-ghost use Rattle.asn1_graph.specs.Numbers.{all_numbers, numbers_in};
+ghost use Rattle.asn1_defs.specs.Numbers.{all_numbers, numbers_in};
 ghost use Rattle.asn1_defs.specs.Graph.{member_edges, all_member_edges, numbered_edges, definition_edges, nodes_edges, range_edges, parts_edges, edges_of, vertex_count};
 
 use asn1_assignments::{Assignment, Syntax};

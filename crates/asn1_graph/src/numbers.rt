@@ -2,7 +2,7 @@
 
 ghost use Rattle.std.specs.Prelude.{◌≡◌, IfOk};
 ghost use Rattle.asn1_assignments.specs.Index.{numbered};
-ghost use Rattle.asn1_graph.specs.Numbers.{name_in, number_by, numbers_in as numbers_of_syntax};
+ghost use Rattle.asn1_defs.specs.Numbers.{name_in, number_by, numbers_in as numbers_of_syntax};
 
 use asn1_assignments::{NameIndex, Syntax, index_of};
 use asn1_types::Definition;

@@ -17,7 +17,7 @@ use Rattle.asn1_assignments.specs.declared.assignment.Syntax.{Syntax}
 use Rattle.asn1_defs.specs.Links.{IesBelow, ProceduresBelow}
 use Rattle.asn1_defs.specs.Targets.{type_of, find_type, ie_rows_of, ie_rows, procedure_rows_of, procedure_rows, definition_of, definition_at, all_of, referred, element_rows, message_rows}
 use Rattle.asn1_defs.specs.Modules.{IsModule}
-use Rattle.asn1_graph.specs.Numbers.{number_in, all_numbers, numbers_in}
+use Rattle.asn1_defs.specs.Numbers.{number_in, all_numbers, numbers_in}
 use Rattle.asn1_module.specs.Numbers.{body_at, found_in}
 use Rattle.asn1_graph.proofs.NumberLemmas.{length-all_numbers}
 use Rattle.asn1_defs.specs.declared.names.Kind.{Kind}

@@ -2,7 +2,7 @@
 
 ghost use Rattle.std.specs.Prelude.{◌≡◌, ◌<◌, IfOk, length, None};
 ghost use Rattle.asn1_defs.specs.Names.{first_unknown};
-ghost use Rattle.asn1_graph.specs.Numbers.{numbers_in};
+ghost use Rattle.asn1_defs.specs.Numbers.{numbers_in};
 ghost use Rattle.asn1_defs.specs.Graph.{vertex_count, edges_of};
 ghost use Rattle.asn1_graph.specs.Walks.{IsDepth};
 ghost use Rattle.asn1_defs.specs.Judgement.{weight_of, node_weights, weights_of, IsFirstRecursive, IsFirstDeep, Judged, IsAt};

@@ -7,7 +7,7 @@ ghost use Rattle.asn1_module.specs.Refusals.{RefusedSo};
 ghost use Rattle.asn1_defs.specs.Modules.{IsModule};
 ghost use Rattle.asn1_defs.specs.Targets.{HasTarget, type_of, type_ids, find_type, type_name, is_body_of, ie_rows, ie_rows_of, procedure_rows, procedure_rows_of, definition_at, referred, all_of, element_rows, message_rows};
 ghost use Rattle.asn1_module.specs.Numbers.{body_at, found_in};
-ghost use Rattle.asn1_graph.specs.Numbers.{number_in};
+ghost use Rattle.asn1_defs.specs.Numbers.{number_in};
 
 use crate::error::ModuleError;
 use crate::judgement::judge;
@@ -31,7 +31,7 @@ impl Model for Module {
     ghost use Rattle.std.specs.Prelude.{◌≡◌};
     ghost use Rattle.asn1_assignments.specs.declared.assignment.Syntax.{Syntax};
     ghost use Rattle.asn1_defs.specs.Modules.{IsModule};
-    ghost use Rattle.asn1_graph.specs.Numbers.{numbers_in};
+    ghost use Rattle.asn1_defs.specs.Numbers.{numbers_in};
 
     ghost Value = { Syntax };
 

@@ -1,7 +1,7 @@
 //! What the names in types refer to.
 
 ghost use Rattle.std.specs.Prelude.{◌≡◌, option_map};
-ghost use Rattle.asn1_graph.specs.Numbers.{number_in, all_numbers};
+ghost use Rattle.asn1_defs.specs.Numbers.{number_in, all_numbers};
 ghost use Rattle.asn1_defs.specs.Names.{kind_of_body, is_such, is_known, first_unknown};
 ghost use Rattle.asn1_module.specs.Numbers.{body_at};
 

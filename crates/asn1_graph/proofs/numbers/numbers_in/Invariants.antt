@@ -1,5 +1,5 @@
 use Rattle.std.proofs.Common.{◌≡◌, ◌++◌, drop}
-use Rattle.asn1_graph.specs.Numbers.{all_numbers}
+use Rattle.asn1_defs.specs.Numbers.{all_numbers}
 use Rattle.asn1_graph.proofs.numbers.numbers_in.Given as goal
 
 abbrev pub invariant-loop-node : goal.invariant-loop-node

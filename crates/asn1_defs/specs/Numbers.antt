@@ -1,8 +1,8 @@
 -- The numbers of the assignments that the names in types refer to.
 use Rattle.std.specs.Prelude.{ℕ, List, [], ◌∷◌, Option, Some, None}
-use Rattle.asn1_types.specs.declared.definition.Definition.{Definition}
-use Rattle.asn1_types.specs.declared.definition.Definition.TheVariants as types
-use Rattle.asn1_types.specs.declared.definition.Node.{Node}
+use Rattle.asn1_assignments.specs.asn1_types.declared.definition.Definition.{Definition}
+use Rattle.asn1_assignments.specs.asn1_types.declared.definition.Definition.TheVariants as types
+use Rattle.asn1_assignments.specs.asn1_types.declared.definition.Node.{Node}
 use Rattle.asn1_assignments.specs.declared.assignment.Assignment.{Assignment}
 use Rattle.asn1_assignments.specs.declared.assignment.Syntax.{Syntax}
 use Rattle.asn1_assignments.specs.Index.{number_of}
