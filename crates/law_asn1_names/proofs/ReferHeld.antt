@@ -1,10 +1,9 @@
 -- Assignments lead to each other as their items refer to each other.
-use Rattle.std.proofs.Common.{◌≡◌, ℕ, ◌+◌, ◌-◌, ◌<◌, ◌≤◌, List, [], ◌∷◌, ◌++◌, length, take, drop, refl, sym, ap, ◌∙◌, subst, inl, inr, arith}
-use Rattle.std.specs.Prelude.{◌⊎◌, ◌↔◌, Option, Some, None, slice_get, position}
+use Rattle.std.proofs.Common.{◌≡◌, ℕ, ◌+◌, ◌-◌, ◌<◌, ◌≤◌, List, length, take, drop, refl, sym, ap, ◌∙◌, subst, inl, inr, arith}
+use Rattle.std.specs.Prelude.{◌⊎◌, ◌↔◌, Option, Some, slice_get}
 use Rattle.std.proofs.lemmas.Option.{slice_get_within}
 use Rattle.std.proofs.lemmas.List.Quantifiers.{position-Some}
 use Rattle.asn1_tokens.specs.Words.{is_text}
-use Rattle.asn1_types.specs.declared.definition.Definition.{Definition}
 use Rattle.asn1_types.specs.declared.definition.Node.{Node}
 use Rattle.asn1_assignments.specs.declared.assignment.Assignment.{Assignment}
 use Rattle.asn1_assignments.specs.declared.assignment.Syntax.{Syntax}
@@ -14,9 +13,9 @@ use Rattle.asn1_module.specs.asn1_defs.Graph.{edge, numbered_edges, node_edges, 
 use Rattle.asn1_module.specs.asn1_defs.Paths.{IsAmong, IsStep, Leads, first, further}
 use Rattle.asn1_module.specs.asn1_defs.Links.{IsLinked}
 use Rattle.law_asn1_names.specs.Held.{Mention, Given, HoldsName, Refers, directly, further as and_further}
-use Rattle.law_asn1_names.proofs.Passing.{name_in, mentions_of, IsFrom}
-use Rattle.law_asn1_names.proofs.ModuleHeld.{PartOf, AreParts}
-use Rattle.law_asn1_names.proofs.StepsHeld.{among_cases, joined, type_step, name_step, begin_of, GivenPart, part_of_given, PartGiven, given_of_part, same_number, Mentioned, mentioned, HasMention, has_mention, dropped_at, taken_at, at_taken, parts_have, IntoPart, parts_into, named_edges_of, ToName, node_into, FromNode, from_node}
+use Rattle.law_asn1_names.proofs.Passing.{name_in}
+use Rattle.law_asn1_names.proofs.ModuleHeld.{AreParts}
+use Rattle.law_asn1_names.proofs.StepsHeld.{among_cases, joined, type_step, name_step, begin_of, GivenPart, part_of_given, PartGiven, given_of_part, same_number, Mentioned, mentioned, has_mention, dropped_at, taken_at, at_taken, parts_have, IntoPart, parts_into, named_edges_of, ToName, node_into, FromNode, from_node}
 
 module _ (m : Syntax) (gs : List Given) (linked : IsLinked m) (parts : AreParts 0 m.nodes m.assignments gs) where
   -- an assignment leads to this vertex by a step

@@ -1,12 +1,9 @@
 -- One assignment leads to another, by the types in it, where its items hold the name of the other.
-use Rattle.std.proofs.Common.{◌≡◌, ℕ, zero, suc, ◌+◌, ◌-◌, ◌<◌, ◌≤◌, List, [], ◌∷◌, ◌++◌, length, take, drop, Bool, true, false, cond, refl, sym, ap, ◌∙◌, subst, inl, inr, arith}
+use Rattle.std.proofs.Common.{◌≡◌, ℕ, zero, suc, ◌+◌, ◌-◌, ◌<◌, ◌≤◌, List, [], ◌∷◌, ◌++◌, length, take, drop, cond, refl, sym, ap, ◌∙◌, subst, inl, inr, arith}
 use Rattle.std.specs.Prelude.{◌⊎◌, Option, Some, None, slice_get, position}
 use Rattle.std.specs.List.{position_from}
 use Rattle.std.proofs.lemmas.Iterator.Adapters.{position_from-zero}
-use Rattle.std.proofs.lemmas.Option.{slice_get_within}
-use Rattle.std.proofs.lemmas.Bool.{cases_lt}
 use Rattle.asn1_tokens.specs.Words.{is_text}
-use Rattle.asn1_tokens.specs.Stream.{Placed}
 use Rattle.asn1_types.specs.declared.definition.Component.{Component}
 use Rattle.asn1_types.specs.declared.definition.Definition.{Definition}
 use Rattle.asn1_types.specs.declared.definition.Definition.TheVariants as types
@@ -19,10 +16,10 @@ use Rattle.asn1_module.specs.asn1_defs.declared.graph.Edge.{Edge}
 use Rattle.asn1_module.specs.asn1_defs.Graph.{edge, member_edges, numbered_edges, node_edges, nodes_edges, range_edges, parts_edges, vertex_count, edges_of}
 use Rattle.asn1_module.specs.asn1_defs.Paths.{IsAmong, IsStep, Leads, first, further}
 use Rattle.asn1_module.specs.asn1_defs.declared.names.Kind.TheVariants as kinds
-use Rattle.asn1_module.specs.asn1_defs.Links.{AreBelow, PartsBelow, IsInside, AreOrdered, IsLinked}
+use Rattle.asn1_module.specs.asn1_defs.Links.{AreBelow, IsInside, AreOrdered}
 use Rattle.asn1_proof_ranks.proofs.Steps.{among_left, among_right}
 use Rattle.asn1_proof_ranks.proofs.Inside.{range_has}
-use Rattle.law_asn1_names.specs.Held.{Mention, Given, givens, HoldsName, Refers, directly, further as and_further}
+use Rattle.law_asn1_names.specs.Held.{Mention, Given}
 use Rattle.law_asn1_names.proofs.Passing.{name_in, mention_of, mentions_of, AllFrom, IsFrom}
 use Rattle.law_asn1_names.proofs.ModuleHeld.{PartOf, AreParts}
 
