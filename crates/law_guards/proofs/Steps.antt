@@ -10,15 +10,13 @@ use Rattle.unit_defs.specs.Ways.{Message, Pdu, Input, Output}
 use Rattle.run_defs.specs.transport_defs.declared.Letter.{Letter}
 use Rattle.run_defs.specs.Runs.{Reading}
 use Rattle.law_tie_facts.specs.law_bearer_lists.chain_defs.Orders as down
-use Rattle.law_tie_facts.specs.law_bearer_lists.uplink_defs.Orders as up
 use Rattle.law_tie_facts.specs.law_bearer_lists.law_bearer_orders.Happenings.{Beside}
-use Rattle.law_tie_facts.specs.law_run_units.Happenings.{UpRecord, DuRecord}
+use Rattle.law_tie_facts.specs.law_run_units.Happenings.{UpRecord}
 use Rattle.law_tie_facts.specs.law_run_bearers.Bearers.{Numbering, contexts_of}
 use Rattle.law_tie_facts.specs.Asked.{RunCause, IsUpStep, down_after, up_after, step_asks}
-use Rattle.law_tied_runs.specs.law_core_ties.law_put_ties.Puts.{IsDuStep, orders_up, puts_of}
 use Rattle.law_tied_runs.specs.law_core_ties.Core.{IsOffer, orders_offered, IsCoreStep, orders_told}
-use Rattle.law_tied_runs.specs.Steps.{Point, Step, a_cu_up, a_du, an_offer, a_message}
-use Rattle.law_guards.specs.Guards.{OfCuUp, OfDu, OfOffer, OfMessage}
+use Rattle.law_tied_runs.specs.Steps.{Point, Step, a_cu_up, an_offer, a_message}
+use Rattle.law_guards.specs.Guards.{OfCuUp, OfOffer, OfMessage}
 
 module _ (reading : Reading) (n : Numbering) (ue : UeId) (bearer : BearerId) (sn : SnBits) (quota : ℕ) (p q : Point) where
   pub cu_up_step : (gnb : Gnb) (number : ℕ) (cause : RunCause) (input : Input Token Pdu) (outputs : List (Output (Message Token) Pdu)) (left : UpRecord)
@@ -38,24 +36,6 @@ module _ (reading : Reading) (n : Numbering) (ue : UeId) (bearer : BearerId) (sn
     acts = acts;
     asks = owed.asks;
     fresh = owed.fresh;
-    down = down_is;
-    up = up_is;
-  })
-
-  pub du_step : (gnb : Gnb) (number : ℕ) (cause : RunCause) (input : Input Token Pdu) (outputs : List (Output (Message Token) Pdu)) (left : DuRecord)
-      → IsDuStep reading p.state q.state gnb number cause input outputs left → OfDu n ue bearer sn quota p gnb number input → q.down ≡ p.down
-      → q.up ≡ up.run p.up (orders_up n ue bearer p.state.units p.up (puts_of ue bearer p.state.units gnb number input))
-      → Step reading n ue bearer sn quota p q
-  du_step gnb number cause input outputs left acts owed down_is up_is = a_du (record {
-    gnb = gnb;
-    number = number;
-    cause = cause;
-    input = input;
-    outputs = outputs;
-    left = left;
-    acts = acts;
-    leads = owed.leads;
-    asks = owed.asks;
     down = down_is;
     up = up_is;
   })

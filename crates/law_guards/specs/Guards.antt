@@ -10,12 +10,10 @@ use Rattle.unit_defs.specs.Ways.{Message, Pdu, Input}
 use Rattle.run_defs.specs.transport_defs.declared.Letter.{Letter}
 use Rattle.law_core_rows.specs.Shown.{goal_by, IsOne}
 use Rattle.law_tie_facts.specs.law_bearer_lists.chain_defs.Guards as down_guards
-use Rattle.law_tie_facts.specs.law_bearer_lists.uplink_defs.Guards as up_guards
 use Rattle.law_tie_facts.specs.law_bearer_lists.law_context_orders.Shown.{is_bearer}
 use Rattle.law_tie_facts.specs.law_bearer_lists.law_bearer_orders.Happenings.{Beside}
 use Rattle.law_tie_facts.specs.law_run_bearers.Bearers.{Numbering, contexts_of}
 use Rattle.law_tie_facts.specs.Asked.{RunCause, AllAsk, step_asks}
-use Rattle.law_tied_runs.specs.law_core_ties.law_put_ties.Puts.{AllLead, orders_up, puts_of}
 use Rattle.law_tied_runs.specs.law_core_ties.Core.{PathLeads, orders_told}
 use Rattle.law_up_ties.specs.Fresh.{UplinksAreFresh}
 use Rattle.law_tied_runs.specs.Steps.{Point}
@@ -33,12 +31,7 @@ module _ (n : Numbering) (ue : UeId) (bearer : BearerId) (sn : SnBits) (quota : 
     -- Not shown yet: of an uplink whose TEID wasn't given the part has nothing.
     pub fresh : UplinksAreFresh n ue bearer p.state gnb number p.up
 
-  -- ---- a DU acts otherwise than by taking what stands next on the radio up (for that see `HomeLeads`)
-
-  pub record OfDu (gnb : Gnb) (number : ℕ) (input : Input Token Pdu) : Type 0 where
-    -- Control: its bearer's uplink is a tunnel of the bearer's. Not shown yet: that this is an uplink.
-    pub leads : AllLead n ue bearer p.state.units p.up.station (puts_of ue bearer p.state.units gnb number input)
-    pub asks : up_guards.AreKept p.up (orders_up n ue bearer p.state.units p.up (puts_of ue bearer p.state.units gnb number input))
+  -- ---- a DU acts: where it takes what stands next on the radio up, `HomeLeads` of `law_home_ties`; else nothing (`law_du_ties`)
 
   -- ---- a packet is offered, and the core takes a message
 

@@ -5,18 +5,15 @@ ghost use Rattle.gnb_types.specs.declared.names.BearerId.{BearerId};
 ghost use Rattle.gnb_types.specs.declared.names.Gnb.{Gnb};
 ghost use Rattle.gnb_types.specs.declared.names.SnBits.{SnBits};
 ghost use Rattle.gnb_types.specs.declared.names.UeId.{UeId};
-ghost use Rattle.law_guards.specs.Guards.{OfCuUp, OfDu, OfMessage, OfOffer};
+ghost use Rattle.law_guards.specs.Guards.{OfCuUp, OfMessage, OfOffer};
 ghost use Rattle.law_tie_facts.specs.Asked.{down_after, IsUpStep, RunCause, step_asks, up_after};
 ghost use Rattle.law_tie_facts.specs.law_bearer_lists.chain_defs.Orders as down;
 ghost use Rattle.law_tie_facts.specs.law_bearer_lists.law_bearer_orders.Happenings.{Beside};
-ghost use Rattle.law_tie_facts.specs.law_bearer_lists.uplink_defs.Orders as up;
 ghost use Rattle.law_tie_facts.specs.law_run_bearers.Bearers.{contexts_of, Numbering};
-ghost use Rattle.law_tie_facts.specs.law_run_units.Happenings.{DuRecord, UpRecord};
+ghost use Rattle.law_tie_facts.specs.law_run_units.Happenings.{UpRecord};
 ghost use Rattle.law_tied_runs.specs.Steps.{Point, Step};
 ghost use Rattle.law_tied_runs.specs.law_core_ties.Core.{IsCoreStep, IsOffer};
 ghost use Rattle.law_tied_runs.specs.law_core_ties.Core.{orders_offered, orders_told};
-ghost use Rattle.law_tied_runs.specs.law_core_ties.law_put_ties.Puts.{IsDuStep, orders_up};
-ghost use Rattle.law_tied_runs.specs.law_core_ties.law_put_ties.Puts.{puts_of};
 ghost use Rattle.message_types.specs.declared.rrc.Token.{Token};
 ghost use Rattle.run_defs.specs.Runs.{Reading};
 ghost use Rattle.run_defs.specs.transport_defs.declared.Letter.{Letter};
@@ -24,8 +21,8 @@ ghost use Rattle.std.specs.Prelude.{List, ◌≡◌, ℕ};
 ghost use Rattle.unit_defs.specs.Core.{CorePath, CoreRecord};
 ghost use Rattle.unit_defs.specs.Ways.{Input, Message, Output, Pdu};
 
-/// A step of a CU-UP, a DU or the core in a run is one of those of which `law_tied_runs` speaks, where what `Guards` tells of it is so,
-/// and the parts go on by its orders: nothing else is owed.
+/// A step of a CU-UP or the core in a run is one of those of which `law_tied_runs` speaks, where what `Guards` tells of it is so, and the
+/// parts go on by its orders: nothing else is owed.
 pub fn nothing_else_is_owed()
     ensures cu_up { (reading : Reading) (n : Numbering) (ue : UeId) (bearer : BearerId) (sn : SnBits)
         (quota : ℕ) (p q : Point) (gnb : Gnb) (number : ℕ) (cause : RunCause)
@@ -39,14 +36,6 @@ pub fn nothing_else_is_owed()
         → q.up ≡ up_after n ue bearer p.state.units sn quota p.up
         (contexts_of n ue bearer p.state.units)
         (step_asks n ue bearer p.state gnb number cause input beside)
-        → Step reading n ue bearer sn quota p q }
-    ensures du { (reading : Reading) (n : Numbering) (ue : UeId) (bearer : BearerId) (sn : SnBits)
-        (quota : ℕ) (p q : Point) (gnb : Gnb) (number : ℕ) (cause : RunCause)
-        (input : Input Token Pdu) (outputs : List (Output (Message Token) Pdu)) (left : DuRecord)
-        → IsDuStep reading p.state q.state gnb number cause input outputs left
-        → OfDu n ue bearer sn quota p gnb number input → q.down ≡ p.down
-        → q.up ≡ up.run p.up (orders_up n ue bearer p.state.units p.up
-        (puts_of ue bearer p.state.units gnb number input))
         → Step reading n ue bearer sn quota p q }
     ensures offer { (reading : Reading) (n : Numbering) (ue : UeId) (bearer : BearerId) (sn : SnBits)
         (quota : ℕ) (p q : Point) (who : UeId) (which : BearerId) (packet : List ℕ)
