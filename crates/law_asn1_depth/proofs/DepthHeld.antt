@@ -60,8 +60,8 @@ module _ (m : Syntax) (gs : List Assigned) (linked : IsLinked m) (laid : AreLaid
   name_leads : (w j : ℕ) (name : List ℕ) → Names m.nodes w name → number_of name m.assignments ≡ Some j → j < length m.assignments → Step w (length m.nodes + j)
   name_leads w j name names found lt =
       type_step m w (length m.nodes + j) names.new names.there (slice_get_within m.nodes w names.new names.there) (omega (arith, lt)) (
-        subst (λ (es : List Edge). IsAmong (edge w (length m.nodes + j)) es) (sym (named_edges_of (length m.nodes) m.assignments w names.new.definition name names.named))
-        (subst (λ (o : Option ℕ). IsAmong (edge w (length m.nodes + j)) (numbered_edges (length m.nodes) w o)) (sym found) (inl refl))
+      subst (λ (es : List Edge). IsAmong (edge w (length m.nodes + j)) es) (sym (named_edges_of (length m.nodes) m.assignments w names.new.definition name names.named))
+      (subst (λ (o : Option ℕ). IsAmong (edge w (length m.nodes + j)) (numbered_edges (length m.nodes) w o)) (sym found) (inl refl))
       )
 
   -- as deep, or deeper
@@ -94,7 +94,7 @@ module _ (m : Syntax) (gs : List Assigned) (linked : IsLinked m) (laid : AreLaid
           of (inr reached) = (
             slice_index (weights_of m) (length m.nodes + k) + (reached.s + later.0),
             from_assignment k reached.r (reached.s + later.0) found.assignment lt found.there reached.from.0 reached.from.1 found.laid.ends
-            (names_nest reached.r reached.w reached.s (length m.nodes + j) later.0 reached.path (name_leads reached.w j name (reached.named name named) target inner) later.1),
+                (names_nest reached.r reached.w reached.s (length m.nodes + j) later.0 reached.path (name_leads reached.w j name (reached.named name named) target inner) later.1),
             omega (arith, reached.level, later.2),
           )
 
@@ -144,7 +144,12 @@ module _ (m : Syntax) (gs : List Assigned) (linked : IsLinked m) (laid : AreLaid
       on : (d ≤ one.s) ⊎ Onward one.w one.s d → (slice_index (weights_of m) v + d ≤ weight_of new.definition + one.s) ⊎ Onward one.w (weight_of new.definition + one.s) (slice_index (weights_of m) v + d)
       on (inl le) = inl (omega (arith, le, type_weight m v new there))
       on (inr more) = inr (record {
-        name = more.name; j = more.j; e = more.e; names = more.names; found = more.found; stands = more.stands;
+        name = more.name;
+        j = more.j;
+        e = more.e;
+        names = more.names;
+        found = more.found;
+        stands = more.stands;
         level = omega (arith, more.level, type_weight m v new there);
       })
 
@@ -157,7 +162,12 @@ module _ (m : Syntax) (gs : List Assigned) (linked : IsLinked m) (laid : AreLaid
     s = weight_of new.definition;
     path = itself there;
     rest = inr (record {
-      name = named.name; j = named.number; e = e; names = record { new = new; there = there; named = named.named }; found = named.found; stands = stands;
+      name = named.name;
+      j = named.number;
+      e = e;
+      names = record { new = new; there = there; named = named.named };
+      found = named.found;
+      stands = stands;
       level = omega (arith, le, type_weight m v new there);
     });
   }
@@ -194,7 +204,7 @@ module _ (m : Syntax) (gs : List Assigned) (linked : IsLinked m) (laid : AreLaid
           of found (inr more) = inr (
             found.item.level + more.e,
             by_name {item = found.item} {name = more.name} (record { given = at.given; there = at.there; number = found.number; at = found.at }) (found.named more.name more.names)
-              (same_number more.name m.nodes m.assignments gs laid ∙ more.found) more.stands,
+                (same_number more.name m.nodes m.assignments gs laid ∙ more.found) more.stands,
             omega (arith, more.level, found.level),
           )
 

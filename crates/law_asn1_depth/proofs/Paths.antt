@@ -223,7 +223,12 @@ module _ (whole : List Node) where
       all [] h = tt
       all (m ∷ ms) h = (
         inr (record {
-          r = b; w = b; s = weight_of new.definition; from = refl; path = itself there; level = h.0.0;
+          r = b;
+          w = b;
+          s = weight_of new.definition;
+          from = refl;
+          path = itself there;
+          level = h.0.0;
           named = λ name is. record { new = new; there = there; named = h.0.1 name is };
         }),
         all ms h.1,

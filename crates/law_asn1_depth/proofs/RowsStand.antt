@@ -113,17 +113,18 @@ module _ (whole : List Node) (lo hi : ℕ) where
         (stood_both whole
         (stood_both whole
         (type_in y (y ∷ y ∷ xs) least (omega (arith, most, longer (outcome_grows s), longer (outcome_grows u))) (successful_follows (unsuccessful_follows (begins_with_the (tokens.Word words.Procedure) p) u) s)
-          (front_front (outcome_grows s) (front_front (outcome_grows u) front)) m)
+        (front_front (outcome_grows s) (front_front (outcome_grows u) front)) m)
         (λ t like. outcome_stands words.Successful refl (λ l. refl) y t xs (omega (arith, least, longer (grows m))) (omega (arith, most, longer (outcome_grows u))) (unsuccessful_follows (begins_with_the (tokens.Word words.Procedure) p) u)
-          (front_front (outcome_grows u) front) like s))
+        (front_front (outcome_grows u) front) like s))
         (λ t like. outcome_stands words.Unsuccessful refl (λ l. refl) y t xs (omega (arith, least, longer (grows m), longer (outcome_grows s))) most (begins_with_the (tokens.Word words.Procedure) p) front like u)))
         (λ t. flat (tokens.Word words.Procedure) refl t (t ∷ y ∷ y ∷ xs) (at_level t) p and flat (tokens.Word words.Code) refl t (t ∷ y ∷ y ∷ xs) (at_level t) d and
-          number_flat (pos code) t (y ∷ y ∷ xs) n and flat (tokens.Word words.Criticality) refl t (t ∷ y ∷ y ∷ xs) (at_level t) e and criticality_flat t (y ∷ y ∷ xs) k);
+        number_flat (pos code) t (y ∷ y ∷ xs) n and flat (tokens.Word words.Criticality) refl t (t ∷ y ∷ y ∷ xs) (at_level t) e and criticality_flat t (y ∷ y ∷ xs) k);
     closes = z;
   }
+
   rows_stand : {R : Type 0} (Row : List Node → List Placed → R → List Node → List Placed → Type 0) (y : ℕ) (xs : List ℕ)
       → ((nodes all : List Node) (row : R) (ts rest : List Placed) → lo ≤ length nodes → length all ≤ hi → IsFront all whole → Row nodes ts row all rest
-        → ARow whole lo hi (length nodes) (length all) y (y ∷ y ∷ xs) (y ∷ y ∷ xs) ts rest)
+      → ARow whole lo hi (length nodes) (length all) y (y ∷ y ∷ xs) (y ∷ y ∷ xs) ts rest)
       → ((nodes all : List Node) (row : R) (ts rest : List Placed) → Row nodes ts row all rest → IsFront nodes all)
       → {nodes all : List Node} {rows : List R} {ts rest : List Placed} → lo ≤ length nodes → length all ≤ hi → IsFront all whole → Rows Row nodes ts rows all rest
       → Stood whole (InRange lo hi) (length nodes) (length all) y [] (y ∷ y ∷ xs) xs ts rest
@@ -134,7 +135,7 @@ module _ (whole : List Node) (lo hi : ℕ) where
       let row = each _ _ _ _ _ least (omega (arith, most, longer (rows_grow Row grow k))) (front_front (rows_grow Row grow k) front) r in
       stood_both whole row.stands
       (λ t like. behind_flat whole (end_flat t y (y ∷ xs) row.closes and flat (tokens.Sign signs.Bar) refl y (y ∷ y ∷ xs) (at_level y) a)
-        (rows_stand Row y xs each grow (omega (arith, least, longer (grow _ _ _ _ _ r))) most front k))
+      (rows_stand Row y xs each grow (omega (arith, least, longer (grow _ _ _ _ _ r))) most front k))
 
 -- what a name stands for
 pub body_stands : (whole : List Node) {nodes all : List Node} {body : Body} {ts rest : List Placed} → given_kind rest ≡ None → IsFront all whole → MeansBody nodes ts body all rest

@@ -321,8 +321,8 @@ module _ (whole : List Node) where
       (stood_from (λ r. r ≡ found.definition.number) (λ r. IsMember r (record { root = found ∷ members.root; additions = members.additions })) (length nodes) (length inside) y (y ∷ y ∷ xs) (y ∷ xs) (λ r h. inl (inl h))
       (types_stand y t (y ∷ xs) (begins_with_the (tokens.Sign signs.Comma) e) (front_front (grows k) front) m))
       (λ u like. behind_flat (comma_flat u y xs e)
-        (stood_from (λ r. IsMember r members) (λ r. IsMember r (record { root = found ∷ members.root; additions = members.additions })) (length inside) (length all) y (y ∷ y ∷ xs) xs widen
-        (types_stand y t xs follows front k)))
+      (stood_from (λ r. IsMember r members) (λ r. IsMember r (record { root = found ∷ members.root; additions = members.additions })) (length inside) (length all) y (y ∷ y ∷ xs) xs widen
+      (types_stand y t xs follows front k)))
     where
       widen : (r : ℕ) → IsMember r members → IsMember r (record { root = found ∷ members.root; additions = members.additions })
       widen r (inl h) = inl (inr h)
