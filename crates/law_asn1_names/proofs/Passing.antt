@@ -102,13 +102,6 @@ begins_with_the t (is same) = ap given_by same
 
 -- ---- types
 
--- the name in a type: that of a type, or of the set that a container or a PDU is of
-abbrev pub name_in : Definition → Option (List ℕ)
-name_in (types.Reference name) = Some name
-name_in (types.IeContainer set) = Some set
-name_in (types.Pdu set) = Some set
-name_in _ = None
-
 -- the name by which a type refers, if it does
 abbrev pub mention_of : Definition → ℕ → List Mention
 mention_of (types.Reference name) place = record { kind = kinds.Type; name = name; place = place } ∷ []

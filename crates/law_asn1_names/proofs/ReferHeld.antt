@@ -9,11 +9,11 @@ use Rattle.asn1_assignments.specs.declared.assignment.Assignment.{Assignment}
 use Rattle.asn1_assignments.specs.declared.assignment.Syntax.{Syntax}
 use Rattle.asn1_assignments.specs.Index.{number_of}
 use Rattle.asn1_module.specs.asn1_defs.declared.graph.Edge.{Edge}
+use Rattle.asn1_module.specs.asn1_defs.Numbers.{name_in}
 use Rattle.asn1_module.specs.asn1_defs.Graph.{edge, numbered_edges, node_edges, nodes_edges, parts_edges, vertex_count, edges_of}
 use Rattle.asn1_module.specs.asn1_defs.Paths.{IsAmong, IsStep, Leads, first, further}
 use Rattle.asn1_module.specs.asn1_defs.Links.{IsLinked}
 use Rattle.law_asn1_names.specs.Held.{Mention, Given, HoldsName, Refers, directly, further as and_further}
-use Rattle.law_asn1_names.proofs.Passing.{name_in}
 use Rattle.law_asn1_names.proofs.ModuleHeld.{AreParts}
 use Rattle.law_asn1_names.proofs.StepsHeld.{among_cases, joined, type_step, name_step, begin_of, GivenPart, part_of_given, PartGiven, given_of_part, same_number, Mentioned, mentioned, has_mention, dropped_at, taken_at, at_taken, parts_have, IntoPart, parts_into, named_edges_of, ToName, node_into, FromNode, from_node}
 

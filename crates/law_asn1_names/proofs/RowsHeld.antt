@@ -37,7 +37,7 @@ successful_held follows (outcome a b m) =
     later_grown (plain_passed (tokens.Word words.Successful) refl kinds.Type a then plain_passed (tokens.Word words.Outcome) refl kinds.Type b) (types_held follows m)
 successful_held {nodes = nodes} {rest = rest} follows (no_outcome w) = not_grown nodes (none_passed kinds.Type rest)
 
-successful_follows : {nodes all : List Node} {x : Option TypeId} {ts rest : List Placed} → given_kind rest ≡ None → Outcome words.Successful nodes ts x all rest → given_kind ts ≡ None
+pub successful_follows : {nodes all : List Node} {x : Option TypeId} {ts rest : List Placed} → given_kind rest ≡ None → Outcome words.Successful nodes ts x all rest → given_kind ts ≡ None
 successful_follows follows (outcome a b m) = begins_with_the (tokens.Word words.Successful) a
 successful_follows follows (no_outcome w) = follows
 
@@ -46,7 +46,7 @@ unsuccessful_held follows (outcome a b m) =
     later_grown (plain_passed (tokens.Word words.Unsuccessful) refl kinds.Type a then plain_passed (tokens.Word words.Outcome) refl kinds.Type b) (types_held follows m)
 unsuccessful_held {nodes = nodes} {rest = rest} follows (no_outcome w) = not_grown nodes (none_passed kinds.Type rest)
 
-unsuccessful_follows : {nodes all : List Node} {x : Option TypeId} {ts rest : List Placed} → given_kind rest ≡ None → Outcome words.Unsuccessful nodes ts x all rest → given_kind ts ≡ None
+pub unsuccessful_follows : {nodes all : List Node} {x : Option TypeId} {ts rest : List Placed} → given_kind rest ≡ None → Outcome words.Unsuccessful nodes ts x all rest → given_kind ts ≡ None
 unsuccessful_follows follows (outcome a b m) = begins_with_the (tokens.Word words.Unsuccessful) a
 unsuccessful_follows follows (no_outcome w) = follows
 

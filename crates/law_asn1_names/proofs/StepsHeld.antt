@@ -13,6 +13,7 @@ use Rattle.asn1_assignments.specs.declared.assignment.Assignment.{Assignment}
 use Rattle.asn1_assignments.specs.declared.assignment.Syntax.{Syntax}
 use Rattle.asn1_assignments.specs.Index.{number_of}
 use Rattle.asn1_module.specs.asn1_defs.declared.graph.Edge.{Edge}
+use Rattle.asn1_module.specs.asn1_defs.Numbers.{name_in}
 use Rattle.asn1_module.specs.asn1_defs.Graph.{edge, member_edges, numbered_edges, node_edges, nodes_edges, range_edges, parts_edges, vertex_count, edges_of}
 use Rattle.asn1_module.specs.asn1_defs.Paths.{IsAmong, IsStep, Leads, first, further}
 use Rattle.asn1_module.specs.asn1_defs.declared.names.Kind.TheVariants as kinds
@@ -20,7 +21,7 @@ use Rattle.asn1_module.specs.asn1_defs.Links.{AreBelow, IsInside, AreOrdered}
 use Rattle.asn1_proof_ranks.proofs.Steps.{among_left, among_right}
 use Rattle.asn1_proof_ranks.proofs.Inside.{range_has}
 use Rattle.law_asn1_names.specs.Held.{Mention, Given}
-use Rattle.law_asn1_names.proofs.Passing.{name_in, mention_of, mentions_of, AllFrom, IsFrom}
+use Rattle.law_asn1_names.proofs.Passing.{mention_of, mentions_of, AllFrom, IsFrom}
 use Rattle.law_asn1_names.proofs.ModuleHeld.{PartOf, AreParts}
 
 -- ---- the parts of a module
@@ -295,7 +296,7 @@ members_into f from to cs ds below under least lower h = elim (among_cases (edge
   | inr r ↦ member_into f from to ds under lower r
 ]
 
-numbered_into : (base : ℕ) (names : List Assignment) (from to : ℕ) (d : Definition) (name : List ℕ) → name_in d ≡ Some name → IsAmong (edge from to) (numbered_edges base from (number_of name names)) → ToName base names d to
+pub numbered_into : (base : ℕ) (names : List Assignment) (from to : ℕ) (d : Definition) (name : List ℕ) → name_in d ≡ Some name → IsAmong (edge from to) (numbered_edges base from (number_of name names)) → ToName base names d to
 numbered_into base names from to d name named h = go (number_of name names) refl h
   where
     go : (o : Option ℕ) → number_of name names ≡ o → IsAmong (edge from to) (numbered_edges base from o) → ToName base names d to

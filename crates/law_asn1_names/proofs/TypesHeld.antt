@@ -48,10 +48,15 @@ optional_passed {rest} (required w) = none_passed kinds.Type rest
 optional_passed {rest} alternative = none_passed kinds.Type rest
 
 -- no assignment begins behind the type of a member
-optional_follows : {group : Group} {x : Bool} {ts rest : List Placed} → MayBeOptional group ts x rest → given_kind rest ≡ None → given_kind ts ≡ None
+pub optional_follows : {group : Group} {x : Bool} {ts rest : List Placed} → MayBeOptional group ts x rest → given_kind rest ≡ None → given_kind ts ≡ None
 optional_follows (optional a) follows = begins_with_the (tokens.Word words.Optional) a
 optional_follows (required w) follows = follows
 optional_follows alternative follows = follows
+
+-- nor before additions
+pub added_follows : {group : Group} {nodes all : List Node} {x : Value (Added group)} {ts rest : List Placed} → Means (Added group) nodes ts x all rest → given_kind ts ≡ None
+added_follows (no_more e) = begins_with_the (tokens.Sign signs.RightBrace) e
+added_follows (one_more e m k) = begins_with_the (tokens.Sign signs.Comma) e
 
 -- what a name at the beginning of such items is to stand for
 abbrev pub kind_at : Piece → Kind
@@ -62,7 +67,7 @@ kind_at (Members group) = kinds.Type
 kind_at (Added group) = kinds.Type
 
 -- the word of a type isn't END
-begins_type : {nodes all : List Node} {word : Word} {place : ℕ} {x : Value (Behind word place)} {ts rest : List Placed} → Means (Behind word place) nodes ts x all rest → is_plain (tokens.Word word) ≡ true
+pub begins_type : {nodes all : List Node} {word : Word} {place : ℕ} {x : Value (Behind word place)} {ts rest : List Placed} → Means (Behind word place) nodes ts x all rest → is_plain (tokens.Word word) ≡ true
 begins_type (plain boolean) = refl
 begins_type (plain (integer a l r h x e)) = refl
 begins_type (plain (enumerated a n)) = refl
@@ -155,7 +160,3 @@ types_held follows (more m e k) =
 types_held follows (no_more {nodes} e) = not_grown nodes (sign_passed signs.RightBrace kinds.Type e)
 types_held follows (one_more e m k) =
     later_grown (sign_passed signs.Comma kinds.Type e) (grown_both (types_held (added_follows k) m) (types_held follows k))
-  where
-    added_follows : {group : Group} {nodes all : List Node} {x : Value (Added group)} {ts rest : List Placed} → Means (Added group) nodes ts x all rest → given_kind ts ≡ None
-    added_follows (no_more e) = begins_with_the (tokens.Sign signs.RightBrace) e
-    added_follows (one_more e m k) = begins_with_the (tokens.Sign signs.Comma) e
