@@ -1,13 +1,14 @@
 //! Laws: how deep types stand one inside another, told of a module's items alone, is what its types say.
 #![tactic(auto)]
 
-ghost use Rattle.std.specs.Prelude.{◌+◌, ◌<◌, ◌↔◌, ℕ, List, ◌∷◌, ◌++◌, length};
+ghost use Rattle.std.specs.Prelude.{◌≡◌, ◌+◌, ◌<◌, ◌↔◌, ℕ, List, ◌∷◌, ◌++◌, length};
 ghost use Rattle.asn1_assignments.specs.declared.assignment.Syntax.{Syntax};
 ghost use Rattle.asn1_module.specs.asn1_defs.Texts.{IsTextOf};
 ghost use Rattle.asn1_module.specs.asn1_defs.Graph.{vertex_count, edges_of};
 ghost use Rattle.asn1_module.specs.asn1_defs.Paths.{Nests};
 ghost use Rattle.asn1_module.specs.asn1_defs.Judgement.{weights_of, IsTooDeep};
 ghost use Rattle.law_asn1_depth.specs.Levels.{assigned, Stands, IsDeepIn};
+ghost use Rattle.law_asn1_depth.specs.Worked.{worked, levels, worked_levels};
 
 /// Types stand deeper than a number one inside another, in an assignment and in those that it leads to, exactly where they do so in its items and
 /// in those of the assignments that these name. So the deepest is the same.
@@ -20,4 +21,9 @@ pub fn types_stand_as_items()
 pub fn deep_is_of_items()
     ensures { (text : List ℕ) (m : Syntax) (t : IsTextOf text m) (k : ℕ) → k < length m.assignments
         → IsTooDeep m k ↔ IsDeepIn (t.front ++ t.last ∷ t.rest) k }
+{}
+
+/// The levels of a module, as they were worked by hand.
+pub fn levels_worked_by_hand()
+    ensures { levels worked ≡ worked_levels }
 {}
