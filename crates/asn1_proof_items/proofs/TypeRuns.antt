@@ -65,7 +65,7 @@ bounds_rest {outer} w ts is =
 behind_string : {before : List Token} {ts : Left} {r : Result (Option Size × Left) Fault}
     → Run (tokens.Word words.String ∷ before) ts (λ (a : Option Size × Left). a.1) (λ (a : Option Size × Left) after. Same (tokens.Word words.String ∷ before) after) r
     → Run (tokens.Word words.String ∷ before) ts (λ (a : Option Size × Left). a.1) (λ (a : Option Size × Left) after. Same before after) r
-behind_string (goes fines same) = goes fines (same_behind (word_inside words.String refl refl nowhere) same)
+behind_string (goes allowed_to same) = goes allowed_to (same_behind (word_inside words.String refl refl nowhere) same)
 behind_string (fails late) = fails late
 
 string_run : {before : List Token} (ts : Left) → Run before ts (λ (a : Option Size × Left). a.1) (λ (a : Option Size × Left) after. Same before after) (string_at ts)
@@ -110,7 +110,7 @@ headed_behind after (heads.Opens (frames.List size place)) us one opened = (open
 headed_behind after (heads.Opens (frames.Member group members name place)) us one opened = (opened.0, record { inside = inside_both one opened.1.inside; names = opened.1.names })
 
 head_behind : {outer mid before : List Token} {ts : Left} {r : Result (Head × Left) Fault} → Inside 0 outer mid → HeadRun mid before ts r → HeadRun outer before ts r
-head_behind one (goes {a} {after} fines post) = goes fines (headed_behind after a.0 a.1 one post)
+head_behind one (goes {a} {after} allowed_to post) = goes allowed_to (headed_behind after a.0 a.1 one post)
 head_behind one (fails late) = fails late
 
 components_head_run : {outer : List Token} (place : ℕ) (ts : Left) → HeadRun outer (tokens.Sign signs.LeftBrace ∷ outer) ts (components_head_at place ts)

@@ -56,7 +56,7 @@ unfolding rest_at enumerated_at
 rest_gives turns (Alone definition) ts = ok alone
 rest_gives turns BoundsFollow ts = integer_gives ts
 rest_gives turns NamesFollow ts = and_gives (the_sign_gives signs.LeftBrace ts) (λ a t1. and_gives (names_gives turns a) (λ listed t2. ok (names t1 t2)))
-rest_gives turns (StringFollows kind) ts = and_gives (string_gives ts) (λ found sized. ok (string sized.1 sized.2))
+rest_gives turns (StringFollows kind) ts = and_gives (string_gives ts) (λ found took. ok (string took.1 took.2))
 rest_gives turns (TextSizeFollows kind) ts = and_gives (optional_size_gives true ts) (λ found t. ok (text_size t))
 
 simple_rest_gives : (turns : ℕ) (w : Word) (place : ℕ) (ts : Left) → Gives (Made w place ts) (simple_rest_at turns w ts)

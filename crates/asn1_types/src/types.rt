@@ -15,7 +15,7 @@ use asn1_tokens::{Sign, Word};
 use gnb_types::octets::Octets;
 
 impl Items<Node> {
-    /// One more type, and its number. After an error the state is free.
+    /// One more type, and its number. After an error the state is unspecified.
     fn add(&mut self, node: Node) -> Result<TypeId, ReadError>
         ensures id { IfOk result (λ id. id ≡ next_id self.old) }
         ensures ok { OnOk result (self.new ≡ self.old ++ node ∷ []) }
