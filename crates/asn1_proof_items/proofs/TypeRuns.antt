@@ -49,8 +49,8 @@ no_set words.ElementaryProcedure shape h = cc
 no_set _ shape h = (refl, refl)
 
 -- the type may end with its word
-ends_so : (w : Word) (shape : Shape) → shape_of w ≡ Some shape → ends_alone (Some shape) ≡ true → ends_with_word w ≡ true
-ends_so w shape h ends = kept w (ap ends_alone h ∙ ends)
+may_end : (w : Word) (shape : Shape) → shape_of w ≡ Some shape → ends_alone (Some shape) ≡ true → ends_with_word w ≡ true
+may_end w shape h ends = kept w (ap ends_alone h ∙ ends)
   where
     kept : (w : Word) → ends_alone (shape_of w) ≡ true → ends_with_word w ≡ true
     kept words.Begin e = refl
@@ -75,14 +75,14 @@ string_run ts = word_then words.String ts (λ a. behind_string (optional_size_ru
 -- what follows a word of this shape
 rest_run : {outer : List Token} (w : Word) (turns : ℕ) (shape : Shape) (ts : Left) → shape_of w ≡ Some shape → Run (tokens.Word w ∷ outer) ts (λ (a : Definition × Left). a.1) (λ (a : Definition × Left) after. Same (tokens.Word w ∷ outer) after) (rest_at turns shape ts)
 unfolding rest_at enumerated_at
-rest_run w turns (Alone definition) ts is = done (definition, ts) (ended (ends_so w (Alone definition) is refl) nowhere)
+rest_run w turns (Alone definition) ts is = done (definition, ts) (ended (may_end w (Alone definition) is refl) nowhere)
 rest_run w turns BoundsFollow ts is = bounds_rest w ts is
 rest_run w turns NamesFollow ts is =
     sign_then signs.LeftBrace ts refl (λ a.
     and_then (names_run turns a) (λ names after same. done (types.Enumerated names.0, names.1) same))
 rest_run w turns (StringFollows kind) ts is = and_then (string_run ts) (λ found after same. done (kind found.0, found.1) same)
 rest_run w turns (TextSizeFollows kind) ts is =
-    and_then (optional_size_run true ts (ends_so w (TextSizeFollows kind) is refl) (ap sizes_characters is)) (λ found after same. done (kind found.0, found.1) same)
+    and_then (optional_size_run true ts (may_end w (TextSizeFollows kind) is refl) (ap sizes_characters is)) (λ found after same. done (kind found.0, found.1) same)
 
 -- a type that begins with this word, and has no type inside; or with this word none begins
 simple_run : {outer : List Token} (turns : ℕ) (w : Word) (ts : Left) → HeadRun outer outer ts (simple_at turns w ts)
