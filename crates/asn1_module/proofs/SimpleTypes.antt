@@ -1,9 +1,6 @@
 -- A type without another one inside is a word with its content.
-use Rattle.std.proofs.Common.{◌≡◌, ℕ, List, Bool, sym, ap, Option, Some, None}
-use Rattle.std.specs.Prelude.{ℤ}
+use Rattle.std.proofs.Common.{◌≡◌, ℕ, sym, ap, Some}
 use Rattle.asn1_tokens.specs.declared.token.Word.{Word}
-use Rattle.asn1_types.specs.declared.definition.Size.{Size}
-use Rattle.asn1_types.specs.declared.definition.Extensible.{Extensible}
 use Rattle.asn1_types.specs.declared.definition.Definition.{Definition}
 use Rattle.asn1_types.specs.declared.definition.Definition.TheVariants as types
 use Rattle.asn1_types.specs.Reading.{Left}

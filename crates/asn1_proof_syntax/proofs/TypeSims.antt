@@ -23,7 +23,7 @@ use Rattle.asn1_proof_grammar.specs.asn1_types.Reading.{Left, word_in, begins_wi
 use Rattle.asn1_proof_grammar.specs.asn1_types.Shapes.{Shape, Alone, BoundsFollow, NamesFollow, StringFollows, TextSizeFollows, shape_of, is_there}
 use Rattle.asn1_proof_grammar.specs.asn1_types.Members.{no_parts, node}
 use Rattle.asn1_proof_grammar.specs.asn1_types.Types.{enumerated_at, string_at, rest_at, rest_by, simple_rest_at, is_simple, simple_at, list_head_at, components_head_at, sequence_head_at, choice_head_at, set_name_at, container_at, pdu_at, reference_at, head_by, head_at, Risen, risen, rise_at, type_turn_at, type_goes_on, type_within_at, type_at}
-use Rattle.asn1_proof_grammar.specs.asn1_defs.Grammar.{behind_word, AnUpper, ALower, ANumber, TheWord, fits, AType, FirstComponent, AfterAddition, OptionalSize, SequenceRest, Mark, AfterName, AfterAlternative, Symbol, Item, Whole, word, sign, size, set_name, ellipsis, open_brace, close_brace, open_bracket, close_bracket, productions}
+use Rattle.asn1_proof_grammar.specs.asn1_defs.Grammar.{behind_word, AnUpper, ALower, TheWord, fits, AType, FirstComponent, AfterAddition, OptionalSize, SequenceRest, AfterName, AfterAlternative, Symbol, Item, Whole, word, size, set_name, ellipsis, open_brace, close_brace, productions}
 use Rattle.asn1_proof_grammar.proofs.Predict.{chosen}
 use Rattle.asn1_proof_grammar.proofs.Steps.{at_part}
 use Rattle.asn1_proof_syntax.proofs.Sim.{Sim, first, next, maybe, fits_sign, chosen_one, chosen_other, word_sim, sign_sim, upper_sim, weaker, done, expands, refused, part_of}

@@ -1,5 +1,5 @@
 -- What the two tables of types without another one inside say of each other.
-use Rattle.std.proofs.Common.{◌≡◌, List, Bool, refl, ap, subst, Option, Some, None}
+use Rattle.std.proofs.Common.{◌≡◌, refl, ap, subst, Option, Some, None}
 use Rattle.asn1_tokens.specs.declared.token.Word.{Word}
 use Rattle.asn1_tokens.specs.declared.token.Word.TheVariants as words
 use Rattle.asn1_types.specs.declared.definition.Size.{Size}
