@@ -33,6 +33,11 @@ module _ (m : Syntax) (id : TypeId) (r : Reader) (is : IsNew m id r) (next : Nex
   pub new_type : type_of r ≡ tree m id.number
   new_type = ap (λ x. tree x r.id.number) is.module_is ∙ ap (λ (i : TypeId). tree m i.number) is.id_is
 
+  pub new_inside : r.id.number < length r.module.now.nodes
+  new_inside =
+      subst (λ (x : Syntax). r.id.number < length x.nodes) (sym is.module_is)
+      (subst (λ (i : TypeId). i.number < length m.nodes) (sym is.id_is) inside)
+
   nothing : front r.kept.items ≡ []
   nothing = ap front is.kept
 

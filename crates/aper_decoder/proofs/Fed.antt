@@ -10,14 +10,15 @@ use Rattle.aper_frames.specs.Frames.{path_of}
 use Rattle.aper_reading.specs.declared.error.DecodeError.{DecodeError}
 use Rattle.aper_reading.specs.declared.error.DecodeError.TheVariants as errors
 use Rattle.aper_steps.specs.declared.step.Next.{Next}
+use Rattle.aper_decoder.specs.declared.decoder.Decoder.TheInside.{Inside}
 use Rattle.aper_decoder.specs.declared.decoder.Reader.{Reader}
 use Rattle.aper_decoder.specs.declared.decoder.State.{State}
 use Rattle.aper_decoder.specs.declared.decoder.State.TheVariants as states
 use Rattle.aper_decoder.specs.declared.decoder.Step.{Step}
 use Rattle.aper_decoder.specs.declared.decoder.Step.TheVariants as steps
-use Rattle.aper_decoder.specs.Feeding.{Feeding, reading, there, refused, failed, Reads, StaysRefused, Feeds}
+use Rattle.aper_decoder.specs.Feeding.{Feeding, reading, there, refused, failed, Decoding, tree_of, Reads, StaysRefused, Feeds}
 use Rattle.aper_decoder.proofs.Refusals.{same_fault}
-use Rattle.aper_decoder.specs.inside.States.{state_view, type_of, IsStateSound, IsSameType, Advances, Answers, AnswersRefusal, UnlessFailed}
+use Rattle.aper_decoder.specs.inside.States.{state_view, decoding_of, type_of, IsStateSound, IsSound, IsSameType, Advances, Answers, AnswersRefusal, UnlessFailed}
 
 module _ (new : Reader) (answer : Result Step DecodeError) (after : State) where
   abbrev seen_after : Feeding
@@ -113,3 +114,28 @@ sound_then old new before state after piece (Ok step) h u = subst (IsStateSound 
 sound_then old new before state after piece (Err (errors.Refused bit reason path)) h u =
     subst (IsStateSound new) (sym u) (advanced_sound old new before state piece h)
 sound_then old new before state after piece (Err errors.Memory) h u = subst (IsStateSound new) (sym u) tt
+
+-- as it is seen from outside
+module _ (inside : Inside) (seen : Decoding) (is : decoding_of inside ≡ seen) (new : Reader) (before state after : State) (piece : List ℕ)
+    (answer : Result Step DecodeError) (was : before ≡ inside.state) (advances : Advances inside.reader before piece new state) where
+  same_inside : IsSameType inside.reader new
+  same_inside = same_reader inside.reader new before state piece advances
+
+  pub types_kept : new.module.now ≡ seen.types
+  types_kept = same_inside.0 ∙ ap (λ (d : Decoding). d.types) is
+
+  pub id_kept : new.id ≡ seen.id
+  id_kept = same_inside.1 ∙ ap (λ (d : Decoding). d.id) is
+
+  pub fed_on : Answers new state answer → UnlessFailed state answer after
+      → Feeds (tree_of seen) seen.now piece (state_view after new.kept.items new.frames) answer
+  fed_on a u =
+      subst (λ (d : Decoding). Feeds (tree_of d) d.now piece (state_view after new.kept.items new.frames) answer) is
+      (feeds inside.reader new inside.state state after piece answer
+      (subst (λ (s : State). Advances inside.reader s piece new state) was advances) a u)
+
+  pub sound_on : IsSound inside → UnlessFailed state answer after → IsSound (record { reader = new; state = after })
+  sound_on sound u = record {
+    inside = still_inside inside.reader new same_inside sound.inside;
+    state = sound_then inside.reader new before state after piece answer advances u;
+  }

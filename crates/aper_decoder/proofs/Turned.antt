@@ -105,3 +105,18 @@ module _ (m : Syntax) (old new : Cursor) (before after : Spot) (fs gs : List Fra
   halted_stands (halts.Wrong reason back) (Err e) s h o = tt
   halted_stands halts.Memory (Ok result) s h o = absurd o
   halted_stands halts.Memory (Err e) s h o = tt
+
+-- ---- turns after the first one
+module _ (m : Syntax) (os octets : List ℕ) (same : os ≡ octets) (after : Spot) (gs : List Frame) (result : Result Turned Memory) (done : Turned)
+    (is : result ≡ Ok done) where
+  pub turned_reads : (before : Spot) (next : Next) (fs : List Frame)
+      → IfOk result (λ r. (t : Tree) → IsReadingAt m t os before next fs → IsTurned m t os after gs r)
+      → (t : Tree) → IsReadingAt m t octets before next fs → IsTurned m t octets after gs done
+  turned_reads before next fs h =
+      let P : List ℕ → Turned → Type 0 = λ x r. (t : Tree) → IsReadingAt m t x before next fs → IsTurned m t x after gs r in
+      subst (λ (x : List ℕ). P x done) same (subst (λ (x : Result Turned Memory). IfOk x (P os)) is h)
+
+  pub turned_stands : (c : Cursor) → IfOk result (TurnedStands m os c after gs) → TurnedStands m octets c after gs done
+  turned_stands c h =
+      subst (λ (x : List ℕ). TurnedStands m x c after gs done) same
+      (subst (λ (x : Result Turned Memory). IfOk x (TurnedStands m os c after gs)) is h)
