@@ -8,8 +8,6 @@
   high up costs it minutes.
 - docs/architecture.md has the same headings, with the same crates in the same order.
 
-The family `asn1_` keeps its old names: of them the order alone is checked.
-
 Usage: tools/layers.py
 """
 
@@ -18,7 +16,6 @@ import re
 import sys
 
 TOP = pathlib.Path(__file__).resolve().parents[1]
-OLD_NAMES = re.compile(r"asn1_")
 
 
 def layers():
@@ -94,8 +91,6 @@ def faults():
                 yield f"{name}: lists {use}, a crate of tests"
             if use in known and not names(name, use):
                 yield f"{name}: lists {use}, which it doesn't name"
-            if OLD_NAMES.match(name):
-                continue
             if is_law(use) and not is_law(name):
                 yield f"{name}: lists {use}, a crate of laws"
             if is_definitions(name) and use in known and not cites(name, use):

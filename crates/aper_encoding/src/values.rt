@@ -1,7 +1,7 @@
 //! Values of types with types inside.
 
 ghost use Rattle.std.specs.Prelude.{◌≡◌, ◌<◌, ◌≤◌, false, length, OnOk};
-ghost use Rattle.asn1_module.specs.Links.{AreBelow, OptionBelow, PartsBelow, IesBelow, ProceduresBelow};
+ghost use Rattle.asn1_module.specs.asn1_defs.Links.{AreBelow, OptionBelow, PartsBelow, IesBelow, ProceduresBelow};
 ghost use Rattle.aper_defs.specs.Bounds.{IsBounded, IsSizeBounded};
 ghost use Rattle.aper_defs.specs.Trees.{container, pdu, sequence_of};
 ghost use Rattle.aper_types.specs.Forms.{form_tree, IsFormInside};

@@ -15,34 +15,47 @@ pub record IsSet (known : List Slot) : Type 0 where
   pub free_fits : free < 65536
   pub free_is : has_slot free known ≡ false
 
--- so are those of all containers in a type
+-- an id of 16 bits is no element's
+pub record LeavesId (known : List Slot) : Type 0 where
+  pub free : ℕ
+  pub free_fits : free < 65536
+  pub free_is : has_slot free known ≡ false
+
+-- the sets of all containers in a type are so
 unfoldable mutual
-  pub HasSets : Tree → Type 0
-  HasSets boolean = Unit {0}
-  HasSets (integer low high extensible) = Unit {0}
-  HasSets (enumerated names extensible) = Unit {0}
-  HasSets (bit_string size) = Unit {0}
-  HasSets (octet_string size) = Unit {0}
-  HasSets (printable_string size) = Unit {0}
-  HasSets (sequence extensible root additions) = PartsHaveSets root × PartsHaveSets additions
-  HasSets (choice extensible root additions) = PartsHaveSets root × PartsHaveSets additions
-  HasSets (sequence_of size t) = HasSets t
-  HasSets (container rows) = IsSet (slots rows) × RowsHaveSets rows
-  HasSets (pdu procedures) = ProceduresHaveSets procedures
+  pub EachSet : (List Slot → Type 0) → Tree → Type 0
+  EachSet P boolean = Unit {0}
+  EachSet P (integer low high extensible) = Unit {0}
+  EachSet P (enumerated names extensible) = Unit {0}
+  EachSet P (bit_string size) = Unit {0}
+  EachSet P (octet_string size) = Unit {0}
+  EachSet P (printable_string size) = Unit {0}
+  EachSet P (sequence extensible root additions) = EachSetOfParts P root × EachSetOfParts P additions
+  EachSet P (choice extensible root additions) = EachSetOfParts P root × EachSetOfParts P additions
+  EachSet P (sequence_of size t) = EachSet P t
+  EachSet P (container rows) = P (slots rows) × EachSetOfRows P rows
+  EachSet P (pdu procedures) = EachSetOfProcedures P procedures
 
-  pub PartsHaveSets : Parts → Type 0
-  PartsHaveSets no_parts = Unit {0}
-  PartsHaveSets (part name optional t others) = HasSets t × PartsHaveSets others
+  pub EachSetOfParts : (List Slot → Type 0) → Parts → Type 0
+  EachSetOfParts P no_parts = Unit {0}
+  EachSetOfParts P (part name optional t others) = EachSet P t × EachSetOfParts P others
 
-  pub RowsHaveSets : Rows → Type 0
-  RowsHaveSets no_rows = Unit {0}
-  RowsHaveSets (row id mandatory t others) = HasSets t × RowsHaveSets others
+  pub EachSetOfRows : (List Slot → Type 0) → Rows → Type 0
+  EachSetOfRows P no_rows = Unit {0}
+  EachSetOfRows P (row id mandatory t others) = EachSet P t × EachSetOfRows P others
 
-  pub ProceduresHaveSets : Procedures → Type 0
-  ProceduresHaveSets no_procedures = Unit {0}
-  ProceduresHaveSets (procedure code initiating successful unsuccessful others) =
-      OutcomeHasSets initiating × OutcomeHasSets successful × OutcomeHasSets unsuccessful × ProceduresHaveSets others
+  pub EachSetOfProcedures : (List Slot → Type 0) → Procedures → Type 0
+  EachSetOfProcedures P no_procedures = Unit {0}
+  EachSetOfProcedures P (procedure code initiating successful unsuccessful others) =
+      EachSetOfOutcome P initiating × EachSetOfOutcome P successful × EachSetOfOutcome P unsuccessful × EachSetOfProcedures P others
 
-  pub OutcomeHasSets : Outcome → Type 0
-  OutcomeHasSets no_outcome = Unit {0}
-  OutcomeHasSets (outcome t) = HasSets t
+  pub EachSetOfOutcome : (List Slot → Type 0) → Outcome → Type 0
+  EachSetOfOutcome P no_outcome = Unit {0}
+  EachSetOfOutcome P (outcome t) = EachSet P t
+
+abbrev pub HasSets : Tree → Type 0
+HasSets t = EachSet IsSet t
+
+-- Each set of a type leaves an id. In one of all 65,536 ids nothing could come after an element of the last one, whatever the count.
+abbrev pub LeavesIds : Tree → Type 0
+LeavesIds t = EachSet LeavesId t

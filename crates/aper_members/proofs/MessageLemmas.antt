@@ -3,7 +3,7 @@ use Rattle.std.proofs.Common.{◌≡◌, ℕ, ◌<◌, ◌==◌, cond, Bool, tru
 use Rattle.bits_core.specs.Writing.{Written}
 use Rattle.asn1_types.specs.declared.definition.TypeId.{TypeId}
 use Rattle.asn1_assignments.specs.declared.assignment.ProcedureRow.{ProcedureRow}
-use Rattle.aper_types.specs.asn1_module.Links.{OptionBelow, ProceduresBelow}
+use Rattle.aper_types.specs.asn1_module.asn1_defs.Links.{OptionBelow, ProceduresBelow}
 use Rattle.aper_defs.specs.Trees.{Tree}
 use Rattle.aper_defs.specs.Values.{Value as SeenValue}
 use Rattle.aper_defs.specs.Fields.{Path, Field}

@@ -3,7 +3,7 @@ use Rattle.std.proofs.Common.{◌≡◌, ℕ, ◌<◌, ◌==◌, cond, List, [],
 use Rattle.bits_core.specs.Writing.{Written}
 use Rattle.asn1_types.specs.declared.definition.TypeId.{TypeId}
 use Rattle.asn1_assignments.specs.declared.assignment.IeRow.{IeRow}
-use Rattle.aper_types.specs.asn1_module.Links.{OptionBelow, IesBelow}
+use Rattle.aper_types.specs.asn1_module.asn1_defs.Links.{OptionBelow, IesBelow}
 use Rattle.aper_defs.specs.Trees.{Tree, Slot, slots_left}
 use Rattle.aper_defs.specs.Values.{Value as SeenValue, ie_count}
 use Rattle.aper_defs.specs.Fields.{Path, Field, asked, pad, ie_id, constrained}

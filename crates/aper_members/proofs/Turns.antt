@@ -3,7 +3,7 @@ use Rattle.std.proofs.Common.{◌≡◌, ℕ, zero, suc, ◌+◌, ◌<◌, List,
 use Rattle.std.proofs.lemmas.List.{drop_more, drop_all}
 use Rattle.bits_core.specs.Writing.{Written}
 use Rattle.asn1_types.specs.declared.definition.Component.{Component}
-use Rattle.aper_types.specs.asn1_module.Links.{AreBelow}
+use Rattle.aper_types.specs.asn1_module.asn1_defs.Links.{AreBelow}
 use Rattle.aper_defs.specs.Trees.{Tree}
 use Rattle.aper_defs.specs.Values.{each_from}
 use Rattle.aper_defs.specs.Fields.{Path, Field, asked, pad, ie_id, constrained}

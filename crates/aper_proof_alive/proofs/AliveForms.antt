@@ -9,7 +9,7 @@ use Rattle.aper_defs.specs.Fields as fields
 use Rattle.aper_defs.specs.Parts.{of_bits, of_octets, of_characters}
 use Rattle.aper_defs.specs.Questions.{Prog, done, ask, ask_aligned, ask_raw, ask_flags, ask_members, ask_raw_additions, ask_ies}
 use Rattle.aper_defs.specs.Asking.{ask_marks, asks, asks_whole, ask_components, ask_additions, ask_alternative, ask_added, ask_row, ask_body, ask_outcome}
-use Rattle.aper_loose_defs.specs.Sets.{AreOwnIds, IsSet, HasSets, PartsHaveSets, RowsHaveSets, ProceduresHaveSets, OutcomeHasSets}
+use Rattle.aper_loose_defs.specs.Sets.{AreOwnIds, IsSet, HasSets, EachSet, EachSetOfParts, EachSetOfRows, EachSetOfProcedures, EachSetOfOutcome}
 use Rattle.aper_proof_answers.proofs.NumberFacts.{by_cases, below, not_below, same, is_same}
 use Rattle.aper_proof_values.proofs.FoundElements.{IsNext, either_yes, either_no}
 use Rattle.aper_proof_alive.proofs.Alive.{Live, Always, always_ask, always_aligned, always_by, always_extension, always_integer, always_index, always_string, always_count, always_open, always_raw, always_marks}
@@ -196,7 +196,7 @@ always_ies p known body set inner (suc count) left K last enough h =
 
 -- ---- each form of type
 mutual
-  unfolding asks HasSets
+  unfolding asks EachSet
 
   pub always : (p : Path) (t : Tree) (K : Value → Prog) → HasSets t → ((v : Value) → Always (K v)) → Always (asks p t K)
   always p boolean K s h = always_ask p flag (λ b. K (truth (b == 1))) 0 (omega arith) (λ b a. h (truth (b == 1)))
@@ -249,7 +249,7 @@ mutual
       (λ j d. always_ask p third (K3 i j) 0 (omega arith)
       (λ k f. always_body p procedures i j (λ v. K (message i j k v)) s (λ v. h (message i j k v)))))))
 
-  always_components : (p : Path) (parts : Parts) (there : List Bool) (K : Options → Prog) → PartsHaveSets parts
+  always_components : (p : Path) (parts : Parts) (there : List Bool) (K : Options → Prog) → EachSetOfParts IsSet parts
       → ((vs : Options) → Always (K vs)) → Always (ask_components p parts there K)
   always_components p (part name optional t others) (true ∷ there) K s h =
       always (fields.component name ∷ p) t (λ v. ask_components p others there (λ vs. K (present v vs))) s.0
@@ -259,7 +259,7 @@ mutual
   always_components p (part name optional t others) [] K s h = h no_options
   always_components p no_parts there K s h = h no_options
 
-  always_additions : (p : Path) (parts : Parts) (there : List Bool) (K : Options → Prog) → PartsHaveSets parts
+  always_additions : (p : Path) (parts : Parts) (there : List Bool) (K : Options → Prog) → EachSetOfParts IsSet parts
       → ((os : Options) → Always (K os)) → Always (ask_additions p parts there K)
   always_additions p no_parts there K s h = always_raw_additions p there K h
   always_additions p (part name optional t others) [] K s h = h no_options
@@ -271,21 +271,21 @@ mutual
       (λ L g. always q t L s.0 g)
       (λ v. always_additions p others there (λ more. K (present v more)) s.1 (λ more. h (present v more)))
 
-  always_alternative : (p : Path) (parts : Parts) (i : ℕ) (K : Value → Prog) → i < part_count parts → PartsHaveSets parts
+  always_alternative : (p : Path) (parts : Parts) (i : ℕ) (K : Value → Prog) → i < part_count parts → EachSetOfParts IsSet parts
       → ((v : Value) → Always (K v)) → Always (ask_alternative p parts i K)
   always_alternative p no_parts i K inside s h = absurd (omega (arith, inside))
   always_alternative p (part name optional t others) zero K inside s h = always (fields.component name ∷ p) t K s.0 h
   always_alternative p (part name optional t others) (suc i) K inside s h =
       always_alternative p others i K (omega (arith, inside)) s.1 h
 
-  always_added : (p : Path) (parts : Parts) (i : ℕ) (K : Value → Prog) → PartsHaveSets parts → ((v : Value) → Always (K v))
+  always_added : (p : Path) (parts : Parts) (i : ℕ) (K : Value → Prog) → EachSetOfParts IsSet parts → ((v : Value) → Always (K v))
       → Always (ask_added p parts i K)
   always_added p no_parts i K s h = always_raw p p K h
   always_added p (part name optional t others) zero K s h =
       let q = fields.component name ∷ p in always_open p q (asks q t) K (λ L g. always q t L s.0 g) h
   always_added p (part name optional t others) (suc i) K s h = always_added p others i K s.1 h
 
-  always_row : (p : Path) (rows : Rows) (id : ℕ) (K : Value → Prog) → RowsHaveSets rows → ((v : Value) → Always (K v))
+  always_row : (p : Path) (rows : Rows) (id : ℕ) (K : Value → Prog) → EachSetOfRows IsSet rows → ((v : Value) → Always (K v))
       → Always (ask_row p rows id K)
   always_row p no_rows id K s h = always_raw p (fields.element id ∷ p) K h
   always_row p (row other mandatory t others) id K s h =
@@ -293,7 +293,7 @@ mutual
       always_by (other == id) _ _ (λ e. always_open p q (asks q t) K (λ L g. always q t L s.0 g) h)
       (λ e. always_row p others id K s.1 h)
 
-  always_body : (p : Path) (procedures : Procedures) (index code : ℕ) (K : Value → Prog) → ProceduresHaveSets procedures
+  always_body : (p : Path) (procedures : Procedures) (index code : ℕ) (K : Value → Prog) → EachSetOfProcedures IsSet procedures
       → ((v : Value) → Always (K v)) → Always (ask_body p procedures index code K)
   always_body p no_procedures index code K s h = always_raw p (fields.outcome index ∷ p) K h
   always_body p (procedure other initiating successful unsuccessful others) index code K s h =
@@ -303,7 +303,7 @@ mutual
       (λ e3. always_outcome p index unsuccessful K s.2 h)))
       (λ e. always_body p others index code K s.3 h)
 
-  always_outcome : (p : Path) (index : ℕ) (o : Outcome) (K : Value → Prog) → OutcomeHasSets o → ((v : Value) → Always (K v))
+  always_outcome : (p : Path) (index : ℕ) (o : Outcome) (K : Value → Prog) → EachSetOfOutcome IsSet o → ((v : Value) → Always (K v))
       → Always (ask_outcome p index o K)
   always_outcome p index no_outcome K s h = always_raw p (fields.outcome index ∷ p) K h
   always_outcome p index (outcome t) K s h =

@@ -7,7 +7,7 @@ use Rattle.asn1_types.specs.Members.{additions_of}
 use Rattle.asn1_assignments.specs.declared.assignment.IeRow.{IeRow}
 use Rattle.asn1_assignments.specs.declared.assignment.ProcedureRow.{ProcedureRow}
 use Rattle.asn1_assignments.specs.declared.assignment.Syntax.{Syntax}
-use Rattle.asn1_module.specs.Links.{AreBelow, OptionBelow, IesBelow, ProceduresBelow}
+use Rattle.asn1_module.specs.asn1_defs.Links.{AreBelow, OptionBelow, IesBelow, ProceduresBelow}
 use Rattle.aper_defs.specs.Trees.{Tree}
 use Rattle.aper_proof_answers.proofs.NumberFacts.{below, is_below}
 use Rattle.aper_types.specs.declared.form.Form.{Form}

@@ -16,11 +16,11 @@ use Rattle.asn1_module.specs.asn1_assignments.declared.assignment.IeRow.{IeRow}
 use Rattle.asn1_module.specs.asn1_assignments.declared.assignment.ProcedureRow.{ProcedureRow}
 use Rattle.asn1_module.specs.asn1_assignments.declared.assignment.Assignment.{Assignment}
 use Rattle.asn1_module.specs.asn1_assignments.declared.assignment.Syntax.{Syntax}
-use Rattle.asn1_module.proofs.asn1_reading_laws.Readings.{read_of}
-use Rattle.asn1_module.specs.Module.{find_type, ie_rows, procedure_rows, IsModule}
-use Rattle.asn1_module.specs.Targets.{definition_of, definition_at, all_of}
-use Rattle.asn1_bounds_laws.specs.Proper.{Each, IsSize, IsTextSize, Maybe, IsRange, IsWithin}
-use Rattle.asn1_bounds_laws.proofs.ModuleBounds.{proper}
+use Rattle.asn1_module.proofs.asn1_proof_reading.Readings.{read_of}
+use Rattle.asn1_module.specs.asn1_defs.Targets.{find_type, ie_rows, procedure_rows, definition_of, definition_at, all_of}
+use Rattle.asn1_module.specs.asn1_defs.Modules.{IsModule}
+use Rattle.asn1_proof_module.specs.Proper.{Each, IsSize, IsTextSize, Maybe, IsRange, IsWithin}
+use Rattle.asn1_proof_module.proofs.ModuleBounds.{proper}
 use Rattle.aper_defs.specs.Trees.{Tree}
 use Rattle.aper_defs.specs.Numbers.{above}
 use Rattle.aper_defs.specs.Bounds.{IsSizeBounded, IsBounded, ArePartsBounded, AreRowsBounded, AreProceduresBounded, IsOutcomeBounded}

@@ -14,14 +14,14 @@ use Rattle.asn1_module.specs.asn1_assignments.declared.assignment.IeRow.{IeRow}
 use Rattle.asn1_module.specs.asn1_assignments.declared.assignment.ProcedureRow.{ProcedureRow}
 use Rattle.asn1_module.specs.asn1_assignments.declared.assignment.Assignment.{Assignment}
 use Rattle.asn1_module.specs.asn1_assignments.declared.assignment.Syntax.{Syntax}
-use Rattle.asn1_module.specs.Module.{IsModule, find_type, HasTarget}
-use Rattle.asn1_module.specs.Targets.{definition_at, referred, element_rows, message_rows}
-use Rattle.asn1_module.specs.Links.{AreBelow, PartsBelow, IsInside}
+use Rattle.asn1_module.specs.asn1_defs.Modules.{IsModule}
+use Rattle.asn1_module.specs.asn1_defs.Targets.{find_type, HasTarget, definition_at, referred, element_rows, message_rows}
+use Rattle.asn1_module.specs.asn1_defs.Links.{AreBelow, PartsBelow, IsInside}
 use Rattle.aper_defs.specs.Trees.{Tree, integer, enumerated, container, pdu}
 use Rattle.aper_types.specs.Types.{is_extensible, rows_of, procedures_of, named_tree, definition_tree, tree}
-use Rattle.asn1_rank_laws.specs.Leading.{OfOption, EachOf, Lesser}
-use Rattle.asn1_rank_laws.proofs.Ranks.{rank}
-use Rattle.asn1_rank_laws.proofs.Inside.{ranks_fall}
+use Rattle.asn1_proof_ranks.specs.Leading.{OfOption, EachOf, Lesser}
+use Rattle.asn1_proof_ranks.proofs.Ranks.{rank}
+use Rattle.asn1_proof_ranks.proofs.Inside.{ranks_fall}
 use Rattle.aper_types.proofs.TreeLaws.{tree_is}
 
 named_is : (of : ℕ → Tree) (names : List Assignment) (d : Definition) (next : TypeId) → referred names d ≡ Some next

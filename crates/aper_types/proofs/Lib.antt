@@ -2,4 +2,4 @@ pub mod TreeLaws
 pub mod Members
 pub mod Bounded
 pub mod Follow
-pub use Rattle.asn1_rank_laws.proofs as asn1_rank_laws
+pub use Rattle.asn1_proof_ranks.proofs as asn1_proof_ranks

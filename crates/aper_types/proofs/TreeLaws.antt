@@ -10,13 +10,13 @@ use Rattle.asn1_module.specs.asn1_assignments.declared.assignment.IeRow.{IeRow}
 use Rattle.asn1_module.specs.asn1_assignments.declared.assignment.ProcedureRow.{ProcedureRow}
 use Rattle.asn1_module.specs.asn1_assignments.declared.assignment.Assignment.{Assignment}
 use Rattle.asn1_module.specs.asn1_assignments.declared.assignment.Syntax.{Syntax}
-use Rattle.asn1_module.specs.Module.{find_type, ie_rows, procedure_rows, IsModule}
-use Rattle.asn1_module.specs.Targets.{definition_at, all_of}
+use Rattle.asn1_module.specs.asn1_defs.Targets.{find_type, ie_rows, procedure_rows, definition_at, all_of}
+use Rattle.asn1_module.specs.asn1_defs.Modules.{IsModule}
 use Rattle.aper_defs.specs.Trees.{Tree, Parts, Rows, part, row, outcome}
 use Rattle.aper_types.specs.Types.{parts_of, is_mandatory, rows_of, outcome_of, procedures_of, named_tree, definition_tree, tree_by, tree}
-use Rattle.asn1_rank_laws.specs.Leading.{EachPart, OfOption, EachIe, EachProcedure, EachOf, Lesser}
-use Rattle.asn1_rank_laws.proofs.Ranks.{rank, rank_most}
-use Rattle.asn1_rank_laws.proofs.Inside.{each_more, ranks_fall}
+use Rattle.asn1_proof_ranks.specs.Leading.{EachPart, OfOption, EachIe, EachProcedure, EachOf, Lesser}
+use Rattle.asn1_proof_ranks.proofs.Ranks.{rank, rank_most}
+use Rattle.asn1_proof_ranks.proofs.Inside.{each_more, ranks_fall}
 
 -- two trees for each number, which are one where they are asked
 module _ (f g : ℕ → Tree) where

@@ -13,7 +13,7 @@ use Rattle.asn1_module.specs.asn1_assignments.declared.assignment.IeRow.{IeRow}
 use Rattle.asn1_module.specs.asn1_assignments.declared.assignment.ProcedureRow.{ProcedureRow}
 use Rattle.asn1_module.specs.asn1_assignments.declared.assignment.Assignment.{Assignment}
 use Rattle.asn1_module.specs.asn1_assignments.declared.assignment.Syntax.{Syntax}
-use Rattle.asn1_module.specs.Targets.{definition_at, referred, element_rows, message_rows}
+use Rattle.asn1_module.specs.asn1_defs.Targets.{definition_at, referred, element_rows, message_rows}
 use Rattle.aper_defs.specs.Trees.{Tree, Parts, Rows, Procedures, Outcome}
 use Rattle.aper_defs.specs.Trees.{boolean, integer, enumerated, bit_string, octet_string, printable_string, sequence, choice, sequence_of, container, pdu, no_parts, part, no_rows, row, no_procedures, procedure, no_outcome, outcome}
 

@@ -3,8 +3,8 @@
 ghost use Rattle.std.specs.Prelude.{◌≡◌, ℕ, ◌<◌, length, None};
 ghost use Rattle.aper_defs.specs.Trees.{Tree};
 ghost use Rattle.aper_defs.specs.Bounds.{IsBounded};
-ghost use Rattle.asn1_module.specs.Module.{IsModule};
-ghost use Rattle.asn1_module.specs.Targets.{definition_at, referred};
+ghost use Rattle.asn1_module.specs.asn1_defs.Modules.{IsModule};
+ghost use Rattle.asn1_module.specs.asn1_defs.Targets.{definition_at, referred};
 ghost use Rattle.aper_types.specs.Types.{definition_tree, tree};
 ghost use Rattle.aper_types.specs.Forms.{form_tree, IsFormInside};
 

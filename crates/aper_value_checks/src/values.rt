@@ -2,7 +2,7 @@
 
 ghost use Rattle.std.specs.Prelude.{◌≡◌, ◌<◌, length, Option};
 ghost use Rattle.asn1_types.specs.declared.definition.Size.{Size};
-ghost use Rattle.asn1_module.specs.Links.{AreBelow, OptionBelow, PartsBelow, IesBelow, ProceduresBelow};
+ghost use Rattle.asn1_module.specs.asn1_defs.Links.{AreBelow, OptionBelow, PartsBelow, IesBelow, ProceduresBelow};
 ghost use Rattle.aper_defs.specs.Bounds.{IsBounded, IsSizeBounded};
 ghost use Rattle.aper_defs.specs.Trees.{container, pdu, sequence_of};
 ghost use Rattle.aper_types.specs.Forms.{form_tree, IsFormInside};

@@ -1,1 +1,2 @@
+mod Indexed
 pub use Rattle.gnb_types.proofs as gnb_types

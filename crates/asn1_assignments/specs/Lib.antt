@@ -1,3 +1,4 @@
+pub mod Index
 pub mod Rows
 pub mod Sets
 pub mod Module

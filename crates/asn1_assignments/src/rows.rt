@@ -6,18 +6,13 @@ ghost use Rattle.asn1_types.specs.Reading.{Gives};
 ghost use Rattle.asn1_assignments.specs.Rows.{new_number_at, criticality_of, criticality_at, presence_of, presence_at, has_id, has_code, ie_row_at, outcome_at, messages_at, procedure_row_at};
 
 use crate::assignment::{Criticality, IeRow, Presence, ProcedureRow};
+use crate::ie_rows::IeRows;
 use asn1_tokens::{Sign, Word, is_text};
 use asn1_types::{Items, ModuleReason, Node, ReadError, Reader, TypeId};
 
 const ID_GREATEST: u32 = 65535;
 
 const CODE_GREATEST: u32 = 255;
-
-fn has_id(id: u32, rows: &[IeRow]) -> bool
-    ensures { result ≡ has_id id rows.now }
-{
-    rows.iter().any(|row| u32::from(row.id) == id)
-}
 
 fn has_code(code: u32, rows: &[ProcedureRow]) -> bool
     ensures { result ≡ has_code code rows.now }
@@ -84,12 +79,12 @@ fn presence(reader: &mut Reader) -> Result<Presence, ReadError>
 
 /// Takes an id that none of these rows has.
 #[tactic(auto, unfolding(crate::specs::Rows::new_number_at))]
-fn new_id(reader: &mut Reader, rows: &[IeRow]) -> Result<u16, ReadError>
+fn new_id(reader: &mut Reader, rows: &IeRows) -> Result<u16, ReadError>
     ensures { Gives (λ id. (id, reader.new)) result (new_number_at (λ id. has_id id rows.now) 65535 reader.old) }
 {
     let twice = reader.fault(ModuleReason::Twice);
     let id = reader.natural(0, ID_GREATEST)?;
-    if has_id(id, rows) {
+    if rows.has_id(id) {
         return Err(ReadError::Fault(twice));
     }
     Ok(id as u16)
@@ -113,7 +108,7 @@ fn new_code(reader: &mut Reader, rows: &[ProcedureRow]) -> Result<u8, ReadError>
 pub fn ie_row(
     reader: &mut Reader,
     turns: u64,
-    rows: &[IeRow],
+    rows: &IeRows,
     nodes: &mut Items<Node>,
 ) -> Result<IeRow, ReadError>
     ensures { Gives (λ row. (row, nodes.new, reader.new)) result (ie_row_at turns rows.now nodes.old reader.old) }

@@ -5,6 +5,7 @@ ghost use Rattle.asn1_types.specs.Reading.{Gives};
 ghost use Rattle.asn1_assignments.specs.Sets.{set_goes_on_at, rows_with, ie_turn_at, procedure_turn_at, set_start_at, ie_set_at, procedure_set_at};
 
 use crate::assignment::{IeRow, ProcedureRow};
+use crate::ie_rows::IeRows;
 use crate::rows::{ie_row, procedure_row};
 use asn1_tokens::Sign;
 use asn1_types::{Items, Node, ReadError, Reader};
@@ -37,15 +38,16 @@ fn set_start(reader: &mut Reader) -> Result<(), ReadError>
 #[tactic(auto, unfolding(crate::specs::Sets::ie_turn_at))]
 fn ie_turn(
     reader: &mut Reader,
+    alloc: Global,
     turns: u64,
-    rows: &mut Items<IeRow>,
+    rows: &mut IeRows,
     nodes: &mut Items<Node>,
 ) -> Result<bool, ReadError>
     ensures { Gives (λ more. (more, rows_with rows.new nodes.new, reader.new)) result (ie_turn_at turns (rows_with rows.old nodes.old) reader.old) }
 {
-    let row = ie_row(reader, turns, rows.as_slice(), nodes)?;
+    let row = ie_row(reader, turns, rows, nodes)?;
     let more = set_goes_on(reader)?;
-    rows.push(row)?;
+    rows.push(alloc, row)?;
     Ok(more)
 }
 
@@ -75,10 +77,10 @@ pub fn ie_set(
     ensures { Gives (λ rows. (rows_with rows nodes.new, reader.new)) result (ie_set_at turns nodes.old reader.old) }
 {
     set_start(reader)?;
-    let mut rows = Items::new(alloc);
+    let mut rows = IeRows::new(alloc);
     for _ in 0..turns {
-        if !ie_turn(reader, turns, &mut rows, nodes)? {
-            return Ok(rows);
+        if !ie_turn(reader, alloc, turns, &mut rows, nodes)? {
+            return Ok(rows.into_items());
         }
     }
     Err(reader.unexpected())

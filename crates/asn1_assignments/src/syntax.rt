@@ -1,17 +1,16 @@
 //! Modules.
 
-ghost use Rattle.std.specs.Prelude.{◌≡◌, ◌&&◌, nat_le, count_by, length};
+ghost use Rattle.std.specs.Prelude.{◌≡◌, length};
 ghost use Rattle.asn1_types.specs.Reading.{Gives};
 ghost use Rattle.asn1_assignments.specs.Module.{Parts, is_type, has_all_types, is_assigned, new_assignment_at, ie_body_at, procedure_body_at, type_body_at, body_at, assignment_at, module_turn_at, assignments_at, header_at, syntax_at, syntax_of};
 
+use crate::assigned::Assigned;
 use crate::assignment::{Assignment, Body, Syntax};
 use crate::sets::{ie_set, procedure_set};
-use asn1_tokens::{Sign, Word, is_text};
+use asn1_tokens::{Sign, Word};
 use asn1_types::{Items, ModuleReason, Node, ReadError, Reader};
 use gnb_types::octets::Octets;
 use std::alloc::Global;
-
-const TYPES: usize = 1000;
 
 impl Assignment {
     /// It is that of a type.
@@ -25,34 +24,19 @@ impl Assignment {
     }
 }
 
-/// As many types as a module may have.
-fn has_all_types(assignments: &[Assignment]) -> bool
-    ensures { result ≡ has_all_types assignments.now }
-{
-    assignments.iter().filter(|other| other.is_type()).count() >= TYPES
-}
-
-fn is_assigned(name: &[u8], assignments: &[Assignment]) -> bool
-    ensures { result ≡ is_assigned name.now assignments.now }
-{
-    assignments
-        .iter()
-        .any(|other| is_text(other.name.as_slice(), name))
-}
-
 /// Takes a name that none of these has. The name of a type is outside the bounds where these have all types, whether one of
 /// them has it or not.
 #[tactic(auto, unfolding(crate::specs::Module::new_assignment_at))]
-fn new_assignment(reader: &mut Reader, assignments: &[Assignment]) -> Result<Octets, ReadError>
+fn new_assignment(reader: &mut Reader, assignments: &Assigned) -> Result<Octets, ReadError>
     ensures { Gives (λ name. (name, reader.new)) result (new_assignment_at assignments.now reader.old) }
 {
     let bounds = reader.fault(ModuleReason::Bounds);
     let twice = reader.fault(ModuleReason::Twice);
     let name = reader.upper()?;
-    if reader.begins_with_sign(Sign::Assignment) && has_all_types(assignments) {
+    if reader.begins_with_sign(Sign::Assignment) && assignments.has_all_types() {
         return Err(ReadError::Fault(bounds));
     }
-    if is_assigned(name.as_slice(), assignments) {
+    if assignments.is_assigned(name.as_slice()) {
         return Err(ReadError::Fault(twice));
     }
     Ok(name)
@@ -117,21 +101,22 @@ fn assignment(
     reader: &mut Reader,
     alloc: Global,
     turns: u64,
-    assignments: &mut Items<Assignment>,
+    assignments: &mut Assigned,
     nodes: &mut Items<Node>,
 ) -> Result<(), ReadError>
     ensures { Gives (λ _. (record { assignments = assignments.new; nodes = nodes.new }, reader.new)) result (assignment_at turns (record { assignments = assignments.old; nodes = nodes.old }) reader.old) }
 {
     let place = reader.place();
-    let name = new_assignment(reader, assignments.as_slice())?;
+    let name = new_assignment(reader, assignments)?;
     let body = body(reader, alloc, turns, nodes)?;
     let end = nodes.len();
-    assignments.push(Assignment {
+    let new = Assignment {
         name,
         place,
         body,
         end,
-    })?;
+    };
+    assignments.push(alloc, new)?;
     Ok(())
 }
 
@@ -141,7 +126,7 @@ fn module_turn(
     reader: &mut Reader,
     alloc: Global,
     turns: u64,
-    assignments: &mut Items<Assignment>,
+    assignments: &mut Assigned,
     nodes: &mut Items<Node>,
 ) -> Result<bool, ReadError>
     ensures { Gives (λ more. (more, record { assignments = assignments.new; nodes = nodes.new }, reader.new)) result (module_turn_at turns (record { assignments = assignments.old; nodes = nodes.old }) reader.old) }
@@ -177,10 +162,10 @@ fn assignments(
 ) -> Result<Items<Assignment>, ReadError>
     ensures { Gives (λ found. (record { assignments = found; nodes = nodes.new }, reader.new)) result (assignments_at turns nodes.old reader.old) }
 {
-    let mut found = Items::new(alloc);
+    let mut found = Assigned::new(alloc);
     for _ in 0..turns {
         if !module_turn(reader, alloc, turns, &mut found, nodes)? {
-            return Ok(found);
+            return Ok(found.into_items());
         }
     }
     Err(reader.unexpected())

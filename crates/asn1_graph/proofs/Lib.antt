@@ -1,3 +1,5 @@
 pub mod GraphLemmas
+pub mod NumberLemmas
+pub mod AmongLemmas
 pub mod PathLemmas
 pub mod LoopLemmas

@@ -5,9 +5,11 @@ use Rattle.std.proofs.lemmas.List.{length-set, length-replicate, get_or-replicat
 use Rattle.std.proofs.lemmas.List.Sums.{sum_by-set}
 use Rattle.std.proofs.lemmas.Bool.{ltb-true, ltb-false, lt-ltb, eqb-true, cases_lt}
 use Rattle.gnb_types.proofs.Choices.{by_choice, by_test}
-use Rattle.asn1_graph.specs.declared.graph.Edge.{Edge}
-use Rattle.asn1_graph.specs.Graph.{edge}
-use Rattle.asn1_graph.specs.Paths.{IsAmong, Leads, first, further, raised, mark_step, depth_step, depth_cap, round_of, IsReach, IsDepth, Nests, alone, around}
+use Rattle.asn1_defs.specs.declared.graph.Edge.{Edge}
+use Rattle.asn1_defs.specs.Graph.{edge}
+use Rattle.asn1_defs.specs.Paths.{IsAmong, Leads, first, further, Nests, alone, around}
+use Rattle.asn1_graph.specs.Walks.{raised, mark_step, depth_step, depth_cap, round_of, AreAmong, IsReach, IsDepth}
+use Rattle.asn1_graph.specs.Tables.{MarksWell, TellsWell}
 
 or_cases : (a b : Bool) → a || b ≡ true → (a ≡ true) ⊎ (b ≡ true)
 or_cases true b h = inl refl
@@ -127,11 +129,6 @@ mark_fair start t e = by_choice (Fair 1 t) (eqb e.from start || ltb 0 (get_or t 
     (λ _. raised_fair 1 t e.to 1 (omega arith))
     (λ _. record { still = λ _. refl; less = λ h. cc; size = refl })
 
--- each mark is right
-pub record MarksWell (count : ℕ) (edges : List Edge) (start : ℕ) (t : List ℕ) : Type 0 where
-  pub size : length t ≡ count
-  pub marked : (v : ℕ) → 0 < get_or t v 0 → Leads count edges start v
-
 pub at_or_not : (P : ℕ → Type 0) (at v : ℕ) → P at → (v ≢ at → P v) → P v
 at_or_not P at v here there = by_test (P v) (eqb v at) (λ h. subst P (sym (eqb-true v at h)) here) (λ h. there (λ same. clash (eqb v at) (ap (λ (n : ℕ). eqb n at) same ∙ eqb-refl at) h))
   where
@@ -139,7 +136,7 @@ at_or_not P at v here there = by_test (P v) (eqb v at) (λ h. subst P (sym (eqb-
     clash true p q = cc
     clash false p q = cc
 
-mark_keeps : (count : ℕ) (edges : List Edge) (start : ℕ) → start < count → (t : List ℕ) (e : Edge) → IsAmong e edges → MarksWell count edges start t → MarksWell count edges start (mark_step start t e).1
+pub mark_keeps : (count : ℕ) (edges : List Edge) (start : ℕ) → start < count → (t : List ℕ) (e : Edge) → IsAmong e edges → MarksWell count edges start t → MarksWell count edges start (mark_step start t e).1
 unfolding mark_step
 mark_keeps count edges start inner t e among well =
     by_choice (λ r. MarksWell count edges start r.1) (eqb e.from start || ltb 0 (get_or t e.from 0)) (raised t e.to 1) (false, t)
@@ -174,6 +171,11 @@ all_marked : (count : ℕ) (edges : List Edge) (start : ℕ) (t : List ℕ) → 
 all_marked count edges start t size each v (first {b} step) = mark_false start t (edge start b) (each (edge start b) step.among) (inl refl) (omega (arith, step.to, size))
 all_marked count edges start t size each v (further {b} {c} path step) = mark_false start t (edge b c) (each (edge b c) step.among) (inr (all_marked count edges start t size each b path)) (omega (arith, step.to, size))
 
+-- the same, of what a step returned and left
+pub mark_step_keeps : (count : ℕ) (edges : List Edge) (start : ℕ) (t new : List ℕ) (changed : Bool) (e : Edge) → start < count → IsAmong e edges → (changed, new) ≡ mark_step start t e → MarksWell count edges start t → MarksWell count edges start new
+mark_step_keeps count edges start t new changed e inner among is well =
+    subst (λ (r : Bool × List ℕ). MarksWell count edges start r.1) (sym is) (mark_keeps count edges start inner t e among well)
+
 -- a round goes on, or the marks are done
 pub mark_round_keeps : (count : ℕ) (edges : List Edge) (start : ℕ) (t : List ℕ) → start < count → MarksWell count edges start t → MarksWell count edges start (round_of (mark_step start) false t edges).1
 mark_round_keeps count edges start t inner well = round_keeps (mark_step start) (MarksWell count edges start) false t edges (λ u e among. mark_keeps count edges start inner u e among) well
@@ -200,13 +202,7 @@ depth_fair weights t e = by_choice (Fair depth_cap t) (ltb e.to (length t)) (rai
     (λ _. raised_fair depth_cap t e.from (min depth_cap (get_or weights e.from 0 + get_or t e.to 0)) (omega arith))
     (λ _. record { still = λ _. refl; less = λ h. cc; size = refl })
 
--- each depth is reached, and none is below its own weight
-pub record TellsWell (count : ℕ) (edges : List Edge) (weights t : List ℕ) : Type 0 where
-  pub size : length t ≡ count
-  pub reached : (v : ℕ) → v < count → (d : ℕ) × Nests count edges weights v d × (get_or t v 0 ≤ d)
-  pub own : (v : ℕ) → get_or weights v 0 ≤ get_or t v 0
-
-depth_keeps : (count : ℕ) (edges : List Edge) (weights t : List ℕ) (e : Edge) → IsAmong e edges → TellsWell count edges weights t → TellsWell count edges weights (depth_step weights t e).1
+pub depth_keeps : (count : ℕ) (edges : List Edge) (weights t : List ℕ) (e : Edge) → IsAmong e edges → TellsWell count edges weights t → TellsWell count edges weights (depth_step weights t e).1
 unfolding depth_step
 depth_keeps count edges weights t e among well =
     let value : ℕ = min depth_cap (get_or weights e.from 0 + get_or t e.to 0) in
@@ -242,6 +238,12 @@ none_deeper count edges weights t well each v d (around {a} {b} {d = c} step inn
 
 pub depth_round_keeps : (count : ℕ) (edges : List Edge) (weights t : List ℕ) → TellsWell count edges weights t → TellsWell count edges weights (round_of (depth_step weights) false t edges).1
 depth_round_keeps count edges weights t well = round_keeps (depth_step weights) (TellsWell count edges weights) false t edges (λ u e among. depth_keeps count edges weights u e among) well
+
+-- the same by some of the steps
+pub depth_some_keep : (count : ℕ) (edges some : List Edge) (weights t new : List ℕ) (changed : Bool) → AreAmong some edges → (changed, new) ≡ round_of (depth_step weights) false t some → TellsWell count edges weights t → TellsWell count edges weights new
+depth_some_keep count edges some weights t new changed among is well =
+    subst (λ (r : Bool × List ℕ). TellsWell count edges weights r.1) (sym is)
+    (round_keeps (depth_step weights) (TellsWell count edges weights) false t some (λ u e here. depth_keeps count edges weights u e (among e here)) well)
 
 pub depth_round_less : (weights t : List ℕ) (edges : List Edge) → (round_of (depth_step weights) false t edges).0 ≡ true → slack depth_cap (round_of (depth_step weights) false t edges).1 < slack depth_cap t
 depth_round_less weights t edges h = (round_slack depth_cap (depth_step weights) (depth_fair weights) false t edges).1 refl h

@@ -1,2 +1,3 @@
-pub mod Graph
-pub mod Paths
+pub mod Walks
+pub mod Tables
+pub use Rattle.asn1_defs.specs as asn1_defs

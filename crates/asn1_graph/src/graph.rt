@@ -1,20 +1,14 @@
 //! Which types and assignments lead to which.
 
-ghost use Rattle.std.specs.Prelude.{◌≡◌, ◌+◌, ◌-◌, ◌^◌, ◌<◌, ◌++◌, ◌∷◌, [], length, OnOk, IfOk};
-ghost use Rattle.asn1_graph.specs.Graph.{number_of, member_edges, all_member_edges, named_edges, node_edges, nodes_edges, range_edges, parts_edges, edges_of, vertex_count};
+ghost use Rattle.std.specs.Prelude.{◌≡◌, ◌+◌, ◌-◌, ◌^◌, ◌<◌, ◌++◌, length, OnOk, IfOk, IfSome};
+ghost use Rattle.asn1_defs.specs.Numbers.{all_numbers, numbers_in};
+ghost use Rattle.asn1_defs.specs.Graph.{member_edges, all_member_edges, numbered_edges, definition_edges, nodes_edges, range_edges, parts_edges, edges_of, vertex_count};
 
 use asn1_assignments::{Assignment, Syntax};
-use asn1_tokens::is_text;
+use asn1_defs::Edge;
 use asn1_types::{Component, Definition, Extensible, Items, Node};
 use gnb_types::octets::Memory;
 use std::alloc::Global;
-
-/// One step, from a vertex to another. The vertices are a module's types by their numbers, and then its assignments.
-#[derive(Clone, Copy, PartialEq, Eq)]
-pub struct Edge {
-    pub from: usize,
-    pub to: usize,
-}
 
 /// How many vertices a module has.
 pub fn vertex_count(syntax: &Syntax) -> usize
@@ -24,7 +18,7 @@ pub fn vertex_count(syntax: &Syntax) -> usize
 }
 
 /// Adds the steps from a type to those of its members.
-#[tactic(auto, unfolding(crate::specs::Graph::member_edges))]
+#[tactic(auto, unfolding(asn1_defs::specs::Graph::member_edges))]
 fn push_members(edges: &mut Items<Edge>, from: usize, members: &[Component]) -> Result<(), Memory>
     ensures { OnOk result (edges.new ≡ edges.old ++ member_edges from members.now) }
 {
@@ -36,7 +30,7 @@ fn push_members(edges: &mut Items<Edge>, from: usize, members: &[Component]) -> 
 }
 
 /// Adds the steps from a type to those of the members of its root and of its additions.
-#[tactic(auto, unfolding(crate::specs::Graph::member_edges))]
+#[tactic(auto, unfolding(asn1_defs::specs::Graph::member_edges))]
 fn push_all_members(
     edges: &mut Items<Edge>,
     from: usize,
@@ -51,27 +45,17 @@ fn push_all_members(
     }
 }
 
-/// The number of the assignment of a name.
-pub fn number_of(name: &[u8], assignments: &[Assignment]) -> Option<usize>
-    ensures { result ≡ number_of name.now assignments.now }
-{
-    assignments
-        .iter()
-        .position(|other| is_text(other.name.as_slice(), name))
-}
-
-/// Adds the step from a type to the assignment of the name in it.
+/// Adds the step from a type to the assignment that its name refers to.
 fn push_named(
     edges: &mut Items<Edge>,
     base: usize,
-    assignments: &[Assignment],
     from: usize,
-    name: &[u8],
+    target: Option<usize>,
 ) -> Result<(), Memory>
-    requires { base + length assignments.now < 2 ^ 64 }
-    ensures { OnOk result (edges.new ≡ edges.old ++ named_edges base assignments.now from name.now) }
+    requires { IfSome target (λ number. base + number < 2 ^ 64) }
+    ensures { OnOk result (edges.new ≡ edges.old ++ numbered_edges base from target) }
 {
-    match number_of(name, assignments) {
+    match target {
         None => Ok(()),
         Some(number) => edges.push(Edge {
             from,
@@ -80,17 +64,16 @@ fn push_named(
     }
 }
 
-/// Adds the steps from a type; `base` is the number of types.
-#[tactic(auto, unfolding(crate::specs::Graph::node_edges))]
+/// Adds the steps from a type; `base` is the number of types, and `target` that of the assignment which its name refers to.
 fn push_node(
     edges: &mut Items<Edge>,
     base: usize,
-    assignments: &[Assignment],
     from: usize,
     definition: &Definition,
+    target: Option<usize>,
 ) -> Result<(), Memory>
-    requires { base + length assignments.now < 2 ^ 64 }
-    ensures { OnOk result (edges.new ≡ edges.old ++ node_edges base assignments.now from definition.now) }
+    requires { IfSome target (λ number. base + number < 2 ^ 64) }
+    ensures { OnOk result (edges.new ≡ edges.old ++ definition_edges base target from definition.now) }
 {
     match definition {
         Definition::Sequence(members) | Definition::Choice(members) => {
@@ -100,25 +83,27 @@ fn push_node(
             from,
             to: element.number,
         }),
-        Definition::Reference(name) | Definition::IeContainer(name) | Definition::Pdu(name) => {
-            push_named(edges, base, assignments, from, name.as_slice())
+        Definition::Reference(_) | Definition::IeContainer(_) | Definition::Pdu(_) => {
+            push_named(edges, base, from, target)
         }
         _ => Ok(()),
     }
 }
 
 /// Adds the steps from each type.
-#[tactic(auto, unfolding(crate::specs::Graph::nodes_edges))]
+#[tactic(auto, unfolding(asn1_defs::specs::Graph::nodes_edges))]
 fn push_nodes(
     edges: &mut Items<Edge>,
     assignments: &[Assignment],
     nodes: &[Node],
+    targets: &[Option<usize>],
 ) -> Result<(), Memory>
-    requires { length nodes.now + length assignments.now < 2 ^ 64 }
+    requires fits { length nodes.now + length assignments.now < 2 ^ 64 }
+    requires targets { targets.now ≡ all_numbers assignments.now nodes.now }
     ensures { OnOk result (edges.new ≡ edges.old ++ nodes_edges (length nodes.now) assignments.now 0 nodes.now) }
 {
     for (from, node) in nodes.iter().enumerate() {
-        push_node(edges, nodes.len(), assignments, from, &node.definition)?;
+        push_node(edges, nodes.len(), from, &node.definition, targets[from])?;
     }
     Ok(())
 }
@@ -134,7 +119,7 @@ fn push_range(edges: &mut Items<Edge>, from: usize, first: usize, end: usize) ->
 }
 
 /// Adds the steps from each assignment; the vertex of the first one is `base`.
-#[tactic(auto, unfolding(crate::specs::Graph::parts_edges))]
+#[tactic(auto, unfolding(asn1_defs::specs::Graph::parts_edges))]
 fn push_parts(
     edges: &mut Items<Edge>,
     base: usize,
@@ -151,15 +136,20 @@ fn push_parts(
     Ok(())
 }
 
-/// The steps of a module.
-#[tactic(auto, unfolding(crate::specs::Graph::edges_of))]
-pub fn edges_of(alloc: Global, syntax: &Syntax) -> Result<Items<Edge>, Memory>
+/// The steps of a module, by the numbers of the assignments that its names refer to.
+#[tactic(auto, unfolding(asn1_defs::specs::Graph::edges_of))]
+pub fn edges_of(
+    alloc: Global,
+    syntax: &Syntax,
+    targets: &[Option<usize>],
+) -> Result<Items<Edge>, Memory>
+    requires { targets.now ≡ numbers_in syntax.now }
     ensures { IfOk result (λ edges. edges ≡ edges_of syntax.now) }
 {
     let nodes = syntax.nodes.as_slice();
     let assignments = syntax.assignments.as_slice();
     let mut edges = Items::new(alloc);
-    push_nodes(&mut edges, assignments, nodes)?;
+    push_nodes(&mut edges, assignments, nodes, targets)?;
     push_parts(&mut edges, nodes.len(), assignments)?;
     Ok(edges)
 }

@@ -2,7 +2,11 @@
 #![tactic(auto)]
 
 mod graph;
+mod numbers;
 mod paths;
+mod search;
+mod steps;
 
-pub use graph::{Edge, edges_of, number_of, vertex_count};
-pub use paths::{depths, looping, reached, value_at};
+pub use graph::{edges_of, vertex_count};
+pub use numbers::numbers_in;
+pub use paths::{depths, first_looping, value_at};

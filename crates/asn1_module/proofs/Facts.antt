@@ -12,11 +12,12 @@ use Rattle.asn1_assignments.specs.declared.assignment.IeRow.{IeRow}
 use Rattle.asn1_assignments.specs.declared.assignment.ProcedureRow.{ProcedureRow}
 use Rattle.asn1_assignments.specs.declared.assignment.Assignment.{Assignment}
 use Rattle.asn1_assignments.specs.declared.assignment.Syntax.{Syntax}
-use Rattle.asn1_module.specs.declared.names.Kind.TheVariants as kinds
-use Rattle.asn1_module.specs.Names.{kind_of_body, kind_of_name, is_such, is_known, first_unknown}
-use Rattle.asn1_module.specs.Links.{IsInside, AreOrdered, BodyBelow, BodiesBelow, IesBelow, ProceduresBelow}
-use Rattle.asn1_module.specs.Judgement.{Judged, IsSound, sound}
-use Rattle.asn1_module.specs.Module.{type_of, put_type, type_ids, find_type, ie_rows_of, ie_rows, procedure_rows_of, procedure_rows, HasTarget, IsModule}
+use Rattle.asn1_defs.specs.declared.names.Kind.TheVariants as kinds
+use Rattle.asn1_defs.specs.Names.{kind_of_body, kind_of_name, is_such, is_known, first_unknown}
+use Rattle.asn1_defs.specs.Links.{IsInside, AreOrdered, BodyBelow, BodiesBelow, IesBelow, ProceduresBelow}
+use Rattle.asn1_defs.specs.Judgement.{Judged, IsSound, sound}
+use Rattle.asn1_defs.specs.Targets.{type_of, put_type, type_ids, find_type, ie_rows_of, ie_rows, procedure_rows_of, procedure_rows, HasTarget}
+use Rattle.asn1_defs.specs.Modules.{IsModule}
 
 pub sound_of : (s : Syntax) → Judged s None → IsSound s
 sound_of s (sound ok) = ok

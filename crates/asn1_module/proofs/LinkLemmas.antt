@@ -22,7 +22,7 @@ use Rattle.asn1_types.specs.Reading.{◌>>=◌, Left, first_word, begins_with_si
 use Rattle.asn1_types.specs.Sizes.{size_at, optional_size_at, bounded_at, integer_least, integer_greatest, greatest_beside, integer_ellipsis_at, integer_at}
 use Rattle.asn1_types.specs.Members.{no_parts, additions_of, put_part, with_part, extended, can_extend, is_full, all_parts, has_component, new_name_at, list_goes_on_at, names_at, least_members, composed, node, named_at, entry_at, optional_at, component, member_end_at, close_at}
 use Rattle.asn1_types.specs.Types.{enumerated_at, bit_string_at, octet_string_at, printable_string_at, simple_rest_at, is_simple, simple_at, list_head_at, components_head_at, sequence_head_at, choice_head_at, set_name_at, container_at, pdu_at, reference_at, head_by, head_at, next_id, Risen, risen, rise_at, type_turn_at, type_goes_on, type_within_at, type_at}
-use Rattle.asn1_module.specs.Links.{AreBelow, PartsBelow, IsInside, AreOrdered, OptionBelow, OptionFrom}
+use Rattle.asn1_defs.specs.Links.{AreBelow, PartsBelow, IsInside, AreOrdered, OptionBelow, OptionFrom}
 
 pub bind_ok : {A B : Type 0} (r : Result A Fault) (f : A → Result B Fault) (y : B) → (r >>= f) ≡ Ok y → (x : A) × (r ≡ Ok x) × (f x ≡ Ok y)
 bind_ok (Ok x) f y h = (x, refl, h)

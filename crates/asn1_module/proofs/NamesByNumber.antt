@@ -12,18 +12,18 @@ use Rattle.asn1_assignments.specs.declared.assignment.Body.{Body}
 use Rattle.asn1_assignments.specs.declared.assignment.IeRow.{IeRow}
 use Rattle.asn1_assignments.specs.declared.assignment.ProcedureRow.{ProcedureRow}
 use Rattle.asn1_assignments.specs.declared.assignment.Assignment.{Assignment}
-use Rattle.asn1_graph.specs.Graph.{number_of}
+use Rattle.asn1_assignments.specs.Index.{number_of}
 use Rattle.asn1_assignments.specs.declared.assignment.Syntax.{Syntax}
-use Rattle.asn1_module.specs.Links.{IesBelow, ProceduresBelow}
-use Rattle.asn1_module.specs.Module.{type_of, find_type, ie_rows_of, ie_rows, procedure_rows_of, procedure_rows, IsModule}
-use Rattle.asn1_module.specs.Targets.{definition_of, definition_at, all_of, referred, element_rows, message_rows}
-use Rattle.asn1_module.specs.Numbers.{number_in, all_numbers, numbers_in, body_at, found_in}
+use Rattle.asn1_defs.specs.Links.{IesBelow, ProceduresBelow}
+use Rattle.asn1_defs.specs.Targets.{type_of, find_type, ie_rows_of, ie_rows, procedure_rows_of, procedure_rows, definition_of, definition_at, all_of, referred, element_rows, message_rows}
+use Rattle.asn1_defs.specs.Modules.{IsModule}
+use Rattle.asn1_defs.specs.Numbers.{number_in, all_numbers, numbers_in}
+use Rattle.asn1_module.specs.Numbers.{body_at, found_in}
+use Rattle.asn1_graph.proofs.NumberLemmas.{length-all_numbers}
+use Rattle.asn1_defs.specs.declared.names.Kind.{Kind}
+use Rattle.asn1_defs.specs.declared.names.Kind.TheVariants as kinds
+use Rattle.asn1_defs.specs.Names.{kind_of_body, kind_of_name, is_such, is_known}
 use Rattle.asn1_module.proofs.Facts.{type_below, ies_below, procedures_below}
-
-pub length-all_numbers : (assignments : List Assignment) (nodes : List Node) → length (all_numbers assignments nodes) ≡ length nodes
-unfolding all_numbers
-length-all_numbers assignments [] = refl
-length-all_numbers assignments (node ∷ nodes) = ap suc (length-all_numbers assignments nodes)
 
 pub number_at : (assignments : List Assignment) (nodes : List Node) (i : ℕ) (d : Option ℕ) → i < length nodes
     → get_or (all_numbers assignments nodes) i d ≡ number_in assignments (definition_of (slice_get nodes i))
@@ -81,6 +81,49 @@ unfolding procedure_rows found
 procedures_found name [] = refl
 procedures_found name (a ∷ assignments) =
     ap (λ (o : Option (List ProcedureRow)). cond (is_text a.name name) (procedure_rows_of a.body) o) (procedures_found name assignments)
+
+kinds_found : (name : List ℕ) (assignments : List Assignment)
+    → kind_of_name name assignments ≡ found (λ (body : Body). Some (kind_of_body body)) name assignments
+unfolding kind_of_name found
+kinds_found name [] = refl
+kinds_found name (a ∷ assignments) =
+    ap (λ (o : Option Kind). cond (is_text a.name name) (Some (kind_of_body a.body)) o) (kinds_found name assignments)
+
+pub kind_numbered : (name : List ℕ) (assignments : List Assignment)
+    → kind_of_name name assignments ≡ option_map kind_of_body (body_at assignments (number_of name assignments))
+kind_numbered name assignments =
+    kinds_found name assignments ∙ found_numbered (λ (body : Body). Some (kind_of_body body)) name assignments
+    ∙ same (body_at assignments (number_of name assignments))
+  where
+    same : (o : Option Body) → found_in (λ (body : Body). Some (kind_of_body body)) o ≡ option_map kind_of_body o
+    same None = refl
+    same (Some body) = refl
+
+-- the name in a type is known as its number tells
+by_number : (kind : Kind) (name : List ℕ) (assignments : List Assignment) (target : Option ℕ) (result : Bool) → target ≡ number_of name assignments
+    → result ≡ is_such kind (option_map kind_of_body (body_at assignments target)) → result ≡ is_such kind (kind_of_name name assignments)
+by_number kind name assignments target result is told =
+    told
+    ∙ ap (λ (o : Option ℕ). is_such kind (option_map kind_of_body (body_at assignments o))) is
+    ∙ ap (is_such kind) (sym (kind_numbered name assignments))
+
+pub known_type : (definition : Definition) (name : List ℕ) (assignments : List Assignment) (target : Option ℕ) (result : Bool) → definition ≡ types.Reference name → target ≡ number_in assignments definition
+    → result ≡ is_such kinds.Type (option_map kind_of_body (body_at assignments target)) → result ≡ is_known assignments definition
+unfolding is_known
+known_type definition name assignments target result is at told =
+    by_number kinds.Type name assignments target result (at ∙ ap (number_in assignments) is) told ∙ ap (is_known assignments) (sym is)
+
+pub known_set : (definition : Definition) (name : List ℕ) (assignments : List Assignment) (target : Option ℕ) (result : Bool) → definition ≡ types.IeContainer name → target ≡ number_in assignments definition
+    → result ≡ is_such kinds.IeSet (option_map kind_of_body (body_at assignments target)) → result ≡ is_known assignments definition
+unfolding is_known
+known_set definition name assignments target result is at told =
+    by_number kinds.IeSet name assignments target result (at ∙ ap (number_in assignments) is) told ∙ ap (is_known assignments) (sym is)
+
+pub known_procedures : (definition : Definition) (name : List ℕ) (assignments : List Assignment) (target : Option ℕ) (result : Bool) → definition ≡ types.Pdu name → target ≡ number_in assignments definition
+    → result ≡ is_such kinds.ProcedureSet (option_map kind_of_body (body_at assignments target)) → result ≡ is_known assignments definition
+unfolding is_known
+known_procedures definition name assignments target result is at told =
+    by_number kinds.ProcedureSet name assignments target result (at ∙ ap (number_in assignments) is) told ∙ ap (is_known assignments) (sym is)
 
 pub type_numbered : (name : List ℕ) (assignments : List Assignment)
     → find_type name assignments ≡ found_in type_of (body_at assignments (number_of name assignments))

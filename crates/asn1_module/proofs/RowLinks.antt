@@ -19,7 +19,7 @@ use Rattle.asn1_assignments.specs.declared.assignment.Syntax.{Syntax}
 use Rattle.asn1_assignments.specs.Rows.{new_number_at, criticality_at, presence_at, has_id, has_code, ie_row_at, outcome_at, messages_at, procedure_row_at}
 use Rattle.asn1_assignments.specs.Sets.{Rows, rows_with, set_goes_on_at, ie_turn_at, procedure_turn_at, set_start_at, ie_set_at, procedure_set_at}
 use Rattle.asn1_assignments.specs.Module.{Parts, new_assignment_at, ie_body_at, procedure_body_at, type_body_at, body_at, assignment_at, module_turn_at, header_at, no_assignments, assignments_at, syntax_at, syntax_of}
-use Rattle.asn1_module.specs.Links.{AreOrdered, OptionBelow, IesBelow, ProceduresBelow, BodyBelow, BodiesBelow, OptionFrom, IesFrom, ProceduresFrom, BodyFrom, AreParted, IsLinked}
+use Rattle.asn1_defs.specs.Links.{AreOrdered, OptionBelow, IesBelow, ProceduresBelow, BodyBelow, BodiesBelow, OptionFrom, IesFrom, ProceduresFrom, BodyFrom, AreParted, IsLinked}
 use Rattle.asn1_module.proofs.LinkLemmas.{type_ok, bind_ok, ok_same}
 use Rattle.asn1_module.proofs.TypeCount.{repeat_keeps}
 

@@ -16,7 +16,7 @@ use Rattle.asn1_assignments.specs.declared.assignment.Assignment.{Assignment}
 use Rattle.asn1_assignments.specs.declared.assignment.Syntax.{Syntax}
 use Rattle.asn1_assignments.specs.Sets.{ie_set_at, procedure_set_at}
 use Rattle.asn1_assignments.specs.Module.{Parts, is_type, is_type_body, has_all_types, is_assigned, new_assignment_at, ie_body_at, procedure_body_at, type_body_at, body_at, assignment_at, module_turn_at, header_at, no_assignments, assignments_at, syntax_at, syntax_of}
-use Rattle.asn1_module.specs.Module.{type_of, put_type, type_ids}
+use Rattle.asn1_defs.specs.Targets.{type_of, put_type, type_ids}
 
 -- both steps of a reading gave something
 bind_ok : {A B : Type 0} (r : Result A Fault) (f : A → Result B Fault) (y : B) → (r >>= f) ≡ Ok y → (x : A) × (r ≡ Ok x) × (f x ≡ Ok y)

@@ -1,10 +1,7 @@
-pub mod Position
-pub mod Names
-pub mod Judgement
-pub mod Links
-pub mod Module
-pub mod Targets
+pub mod Refusals
 pub mod Numbers
 pub use Rattle.asn1_graph.specs as asn1_graph
+pub use Rattle.asn1_defs.specs as asn1_defs
+pub use Rattle.asn1_defs.specs.asn1_tokens as asn1_tokens
+pub use Rattle.asn1_defs.specs.asn1_types as asn1_types
 pub use Rattle.asn1_assignments.specs as asn1_assignments
-pub use Rattle.asn1_reading_laws.specs as asn1_reading_laws

@@ -1,14 +1,16 @@
 //! What is wrong with a module whose text is in the grammar.
 
-ghost use Rattle.std.specs.Prelude.{◌≡◌, ◌+◌, ◌<◌, ◌^◌, ◌++◌, ◌↔◌, IfOk, IsTrue, OnOk, length, replicate, None};
-ghost use Rattle.asn1_module.specs.Names.{first_unknown};
-ghost use Rattle.asn1_graph.specs.Graph.{vertex_count, edges_of};
-ghost use Rattle.asn1_graph.specs.Paths.{IsFirst, IsDepth, MarksLoops, Leads};
-ghost use Rattle.asn1_module.specs.Judgement.{weight_of, node_weights, weights_of, IsFirstRecursive, IsFirstDeep, Judged, IsAt};
+ghost use Rattle.std.specs.Prelude.{◌≡◌, ◌<◌, IfOk, length, None};
+ghost use Rattle.asn1_defs.specs.Names.{first_unknown};
+ghost use Rattle.asn1_defs.specs.Numbers.{numbers_in};
+ghost use Rattle.asn1_defs.specs.Graph.{vertex_count, edges_of};
+ghost use Rattle.asn1_graph.specs.Walks.{IsDepth};
+ghost use Rattle.asn1_defs.specs.Judgement.{weight_of, node_weights, weights_of, IsFirstRecursive, IsFirstDeep, Judged, IsAt};
 
 use crate::names::first_unknown;
 use asn1_assignments::Syntax;
-use asn1_graph::{Edge, depths, edges_of, looping, reached, value_at, vertex_count};
+use asn1_defs::Edge;
+use asn1_graph::{depths, edges_of, first_looping, value_at, vertex_count};
 use asn1_types::{Definition, Fault, ModuleReason, Node};
 use gnb_types::octets::Memory;
 use std::alloc::Global;
@@ -31,7 +33,7 @@ fn weight_of(definition: &Definition) -> u8
 }
 
 /// The levels that types add.
-#[tactic(auto, unfolding(crate::specs::Judgement::node_weights))]
+#[tactic(auto, unfolding(asn1_defs::specs::Judgement::node_weights))]
 fn node_weights(alloc: Global, nodes: &[Node]) -> Result<Vec<u8>, Memory>
     ensures { IfOk result (λ weights. weights.items ≡ node_weights nodes.now) }
 {
@@ -52,39 +54,17 @@ fn weights_of(alloc: Global, syntax: &Syntax) -> Result<Vec<u8>, Memory>
     Ok(weights)
 }
 
-/// Whether a vertex leads to itself. Those without a mark don't, so only marked ones are searched from.
-fn is_looping(
-    alloc: Global,
-    edges: &[Edge],
-    count: usize,
-    marks: &[u8],
-    vertex: usize,
-) -> Result<bool, Memory>
-    requires inner { vertex < count }
-    requires marks { MarksLoops count edges.now marks.now }
-    ensures { IfOk result (λ found. IsTrue found ↔ Leads count edges.now vertex vertex) }
-{
-    if value_at(marks, vertex) == 0 {
-        return Ok(false);
-    }
-    let table = reached(alloc, edges, count, vertex)?;
-    Ok(value_at(&table, vertex) > 0)
-}
-
 /// The first assignment that reaches itself.
 fn first_recursive(alloc: Global, syntax: &Syntax, edges: &[Edge]) -> Result<Option<usize>, Memory>
     requires { edges.now ≡ edges_of syntax.now }
     ensures { IfOk result (λ found. IsFirstRecursive syntax.now found) }
 {
-    let base = syntax.nodes.as_slice().len();
-    let count = vertex_count(syntax);
-    let marks = looping(alloc, edges, count)?;
-    for number in 0..syntax.assignments.as_slice().len() {
-        if is_looping(alloc, edges, count, &marks, base + number)? {
-            return Ok(Some(number));
-        }
-    }
-    Ok(None)
+    first_looping(
+        alloc,
+        edges,
+        vertex_count(syntax),
+        syntax.nodes.as_slice().len(),
+    )
 }
 
 /// How deep types stand one inside another, for each type and assignment.
@@ -134,26 +114,40 @@ fn judge_finite(alloc: Global, syntax: &Syntax, edges: &[Edge]) -> Result<Option
 }
 
 /// What is wrong with a module whose names are known, if something is.
-fn judge_known(alloc: Global, syntax: &Syntax) -> Result<Option<Fault>, Memory>
-    requires { first_unknown syntax.now.assignments syntax.now.nodes ≡ None }
+fn judge_known(
+    alloc: Global,
+    syntax: &Syntax,
+    targets: &[Option<usize>],
+) -> Result<Option<Fault>, Memory>
+    requires targets { targets.now ≡ numbers_in syntax.now }
+    requires known { first_unknown syntax.now.assignments syntax.now.nodes ≡ None }
     ensures { IfOk result (λ found. Judged syntax.now found) }
 {
-    let edges = edges_of(alloc, syntax)?;
+    let edges = edges_of(alloc, syntax, targets)?;
     match first_recursive(alloc, syntax, edges.as_slice())? {
         Some(number) => Ok(Some(fault_at(syntax, number, ModuleReason::Recursive))),
         None => judge_finite(alloc, syntax, edges.as_slice()),
     }
 }
 
-/// What is wrong with a module, if something is.
-pub fn judge(alloc: Global, syntax: &Syntax) -> Result<Option<Fault>, Memory>
+/// What is wrong with a module, if something is, by the numbers of the assignments that its names refer to.
+pub fn judge(
+    alloc: Global,
+    syntax: &Syntax,
+    targets: &[Option<usize>],
+) -> Result<Option<Fault>, Memory>
+    requires { targets.now ≡ numbers_in syntax.now }
     ensures { IfOk result (λ found. Judged syntax.now found) }
 {
-    match first_unknown(syntax.assignments.as_slice(), syntax.nodes.as_slice()) {
+    match first_unknown(
+        syntax.assignments.as_slice(),
+        syntax.nodes.as_slice(),
+        targets,
+    ) {
         Some(place) => Ok(Some(Fault {
             place,
             reason: ModuleReason::Unknown,
         })),
-        None => judge_known(alloc, syntax),
+        None => judge_known(alloc, syntax, targets),
     }
 }

@@ -5,7 +5,6 @@ mod error;
 mod judgement;
 mod module;
 mod names;
-mod numbers;
 mod position;
 
 pub use asn1_assignments::{Criticality, IeRow, Presence, ProcedureRow};

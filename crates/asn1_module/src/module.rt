@@ -1,16 +1,19 @@
 //! Modules.
 
 ghost use Rattle.std.specs.Prelude.{◌≡◌, ◌==◌, ◌<◌, ◌≤◌, length, MatchResult, IfSome, slice_get, option_map, Some};
-ghost use Rattle.asn1_module.specs.Links.{IsInside, IesBelow, ProceduresBelow};
-ghost use Rattle.asn1_module.specs.Module.{Reads, RefusedSo, IsModule, HasTarget, HasFault, type_of, type_ids, find_type, type_name, is_body_of, ie_rows, ie_rows_of, procedure_rows, procedure_rows_of};
-ghost use Rattle.asn1_module.specs.Targets.{definition_at, referred, all_of, element_rows, message_rows};
-ghost use Rattle.asn1_module.specs.Numbers.{body_at, number_in, found_in};
+ghost use Rattle.asn1_defs.specs.Links.{IsInside, IesBelow, ProceduresBelow};
+ghost use Rattle.asn1_defs.specs.Readings.{Reads, HasFault};
+ghost use Rattle.asn1_module.specs.Refusals.{RefusedSo};
+ghost use Rattle.asn1_defs.specs.Modules.{IsModule};
+ghost use Rattle.asn1_defs.specs.Targets.{HasTarget, type_of, type_ids, find_type, type_name, is_body_of, ie_rows, ie_rows_of, procedure_rows, procedure_rows_of, definition_at, referred, all_of, element_rows, message_rows};
+ghost use Rattle.asn1_module.specs.Numbers.{body_at, found_in};
+ghost use Rattle.asn1_defs.specs.Numbers.{number_in};
 
 use crate::error::ModuleError;
 use crate::judgement::judge;
-use crate::numbers::numbers_in;
 use crate::position::position_after;
 use asn1_assignments::{Assignment, Body, IeRow, ProcedureRow, Syntax, read_syntax};
+use asn1_graph::numbers_in;
 use asn1_tokens::is_text;
 use asn1_types::{Definition, Fault, ReadError, TypeId};
 use std::alloc::Global;
@@ -27,8 +30,8 @@ pub struct Module {
 impl Model for Module {
     ghost use Rattle.std.specs.Prelude.{◌≡◌};
     ghost use Rattle.asn1_assignments.specs.declared.assignment.Syntax.{Syntax};
-    ghost use Rattle.asn1_module.specs.Module.{IsModule};
-    ghost use Rattle.asn1_module.specs.Numbers.{numbers_in};
+    ghost use Rattle.asn1_defs.specs.Modules.{IsModule};
+    ghost use Rattle.asn1_defs.specs.Numbers.{numbers_in};
 
     ghost Value = { Syntax };
 
@@ -52,7 +55,7 @@ fn refused(text: &[u8], fault: Fault) -> ModuleError
 }
 
 /// How many of these are types.
-#[tactic(auto, unfolding(crate::specs::Module::type_ids))]
+#[tactic(auto, unfolding(asn1_defs::specs::Targets::type_ids))]
 fn type_count(assignments: &[Assignment]) -> usize
     ensures { result ≡ length (type_ids assignments.now) }
 {
@@ -66,7 +69,7 @@ fn type_count(assignments: &[Assignment]) -> usize
 }
 
 /// The type among these with this number.
-#[tactic(auto, unfolding(crate::specs::Module::type_ids))]
+#[tactic(auto, unfolding(asn1_defs::specs::Targets::type_ids))]
 fn nth_type(assignments: &[Assignment], i: usize) -> Option<TypeId>
     ensures { result ≡ slice_get (type_ids assignments.now) i }
 {
@@ -93,7 +96,7 @@ fn is_body_of(id: TypeId, body: &Body) -> bool
 }
 
 /// The type of this name among these.
-#[tactic(auto, unfolding(crate::specs::Module::find_type))]
+#[tactic(auto, unfolding(asn1_defs::specs::Targets::find_type))]
 fn find_type(assignments: &[Assignment], name: &[u8]) -> Option<TypeId>
     ensures { result ≡ find_type name.now assignments.now }
 {
@@ -109,7 +112,7 @@ fn find_type(assignments: &[Assignment], name: &[u8]) -> Option<TypeId>
 }
 
 /// The rows of the set of this name among these.
-#[tactic(auto, unfolding(crate::specs::Module::ie_rows))]
+#[tactic(auto, unfolding(asn1_defs::specs::Targets::ie_rows))]
 fn find_ie_rows<'a>(assignments: &'a [Assignment], set: &[u8]) -> Option<&'a [IeRow]>
     ensures { option_map (λ rows. rows.now) result ≡ ie_rows set.now assignments.now }
 {
@@ -125,7 +128,7 @@ fn find_ie_rows<'a>(assignments: &'a [Assignment], set: &[u8]) -> Option<&'a [Ie
 }
 
 /// The rows of the set of this name among these.
-#[tactic(auto, unfolding(crate::specs::Module::procedure_rows))]
+#[tactic(auto, unfolding(asn1_defs::specs::Targets::procedure_rows))]
 fn find_procedure_rows<'a>(assignments: &'a [Assignment], set: &[u8]) -> Option<&'a [ProcedureRow]>
     ensures { option_map (λ rows. rows.now) result ≡ procedure_rows set.now assignments.now }
 {
@@ -192,10 +195,10 @@ pub fn read_module(alloc: Global, text: &[u8]) -> Result<(Module, usize), Module
         Err(ReadError::Fault(fault)) => return Err(refused(text, fault)),
         Err(ReadError::Memory) => return Err(ModuleError::Memory),
     };
-    match judge(alloc, &syntax)? {
+    let targets = numbers_in(alloc, &syntax)?;
+    match judge(alloc, &syntax, &targets)? {
         Some(fault) => Err(refused(text, fault)),
         None => {
-            let targets = numbers_in(alloc, &syntax)?;
             let end = syntax.end;
             Ok((Module { syntax, targets }, end))
         }
@@ -256,7 +259,7 @@ impl Module {
     }
 
     /// The name of a type, which is empty for one that has none of its own.
-    #[tactic(auto, unfolding(crate::specs::Module::type_name))]
+    #[tactic(auto, unfolding(asn1_defs::specs::Targets::type_name))]
     pub fn type_name(&self, id: TypeId) -> &[u8]
         ensures { result.now ≡ type_name id self.now.assignments }
     {

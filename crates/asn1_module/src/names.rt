@@ -1,19 +1,13 @@
 //! What the names in types refer to.
 
-ghost use Rattle.std.specs.Prelude.{◌≡◌};
-ghost use Rattle.asn1_module.specs.Names.{kind_of_body, kind_of_name, is_such, is_known, first_unknown};
+ghost use Rattle.std.specs.Prelude.{◌≡◌, option_map};
+ghost use Rattle.asn1_defs.specs.Numbers.{number_in, all_numbers};
+ghost use Rattle.asn1_defs.specs.Names.{kind_of_body, is_such, is_known, first_unknown};
+ghost use Rattle.asn1_module.specs.Numbers.{body_at};
 
 use asn1_assignments::{Assignment, Body};
-use asn1_tokens::is_text;
+use asn1_defs::Kind;
 use asn1_types::{Definition, Node};
-
-/// What a name may stand for.
-#[derive(Clone, Copy, PartialEq, Eq)]
-pub enum Kind {
-    Type,
-    IeSet,
-    ProcedureSet,
-}
 
 fn kind_of_body(body: &Body) -> Kind
     ensures { result ≡ kind_of_body body.now }
@@ -25,49 +19,46 @@ fn kind_of_body(body: &Body) -> Kind
     }
 }
 
-/// What a name stands for, if it does for anything.
-#[tactic(auto, unfolding(crate::specs::Names::kind_of_name))]
-fn kind_of_name(name: &[u8], assignments: &[Assignment]) -> Option<Kind>
-    ensures { result ≡ kind_of_name name.now assignments.now }
+/// The assignment of this number is of this kind.
+fn is_number_of(kind: Kind, number: Option<usize>, assignments: &[Assignment]) -> bool
+    ensures { result ≡ is_such kind (option_map kind_of_body (body_at assignments.now number)) }
 {
-    for other in assignments {
-        if is_text(other.name.as_slice(), name) {
-            return Some(kind_of_body(&other.body));
-        }
-    }
-    None
-}
-
-/// The name stands for something of this kind.
-fn is_name_of(kind: Kind, name: &[u8], assignments: &[Assignment]) -> bool
-    ensures { result ≡ is_such kind (kind_of_name name.now assignments.now) }
-{
-    match kind_of_name(name, assignments) {
+    let Some(number) = number else {
+        return false;
+    };
+    match assignments.get(number) {
         None => false,
-        Some(found) => found as u8 == kind as u8,
+        Some(found) => kind_of_body(&found.body) as u8 == kind as u8,
     }
 }
 
-/// The name in a type is that of a type or set of the kind that stands there.
-#[tactic(auto, unfolding(crate::specs::Names::is_known))]
-fn is_known(definition: &Definition, assignments: &[Assignment]) -> bool
+/// The name in a type is that of a type or set of the kind that stands there; `target` is the number of the assignment that it
+/// refers to.
+#[tactic(auto, unfolding(asn1_defs::specs::Names::is_known))]
+fn is_known(definition: &Definition, target: Option<usize>, assignments: &[Assignment]) -> bool
+    requires { target ≡ number_in assignments.now definition.now }
     ensures { result ≡ is_known assignments.now definition.now }
 {
     match definition {
-        Definition::Reference(name) => is_name_of(Kind::Type, name.as_slice(), assignments),
-        Definition::IeContainer(set) => is_name_of(Kind::IeSet, set.as_slice(), assignments),
-        Definition::Pdu(set) => is_name_of(Kind::ProcedureSet, set.as_slice(), assignments),
+        Definition::Reference(_) => is_number_of(Kind::Type, target, assignments),
+        Definition::IeContainer(_) => is_number_of(Kind::IeSet, target, assignments),
+        Definition::Pdu(_) => is_number_of(Kind::ProcedureSet, target, assignments),
         _ => true,
     }
 }
 
 /// The place of the first name that is not known.
-#[tactic(auto, unfolding(crate::specs::Names::first_unknown))]
-pub fn first_unknown(assignments: &[Assignment], nodes: &[Node]) -> Option<usize>
+#[tactic(auto, unfolding(asn1_defs::specs::Names::first_unknown))]
+pub fn first_unknown(
+    assignments: &[Assignment],
+    nodes: &[Node],
+    targets: &[Option<usize>],
+) -> Option<usize>
+    requires { targets.now ≡ all_numbers assignments.now nodes.now }
     ensures { result ≡ first_unknown assignments.now nodes.now }
 {
-    for node in nodes {
-        if !is_known(&node.definition, assignments) {
+    for (number, node) in nodes.iter().enumerate() {
+        if !is_known(&node.definition, targets[number], assignments) {
             return Some(node.place);
         }
     }

@@ -1,7 +1,7 @@
 //! Lines and columns of a text.
 
 ghost use Rattle.std.specs.Prelude.{◌≡◌, ◌+◌, ◌≤◌, take, length};
-ghost use Rattle.asn1_module.specs.Position.{line_after, column_after};
+ghost use Rattle.asn1_defs.specs.Positions.{line_after, column_after};
 
 /// The line and the column behind these octets, both from 1. Columns count octets.
 pub fn position_after(front: &[u8]) -> (u64, u64)

@@ -16,8 +16,9 @@ use Rattle.input_lines.proofs.Wholes.{TakesOf, takes_known, lines_of-joined, tak
 use Rattle.script_words.specs.declared.reason.TextReason.{TextReason}
 use Rattle.asn1_assignments.specs.declared.assignment.Syntax.{Syntax}
 use Rattle.asn1_tokens.specs.Words.{is_text}
-use Rattle.asn1_module.specs.Module.{Reads, type_ids}
-use Rattle.asn1_module_laws.proofs.Faults.{reading_once, never_both}
+use Rattle.asn1_module.specs.asn1_defs.Readings.{Reads}
+use Rattle.asn1_module.specs.asn1_defs.Targets.{type_ids}
+use Rattle.asn1_proof_module.proofs.Faults.{reading_once, never_both}
 use Rattle.profile.specs.declared.version.Version.{Version}
 use Rattle.profile.specs.declared.version.Version.TheVariants.{One, Two}
 use Rattle.profile_defs.specs.Profile.{module_name}

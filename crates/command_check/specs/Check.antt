@@ -9,7 +9,7 @@ use Rattle.input_defs.specs.Faults.{NoReadFailed}
 use Rattle.script_words.specs.declared.reason.TextReason.{TextReason}
 use Rattle.script_words.specs.declared.reason.TextReason.TheVariants.{Extra}
 use Rattle.asn1_assignments.specs.declared.assignment.Syntax.{Syntax}
-use Rattle.asn1_module.specs.Module.{type_ids}
+use Rattle.asn1_module.specs.asn1_defs.Targets.{type_ids}
 use Rattle.profile.specs.declared.version.Version.TheVariants.{Two}
 use Rattle.profile_module.specs.Profiles.{IsBuiltin}
 use Rattle.input_module.specs.declared.module.GivenModule.{GivenModule}

@@ -5,7 +5,7 @@ use Rattle.gnb_base.specs.Outside.{SinkAt}
 use Rattle.gnb_base.specs.Reading.{input_limit}
 use Rattle.input_defs.specs.declared.InputEnd.TheVariants as inputs
 use Rattle.asn1_assignments.specs.declared.assignment.Syntax.{Syntax}
-use Rattle.asn1_module.specs.Module.{type_ids}
+use Rattle.asn1_module.specs.asn1_defs.Targets.{type_ids}
 use Rattle.profile.specs.declared.version.Version.{Version}
 use Rattle.profile_defs.specs.Profile.{module_name}
 use Rattle.input_module.specs.declared.stop.ModuleStop.{ModuleStop}

@@ -8,8 +8,8 @@ use Rattle.input_defs.specs.Split.{InputSplit, joined, Divides, Bare}
 use Rattle.input_defs.specs.Split as division
 use Rattle.input_lines.proofs.Wholes.{TakesOf, lines_of-joined, taken_is, all_lines, next_of}
 use Rattle.asn1_assignments.specs.declared.assignment.Syntax.{Syntax}
-use Rattle.asn1_module.specs.Module.{Reads}
-use Rattle.asn1_module_laws.proofs.Faults.{reading_once}
+use Rattle.asn1_module.specs.asn1_defs.Readings.{Reads}
+use Rattle.asn1_proof_module.proofs.Faults.{reading_once}
 use Rattle.profile.specs.declared.version.Version.{Version}
 use Rattle.profile.specs.declared.version.Version.TheVariants.{One}
 use Rattle.profile_defs.specs.Profile.{profile_types}

@@ -13,8 +13,8 @@ use Rattle.input_lines.proofs.Near.{near_handed, near_empty, near_next}
 use Rattle.input_lines.proofs.Sources.{rest_known}
 use Rattle.input_lines.proofs.Wholes.{TakesOf, takes_known, all_lines, next_of}
 use Rattle.asn1_types.specs.declared.fault.ModuleReason.{ModuleReason}
-use Rattle.asn1_module.specs.Module.{Reads}
-use Rattle.asn1_module_laws.proofs.Faults.{never_both}
+use Rattle.asn1_module.specs.asn1_defs.Readings.{Reads}
+use Rattle.asn1_proof_module.proofs.Faults.{never_both}
 use Rattle.profile.specs.declared.version.Version.TheVariants.{One}
 use Rattle.input_module.specs.Module.{IsNoModule, IsWrongModule, Empty, NoHeader, Unended}
 use Rattle.scenario_text.specs.declared.event.Event.{Event}

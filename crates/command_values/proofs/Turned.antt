@@ -15,7 +15,8 @@ use Rattle.input_lines.proofs.Sources.{none_failed as no_read_failed, none_then_
 use Rattle.input_lines.proofs.Standing.{stands_first, takes_of, line_stands, comes_next, ends_at, both_nil, joined-more}
 use Rattle.input_lines.proofs.Stopped.{stops_at, going_at, takes_on}
 use Rattle.asn1_module.specs.asn1_assignments.declared.assignment.Syntax.{Syntax}
-use Rattle.asn1_module.specs.Module.{Reads, find_type, type_ids}
+use Rattle.asn1_module.specs.asn1_defs.Readings.{Reads}
+use Rattle.asn1_module.specs.asn1_defs.Targets.{find_type, type_ids}
 use Rattle.asn1_tokens.specs.Words.{is_text}
 use Rattle.profile.specs.declared.version.Version.{Version}
 use Rattle.profile.specs.declared.version.Version.TheVariants.{Two}

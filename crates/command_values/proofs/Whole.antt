@@ -14,8 +14,9 @@ use Rattle.input_lines.proofs.Wholes.{TakesOf, takes_known, all_lines, next_of}
 use Rattle.asn1_types.specs.declared.definition.TypeId.{TypeId}
 use Rattle.asn1_types.specs.declared.fault.ModuleReason.{ModuleReason}
 use Rattle.asn1_module.specs.asn1_assignments.declared.assignment.Syntax.{Syntax}
-use Rattle.asn1_module.specs.Module.{Reads, find_type}
-use Rattle.asn1_module_laws.proofs.Faults.{reading_once, never_both}
+use Rattle.asn1_module.specs.asn1_defs.Readings.{Reads}
+use Rattle.asn1_module.specs.asn1_defs.Targets.{find_type}
+use Rattle.asn1_proof_module.proofs.Faults.{reading_once, never_both}
 use Rattle.profile.specs.declared.version.Version.{Version}
 use Rattle.profile.specs.declared.version.Version.TheVariants.{One, Two}
 use Rattle.profile.specs.Versions.{text_of}

@@ -5,7 +5,7 @@ use Rattle.input_defs.specs.Split.{InputSplit, rest_of, joined, TakesInput}
 use Rattle.input_defs.specs.Ends.{ComesNext, IsReadToEnd, IsReadFault, IsTooLong}
 use Rattle.asn1_types.specs.declared.definition.TypeId.{TypeId}
 use Rattle.asn1_module.specs.asn1_assignments.declared.assignment.Syntax.{Syntax}
-use Rattle.asn1_module.specs.Module.{find_type}
+use Rattle.asn1_module.specs.asn1_defs.Targets.{find_type}
 use Rattle.profile.specs.declared.version.Version.TheVariants.{Two}
 use Rattle.input_module.specs.declared.module.GivenModule.{GivenModule}
 use Rattle.input_module.specs.Module.{GivesModule, IsNoModule, IsWrongModule, IsUnfinished, IsPart}

@@ -7,7 +7,7 @@ use Rattle.gnb_base.specs.Reading.{input_limit}
 use Rattle.input_defs.specs.Split.{joined}
 use Rattle.asn1_types.specs.declared.definition.TypeId.{TypeId}
 use Rattle.asn1_module.specs.asn1_assignments.declared.assignment.Syntax.{Syntax}
-use Rattle.asn1_module.specs.Module.{find_type}
+use Rattle.asn1_module.specs.asn1_defs.Targets.{find_type}
 use Rattle.profile.specs.declared.version.Version.{Version}
 use Rattle.profile_module.specs.Profiles.{IsBuiltin}
 use Rattle.input_module.specs.Header.{builtin_line}

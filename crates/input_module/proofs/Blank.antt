@@ -8,10 +8,10 @@ use Rattle.asn1_tokens.specs.declared.scan.Gap.TheVariants.{Between}
 use Rattle.asn1_tokens.specs.Words.{word_of, is_left_out}
 use Rattle.asn1_tokens.specs.Scan.{is_upper, begins, after_gap, name_token, word_or, lexeme_at}
 use Rattle.asn1_tokens.specs.Stream.{items_of, scan, first_token}
-use Rattle.asn1_lexical_laws.specs.Lexical.{IsGap, IsItem}
-use Rattle.asn1_lexical_laws.specs.Lexical as item
-use Rattle.asn1_lexical_laws.proofs.Gaps.{told, gap_passed}
-use Rattle.asn1_lexical_laws.proofs.Items.{item_here}
+use Rattle.asn1_module.specs.asn1_defs.Items.{IsGap, IsItem}
+use Rattle.asn1_module.specs.asn1_defs.Items as item
+use Rattle.asn1_proof_lexical.proofs.Gaps.{told, gap_passed}
+use Rattle.asn1_proof_lexical.proofs.Items.{item_here}
 use Rattle.input_module.specs.Text.{is_end_of_text, is_blank, IsBlank}
 
 first_of : (text : List ℕ) → first_token (items_of text) ≡ (lexeme_at (after_gap Between text)).token

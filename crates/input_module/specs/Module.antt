@@ -8,7 +8,7 @@ use Rattle.script_words.specs.declared.reason.TextReason.{TextReason}
 use Rattle.script_words.specs.declared.reason.TextReason.TheVariants.{Word, Extra}
 use Rattle.asn1_types.specs.declared.fault.ModuleReason.{ModuleReason}
 use Rattle.asn1_assignments.specs.declared.assignment.Syntax.{Syntax}
-use Rattle.asn1_module.specs.Module.{Reads, WrongText}
+use Rattle.asn1_module.specs.asn1_defs.Readings.{Reads, WrongText}
 use Rattle.profile.specs.declared.version.Version.{Version}
 use Rattle.input_module.specs.declared.header.ModuleHeader.TheVariants.{Text, Builtin}
 use Rattle.input_module.specs.declared.module.GivenModule.{GivenModule}

@@ -6,9 +6,9 @@ use Rattle.std.specs.Str.{bytes_eq}
 use Rattle.asn1_tokens.specs.Stream.{items_of, first_token}
 use Rattle.asn1_tokens.specs.declared.token.Token.{Token}
 use Rattle.asn1_tokens.specs.declared.token.Token.TheVariants as tokens
-use Rattle.asn1_lexical_laws.specs.Lexical.{IsGap}
+use Rattle.asn1_module.specs.asn1_defs.Items.{IsGap}
 use Rattle.asn1_assignments.specs.declared.assignment.Syntax.{Syntax}
-use Rattle.asn1_module.specs.Module.{Reads}
+use Rattle.asn1_module.specs.asn1_defs.Readings.{Reads}
 
 abbrev pub is_end : List ℕ → Bool
 is_end line = bytes_eq line (codes "END")

@@ -4,7 +4,7 @@ ghost use Rattle.std.specs.Prelude.{◌≡◌, ◌<◌, length, IfOk};
 ghost use Rattle.serde_json.specs.Data.{object, array};
 ghost use Rattle.serde_json.specs.View.{view as json, items_view, members_view};
 ghost use Rattle.asn1_types.specs.Members.{additions_of};
-ghost use Rattle.asn1_module.specs.Links.{AreBelow, OptionBelow, PartsBelow, IesBelow, ProceduresBelow};
+ghost use Rattle.asn1_module.specs.asn1_defs.Links.{AreBelow, OptionBelow, PartsBelow, IesBelow, ProceduresBelow};
 ghost use Rattle.aper_values.specs.Views.{view, options_view};
 ghost use Rattle.json_defs.specs.Named.{container, pdu, sequence_of};
 ghost use Rattle.json_defs.specs.Members.{outcomes};

@@ -10,8 +10,7 @@ use Rattle.asn1_module.specs.asn1_assignments.declared.assignment.IeRow.{IeRow}
 use Rattle.asn1_module.specs.asn1_assignments.declared.assignment.ProcedureRow.{ProcedureRow}
 use Rattle.asn1_module.specs.asn1_assignments.declared.assignment.Assignment.{Assignment}
 use Rattle.asn1_module.specs.asn1_assignments.declared.assignment.Syntax.{Syntax}
-use Rattle.asn1_module.specs.Module.{find_type, ie_rows, procedure_rows}
-use Rattle.asn1_module.specs.Targets.{definition_at, all_of}
+use Rattle.asn1_module.specs.asn1_defs.Targets.{find_type, ie_rows, procedure_rows, definition_at, all_of}
 use Rattle.aper_defs.specs.Trees.{Tree, Parts, Rows, part, row, outcome}
 use Rattle.aper_types.specs.Types.{is_mandatory, definition_tree, tree_by, tree}
 use Rattle.aper_types.specs.Types as trees

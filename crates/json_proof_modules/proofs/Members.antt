@@ -2,7 +2,7 @@
 use Rattle.std.proofs.Common.{◌≡◌, ℕ, None, [], sym, subst}
 use Rattle.serde_json.specs.Data.{Data}
 use Rattle.aper_types.specs.asn1_module.asn1_assignments.declared.assignment.Syntax.{Syntax}
-use Rattle.aper_types.specs.asn1_module.Module.{IsModule}
+use Rattle.asn1_module.specs.asn1_defs.Modules.{IsModule}
 use Rattle.aper_defs.specs.Values.{Value}
 use Rattle.aper_defs.specs.Membership.{Has}
 use Rattle.aper_types.specs.Types.{tree}

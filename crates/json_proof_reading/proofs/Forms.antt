@@ -4,7 +4,7 @@ use Rattle.serde_json.specs.Data.{Data, Items}
 use Rattle.asn1_types.specs.declared.definition.Component.{Component}
 use Rattle.asn1_types.specs.Members.{additions_of}
 use Rattle.asn1_module.specs.asn1_assignments.declared.assignment.Syntax.{Syntax}
-use Rattle.asn1_module.specs.Module.{IsModule}
+use Rattle.asn1_module.specs.asn1_defs.Modules.{IsModule}
 use Rattle.aper_defs.specs.Trees.{part_count}
 use Rattle.aper_defs.specs.Bounds as trees
 use Rattle.aper_defs.specs.Values.{Options, no_options}

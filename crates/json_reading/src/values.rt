@@ -2,8 +2,8 @@
 
 ghost use Rattle.std.specs.Prelude.{◌≡◌, ◌<◌, ◌∷◌, [], length};
 ghost use Rattle.serde_json.specs.View.{view as json, members_view};
-ghost use Rattle.asn1_module.specs.Module.{IsModule};
-ghost use Rattle.asn1_module.specs.Links.{AreBelow, OptionBelow, PartsBelow, IesBelow, ProceduresBelow};
+ghost use Rattle.asn1_module.specs.asn1_defs.Modules.{IsModule};
+ghost use Rattle.asn1_module.specs.asn1_defs.Links.{AreBelow, OptionBelow, PartsBelow, IesBelow, ProceduresBelow};
 ghost use Rattle.aper_values.specs.Views.{options_view};
 ghost use Rattle.json_defs.specs.Named.{container, pdu, sequence_of};
 ghost use Rattle.json_defs.specs.Members.{criticality_key};

@@ -10,7 +10,7 @@ use Rattle.aper_types.specs.asn1_module.asn1_assignments.declared.assignment.IeR
 use Rattle.aper_types.specs.asn1_module.asn1_assignments.declared.assignment.ProcedureRow.{ProcedureRow}
 use Rattle.aper_types.specs.asn1_module.asn1_assignments.declared.assignment.Assignment.{Assignment}
 use Rattle.aper_types.specs.asn1_module.asn1_assignments.declared.assignment.Syntax.{Syntax}
-use Rattle.aper_types.specs.asn1_module.Targets.{definition_at, referred, element_rows, message_rows}
+use Rattle.aper_types.specs.asn1_module.asn1_defs.Targets.{definition_at, referred, element_rows, message_rows}
 use Rattle.aper_types.specs.Types.{is_mandatory, is_extensible}
 use Rattle.json_defs.specs.Named.{Named, NamedParts, NamedRows, NamedProcedures, NamedOutcome}
 use Rattle.json_defs.specs.Named.{boolean, integer, enumerated, bit_string, octet_string, printable_string, sequence, choice, sequence_of, container, pdu, no_parts, part, no_rows, row, no_procedures, procedure, no_outcome, outcome}

@@ -1,8 +1,8 @@
 //! Forms of types, with names.
 
 ghost use Rattle.std.specs.Prelude.{◌≡◌, ℕ, ◌<◌, length, None};
-ghost use Rattle.asn1_module.specs.Module.{IsModule};
-ghost use Rattle.asn1_module.specs.Targets.{definition_at, referred};
+ghost use Rattle.asn1_module.specs.asn1_defs.Modules.{IsModule};
+ghost use Rattle.asn1_module.specs.asn1_defs.Targets.{definition_at, referred};
 ghost use Rattle.json_defs.specs.Named.{Named};
 ghost use Rattle.json_type_defs.specs.Types.{definition_with, named};
 ghost use Rattle.json_types.specs.Forms.{form_named, IsFormInside};

@@ -27,7 +27,7 @@ use Rattle.aper_proof_values.proofs.FoundBits.{written, stand_there}
 use Rattle.aper_proof_values.proofs.FoundOpen.{closing_mark}
 use Rattle.aper_proof_values.proofs.FoundValues.{found}
 use Rattle.aper_proof_spelled.proofs.Spelled.{spelled_read, spelled_decoded}
-use Rattle.law_aper_refusals.proofs.Refused.{Outside, ended_outside}
+use Rattle.aper_proof_refused.proofs.Refused.{Outside, ended_outside}
 use Rattle.aper_proof_pieces.specs.Onto.{onto, StillRefused}
 use Rattle.aper_proof_pieces.proofs.Onward.{room_of, run_ok, run_wrong}
 

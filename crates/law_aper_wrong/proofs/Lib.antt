@@ -1,2 +1,1 @@
-pub mod WrongPlaces
 pub mod LayoutsLoose

@@ -3,7 +3,7 @@ use Rattle.std.proofs.Common.{◌≡◌, ℕ, ◌≤◌, None, [], sym, subst, a
 use Rattle.serde_json.specs.Data.{depth}
 use Rattle.serde_json.specs.Read.{max_depth}
 use Rattle.asn1_module.specs.asn1_assignments.declared.assignment.Syntax.{Syntax}
-use Rattle.asn1_module.specs.Module.{IsModule}
+use Rattle.asn1_module.specs.asn1_defs.Modules.{IsModule}
 use Rattle.aper_defs.specs.Values.{Value}
 use Rattle.aper_defs.specs.Membership.{Has}
 use Rattle.aper_types.specs.Types.{tree}

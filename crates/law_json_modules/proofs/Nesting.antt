@@ -13,18 +13,18 @@ use Rattle.asn1_module.specs.asn1_assignments.declared.assignment.IeRow.{IeRow}
 use Rattle.asn1_module.specs.asn1_assignments.declared.assignment.ProcedureRow.{ProcedureRow}
 use Rattle.asn1_module.specs.asn1_assignments.declared.assignment.Assignment.{Assignment}
 use Rattle.asn1_module.specs.asn1_assignments.declared.assignment.Syntax.{Syntax}
-use Rattle.asn1_module.specs.asn1_graph.declared.graph.Edge.{Edge}
-use Rattle.asn1_module.specs.asn1_graph.Graph.{edge, range_edges, parts_edges, vertex_count, edges_of}
-use Rattle.asn1_module.specs.asn1_graph.Paths.{IsAmong, Nests, alone, around}
-use Rattle.asn1_module.specs.Judgement.{weight_of, node_weights, weights_of}
-use Rattle.asn1_module.specs.Module.{find_type, ie_rows, procedure_rows, IsModule}
-use Rattle.asn1_module.specs.Targets.{definition_of, definition_at, all_of}
-use Rattle.asn1_value_laws.specs.Items.{start_of}
-use Rattle.asn1_value_laws.specs.Module as modules
-use Rattle.asn1_value_laws.specs.Module.{MeansAssignments, MeansModule}
-use Rattle.asn1_rank_laws.specs.Leading.{EachPart, OfOption, EachIe, EachProcedure, EachOf}
-use Rattle.asn1_rank_laws.proofs.Steps.{among_left, among_right}
-use Rattle.asn1_rank_laws.proofs.Inside.{each_more, range_has, name_step, Among, each_reached}
+use Rattle.asn1_module.specs.asn1_defs.declared.graph.Edge.{Edge}
+use Rattle.asn1_module.specs.asn1_defs.Graph.{edge, range_edges, parts_edges, vertex_count, edges_of}
+use Rattle.asn1_module.specs.asn1_defs.Paths.{IsAmong, Nests, alone, around}
+use Rattle.asn1_module.specs.asn1_defs.Judgement.{weight_of, node_weights, weights_of}
+use Rattle.asn1_module.specs.asn1_defs.Targets.{find_type, ie_rows, procedure_rows, definition_of, definition_at, all_of}
+use Rattle.asn1_module.specs.asn1_defs.Modules.{IsModule}
+use Rattle.asn1_module.specs.asn1_defs.ItemMeanings.{start_of}
+use Rattle.asn1_module.specs.asn1_defs.ModuleMeanings as modules
+use Rattle.asn1_module.specs.asn1_defs.ModuleMeanings.{MeansAssignments, MeansModule}
+use Rattle.asn1_proof_ranks.specs.Leading.{EachPart, OfOption, EachIe, EachProcedure, EachOf}
+use Rattle.asn1_proof_ranks.proofs.Steps.{among_left, among_right}
+use Rattle.asn1_proof_ranks.proofs.Inside.{each_more, range_has, name_step, Among, each_reached}
 use Rattle.json_defs.specs.Named.{Named}
 use Rattle.json_shown_defs.specs.Levels.{levels, part_levels, row_levels, procedure_levels, outcome_levels}
 use Rattle.json_type_defs.specs.Types.{parts_with, rows_with, outcome_with, procedures_with, referred_with, definition_with, named_by, named}

@@ -1,7 +1,7 @@
 -- Names of lower form in a text begin with a letter. So do the names of components and alternatives of the module that it means.
 use Rattle.std.proofs.Common.{◌≡◌, ℕ, Bool, true, false, cond, ◌||◌, List, [], ◌∷◌, ◌++◌, Option, Some, None, subst}
-use Rattle.asn1_lexical_laws.specs.Lexical.{IsName, IsItem, AreItems}
-use Rattle.asn1_lexical_laws.specs.Lexical as lexical
+use Rattle.asn1_module.specs.asn1_defs.Items.{IsName, IsItem, AreItems}
+use Rattle.asn1_module.specs.asn1_defs.Items as lexical
 use Rattle.asn1_tokens.specs.declared.token.Word.{Word}
 use Rattle.asn1_tokens.specs.declared.token.Token.{Token}
 use Rattle.asn1_tokens.specs.declared.token.Token.TheVariants as tokens
@@ -24,16 +24,16 @@ use Rattle.asn1_module.specs.asn1_assignments.declared.assignment.Assignment.{As
 use Rattle.asn1_module.specs.asn1_assignments.declared.assignment.Syntax.{Syntax}
 use Rattle.asn1_module.specs.asn1_assignments.declared.assignment.Criticality.{Criticality}
 use Rattle.asn1_module.specs.asn1_assignments.declared.assignment.Presence.{Presence}
-use Rattle.asn1_value_laws.specs.Items as items
-use Rattle.asn1_value_laws.specs.Items.{The, Extends, HighBound, ASize, OptionalSize, SetName, AddedNames, Names}
-use Rattle.asn1_value_laws.specs.Types as means
-use Rattle.asn1_value_laws.specs.Types.{Plain, MayBeOptional, Piece, AType, Behind, AMember, Members, Added, Value, Means}
-use Rattle.asn1_value_laws.specs.Rows as rows
-use Rattle.asn1_value_laws.specs.Rows.{ACriticality, APresence, AnIe, Outcome, AProcedure, Rows}
-use Rattle.asn1_value_laws.specs.Module as modules
-use Rattle.asn1_value_laws.specs.Module.{MeansBody, MeansAssignments, MeansModule}
-use Rattle.asn1_bounds_laws.specs.Proper.{Each}
-use Rattle.asn1_bounds_laws.proofs.Parts.{each_put}
+use Rattle.asn1_module.specs.asn1_defs.ItemMeanings as items
+use Rattle.asn1_module.specs.asn1_defs.ItemMeanings.{The, Extends, HighBound, ASize, OptionalSize, SetName, AddedNames, Names}
+use Rattle.asn1_module.specs.asn1_defs.TypeMeanings as means
+use Rattle.asn1_module.specs.asn1_defs.TypeMeanings.{Plain, MayBeOptional, Piece, AType, Behind, AMember, Members, Added, Value, Means}
+use Rattle.asn1_module.specs.asn1_defs.RowMeanings as rows
+use Rattle.asn1_module.specs.asn1_defs.RowMeanings.{ACriticality, APresence, AnIe, Outcome, AProcedure, Rows}
+use Rattle.asn1_module.specs.asn1_defs.ModuleMeanings as modules
+use Rattle.asn1_module.specs.asn1_defs.ModuleMeanings.{MeansBody, MeansAssignments, MeansModule}
+use Rattle.asn1_proof_module.specs.Proper.{Each}
+use Rattle.asn1_proof_module.proofs.Parts.{each_put}
 
 -- ---- the items of a text
 

@@ -6,7 +6,7 @@ ghost use Rattle.std.specs.Prelude.{◌≡◌, ◌≤◌, ℕ, [], None};
 ghost use Rattle.serde_json.specs.Data.{depth};
 ghost use Rattle.serde_json.specs.Read.{max_depth};
 ghost use Rattle.asn1_module.specs.asn1_assignments.declared.assignment.Syntax.{Syntax};
-ghost use Rattle.asn1_module.specs.Module.{IsModule};
+ghost use Rattle.asn1_module.specs.asn1_defs.Modules.{IsModule};
 ghost use Rattle.aper_defs.specs.Values.{Value};
 ghost use Rattle.aper_defs.specs.Membership.{Has};
 ghost use Rattle.aper_types.specs.Types.{tree};

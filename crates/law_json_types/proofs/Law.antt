@@ -2,7 +2,7 @@
 use Rattle.std.proofs.Common.{◌≡◌, ◌↔◌, ◌⊎◌, Some, ℕ, None, [], subst}
 use Rattle.serde_json.specs.Data.{Data}
 use Rattle.asn1_module.specs.asn1_assignments.declared.assignment.Syntax.{Syntax}
-use Rattle.asn1_module.specs.Module.{IsModule}
+use Rattle.asn1_module.specs.asn1_defs.Modules.{IsModule}
 use Rattle.aper_defs.specs.Fields.{Path}
 use Rattle.aper_defs.specs.Values.{Value}
 use Rattle.json_defs.specs.declared.fault.JsonFault.{JsonFault}

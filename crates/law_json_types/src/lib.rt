@@ -4,8 +4,8 @@
 ghost use Rattle.std.specs.Prelude.{◌≡◌, ◌↔◌, ◌⊎◌, ◌<◌, ℕ, length, [], Some, None};
 ghost use Rattle.serde_json.specs.Data.{Data};
 ghost use Rattle.asn1_module.specs.asn1_assignments.declared.assignment.Syntax.{Syntax};
-ghost use Rattle.asn1_module.specs.Module.{IsModule};
-ghost use Rattle.asn1_module.specs.Targets.{definition_at};
+ghost use Rattle.asn1_module.specs.asn1_defs.Modules.{IsModule};
+ghost use Rattle.asn1_module.specs.asn1_defs.Targets.{definition_at};
 ghost use Rattle.aper_types.specs.Types.{tree};
 ghost use Rattle.aper_defs.specs.Fields.{Path};
 ghost use Rattle.aper_defs.specs.Values.{Value};

@@ -2,7 +2,7 @@
 use Rattle.std.proofs.Common.{◌≡◌, nat_lt, ◌&&◌, Bool, true, false, List, [], ◌∷◌, length, refl}
 use Rattle.aper_defs.specs.Trees.{Tree, Parts, Rows, Procedures, Outcome, Slot, slots, has_slot}
 use Rattle.aper_defs.specs.Trees.{boolean, integer, enumerated, bit_string, octet_string, printable_string, sequence, choice, sequence_of, container, pdu, no_parts, part, no_rows, row, no_procedures, procedure, no_outcome, outcome}
-use Rattle.aper_loose_defs.specs.Sets.{AreOwnIds, IsSet, HasSets, PartsHaveSets, RowsHaveSets, ProceduresHaveSets, OutcomeHasSets}
+use Rattle.aper_loose_defs.specs.Sets.{AreOwnIds, IsSet, HasSets, EachSet, EachSetOfParts, EachSetOfRows, EachSetOfProcedures, EachSetOfOutcome}
 use Rattle.aper_proof_answers.proofs.NumberFacts.{below, first_of_both, second_of_both}
 
 abbrev pub negated : Bool → Bool
@@ -76,7 +76,7 @@ is_set known h =
     }
 
 mutual
-  unfolding HasSets PartsHaveSets RowsHaveSets ProceduresHaveSets OutcomeHasSets test parts_test rows_test procedures_test outcome_test
+  unfolding EachSet EachSetOfParts EachSetOfRows EachSetOfProcedures EachSetOfOutcome test parts_test rows_test procedures_test outcome_test
 
   pub has_sets : (t : Tree) → test t ≡ true → HasSets t
   has_sets boolean h = tt
@@ -100,17 +100,17 @@ mutual
   )
   has_sets (pdu procedures) h = procedures_have_sets procedures h
 
-  parts_have_sets : (parts : Parts) → parts_test parts ≡ true → PartsHaveSets parts
+  parts_have_sets : (parts : Parts) → parts_test parts ≡ true → EachSetOfParts IsSet parts
   parts_have_sets no_parts h = tt
   parts_have_sets (part name optional t others) h =
       (has_sets t (first_of_both (test t) (parts_test others) h), parts_have_sets others (second_of_both (test t) (parts_test others) h))
 
-  rows_have_sets : (rows : Rows) → rows_test rows ≡ true → RowsHaveSets rows
+  rows_have_sets : (rows : Rows) → rows_test rows ≡ true → EachSetOfRows IsSet rows
   rows_have_sets no_rows h = tt
   rows_have_sets (row id mandatory t others) h =
       (has_sets t (first_of_both (test t) (rows_test others) h), rows_have_sets others (second_of_both (test t) (rows_test others) h))
 
-  procedures_have_sets : (procedures : Procedures) → procedures_test procedures ≡ true → ProceduresHaveSets procedures
+  procedures_have_sets : (procedures : Procedures) → procedures_test procedures ≡ true → EachSetOfProcedures IsSet procedures
   procedures_have_sets no_procedures h = tt
   procedures_have_sets (procedure code initiating successful unsuccessful others) h =
       let last = outcome_test unsuccessful && procedures_test others in
@@ -123,6 +123,6 @@ mutual
         procedures_have_sets others (second_of_both (outcome_test unsuccessful) (procedures_test others) k),
       )
 
-  outcome_has_sets : (o : Outcome) → outcome_test o ≡ true → OutcomeHasSets o
+  outcome_has_sets : (o : Outcome) → outcome_test o ≡ true → EachSetOfOutcome IsSet o
   outcome_has_sets no_outcome h = tt
   outcome_has_sets (outcome t) h = has_sets t h

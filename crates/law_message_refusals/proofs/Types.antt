@@ -8,7 +8,7 @@ use Rattle.profile_defs.specs.Forms.{tree, parts, rows, procedures, outcome_tree
 use Rattle.profile_defs.specs.Profile.{f1_type, e1_type, xn_type, core_type, token_type}
 use Rattle.aper_proof_octets.proofs.Bounded.{bounded}
 use Rattle.aper_proof_octets.proofs.Bounded as bounds
-use Rattle.law_aper_refusals.proofs.Refused.{refused_wrong}
+use Rattle.aper_proof_refused.proofs.Refused.{refused_wrong}
 use Rattle.law_message_refusals.proofs.Sets.{test, parts_test, rows_test, procedures_test, outcome_test, has_sets}
 
 f1_bounded : IsBounded f1_type

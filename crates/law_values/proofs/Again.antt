@@ -4,7 +4,7 @@ use Rattle.std.proofs.lemmas.List.Elements.{All-nil, All-cons}
 use Rattle.gnb_types.specs.Hex.{hex_of, read_hex, IsDigitOf, IsHexOf}
 use Rattle.gnb_types.proofs.HexLemmas.{read_is_hex}
 use Rattle.asn1_module.specs.asn1_assignments.declared.assignment.Syntax.{Syntax}
-use Rattle.asn1_module.specs.Module.{IsModule}
+use Rattle.asn1_module.specs.asn1_defs.Modules.{IsModule}
 use Rattle.aper_defs.specs.Values.{Value}
 use Rattle.aper_defs.specs.Membership.{Has}
 use Rattle.aper_types.specs.Types.{tree}

@@ -6,7 +6,7 @@ use Rattle.serde_json.specs.Written.{compact_text}
 use Rattle.bits_core.specs.Bits.{octet_bits}
 use Rattle.bits_core.proofs.BitLemmas.{length-octet_bits}
 use Rattle.asn1_module.specs.asn1_assignments.declared.assignment.Syntax.{Syntax}
-use Rattle.asn1_module.specs.Module.{IsModule}
+use Rattle.asn1_module.specs.asn1_defs.Modules.{IsModule}
 use Rattle.aper_defs.specs.Trees.{Tree}
 use Rattle.aper_defs.specs.Values.{Value}
 use Rattle.aper_defs.specs.Bits.{put_all, octet_count}

@@ -4,7 +4,7 @@
 ghost use Rattle.std.specs.Prelude.{◌≡◌, ℕ, List, [], Some};
 ghost use Rattle.gnb_types.specs.Hex.{hex_of, read_hex};
 ghost use Rattle.asn1_module.specs.asn1_assignments.declared.assignment.Syntax.{Syntax};
-ghost use Rattle.asn1_module.specs.Module.{IsModule};
+ghost use Rattle.asn1_module.specs.asn1_defs.Modules.{IsModule};
 ghost use Rattle.aper_defs.specs.Values.{Value};
 ghost use Rattle.aper_defs.specs.Membership.{Has};
 ghost use Rattle.aper_types.specs.Types.{tree};

@@ -2,7 +2,7 @@
 use Rattle.std.proofs.Common.{◌≡◌, ℕ, ◌<◌, List, []}
 use Rattle.std.specs.Prelude.{All}
 use Rattle.asn1_module.specs.asn1_assignments.declared.assignment.Syntax.{Syntax}
-use Rattle.asn1_module.specs.Module.{IsModule}
+use Rattle.asn1_module.specs.asn1_defs.Modules.{IsModule}
 use Rattle.message_proof_codec.specs.message_codec_defs.aper_octet_defs.aper_defs.Values.{Value}
 use Rattle.message_proof_codec.specs.message_codec_defs.aper_octet_defs.aper_defs.Bits.{octet_count}
 use Rattle.message_proof_codec.specs.message_codec_defs.aper_octet_defs.aper_defs.Membership.{Has}

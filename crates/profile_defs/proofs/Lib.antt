@@ -1,1 +1,1 @@
-pub use Rattle.asn1_module.proofs.asn1_reading_laws as asn1_reading_laws
+pub use Rattle.asn1_module.proofs.asn1_proof_reading as asn1_proof_reading

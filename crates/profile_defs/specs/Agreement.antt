@@ -17,7 +17,7 @@ use Rattle.asn1_module.specs.asn1_assignments.declared.assignment.ProcedureRow.{
 use Rattle.asn1_module.specs.asn1_assignments.declared.assignment.Assignment.{Assignment}
 use Rattle.asn1_module.specs.asn1_assignments.declared.assignment.Syntax.{Syntax}
 use Rattle.asn1_module.specs.asn1_assignments.Module.{is_type}
-use Rattle.asn1_module.specs.Module.{find_type, ie_rows, procedure_rows}
+use Rattle.asn1_module.specs.asn1_defs.Targets.{find_type, ie_rows, procedure_rows}
 use Rattle.profile_defs.specs.Forms.{Form, Components, ElementRows, ProcedureRows, OutcomeForm, name_of, meaning_of}
 use Rattle.profile_defs.specs.Forms.{boolean, integer, enumerated, bit_string, octet_string, printable_string, sequence, choice, sequence_of, container, pdu, named, no_components, component, no_elements, element, no_procedures, procedure, no_form, some_form}
 

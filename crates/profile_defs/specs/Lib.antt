@@ -8,4 +8,4 @@ pub mod Messages
 pub mod Profile
 pub mod Agreement
 pub use Rattle.asn1_module.specs as asn1_module
-pub use Rattle.asn1_module.specs.asn1_reading_laws as asn1_reading_laws
+pub use Rattle.asn1_module.specs.asn1_defs as asn1_defs

@@ -14,7 +14,7 @@ use Rattle.asn1_types.specs.declared.definition.Definition.TheVariants as types
 use Rattle.asn1_assignments.specs.declared.assignment.IeRow.{IeRow}
 use Rattle.asn1_assignments.specs.declared.assignment.ProcedureRow.{ProcedureRow}
 use Rattle.asn1_assignments.specs.declared.assignment.Syntax.{Syntax}
-use Rattle.asn1_module.specs.Module.{find_type, ie_rows, procedure_rows}
+use Rattle.asn1_module.specs.asn1_defs.Targets.{find_type, ie_rows, procedure_rows}
 use Rattle.profile_proof_text.specs.profile_defs.Forms.{Form, Components, ElementRows, ProcedureRows, OutcomeForm, name_of, meaning_of}
 use Rattle.profile_proof_text.specs.profile_defs.Forms.{boolean, integer, enumerated, bit_string, octet_string, printable_string, sequence, choice, sequence_of, container, pdu, named, no_components, component, no_elements, element, no_procedures, procedure, no_form, some_form}
 use Rattle.profile_proof_text.specs.profile_defs.Agreement.{is_same_bool, is_same_number, is_same_size, are_names, is_extended_bare, is_reject, is_mandatory, definition_at, is_form, are_components, are_additions, are_elements, are_procedures, is_outcome, is_found, has_type}

@@ -2,10 +2,11 @@
 use Rattle.std.proofs.Common.{◌≡◌, ℕ, List, length, true, refl, sym, subst}
 use Rattle.asn1_types.specs.declared.fault.ModuleReason.{ModuleReason}
 use Rattle.asn1_assignments.specs.declared.assignment.Syntax.{Syntax}
-use Rattle.asn1_module.specs.Module.{Reads, WrongText, type_ids}
-use Rattle.asn1_module.specs.Judgement.{sound}
-use Rattle.asn1_module.proofs.asn1_reading_laws.Readings.{one_text}
-use Rattle.asn1_module_laws.proofs.Faults.{never_both}
+use Rattle.asn1_module.specs.asn1_defs.Readings.{Reads, WrongText}
+use Rattle.asn1_module.specs.asn1_defs.Targets.{type_ids}
+use Rattle.asn1_module.specs.asn1_defs.Judgement.{sound}
+use Rattle.asn1_module.proofs.asn1_proof_reading.Readings.{one_text}
+use Rattle.asn1_proof_module.proofs.Faults.{never_both}
 use Rattle.profile.specs.declared.version.Version.{Version}
 use Rattle.profile.specs.declared.version.Version.TheVariants.{One, Two}
 use Rattle.profile.specs.declared.text.TheConstants.{PROFILE_TEXT}

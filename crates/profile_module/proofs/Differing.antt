@@ -9,8 +9,9 @@ use Rattle.asn1_assignments.specs.declared.assignment.Body.TheVariants as bodies
 use Rattle.asn1_assignments.specs.declared.assignment.Assignment.{Assignment}
 use Rattle.asn1_assignments.specs.declared.assignment.Syntax.{Syntax}
 use Rattle.asn1_assignments.specs.Module.{is_type_body}
-use Rattle.asn1_module.specs.Module.{IsModule, type_of, put_type, type_ids, type_name, is_body_of}
-use Rattle.asn1_module.specs.Links.{AreParted}
+use Rattle.asn1_module.specs.asn1_defs.Modules.{IsModule}
+use Rattle.asn1_module.specs.asn1_defs.Targets.{type_of, put_type, type_ids, type_name, is_body_of}
+use Rattle.asn1_module.specs.asn1_defs.Links.{AreParted}
 use Rattle.profile_proof_text.specs.profile_defs.Forms.{Form, name_of, meaning_of}
 use Rattle.profile_proof_text.specs.profile_defs.Agreement.{has_type, goes_before, placed, by_name, first_wrong, is_name_among, first_further, or_else, differs, Agrees}
 use Rattle.profile_module.specs.inside.Same.{first_other, is_among, first_new}

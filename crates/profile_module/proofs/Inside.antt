@@ -5,7 +5,7 @@ use Rattle.asn1_types.specs.declared.definition.Extensible.{Extensible}
 use Rattle.asn1_types.specs.declared.definition.Definition.{Definition}
 use Rattle.asn1_types.specs.declared.definition.Definition.TheVariants as types
 use Rattle.asn1_types.specs.Members.{additions_of}
-use Rattle.asn1_module.specs.Links.{AreBelow, PartsBelow, IsInside}
+use Rattle.asn1_module.specs.asn1_defs.Links.{AreBelow, PartsBelow, IsInside}
 
 below_up : (n k : ℕ) (cs : List Component) → n < k → AreBelow n cs → AreBelow k cs
 below_up n k [] lt h = tt

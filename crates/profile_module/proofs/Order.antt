@@ -11,14 +11,14 @@ use Rattle.asn1_assignments.specs.declared.assignment.Body.TheVariants as bodies
 use Rattle.asn1_assignments.specs.declared.assignment.Assignment.{Assignment}
 use Rattle.asn1_assignments.specs.declared.assignment.Syntax.{Syntax}
 use Rattle.asn1_tokens.specs.declared.token.Word.{Word}
-use Rattle.asn1_value_laws.specs.Types.{Piece, Value, Means, with_type}
-use Rattle.asn1_value_laws.specs.Types as means
-use Rattle.asn1_value_laws.specs.Rows.{AnIe, AProcedure, Outcome, Rows}
-use Rattle.asn1_value_laws.specs.Rows as rows
-use Rattle.asn1_value_laws.specs.Module.{MeansBody, MeansAssignments, MeansModule}
-use Rattle.asn1_value_laws.specs.Module as modules
-use Rattle.asn1_module.specs.Module.{type_of, put_type, type_ids, type_name, is_body_of}
-use Rattle.asn1_module.specs.Links.{BodyFrom, BodyBelow, AreParted}
+use Rattle.asn1_module.specs.asn1_defs.TypeMeanings.{Piece, Value, Means, with_type}
+use Rattle.asn1_module.specs.asn1_defs.TypeMeanings as means
+use Rattle.asn1_module.specs.asn1_defs.RowMeanings.{AnIe, AProcedure, Outcome, Rows}
+use Rattle.asn1_module.specs.asn1_defs.RowMeanings as rows
+use Rattle.asn1_module.specs.asn1_defs.ModuleMeanings.{MeansBody, MeansAssignments, MeansModule}
+use Rattle.asn1_module.specs.asn1_defs.ModuleMeanings as modules
+use Rattle.asn1_module.specs.asn1_defs.Targets.{type_of, put_type, type_ids, type_name, is_body_of}
+use Rattle.asn1_module.specs.asn1_defs.Links.{BodyFrom, BodyBelow, AreParted}
 use Rattle.profile_module.specs.inside.Same.{is_among, first_new}
 
 -- ---- types join the list one after another

@@ -3,7 +3,7 @@ use Rattle.std.proofs.Common.{◌≡◌, ℕ, zero, suc, ◌+◌, List, [], ◌�
 use Rattle.std.specs.Prelude.{Some, if◌then◌else◌}
 use Rattle.asn1_types.specs.declared.definition.TypeId.{TypeId}
 use Rattle.asn1_assignments.specs.declared.assignment.Assignment.{Assignment}
-use Rattle.asn1_module.specs.Module.{type_name}
+use Rattle.asn1_module.specs.asn1_defs.Targets.{type_name}
 use Rattle.profile_module.specs.inside.Same.{is_among, first_new}
 
 some_same : {X : Type 0} {x y : X} → Some x ≡ Some y → x ≡ y

@@ -2,7 +2,8 @@
 use Rattle.std.specs.Prelude.{◌≡◌, ℕ, List, length, true, Some, Result, Ok, Err}
 use Rattle.asn1_tokens.specs.Words.{is_text}
 use Rattle.asn1_assignments.specs.declared.assignment.Syntax.{Syntax}
-use Rattle.asn1_module.specs.Module.{Reads, type_ids}
+use Rattle.asn1_module.specs.asn1_defs.Readings.{Reads}
+use Rattle.asn1_module.specs.asn1_defs.Targets.{type_ids}
 use Rattle.profile.specs.declared.version.Version.{Version}
 use Rattle.profile.specs.declared.version.Version.TheVariants.{One}
 use Rattle.profile.specs.Versions.{number_of, text_of}

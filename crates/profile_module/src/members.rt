@@ -1,7 +1,7 @@
 //! Types with others inside: whether two modules write them alike.
 
 ghost use Rattle.std.specs.Prelude.{◌≡◌, ◌<◌, length, Some, option_map, slice_get};
-ghost use Rattle.asn1_module.specs.Links.{AreBelow, PartsBelow, IsInside};
+ghost use Rattle.asn1_module.specs.asn1_defs.Links.{AreBelow, PartsBelow, IsInside};
 ghost use Rattle.profile_module.specs.inside.Same.{same_inner_at, same_parts, same_added, same_additions, same_type, is_bare_alike};
 ghost use Rattle.profile_proof_text.specs.profile_defs.Agreement.{definition_at, is_same_size};
 ghost use Rattle.asn1_types.specs.Members.{additions_of};

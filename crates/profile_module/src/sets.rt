@@ -1,10 +1,10 @@
 //! Sets of information elements and of procedures: whether two modules write them alike.
 
 ghost use Rattle.std.specs.Prelude.{◌≡◌, ◌<◌, length, Some, option_map, IfSome, slice_get};
-ghost use Rattle.asn1_module.specs.Links.{IesBelow, ProceduresBelow, OptionBelow};
+ghost use Rattle.asn1_module.specs.asn1_defs.Links.{IesBelow, ProceduresBelow, OptionBelow};
 ghost use Rattle.profile_proof_text.specs.profile_defs.Agreement.{is_reject, is_mandatory};
 ghost use Rattle.profile_module.specs.inside.Same.{same_plain_at, same_elements, same_outcome, same_procedures, same_element_sets, same_procedure_sets, same_inner};
-ghost use Rattle.asn1_module.specs.Module.{ie_rows, procedure_rows};
+ghost use Rattle.asn1_module.specs.asn1_defs.Targets.{ie_rows, procedure_rows};
 
 use crate::plain::is_same_plain;
 use asn1_module::{Criticality, Definition, IeRow, Module, Presence, ProcedureRow, TypeId};

@@ -1,7 +1,7 @@
 //! The named types of modules: which of the profile's a module lacks or has otherwise, and which further ones it has.
 
 ghost use Rattle.std.specs.Prelude.{◌≡◌, option_map, map, length};
-ghost use Rattle.asn1_module.specs.Module.{type_ids};
+ghost use Rattle.asn1_module.specs.asn1_defs.Targets.{type_ids};
 ghost use Rattle.profile_module.specs.inside.Same.{has_same, first_other, is_among, first_new};
 
 use crate::members::is_type_alike;

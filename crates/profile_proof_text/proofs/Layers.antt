@@ -4,11 +4,11 @@ use Rattle.std.specs.Prelude.{◌&&◌, nat_lt, nat_le, slice_index, slice_set, 
 use Rattle.std.specs.List.{list_all}
 use Rattle.std.proofs.lemmas.Bool.Decides.{nat_tests}
 use Rattle.asn1_assignments.specs.declared.assignment.Syntax.{Syntax}
-use Rattle.asn1_graph.specs.declared.graph.Edge.{Edge}
-use Rattle.asn1_graph.specs.Graph.{vertex_count, edges_of}
-use Rattle.asn1_graph.specs.Paths.{IsAmong, IsStep, Leads, Nests, IsFirst, first, further, alone, around}
-use Rattle.profile_defs.specs.asn1_module.Names.{first_unknown}
-use Rattle.profile_defs.specs.asn1_module.Judgement.{weights_of, IsSound}
+use Rattle.asn1_graph.specs.asn1_defs.declared.graph.Edge.{Edge}
+use Rattle.asn1_graph.specs.asn1_defs.Graph.{vertex_count, edges_of}
+use Rattle.asn1_graph.specs.asn1_defs.Paths.{IsAmong, IsStep, Leads, Nests, IsFirst, first, further, alone, around}
+use Rattle.asn1_graph.specs.asn1_defs.Names.{first_unknown}
+use Rattle.asn1_graph.specs.asn1_defs.Judgement.{weights_of, IsSound}
 
 -- ---- numbers for vertices, found in so many rounds
 unfoldable pub raise : List ℕ → ℕ → ℕ → List ℕ

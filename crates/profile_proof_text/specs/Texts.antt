@@ -2,9 +2,9 @@
 use Rattle.std.specs.Prelude.{◌≡◌, ℕ, List, length, true}
 use Rattle.asn1_tokens.specs.Words.{is_text}
 use Rattle.asn1_assignments.specs.declared.assignment.Syntax.{Syntax}
-use Rattle.profile_defs.specs.asn1_reading_laws.Texts.{IsTextOf}
-use Rattle.profile_defs.specs.asn1_module.Module.{type_ids}
-use Rattle.profile_defs.specs.asn1_module.Judgement.{IsSound}
+use Rattle.asn1_graph.specs.asn1_defs.Texts.{IsTextOf}
+use Rattle.asn1_graph.specs.asn1_defs.Targets.{type_ids}
+use Rattle.asn1_graph.specs.asn1_defs.Judgement.{IsSound}
 use Rattle.profile_defs.specs.Forms.{Form}
 use Rattle.profile_defs.specs.Profile.{module_name}
 use Rattle.profile_defs.specs.Agreement.{Agrees}

@@ -18,12 +18,12 @@ use Rattle.asn1_assignments.specs.declared.assignment.Presence.TheVariants.{Mand
 use Rattle.asn1_assignments.specs.declared.assignment.IeRow.{IeRow}
 use Rattle.asn1_assignments.specs.declared.assignment.ProcedureRow.{ProcedureRow}
 use Rattle.asn1_assignments.specs.declared.assignment.Syntax.{Syntax}
-use Rattle.asn1_module.specs.Module.{find_type, ie_rows, procedure_rows, IsModule}
-use Rattle.asn1_module.specs.Targets.{definition_of, all_of}
+use Rattle.asn1_module.specs.asn1_defs.Targets.{find_type, ie_rows, procedure_rows, definition_of, all_of}
+use Rattle.asn1_module.specs.asn1_defs.Modules.{IsModule}
 use Rattle.asn1_module.proofs.Facts.{type_below}
-use Rattle.aper_types.specs.asn1_rank_laws.Leading.{EachPart, OfOption, EachIe, EachProcedure, EachOf, Lesser}
-use Rattle.aper_types.proofs.asn1_rank_laws.Ranks.{rank}
-use Rattle.aper_types.proofs.asn1_rank_laws.Inside.{each_more, ranks_fall}
+use Rattle.aper_types.specs.asn1_proof_ranks.Leading.{EachPart, OfOption, EachIe, EachProcedure, EachOf, Lesser}
+use Rattle.aper_types.proofs.asn1_proof_ranks.Ranks.{rank}
+use Rattle.aper_types.proofs.asn1_proof_ranks.Inside.{each_more, ranks_fall}
 use Rattle.aper_defs.specs.Trees as trees
 use Rattle.aper_types.specs.Types as modules
 use Rattle.aper_types.specs.Types.{parts_of, rows_of, outcome_of, procedures_of, named_tree, definition_tree}

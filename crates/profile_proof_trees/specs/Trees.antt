@@ -2,7 +2,7 @@
 use Rattle.std.specs.Prelude.{◌≡◌, ◌<◌, length, Some}
 use Rattle.asn1_types.specs.declared.definition.TypeId.{TypeId}
 use Rattle.asn1_assignments.specs.declared.assignment.Syntax.{Syntax}
-use Rattle.asn1_module.specs.Module.{find_type}
+use Rattle.asn1_module.specs.asn1_defs.Targets.{find_type}
 use Rattle.aper_types.specs.Types as modules
 use Rattle.profile_defs.specs.Forms.{Form, name_of, tree}
 

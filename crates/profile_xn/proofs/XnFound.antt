@@ -13,12 +13,12 @@ use Rattle.asn1_types.specs.declared.definition.Node.{Node}
 use Rattle.asn1_types.specs.Members.{additions_of}
 use Rattle.asn1_assignments.specs.declared.assignment.ProcedureRow.{ProcedureRow}
 use Rattle.asn1_assignments.specs.declared.assignment.Syntax.{Syntax}
-use Rattle.asn1_module.specs.Module.{find_type, procedure_rows, IsModule}
-use Rattle.asn1_module.specs.Targets.{definition_of, all_of}
+use Rattle.asn1_module.specs.asn1_defs.Targets.{find_type, procedure_rows, definition_of, all_of}
+use Rattle.asn1_module.specs.asn1_defs.Modules.{IsModule}
 use Rattle.asn1_module.proofs.Facts.{type_below}
-use Rattle.asn1_rank_laws.specs.Leading.{EachPart, OfOption, EachProcedure, EachOf, Lesser}
-use Rattle.asn1_rank_laws.proofs.Ranks.{rank}
-use Rattle.asn1_rank_laws.proofs.Inside.{each_more, ranks_fall}
+use Rattle.asn1_proof_ranks.specs.Leading.{EachPart, OfOption, EachProcedure, EachOf, Lesser}
+use Rattle.asn1_proof_ranks.proofs.Ranks.{rank}
+use Rattle.asn1_proof_ranks.proofs.Inside.{each_more, ranks_fall}
 use Rattle.aper_defs.specs.Trees as trees
 use Rattle.aper_defs.specs.Trees.{Tree}
 use Rattle.aper_types.specs.Types as modules

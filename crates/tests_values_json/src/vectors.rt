@@ -17,11 +17,15 @@ Plain ::= SEQUENCE {b INTEGER (0..255) OPTIONAL, a BOOLEAN, zz Colour OPTIONAL}\
 Open ::= SEQUENCE {b BOOLEAN, a BOOLEAN OPTIONAL, ..., c INTEGER (0..7), d BOOLEAN}\n\
 Either ::= CHOICE {x BOOLEAN, y Colour, ..., z BIT STRING (SIZE (2))}\n\
 List ::= SEQUENCE (SIZE (1..4, ...)) OF Plain\n\
+Pair ::= SEQUENCE (SIZE (2)) OF Plain\n\
+Blob ::= OCTET STRING\n\
+Late ::= SEQUENCE {a BOOLEAN, ..., c Blob}\n\
+Last ::= CHOICE {a BOOLEAN, ..., w Blob}\n\
 Elements ::= ProtocolIE-Container {{Rows}}\n\
-Rows PROTOCOL-IES ::= {{ID 1 CRITICALITY reject TYPE Truth PRESENCE mandatory} | {ID 4 CRITICALITY ignore TYPE Colour PRESENCE optional}, ...}\n\
+Rows PROTOCOL-IES ::= {{ID 1 CRITICALITY reject TYPE Truth PRESENCE mandatory} | {ID 4 CRITICALITY ignore TYPE Colour PRESENCE optional} | {ID 6 CRITICALITY ignore TYPE Blob PRESENCE optional}, ...}\n\
 Request ::= SEQUENCE {ies Elements, ...}\n\
 Message ::= Protocol-PDU {{Procedures}}\n\
-Procedures ELEMENTARY-PROCEDURE ::= {{INITIATING MESSAGE Request SUCCESSFUL OUTCOME Plain PROCEDURE CODE 7 CRITICALITY reject}, ...}\n\
+Procedures ELEMENTARY-PROCEDURE ::= {{INITIATING MESSAGE Request SUCCESSFUL OUTCOME Plain PROCEDURE CODE 7 CRITICALITY reject} | {INITIATING MESSAGE Blob PROCEDURE CODE 9 CRITICALITY ignore}, ...}\n\
 END\n";
 
 /// Values of each form of type.

@@ -7,7 +7,7 @@ use Rattle.gnb_base.specs.Reading.{Reading, NextMeets}
 use Rattle.input_defs.specs.declared.InputEnd.{InputEnd}
 use Rattle.input_lines.specs.ReadsLine.{StopsReading}
 use Rattle.asn1_module.specs.asn1_assignments.declared.assignment.Syntax.{Syntax}
-use Rattle.asn1_module.specs.Module.{find_type}
+use Rattle.asn1_module.specs.asn1_defs.Targets.{find_type}
 use Rattle.profile.specs.declared.version.Version.TheVariants.{Two}
 use Rattle.input_module.specs.declared.module.GivenModule.{GivenModule}
 use Rattle.input_module.specs.Taking.{HasModule}

@@ -1,4 +1,4 @@
-use Rattle.law_aper_refusals.proofs.Refused.{tells_some, tells_one, tells}
+use Rattle.law_aper_refusals.proofs.Tells.{tells_some, tells_one, tells}
 use Rattle.law_aper_refusals.proofs.octets_are_spelled_or_go_wrong.Goals as goal
 
 pub returns-clause-some : goal.returns-clause-some

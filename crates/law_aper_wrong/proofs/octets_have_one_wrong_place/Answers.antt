@@ -1,4 +1,4 @@
-use Rattle.law_aper_wrong.proofs.WrongPlaces.{one_wrong}
+use Rattle.aper_proof_refused.proofs.WrongPlaces.{one_wrong}
 use Rattle.law_aper_wrong.proofs.octets_have_one_wrong_place.Goals as goal
 
 pub returns : goal.returns

@@ -10,7 +10,7 @@ use Rattle.asn1_assignments.specs.declared.assignment.IeRow.{IeRow}
 use Rattle.asn1_assignments.specs.declared.assignment.ProcedureRow.{ProcedureRow}
 use Rattle.asn1_assignments.specs.declared.assignment.Assignment.{Assignment}
 use Rattle.asn1_assignments.specs.declared.assignment.Syntax.{Syntax}
-use Rattle.asn1_module.specs.Module.{find_type, ie_rows, procedure_rows, type_name}
+use Rattle.asn1_module.specs.asn1_defs.Targets.{find_type, ie_rows, procedure_rows, type_name}
 use Rattle.profile_module.specs.declared.names.TheConstants.{TYPE_NAMES}
 use Rattle.profile_proof_text.specs.profile_defs.Agreement.{is_same_bool, is_same_number, is_same_size, are_names, is_reject, is_mandatory, definition_at}
 

@@ -9,10 +9,10 @@ use Rattle.asn1_types.specs.Types.{enumerated_at, bit_string_at, octet_string_at
 use Rattle.asn1_assignments.specs.Module.{new_assignment_at, ie_body_at, procedure_body_at, type_body_at, body_at, assignment_at, module_turn_at, header_at, assignments_at, syntax_at}
 use Rattle.asn1_assignments.specs.Rows.{new_number_at, criticality_of, criticality_at, presence_of, presence_at, ie_row_at, outcome_at, messages_at, procedure_row_at}
 use Rattle.asn1_assignments.specs.Sets.{set_goes_on_at, ie_turn_at, procedure_turn_at, set_start_at, ie_set_at, procedure_set_at}
-use Rattle.asn1_graph.specs.Graph.{member_edges, node_edges, nodes_edges, range_edges, parts_edges, edges_of}
-use Rattle.profile_defs.specs.asn1_module.Judgement.{node_weights}
-use Rattle.profile_defs.specs.asn1_module.Module.{type_ids, find_type, ie_rows, procedure_rows}
-use Rattle.profile_defs.specs.asn1_module.Names.{kind_of_name, is_known, first_unknown}
+use Rattle.asn1_graph.specs.asn1_defs.Graph.{member_edges, node_edges, nodes_edges, range_edges, parts_edges, edges_of}
+use Rattle.asn1_graph.specs.asn1_defs.Judgement.{node_weights}
+use Rattle.asn1_graph.specs.asn1_defs.Targets.{type_ids, find_type, ie_rows, procedure_rows}
+use Rattle.asn1_graph.specs.asn1_defs.Names.{kind_of_name, is_known, first_unknown}
 use Rattle.profile_defs.specs.Profile.{profile_types}
 use Rattle.profile_defs.specs.Agreement.{is_form, are_components, are_additions, are_elements, are_procedures, is_outcome}
 use Rattle.profile_proof_text.proofs.Layers.{raise, relaxed, rounds, layers}

@@ -1,6 +1,6 @@
 use Rattle.std.proofs.Common.{subst}
 use Rattle.asn1_assignments.specs.declared.assignment.Syntax.{Syntax}
-use Rattle.asn1_module.specs.Module.{IsModule}
+use Rattle.asn1_module.specs.asn1_defs.Modules.{IsModule}
 use Rattle.profile.specs.Versions.{number_of}
 use Rattle.profile_defs.specs.Profile.{token_type}
 use Rattle.profile_defs.specs.Tokens.{rrc_token}

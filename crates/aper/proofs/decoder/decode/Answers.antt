@@ -2,6 +2,7 @@ use Rattle.aper_value_checks.specs.aper_types.Types.{tree}
 use Rattle.aper_value_checks.proofs.aper_types.Bounded.{tree_bounded}
 use Rattle.aper_values.specs.Views.{view}
 use Rattle.aper_proof_values.proofs.FoundWhole.{decoded_spells}
+use Rattle.aper.proofs.Sets.{tree_sets}
 use Rattle.aper.proofs.Answered.{refused_so}
 use Rattle.aper.proofs.decoder.decode.Goals as goal
 
@@ -13,4 +14,4 @@ returns-in-Ok-clause-value c =
 pub returns-in-Err-clause-refused : goal.returns-in-Err-clause-refused
 returns-in-Err-clause-refused c =
     refused_so (tree c.args.m.now c.args.id.number) c.args.octets.now c.in-Err.error c.printed.result
-    (tree_bounded c.args.m.now c.args.id.number c.name.ensures.sound) (c.in-Err.ensures {u = tt}) c.printed.ensures
+    (tree_bounded c.args.m.now c.args.id.number c.name.ensures.sound) (tree_sets c.args.m.now c.args.id.number c.name.ensures.sound) (c.in-Err.ensures {u = tt}) c.printed.ensures

@@ -1,6 +1,6 @@
 use Rattle.std.proofs.Common.{◌≡◌, ◌<◌, length}
 use Rattle.aper_types.specs.Types.{tree}
-use Rattle.asn1_rank_laws.proofs.Ranks.{rank}
+use Rattle.asn1_proof_ranks.proofs.Ranks.{rank}
 use Rattle.aper_types.proofs.form.resolved.Given as goal
 
 abbrev pub invariant-loop-next : goal.invariant-loop-next

@@ -8,7 +8,7 @@ use Rattle.asn1_types.specs.declared.definition.Extensible.{Extensible}
 use Rattle.asn1_types.specs.Members.{additions_of}
 use Rattle.asn1_assignments.specs.declared.assignment.IeRow.{IeRow}
 use Rattle.asn1_assignments.specs.declared.assignment.ProcedureRow.{ProcedureRow}
-use Rattle.asn1_module.specs.Links.{AreBelow, OptionBelow}
+use Rattle.asn1_module.specs.asn1_defs.Links.{AreBelow, OptionBelow}
 use Rattle.aper_defs.specs.Trees.{Tree, integer, choice, sequence_of, container, slots, has_slot, mandatory_count}
 use Rattle.aper_defs.specs.Values.{Value as SeenValue, components, chosen, list, elements, message, has_options}
 use Rattle.aper_defs.specs.Parts.{extension_fields}

@@ -1,5 +1,5 @@
 use Rattle.std.proofs.Common.{◌≡◌, ◌++◌, drop}
-use Rattle.asn1_graph.specs.Graph.{member_edges}
+use Rattle.asn1_defs.specs.Graph.{member_edges}
 use Rattle.asn1_graph.proofs.graph.push_members.Given as goal
 
 abbrev pub invariant-loop-member : goal.invariant-loop-member

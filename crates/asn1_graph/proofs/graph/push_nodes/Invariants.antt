@@ -1,5 +1,5 @@
 use Rattle.std.proofs.Common.{◌≡◌, ◌++◌, drop, length}
-use Rattle.asn1_graph.specs.Graph.{nodes_edges}
+use Rattle.asn1_defs.specs.Graph.{nodes_edges}
 use Rattle.asn1_graph.proofs.graph.push_nodes.Given as goal
 
 abbrev pub invariant-loop-from : goal.invariant-loop-from

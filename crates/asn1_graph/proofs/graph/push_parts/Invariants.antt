@@ -1,5 +1,5 @@
 use Rattle.std.proofs.Common.{◌≡◌, ◌++◌, ◌+◌, drop}
-use Rattle.asn1_graph.specs.Graph.{parts_edges}
+use Rattle.asn1_defs.specs.Graph.{parts_edges}
 use Rattle.asn1_graph.proofs.graph.push_parts.Given as goal
 
 abbrev pub invariant-loop-number : goal.invariant-loop-number

@@ -1,5 +1,5 @@
 use Rattle.std.proofs.Common.{◌≡◌, ◌++◌, ◌-◌}
-use Rattle.asn1_graph.specs.Graph.{range_edges}
+use Rattle.asn1_defs.specs.Graph.{range_edges}
 use Rattle.asn1_graph.proofs.graph.push_range.Given as goal
 
 abbrev pub invariant-loop-to : goal.invariant-loop-to

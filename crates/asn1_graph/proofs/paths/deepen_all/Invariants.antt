@@ -1,6 +1,7 @@
 use Rattle.std.proofs.Common.{length}
-use Rattle.asn1_graph.specs.Paths.{depth_cap}
-use Rattle.asn1_graph.proofs.PathLemmas.{TellsWell, slack}
+use Rattle.asn1_graph.specs.Walks.{depth_cap}
+use Rattle.asn1_graph.specs.Tables.{TellsWell}
+use Rattle.asn1_graph.proofs.PathLemmas.{slack}
 use Rattle.asn1_graph.proofs.paths.deepen_all.Given as goal
 
 abbrev pub invariant-loop : goal.invariant-loop

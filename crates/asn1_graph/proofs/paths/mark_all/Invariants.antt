@@ -1,9 +1,10 @@
 use Rattle.std.proofs.Common.{length}
-use Rattle.asn1_graph.proofs.PathLemmas.{MarksWell, slack}
+use Rattle.asn1_graph.specs.Tables.{MarksWell}
+use Rattle.asn1_graph.proofs.PathLemmas.{slack}
 use Rattle.asn1_graph.proofs.paths.mark_all.Given as goal
 
 abbrev pub invariant-loop : goal.invariant-loop
-invariant-loop l = MarksWell (length l.fn.table) l.edges l.start l.table
+invariant-loop l = MarksWell (length l.fn.table) l.steps.edges.now l.start l.table
 
 abbrev pub decreases-loop : goal.decreases-loop
 decreases-loop l = slack 1 l.table

@@ -1,5 +1,5 @@
 use Rattle.std.proofs.Common.{◌≡◌, drop, false}
-use Rattle.asn1_graph.specs.Paths.{round_of, mark_step}
+use Rattle.asn1_graph.specs.Walks.{round_of, mark_step}
 use Rattle.asn1_graph.proofs.paths.mark_round.Given as goal
 
 abbrev pub invariant-loop-edge : goal.invariant-loop-edge

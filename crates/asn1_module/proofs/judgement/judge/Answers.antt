@@ -1,5 +1,5 @@
 use Rattle.std.proofs.Common.{refl}
-use Rattle.asn1_module.specs.Judgement.{unknown}
+use Rattle.asn1_defs.specs.Judgement.{unknown}
 use Rattle.asn1_module.proofs.judgement.judge.Goals as goal
 
 pub returns-in-Some : goal.returns-in-Some

@@ -1,5 +1,5 @@
 use Rattle.std.proofs.Common.{subst}
-use Rattle.asn1_module.specs.Judgement.{sound, deep, IsFirstDeep}
+use Rattle.asn1_defs.specs.Judgement.{sound, deep, IsFirstDeep}
 use Rattle.asn1_module.proofs.judgement.judge_finite.Goals as goal
 
 pub returns-in-Some : goal.returns-in-Some

@@ -1,5 +1,5 @@
 use Rattle.std.proofs.Common.{◌≡◌, ◌++◌, drop}
-use Rattle.asn1_module.specs.Judgement.{node_weights}
+use Rattle.asn1_defs.specs.Judgement.{node_weights}
 use Rattle.asn1_module.proofs.judgement.node_weights.Given as goal
 
 abbrev pub invariant-loop-node : goal.invariant-loop-node

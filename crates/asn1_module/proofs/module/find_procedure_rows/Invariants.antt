@@ -1,5 +1,5 @@
 use Rattle.std.proofs.Common.{◌≡◌, drop}
-use Rattle.asn1_module.specs.Module.{procedure_rows}
+use Rattle.asn1_defs.specs.Targets.{procedure_rows}
 use Rattle.asn1_module.proofs.module.find_procedure_rows.Given as goal
 
 abbrev pub invariant-loop-assignment : goal.invariant-loop-assignment

@@ -1,5 +1,5 @@
 use Rattle.std.proofs.Common.{◌≡◌, drop}
-use Rattle.asn1_module.specs.Module.{find_type}
+use Rattle.asn1_defs.specs.Targets.{find_type}
 use Rattle.asn1_module.proofs.module.find_type.Given as goal
 
 abbrev pub invariant-loop-assignment : goal.invariant-loop-assignment

@@ -2,9 +2,9 @@ use Rattle.asn1_types.specs.declared.fault.ReadError.{ReadError}
 use Rattle.asn1_types.specs.Reading.{Fails}
 use Rattle.asn1_assignments.specs.Module.{syntax_of}
 use Rattle.std.proofs.Common.{subst, sym, refl, ◌≡◌, Err}
-use Rattle.asn1_module.specs.Judgement.{Judged}
-use Rattle.asn1_module.specs.Module.{HasFault, in_text, in_module}
-use Rattle.asn1_reading_laws.proofs.Readings.{is_text_of, is_first_wrong}
+use Rattle.asn1_defs.specs.Judgement.{Judged}
+use Rattle.asn1_defs.specs.Readings.{HasFault, in_text, in_module}
+use Rattle.asn1_proof_reading.proofs.Readings.{is_text_of, is_first_wrong}
 use Rattle.asn1_module.proofs.TypeCount.{types_bounded}
 use Rattle.asn1_module.proofs.RowLinks.{linked}
 use Rattle.asn1_module.proofs.Facts.{sound_of}
@@ -22,7 +22,7 @@ invariant_of-result c = (
     linked = linked c.args.text.now c.in-Ok.syntax c.in-Ok.ensures;
     sound = sound_of c.in-Ok.syntax (subst (Judged c.in-Ok.syntax) c.in-None.is c.in_ok-fault.ensures);
   },
-  c.in_ok-targets-in-None.ensures,
+  c.in_ok-targets.ensures,
 )
 
 pub refused-requires : goal.refused-requires
@@ -30,8 +30,8 @@ refused-requires c =
     let told : syntax_of c.args.text.now ≡ Err c.in-Err-Fault.fault = subst (λ (e : ReadError). Fails e (syntax_of c.args.text.now)) c.in-Err-Fault.field-0-is c.in-Err-Fault.ensures in
     subst (HasFault c.args.text.now) (sym c.in-Err-Fault.fault-is) (in_text (is_first_wrong c.args.text.now c.in-Err-Fault.fault told))
 
-pub returns-in_ok-targets-in-None : goal.returns-in_ok-targets-in-None
-returns-in_ok-targets-in-None c = record {
+pub returns-in-None : goal.returns-in-None
+returns-in-None c = record {
   is = is_text_of c.args.text.now c.in-Ok.syntax c.in-Ok.ensures;
   sound = subst (Judged c.in-Ok.syntax) c.in-None.is c.in_ok-fault.ensures;
   ends = refl;

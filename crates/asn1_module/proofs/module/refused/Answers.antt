@@ -1,5 +1,5 @@
 use Rattle.std.proofs.Common.{◌∙◌, ap, take, ℕ, refl}
-use Rattle.asn1_module.specs.Position.{line_after, column_after}
+use Rattle.asn1_defs.specs.Positions.{line_after, column_after}
 use Rattle.asn1_module.proofs.JudgementLemmas.{take-min}
 use Rattle.asn1_module.proofs.module.refused.Goals as goal
 

@@ -1,5 +1,5 @@
 use Rattle.std.proofs.Common.{◌≡◌, ◌+◌, ◌≤◌, length, drop}
-use Rattle.asn1_module.specs.Module.{type_ids}
+use Rattle.asn1_defs.specs.Targets.{type_ids}
 use Rattle.asn1_module.proofs.module.type_count.Given as goal
 
 abbrev pub invariant-loop-assignment : goal.invariant-loop-assignment

@@ -1,5 +1,5 @@
 use Rattle.std.proofs.Common.{◌≡◌, ◌≤◌, ◌+◌, take}
-use Rattle.asn1_module.specs.Position.{line_after, column_after}
+use Rattle.asn1_defs.specs.Positions.{line_after, column_after}
 use Rattle.asn1_module.proofs.position.position_after.Given as goal
 
 abbrev pub invariant-loop-c : goal.invariant-loop-c

@@ -10,7 +10,7 @@ use Rattle.asn1_types.specs.declared.definition.Extensible.{Extensible}
 use Rattle.asn1_types.specs.Members.{additions_of}
 use Rattle.asn1_assignments.specs.declared.assignment.IeRow.{IeRow}
 use Rattle.asn1_assignments.specs.declared.assignment.ProcedureRow.{ProcedureRow}
-use Rattle.asn1_module.specs.Links.{AreBelow, OptionBelow}
+use Rattle.asn1_module.specs.asn1_defs.Links.{AreBelow, OptionBelow}
 use Rattle.aper_defs.specs.Values.{Value as SeenValue, components, chosen, list, elements, message}
 use Rattle.aper_values.specs.declared.value.Value.{Value, the_lemmas}
 use Rattle.aper_values.specs.declared.value.Element.{Element}

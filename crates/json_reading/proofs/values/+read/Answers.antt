@@ -12,7 +12,7 @@ use Rattle.asn1_types.specs.declared.definition.TypeId.{TypeId}
 use Rattle.asn1_types.specs.Members.{additions_of}
 use Rattle.asn1_assignments.specs.declared.assignment.IeRow.{IeRow}
 use Rattle.asn1_assignments.specs.declared.assignment.ProcedureRow.{ProcedureRow}
-use Rattle.asn1_module.specs.Links.{AreBelow, OptionBelow}
+use Rattle.asn1_module.specs.asn1_defs.Links.{AreBelow, OptionBelow}
 use Rattle.aper_defs.specs.Fields.{Path}
 use Rattle.aper_defs.specs.Fields as ways
 use Rattle.aper_defs.specs.Trees.{Tree, slots}

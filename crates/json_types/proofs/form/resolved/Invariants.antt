@@ -1,5 +1,5 @@
 use Rattle.std.proofs.Common.{◌≡◌, ◌<◌, length}
-use Rattle.asn1_rank_laws.proofs.Ranks.{rank}
+use Rattle.asn1_proof_ranks.proofs.Ranks.{rank}
 use Rattle.json_type_defs.specs.Types.{named}
 use Rattle.json_types.proofs.form.resolved.Given as goal
 

@@ -1,6 +1,6 @@
 use Rattle.std.proofs.Common.{ℕ, List, Option, Bor, sym, ap, ◌∙◌}
 use Rattle.std.specs.Prelude.{option_map}
-use Rattle.asn1_module.specs.Module.{type_ids}
+use Rattle.asn1_module.specs.asn1_defs.Targets.{type_ids}
 use Rattle.profile_proof_text.specs.profile_defs.Profile.{profile_types}
 use Rattle.profile_proof_text.specs.profile_defs.Agreement.{or_else}
 use Rattle.profile_module.specs.inside.Same.{own_names, first_other, first_new}

@@ -1,6 +1,6 @@
 use Rattle.std.proofs.Common.{subst, sym}
 use Rattle.asn1_module.specs.declared.error.ModuleError.{ModuleError}
-use Rattle.asn1_module.specs.Module.{RefusedSo}
+use Rattle.asn1_module.specs.Refusals.{RefusedSo}
 use Rattle.profile_module.specs.Profiles.{IsBuiltin}
 use Rattle.profile_module.proofs.Built.{built, never_wrong}
 use Rattle.profile_module.proofs.built_in.of_text.Goals as goal

@@ -1,5 +1,5 @@
 use Rattle.std.proofs.Common.{length, sym, subst}
-use Rattle.asn1_module.specs.Links.{AreBelow}
+use Rattle.asn1_module.specs.asn1_defs.Links.{AreBelow}
 use Rattle.profile_module.proofs.Inside.{sequence_below, choice_below}
 use Rattle.profile_module.proofs.members.is_type_alike.Goals as goal
 

@@ -1,5 +1,5 @@
 use Rattle.std.proofs.Common.{ℕ, List, map, Some, Bor, sym, ap, ◌∙◌}
-use Rattle.asn1_module.specs.Module.{type_ids}
+use Rattle.asn1_module.specs.asn1_defs.Targets.{type_ids}
 use Rattle.profile_module.specs.inside.Same.{is_among}
 use Rattle.profile_module.proofs.Turns.{new_here, new_later}
 use Rattle.profile_module.proofs.types.first_new.Goals as goal

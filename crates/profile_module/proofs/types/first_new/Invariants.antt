@@ -1,5 +1,5 @@
 use Rattle.std.proofs.Common.{◌≡◌, drop, map}
-use Rattle.asn1_module.specs.Module.{type_ids}
+use Rattle.asn1_module.specs.asn1_defs.Targets.{type_ids}
 use Rattle.profile_module.specs.inside.Same.{first_new}
 use Rattle.profile_module.proofs.types.first_new.Given as goal
 

@@ -1,5 +1,5 @@
 use Rattle.std.proofs.Common.{◌≡◌, drop}
-use Rattle.asn1_module.specs.Module.{type_name}
+use Rattle.asn1_defs.specs.Targets.{type_name}
 use Rattle.asn1_module.proofs.module.Module.type_name.Given as goal
 
 abbrev pub invariant-loop-assignment : goal.invariant-loop-assignment

@@ -1,6 +1,0 @@
-use Rattle.std.proofs.Common.{◌≡◌, drop}
-use Rattle.asn1_graph.specs.Paths.{marks_to}
-use Rattle.asn1_graph.proofs.paths.mark_to.Given as goal
-
-abbrev pub invariant-loop-edge : goal.invariant-loop-edge
-invariant-loop-edge l = marks_to l.marked l.table (drop l.edge-index l.edges) ≡ marks_to l.marked l.fn.table l.edges

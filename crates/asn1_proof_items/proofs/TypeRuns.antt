@@ -1,0 +1,245 @@
+-- Types, with those inside them.
+use Rattle.std.proofs.Common.{◌≡◌, ℕ, zero, suc, List, [], ◌∷◌, Bool, true, false, cond, refl, Option, Some, None}
+use Rattle.std.specs.Prelude.{Result}
+use Rattle.asn1_proof_syntax.proofs.gnb_types.Choices.{by_choice}
+use Rattle.asn1_proof_syntax.specs.asn1_tokens.declared.token.Word.{Word}
+use Rattle.asn1_proof_syntax.specs.asn1_tokens.declared.token.Word.TheVariants as words
+use Rattle.asn1_proof_syntax.specs.asn1_tokens.declared.token.Sign.TheVariants as signs
+use Rattle.asn1_proof_syntax.specs.asn1_tokens.declared.token.Token.{Token}
+use Rattle.asn1_proof_syntax.specs.asn1_tokens.declared.token.Token.TheVariants as tokens
+use Rattle.asn1_proof_syntax.specs.asn1_tokens.Words.{is_word}
+use Rattle.asn1_proof_syntax.specs.asn1_tokens.Stream.{first_place}
+use Rattle.asn1_proof_syntax.specs.asn1_types.declared.fault.Fault.{Fault}
+use Rattle.asn1_proof_syntax.specs.asn1_types.declared.definition.TypeId.{TypeId}
+use Rattle.asn1_proof_syntax.specs.asn1_types.declared.definition.Node.{Node}
+use Rattle.asn1_proof_syntax.specs.asn1_types.declared.definition.Definition.{Definition}
+use Rattle.asn1_proof_syntax.specs.asn1_types.declared.definition.Definition.TheVariants as types
+use Rattle.asn1_proof_syntax.specs.asn1_types.declared.members.Group.TheVariants as groups
+use Rattle.asn1_proof_syntax.specs.asn1_types.declared.members.Frame.{Frame}
+use Rattle.asn1_proof_syntax.specs.asn1_types.declared.members.Frame.TheVariants as frames
+use Rattle.asn1_proof_syntax.specs.asn1_types.declared.members.Head.{Head}
+use Rattle.asn1_proof_syntax.specs.asn1_types.declared.members.Head.TheVariants as heads
+use Rattle.asn1_proof_syntax.specs.asn1_types.Reading.{Left, first_word, begins_with_sign}
+use Rattle.asn1_proof_syntax.specs.asn1_types.Members.{no_parts, node}
+use Rattle.asn1_proof_syntax.specs.asn1_types.Types.{enumerated_at, bit_string_at, octet_string_at, printable_string_at, simple_rest_at, is_simple, simple_at, list_head_at, components_head_at, sequence_head_at, choice_head_at, set_name_at, container_at, pdu_at, reference_at, head_by, head_at, Risen, risen, rise_at, type_turn_at, type_goes_on, type_within_at, type_at}
+use Rattle.asn1_proof_syntax.specs.asn1_defs.Repetitions.{listed, numbers_behind, begins_assignment, assigned, types_assigned}
+use Rattle.asn1_proof_items.proofs.Runs.{Run, goes, fails, and_then, done, refused, word_then, sign_then, upper_then}
+use Rattle.asn1_proof_items.proofs.Views.{Same}
+use Rattle.asn1_proof_items.proofs.Insides.{Inside, inside_then, inside_both, same_behind, ended, nowhere, word_inside}
+use Rattle.asn1_proof_items.proofs.SizeRuns.{size_run, optional_size_run, integer_run}
+use Rattle.asn1_proof_items.proofs.MemberRuns.{first_entry, names_run, entry_run, Opened, Headed, HeadRun, close_run}
+
+-- ---- types without others inside
+
+-- the rest of a type behind its word
+abbrev RestRun : Word → List Token → ℕ → Left → Type 0
+RestRun w outer turns ts = Run (tokens.Word w ∷ outer) ts (λ (a : Definition × Left). a.1) (λ (a : Definition × Left) after. Same (tokens.Word w ∷ outer) after) (simple_rest_at turns w ts)
+
+boolean_rest : {outer : List Token} (turns : ℕ) (ts : Left) → RestRun words.Boolean outer turns ts
+unfolding simple_rest_at
+boolean_rest turns ts = done (types.Boolean, ts) (ended refl nowhere)
+
+integer_rest : {outer : List Token} (turns : ℕ) (ts : Left) → RestRun words.Integer outer turns ts
+unfolding simple_rest_at
+integer_rest turns ts = integer_run ts
+
+enumerated_rest : {outer : List Token} (turns : ℕ) (ts : Left) → RestRun words.Enumerated outer turns ts
+unfolding simple_rest_at enumerated_at
+enumerated_rest turns ts =
+    sign_then signs.LeftBrace ts refl (λ a.
+    and_then (names_run turns a) (λ names after same. done (types.Enumerated names.0, names.1) same))
+
+bit_rest : {outer : List Token} (turns : ℕ) (ts : Left) → RestRun words.Bit outer turns ts
+unfolding simple_rest_at bit_string_at
+bit_rest turns ts =
+    word_then words.String ts (λ a.
+    and_then (optional_size_run false a refl refl) (λ found after same. done (types.BitString found.0, found.1) (same_behind (word_inside words.String refl refl nowhere) same)))
+
+octet_rest : {outer : List Token} (turns : ℕ) (ts : Left) → RestRun words.Octet outer turns ts
+unfolding simple_rest_at octet_string_at
+octet_rest turns ts =
+    word_then words.String ts (λ a.
+    and_then (optional_size_run false a refl refl) (λ found after same. done (types.OctetString found.0, found.1) (same_behind (word_inside words.String refl refl nowhere) same)))
+
+printable_rest : {outer : List Token} (turns : ℕ) (ts : Left) → RestRun words.PrintableString outer turns ts
+unfolding simple_rest_at printable_string_at
+printable_rest turns ts = and_then (optional_size_run true ts refl refl) (λ found after same. done (types.PrintableString found.0, found.1) same)
+
+-- a type that begins with this word, and has no type inside
+simple_run : {outer : List Token} (turns : ℕ) (w : Word) (ts : Left) → is_word w words.ProtocolIes ≡ false → is_word w words.ElementaryProcedure ≡ false → ((us : Left) → RestRun w outer turns us) → HeadRun outer outer ts (simple_at turns w ts)
+unfolding simple_at
+simple_run {outer} turns w ts no_ies no_procedures rest = by_choice (HeadRun outer outer ts) (is_simple w) _ _
+    (λ h. word_then w ts (λ a.
+    and_then (rest a) (λ definition after same. done (heads.Leaf (node definition.0 (first_place ts).start), definition.1) (same_behind (word_inside w no_ies no_procedures nowhere) same))))
+    (λ h. refused ts)
+
+-- a word with which no type begins
+no_type : {outer : List Token} (turns : ℕ) (w : Word) (ts : Left) → is_simple w ≡ false → HeadRun outer outer ts (simple_at turns w ts)
+unfolding simple_at
+no_type {outer} turns w ts not = by_choice (HeadRun outer outer ts) (is_simple w) _ _ (λ simple. absurd (never (is_simple w) simple not)) (λ _. refused ts)
+  where
+    never : (b : Bool) → b ≡ true → b ≡ false → ⊥
+    never b e f = cc
+
+-- ---- types with others inside, and those that name one
+
+-- what is behind other items is behind those that they leave alone
+headed_behind : {outer mid : List Token} (after : List Token) (head : Head) (us : Left) → Inside 0 outer mid → Headed mid (head, us) after → Headed outer (head, us) after
+headed_behind after (heads.Leaf new) us one same = same_behind one same
+headed_behind after (heads.Opens (frames.List size place)) us one opened = (opened.0, inside_both one opened.1)
+headed_behind after (heads.Opens (frames.Member group members name place)) us one opened = (opened.0, record { inside = inside_both one opened.1.inside; names = opened.1.names })
+
+head_behind : {outer mid before : List Token} {ts : Left} {r : Result (Head × Left) Fault} → Inside 0 outer mid → HeadRun mid before ts r → HeadRun outer before ts r
+head_behind one (goes {a} {after} fines post) = goes fines (headed_behind after a.0 a.1 one post)
+head_behind one (fails late) = fails late
+
+components_head_run : {outer : List Token} (place : ℕ) (ts : Left) → HeadRun outer (tokens.Sign signs.LeftBrace ∷ outer) ts (components_head_at place ts)
+unfolding components_head_at listed numbers_behind assigned types_assigned
+components_head_run {outer} place ts = by_choice (HeadRun outer (tokens.Sign signs.LeftBrace ∷ outer) ts) (begins_with_sign signs.RightBrace ts) _ _
+    (λ h. sign_then signs.RightBrace ts refl (λ a. done (heads.Leaf (node (types.Sequence no_parts) place), a) (record { ends = refl; lists = λ depth. refl; ids = refl; codes = refl; names = refl; types = refl })))
+    (λ h. entry_run groups.Sequence no_parts place ts (first_entry outer))
+
+list_head_run : {outer : List Token} (place : ℕ) (ts : Left) → HeadRun (tokens.Word words.Sequence ∷ outer) (tokens.Word words.Sequence ∷ outer) ts (list_head_at place ts)
+unfolding list_head_at
+list_head_run {outer} place ts = by_choice (HeadRun (tokens.Word words.Sequence ∷ outer) (tokens.Word words.Sequence ∷ outer) ts) (begins_with_sign signs.LeftParenthesis ts) _ _
+    (λ h. and_then (size_run false ts refl) (λ size after same.
+    word_then words.Of size.1 (λ a. done (heads.Opens (frames.List (Some size.0) place), a) (refl, word_inside words.Of refl refl (inside_then nowhere same)))))
+    (λ h. word_then words.Of ts (λ a. done (heads.Opens (frames.List None place), a) (refl, word_inside words.Of refl refl nowhere)))
+
+sequence_head_run : {outer : List Token} (ts : Left) → HeadRun outer outer ts (sequence_head_at ts)
+unfolding sequence_head_at
+sequence_head_run {outer} ts = word_then words.Sequence ts (λ a.
+    head_behind (word_inside words.Sequence refl refl nowhere) (by_choice (HeadRun (tokens.Word words.Sequence ∷ outer) (tokens.Word words.Sequence ∷ outer) a) (begins_with_sign signs.LeftBrace a) _ _
+    (λ h. sign_then signs.LeftBrace a refl (λ b. components_head_run (first_place ts).start b))
+    (λ h. list_head_run (first_place ts).start a)))
+
+choice_head_run : {outer : List Token} (ts : Left) → HeadRun outer outer ts (choice_head_at ts)
+unfolding choice_head_at
+choice_head_run {outer} ts = word_then words.Choice ts (λ a.
+    sign_then signs.LeftBrace a refl (λ b.
+    head_behind (word_inside words.Choice refl refl nowhere) (entry_run groups.Choice no_parts (first_place ts).start b (first_entry (tokens.Word words.Choice ∷ outer)))))
+
+-- `{{Set}}`
+pub set_name_run : {outer : List Token} (ts : Left) → Run outer ts (λ a. a.2) (λ a after. Same outer after) (set_name_at ts)
+unfolding set_name_at listed numbers_behind assigned types_assigned
+set_name_run ts =
+    sign_then signs.LeftBrace ts refl (λ a.
+    sign_then signs.LeftBrace a refl (λ b.
+    upper_then b refl (λ name.
+    sign_then signs.RightBrace name.1 refl (λ c.
+    sign_then signs.RightBrace c refl (λ d.
+    done (name.0, (first_place b).start, d) (record { ends = refl; lists = λ depth. refl; ids = refl; codes = refl; names = refl; types = refl }))))))
+
+container_run : {outer : List Token} (ts : Left) → HeadRun outer outer ts (container_at ts)
+unfolding container_at
+container_run ts = word_then words.ProtocolIeContainer ts (λ a.
+    and_then (set_name_run a) (λ set after same. done (heads.Leaf (node (types.IeContainer set.0) set.1), set.2) (same_behind (word_inside words.ProtocolIeContainer refl refl nowhere) same)))
+
+pdu_run : {outer : List Token} (ts : Left) → HeadRun outer outer ts (pdu_at ts)
+unfolding pdu_at
+pdu_run ts = word_then words.ProtocolPdu ts (λ a.
+    and_then (set_name_run a) (λ set after same. done (heads.Leaf (node (types.Pdu set.0) set.1), set.2) (same_behind (word_inside words.ProtocolPdu refl refl nowhere) same)))
+
+reference_run : {outer : List Token} (ts : Left) → begins_assignment outer ≡ false → HeadRun outer outer ts (reference_at ts)
+unfolding reference_at listed numbers_behind assigned types_assigned
+reference_run ts no_name = upper_then ts no_name (λ name. done (heads.Leaf (node (types.Reference name.0) (first_place ts).start), name.1) (record { ends = refl; lists = λ depth. refl; ids = refl; codes = refl; names = kept _ _ _ no_name; types = refl }))
+  where
+    kept : (b : Bool) (more names : List (List ℕ)) → b ≡ false → cond b more names ≡ names
+    kept true more names h = cc
+    kept false more names h = refl
+
+-- ---- a type, up to another one inside it
+
+word_head_run : {outer : List Token} (turns : ℕ) (w : Word) (ts : Left) → HeadRun outer outer ts (head_by turns (Some w) ts)
+unfolding head_by
+word_head_run turns words.Definitions ts = no_type turns words.Definitions ts refl
+word_head_run turns words.Automatic ts = no_type turns words.Automatic ts refl
+word_head_run turns words.Tags ts = no_type turns words.Tags ts refl
+word_head_run turns words.Begin ts = no_type turns words.Begin ts refl
+word_head_run turns words.End ts = no_type turns words.End ts refl
+word_head_run turns words.Boolean ts = simple_run turns words.Boolean ts refl refl (λ us. boolean_rest turns us)
+word_head_run turns words.Integer ts = simple_run turns words.Integer ts refl refl (λ us. integer_rest turns us)
+word_head_run turns words.Enumerated ts = simple_run turns words.Enumerated ts refl refl (λ us. enumerated_rest turns us)
+word_head_run turns words.Bit ts = simple_run turns words.Bit ts refl refl (λ us. bit_rest turns us)
+word_head_run turns words.Octet ts = simple_run turns words.Octet ts refl refl (λ us. octet_rest turns us)
+word_head_run turns words.String ts = no_type turns words.String ts refl
+word_head_run turns words.PrintableString ts = simple_run turns words.PrintableString ts refl refl (λ us. printable_rest turns us)
+word_head_run turns words.Sequence ts = sequence_head_run ts
+word_head_run turns words.Choice ts = choice_head_run ts
+word_head_run turns words.Of ts = no_type turns words.Of ts refl
+word_head_run turns words.Size ts = no_type turns words.Size ts refl
+word_head_run turns words.Optional ts = no_type turns words.Optional ts refl
+word_head_run turns words.ProtocolIeContainer ts = container_run ts
+word_head_run turns words.ProtocolPdu ts = pdu_run ts
+word_head_run turns words.ProtocolIes ts = no_type turns words.ProtocolIes ts refl
+word_head_run turns words.ElementaryProcedure ts = no_type turns words.ElementaryProcedure ts refl
+word_head_run turns words.Id ts = no_type turns words.Id ts refl
+word_head_run turns words.Criticality ts = no_type turns words.Criticality ts refl
+word_head_run turns words.Type ts = no_type turns words.Type ts refl
+word_head_run turns words.Presence ts = no_type turns words.Presence ts refl
+word_head_run turns words.Initiating ts = no_type turns words.Initiating ts refl
+word_head_run turns words.Message ts = no_type turns words.Message ts refl
+word_head_run turns words.Successful ts = no_type turns words.Successful ts refl
+word_head_run turns words.Unsuccessful ts = no_type turns words.Unsuccessful ts refl
+word_head_run turns words.Outcome ts = no_type turns words.Outcome ts refl
+word_head_run turns words.Procedure ts = no_type turns words.Procedure ts refl
+word_head_run turns words.Code ts = no_type turns words.Code ts refl
+
+head_run : {outer : List Token} (turns : ℕ) (ts : Left) → begins_assignment outer ≡ false → HeadRun outer outer ts (head_at turns ts)
+unfolding head_by
+head_run {outer} turns ts no_name = go (first_word ts)
+  where
+    go : (found : Option Word) → HeadRun outer outer ts (head_by turns found ts)
+    go None = reference_run ts no_name
+    go (Some w) = word_head_run turns w ts
+
+-- ---- types inside others
+
+-- These items are before a type inside those that these frames are of; the outer ones are before the outermost.
+data Within (outer : List Token) : List Frame → List Token → Type 0 where
+  bare : {here : List Token} → Inside 0 outer here → Within outer [] here
+  framed : {frame : Frame} {stack : List Frame} {mid here : List Token} → Within outer stack mid → Opened mid frame here → Within outer (frame ∷ stack) here
+
+abbrev Rose : List Token → Risen → List Token → Type 0
+Rose outer (None, stack, nodes, us) after = (begins_assignment after ≡ false) × Within outer stack after
+Rose outer (Some definition, stack, nodes, us) after = Same outer after
+
+abbrev RiseRun : List Token → List Token → Left → Result Risen Fault → Type 0
+RiseRun outer before ts r = Run before ts (λ (a : Risen). a.3) (Rose outer) r
+
+risen_run : {outer mid : List Token} (after : List Token) (head : Head) (us : Left) (stack : List Frame) (nodes : List Node) (on : TypeId → List Node → Left → Result Risen Fault) → Within outer stack mid → Headed mid (head, us) after → ((definition : TypeId) (new : List Node) → Same mid after → RiseRun outer after us (on definition new us)) → RiseRun outer after us (risen head stack nodes us on)
+risen_run after (heads.Leaf new) us stack nodes on within same again = again _ _ same
+risen_run after (heads.Opens frame) us stack nodes on within opened again = done (None, frame ∷ stack, nodes, us) (opened.0, framed within opened.1)
+
+rise_run : {outer here after : List Token} (stack : List Frame) (definition : TypeId) (nodes : List Node) (ts : Left) → Within outer stack here → Same here after → RiseRun outer after ts (rise_at stack definition nodes ts)
+unfolding rise_at
+rise_run [] definition nodes ts (bare one) same = done (Some definition, [], nodes, ts) (same_behind one same)
+rise_run (frame ∷ stack) definition nodes ts (framed within opened) same =
+    and_then (close_run frame definition ts opened same) (λ head last headed.
+    risen_run last head.0 head.1 stack nodes (rise_at stack) within headed (λ inner new closed. rise_run stack inner new head.1 within closed))
+
+type_turn_run : {outer here : List Token} (turns : ℕ) (stack : List Frame) (nodes : List Node) (ts : Left) → begins_assignment here ≡ false → Within outer stack here → RiseRun outer here ts (type_turn_at turns stack nodes ts)
+unfolding type_turn_at
+type_turn_run turns stack nodes ts no_name within =
+    and_then (head_run turns ts no_name) (λ head last headed.
+    risen_run last head.0 head.1 stack nodes (rise_at stack) within headed (λ inner new closed. rise_run stack inner new head.1 within closed))
+
+-- a type, with these items before it
+abbrev pub TypeRun : List Token → List Token → Left → Result (TypeId × List Node × Left) Fault → Type 0
+TypeRun outer before ts r = Run before ts (λ (a : TypeId × List Node × Left). a.2) (λ (a : TypeId × List Node × Left) after. Same outer after) r
+
+type_within_run : {outer here : List Token} (most turns : ℕ) (stack : List Frame) (nodes : List Node) (ts : Left) → begins_assignment here ≡ false → Within outer stack here → TypeRun outer here ts (type_within_at most turns stack nodes ts)
+unfolding type_within_at
+type_within_run most zero stack nodes ts no_name within = refused ts
+type_within_run {outer} most (suc turns) stack nodes ts no_name within =
+    and_then (type_turn_run most stack nodes ts no_name within) (λ turn after rose.
+    go turn after rose (λ inner new us free more. type_within_run most turns inner new us free more))
+  where
+    go : (turn : Risen) (after : List Token) → Rose outer turn after → ((inner : List Frame) (new : List Node) (us : Left) → begins_assignment after ≡ false → Within outer inner after → TypeRun outer after us (type_within_at most turns inner new us)) → TypeRun outer after turn.3 (type_goes_on turn (type_within_at most turns))
+    go (None, inner, new, us) after rose again = again inner new us rose.0 rose.1
+    go (Some definition, inner, new, us) after rose again = done (definition, new, us) rose
+
+-- a type, where no assignment begins
+pub type_run : (turns : ℕ) (nodes : List Node) (before : List Token) (ts : Left) → begins_assignment before ≡ false → Run before ts (λ a. a.2) (λ (a : TypeId × List Node × Left) after. Same before after) (type_at turns nodes ts)
+unfolding type_at
+type_run turns nodes before ts no_name = type_within_run turns turns [] nodes ts no_name (bare nowhere)

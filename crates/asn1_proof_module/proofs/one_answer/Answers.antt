@@ -1,0 +1,11 @@
+use Rattle.asn1_proof_module.proofs.Faults.{reading_once, fault_once, never_both}
+use Rattle.asn1_proof_module.proofs.one_answer.Goals as goal
+
+pub returns-clause-reading : goal.returns-clause-reading
+returns-clause-reading c = reading_once
+
+pub returns-clause-fault : goal.returns-clause-fault
+returns-clause-fault c = fault_once
+
+pub returns-clause-never_both : goal.returns-clause-never_both
+returns-clause-never_both c = never_both

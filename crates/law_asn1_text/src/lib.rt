@@ -1,0 +1,12 @@
+//! Law: a module that is read is written with the items that it was read from.
+#![tactic(auto)]
+
+ghost use Rattle.std.specs.Prelude.{ℕ, List};
+ghost use Rattle.asn1_assignments.specs.declared.assignment.Syntax.{Syntax};
+ghost use Rattle.asn1_module.specs.asn1_defs.Readings.{Reads};
+ghost use Rattle.law_asn1_text.specs.Written.{IsWrittenSo};
+
+/// The text's items up to the module's end are those that the module is written with, so each value in it is what the text says.
+pub fn written_as_read()
+    ensures { (text : List ℕ) (n : ℕ) (m : Syntax) → Reads text n m → IsWrittenSo text m }
+{}
