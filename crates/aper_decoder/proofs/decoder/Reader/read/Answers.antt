@@ -11,4 +11,4 @@ returns-in-Ok-clause-reads c =
     (subst (λ r. IfOk r (λ end. new.kept.items ≡ old.kept.items ++ c.args.piece.now)) c.in-Ok.is c.take_piece.ensures.kept)
     c.in-Ok.end c.state_after.result
     (subst (λ r. IfOk r (PieceEnds new)) c.in-Ok.is c.take_piece.ensures.ends)
-    (subst (λ n. StateAfter n c.in-Ok.end c.state_after.result) c.len.ensures c.state_after.ensures)
+    (subst (λ n. StateAfter n c.in-Ok.end c.state_after.result) c.len-before.ensures c.state_after.ensures)

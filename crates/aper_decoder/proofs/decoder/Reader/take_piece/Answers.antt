@@ -5,8 +5,8 @@ use Rattle.aper_decoder.specs.inside.States.{type_of, front}
 use Rattle.aper_decoder.proofs.Pieces.{more_stands, more_reading, piece_ends}
 use Rattle.aper_decoder.proofs.decoder.Reader.take_piece.Goals as goal
 
-pub take_turns-requires-stands : goal.take_turns-requires-stands
-take_turns-requires-stands c =
+pub take_turns-requires-clause-stands : goal.take_turns-requires-clause-stands
+take_turns-requires-clause-stands c =
     let old = c.args.self.now in
     let put : c.extend_from_slice.new.self.items ≡ old.kept.items ++ c.args.piece.now = (c.in_ok-extend_from_slice.ensures {u = tt}).items in
     more_stands old.module.now (type_of old) old.kept.items c.args.piece.now c.front.result.now
