@@ -22,7 +22,7 @@ fn number_in(names: &NameIndex, definition: &Definition) -> Option<usize>
 }
 
 /// For each type of a module the number of the assignment that its name refers to.
-#[tactic(auto, unfolding(crate::specs::Numbers::all_numbers))]
+#[tactic(auto, unfolding(asn1_defs::specs::Numbers::all_numbers))]
 pub fn numbers_in(alloc: Global, syntax: &Syntax) -> Result<Vec<Option<usize>>, Memory>
     ensures { IfOk result (λ numbers. numbers.items ≡ numbers_of_syntax syntax.now) }
 {

@@ -1,4 +1,4 @@
-use Rattle.law_message_refusals.proofs.Types.{f1, e1, xn1, xn2, core, token}
+use Rattle.message_proof_refusals.proofs.Types.{f1, e1, xn1, xn2, core, token}
 use Rattle.law_message_refusals.proofs.a_refused_message_goes_wrong_there.Goals as goal
 
 pub returns-clause-f1 : goal.returns-clause-f1

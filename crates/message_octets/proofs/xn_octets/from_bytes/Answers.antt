@@ -10,12 +10,12 @@ use Rattle.profile_xn.proofs.Spellings.{same_decoded}
 use Rattle.message_defs.specs.Xn.{heard_xn}
 use Rattle.message_octets.specs.Reading.{read_value, IsReading}
 use Rattle.message_octets.proofs.Read.{bounded, reading}
-use Rattle.message_octets.proofs.XnAnswers.{answered}
+use Rattle.message_octets.proofs.XnAnswers.{xn_wrong, answered}
 use Rattle.message_octets.proofs.xn_octets.from_bytes.Goals as goal
 
 pub returns-clause-heard : goal.returns-clause-heard
 returns-clause-heard c = answered (tree c.args.profile.now.syntax c.xn_pdu-id.result.number) (xn_type (number_of c.args.profile.now.version))
-    c.xn_pdu-id.ensures.alike c.args.octets.now c.heard_in.result c.heard_in.ensures
+    c.xn_pdu-id.ensures.alike (xn_wrong c.args.profile.now.version) c.args.octets.now c.heard_in.result c.heard_in.ensures
 
 -- The same is read for both types, since the same is asked of octets.
 pub returns-clause-read : goal.returns-clause-read

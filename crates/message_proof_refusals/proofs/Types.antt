@@ -9,7 +9,7 @@ use Rattle.profile_defs.specs.Profile.{f1_type, e1_type, xn_type, core_type, tok
 use Rattle.aper_proof_octets.proofs.Bounded.{bounded}
 use Rattle.aper_proof_octets.proofs.Bounded as bounds
 use Rattle.aper_proof_refused.proofs.Refused.{refused_wrong}
-use Rattle.law_message_refusals.proofs.Sets.{test, parts_test, rows_test, procedures_test, outcome_test, has_sets}
+use Rattle.message_proof_refusals.proofs.Sets.{test, parts_test, rows_test, procedures_test, outcome_test, has_sets}
 
 f1_bounded : IsBounded f1_type
 unfolding f1_type tree parts rows procedures outcome_tree bounds.test bounds.parts_test bounds.rows_test bounds.procedures_test bounds.outcome_test

@@ -1,0 +1,1 @@
+pub use Rattle.law_tied_runs.specs as law_tied_runs

@@ -1,0 +1,71 @@
+-- What is owed, put together with what each step is.
+use Rattle.std.proofs.Common.{◌≡◌, ℕ, List}
+use Rattle.gnb_types.specs.declared.names.Gnb.{Gnb}
+use Rattle.gnb_types.specs.declared.names.SnBits.{SnBits}
+use Rattle.gnb_types.specs.declared.names.UeId.{UeId}
+use Rattle.gnb_types.specs.declared.names.BearerId.{BearerId}
+use Rattle.message_types.specs.declared.rrc.Token.{Token}
+use Rattle.unit_defs.specs.Core.{CorePath, CoreRecord}
+use Rattle.unit_defs.specs.Ways.{Message, Pdu, Input, Output}
+use Rattle.run_defs.specs.transport_defs.declared.Letter.{Letter}
+use Rattle.run_defs.specs.Runs.{Reading}
+use Rattle.law_tie_facts.specs.law_bearer_lists.chain_defs.Orders as down
+use Rattle.law_tie_facts.specs.law_bearer_lists.law_bearer_orders.Happenings.{Beside}
+use Rattle.law_tie_facts.specs.law_run_units.Happenings.{UpRecord}
+use Rattle.law_tie_facts.specs.law_run_bearers.Bearers.{Numbering, contexts_of}
+use Rattle.law_tie_facts.specs.Asked.{RunCause, IsUpStep, down_after, up_after, step_asks}
+use Rattle.law_tied_runs.specs.law_core_ties.Core.{IsOffer, orders_offered, IsCoreStep, orders_told}
+use Rattle.law_tied_runs.specs.Steps.{Point, Step, a_cu_up, an_offer, a_message}
+use Rattle.law_guards.specs.Guards.{OfCuUp, OfOffer, OfMessage}
+
+module _ (reading : Reading) (n : Numbering) (ue : UeId) (bearer : BearerId) (sn : SnBits) (quota : ℕ) (p q : Point) where
+  pub cu_up_step : (gnb : Gnb) (number : ℕ) (cause : RunCause) (input : Input Token Pdu) (outputs : List (Output (Message Token) Pdu)) (left : UpRecord)
+      (beside : Beside) → IsUpStep reading p.state q.state gnb number cause input outputs left → OfCuUp n ue bearer sn quota p gnb number cause input beside
+      → q.down ≡ down_after n ue bearer p.state.units sn quota p.down (contexts_of n ue bearer p.state.units)
+      (step_asks n ue bearer p.state gnb number cause input beside)
+      → q.up ≡ up_after n ue bearer p.state.units sn quota p.up (contexts_of n ue bearer p.state.units)
+      (step_asks n ue bearer p.state gnb number cause input beside) → Step reading n ue bearer sn quota p q
+  cu_up_step gnb number cause input outputs left beside acts owed down_is up_is = a_cu_up (record {
+    gnb = gnb;
+    number = number;
+    cause = cause;
+    input = input;
+    outputs = outputs;
+    left = left;
+    beside = beside;
+    acts = acts;
+    asks = owed.asks;
+    fresh = owed.fresh;
+    down = down_is;
+    up = up_is;
+  })
+
+  pub offer_step : (who : UeId) (which : BearerId) (packet : List ℕ) (path : CorePath) → IsOffer reading p.state q.state who which packet path
+      → OfOffer n ue bearer sn quota p who which → q.down ≡ down.run p.down (orders_offered ue bearer who which packet) → q.up ≡ p.up
+      → Step reading n ue bearer sn quota p q
+  offer_step who which packet path offers owed down_is up_is = an_offer (record {
+    who = who;
+    which = which;
+    packet = packet;
+    path = path;
+    offers = offers;
+    leads = owed.leads;
+    down = down_is;
+    up = up_is;
+  })
+
+  pub message_step : (number : ℕ) (letter : Letter (Message Token)) (outputs : List (Output (Message Token) Pdu)) (core : CoreRecord (Message Token) Token)
+      → IsCoreStep reading p.state q.state number letter outputs core → OfMessage n ue bearer sn quota p letter
+      → q.down ≡ down.run p.down (orders_told n ue bearer p.state letter) → q.up ≡ p.up → Step reading n ue bearer sn quota p q
+  message_step number letter outputs core takes owed down_is up_is = a_message (record {
+    number = number;
+    letter = letter;
+    outputs = outputs;
+    core = core;
+    takes = takes;
+    leads = owed.leads;
+    one = owed.one;
+    asks = owed.asks;
+    down = down_is;
+    up = up_is;
+  })

@@ -1,0 +1,46 @@
+-- All that is owed of the steps of a run, for one bearer: what control owes the packets, and, under headings of their own, what of the
+-- packets isn't shown yet.
+use Rattle.std.specs.Prelude.{◌≡◌, ℕ, true}
+use Rattle.gnb_types.specs.declared.names.Gnb.{Gnb}
+use Rattle.gnb_types.specs.declared.names.SnBits.{SnBits}
+use Rattle.gnb_types.specs.declared.names.UeId.{UeId}
+use Rattle.gnb_types.specs.declared.names.BearerId.{BearerId}
+use Rattle.message_types.specs.declared.rrc.Token.{Token}
+use Rattle.unit_defs.specs.Ways.{Message, Pdu, Input}
+use Rattle.run_defs.specs.transport_defs.declared.Letter.{Letter}
+use Rattle.law_core_rows.specs.Shown.{goal_by, IsOne}
+use Rattle.law_tie_facts.specs.law_bearer_lists.chain_defs.Guards as down_guards
+use Rattle.law_tie_facts.specs.law_bearer_lists.law_context_orders.Shown.{is_bearer}
+use Rattle.law_tie_facts.specs.law_bearer_lists.law_bearer_orders.Happenings.{Beside}
+use Rattle.law_tie_facts.specs.law_run_bearers.Bearers.{Numbering, contexts_of}
+use Rattle.law_tie_facts.specs.Asked.{RunCause, AllAsk, step_asks}
+use Rattle.law_tied_runs.specs.law_core_ties.Core.{PathLeads, orders_told}
+use Rattle.law_up_ties.specs.Fresh.{UplinksAreFresh}
+use Rattle.law_tied_runs.specs.Steps.{Point}
+
+module _ (n : Numbering) (ue : UeId) (bearer : BearerId) (sn : SnBits) (quota : ℕ) (p : Point) where
+  -- ---- a CU-UP acts
+
+  pub record OfCuUp (gnb : Gnb) (number : ℕ) (cause : RunCause) (input : Input Token Pdu) (beside : Beside) : Type 0 where
+    -- Control: a context is made where none is, a freeze leads from the context that the terminal is at to an untouched one, an SN status
+    -- says what the source had, switch, resume and release come where they belong; and the two TEIDs of a hop are the forwarding
+    -- tunnels of the context that the freeze leads to (`HopLeads`). Not shown yet: that a hop goes on leading there, to another context;
+    -- and that what confirms a COUNT, or reports one, tells of what was received.
+    pub asks : AllAsk n ue bearer p.state.units sn quota p.down p.up (contexts_of n ue bearer p.state.units)
+        (step_asks n ue bearer p.state gnb number cause input beside)
+    -- Not shown yet: of an uplink whose TEID wasn't given the part has nothing.
+    pub fresh : UplinksAreFresh n ue bearer p.state gnb number p.up
+
+  -- ---- a DU acts: where it takes what stands next on the radio up, `HomeLeads` of `law_home_ties`; else nothing (`law_du_ties`)
+
+  -- ---- a packet is offered, and the core takes a message
+
+  -- Control: a path switch names the N3 tunnel of the context that the terminal is at, after the one that feeds it. Not shown yet: that
+  -- the core's path goes on leading there between.
+  pub record OfOffer (who : UeId) (which : BearerId) : Type 0 where
+    pub leads : is_bearer ue bearer who which ≡ true → PathLeads n ue bearer p.state p.down
+
+  pub record OfMessage (l : Letter (Message Token)) : Type 0 where
+    pub leads : PathLeads n ue bearer p.state p.down
+    pub one : IsOne (goal_by ue bearer p.state.core l.from l.message)
+    pub asks : down_guards.AreKept sn quota p.down (orders_told n ue bearer p.state l)

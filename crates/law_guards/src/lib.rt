@@ -1,0 +1,54 @@
+//! Laws that tell all that is owed of the steps of a run, for one bearer. Each function does nothing: its contract is the law.
+#![tactic(auto)]
+
+ghost use Rattle.gnb_types.specs.declared.names.BearerId.{BearerId};
+ghost use Rattle.gnb_types.specs.declared.names.Gnb.{Gnb};
+ghost use Rattle.gnb_types.specs.declared.names.SnBits.{SnBits};
+ghost use Rattle.gnb_types.specs.declared.names.UeId.{UeId};
+ghost use Rattle.law_guards.specs.Guards.{OfCuUp, OfMessage, OfOffer};
+ghost use Rattle.law_tie_facts.specs.Asked.{down_after, IsUpStep, RunCause, step_asks, up_after};
+ghost use Rattle.law_tie_facts.specs.law_bearer_lists.chain_defs.Orders as down;
+ghost use Rattle.law_tie_facts.specs.law_bearer_lists.law_bearer_orders.Happenings.{Beside};
+ghost use Rattle.law_tie_facts.specs.law_run_bearers.Bearers.{contexts_of, Numbering};
+ghost use Rattle.law_tie_facts.specs.law_run_units.Happenings.{UpRecord};
+ghost use Rattle.law_tied_runs.specs.Steps.{Point, Step};
+ghost use Rattle.law_tied_runs.specs.law_core_ties.Core.{IsCoreStep, IsOffer};
+ghost use Rattle.law_tied_runs.specs.law_core_ties.Core.{orders_offered, orders_told};
+ghost use Rattle.message_types.specs.declared.rrc.Token.{Token};
+ghost use Rattle.run_defs.specs.Runs.{Reading};
+ghost use Rattle.run_defs.specs.transport_defs.declared.Letter.{Letter};
+ghost use Rattle.std.specs.Prelude.{List, ◌≡◌, ℕ};
+ghost use Rattle.unit_defs.specs.Core.{CorePath, CoreRecord};
+ghost use Rattle.unit_defs.specs.Ways.{Input, Message, Output, Pdu};
+
+/// A step of a CU-UP or the core in a run is one of those of which `law_tied_runs` speaks, where what `Guards` tells of it is so, and the
+/// parts go on by its orders: nothing else is owed.
+pub fn nothing_else_is_owed()
+    ensures cu_up { (reading : Reading) (n : Numbering) (ue : UeId) (bearer : BearerId) (sn : SnBits)
+        (quota : ℕ) (p q : Point) (gnb : Gnb) (number : ℕ) (cause : RunCause)
+        (input : Input Token Pdu) (outputs : List (Output (Message Token) Pdu)) (left : UpRecord)
+        (beside : Beside)
+        → IsUpStep reading p.state q.state gnb number cause input outputs left
+        → OfCuUp n ue bearer sn quota p gnb number cause input beside
+        → q.down ≡ down_after n ue bearer p.state.units sn quota p.down
+        (contexts_of n ue bearer p.state.units)
+        (step_asks n ue bearer p.state gnb number cause input beside)
+        → q.up ≡ up_after n ue bearer p.state.units sn quota p.up
+        (contexts_of n ue bearer p.state.units)
+        (step_asks n ue bearer p.state gnb number cause input beside)
+        → Step reading n ue bearer sn quota p q }
+    ensures offer { (reading : Reading) (n : Numbering) (ue : UeId) (bearer : BearerId) (sn : SnBits)
+        (quota : ℕ) (p q : Point) (who : UeId) (which : BearerId) (packet : List ℕ)
+        (path : CorePath)
+        → IsOffer reading p.state q.state who which packet path
+        → OfOffer n ue bearer sn quota p who which
+        → q.down ≡ down.run p.down (orders_offered ue bearer who which packet) → q.up ≡ p.up
+        → Step reading n ue bearer sn quota p q }
+    ensures message { (reading : Reading) (n : Numbering) (ue : UeId) (bearer : BearerId)
+        (sn : SnBits) (quota : ℕ) (p q : Point) (number : ℕ) (letter : Letter (Message Token))
+        (outputs : List (Output (Message Token) Pdu)) (core : CoreRecord (Message Token) Token)
+        → IsCoreStep reading p.state q.state number letter outputs core
+        → OfMessage n ue bearer sn quota p letter
+        → q.down ≡ down.run p.down (orders_told n ue bearer p.state letter) → q.up ≡ p.up
+        → Step reading n ue bearer sn quota p q }
+{}
