@@ -1,4 +1,4 @@
-use Rattle.std.proofs.Common.{◌≡◌, ◌++◌, subst}
+use Rattle.std.proofs.Common.{◌≡◌, ◌++◌, subst, ◌∙◌}
 use Rattle.std.specs.Prelude.{IfOk}
 use Rattle.aper_decoder.specs.inside.States.{PieceEnds, StateAfter}
 use Rattle.aper_decoder.proofs.Pieces.{reads_piece}
@@ -11,4 +11,4 @@ returns-in-Ok-clause-reads c =
     (subst (λ r. IfOk r (λ end. new.kept.items ≡ old.kept.items ++ c.args.piece.now)) c.in-Ok.is c.take_piece.ensures.kept)
     c.in-Ok.end c.state_after.result
     (subst (λ r. IfOk r (PieceEnds new)) c.in-Ok.is c.take_piece.ensures.ends)
-    (subst (λ n. StateAfter n c.in-Ok.end c.state_after.result) c.len-before.ensures c.state_after.ensures)
+    (subst (λ n. StateAfter n c.in-Ok.end c.state_after.result) (c.len-before.ensures ∙ old.kept.ok.0) c.state_after.ensures)
