@@ -88,9 +88,10 @@ module _ (m : Syntax) (old new : Cursor) (before after : Spot) (fs gs : List Fra
       let c : IsReading t old.octets old (next_left (tree m) next fs) =
       subst (λ (c : Cursor). IsReading t old.octets c (next_left (tree m) next fs)) (sym at) r in
       subst (λ x. IsTurned m t old.octets before gs x) (sym o)
-      (subst (λ (hs : List Frame). IsTurned m t old.octets before hs (turneds.End (ends.Wrong new.place reason back))) (sym h.1)
-      (stopped t old.octets old (next_left (tree m) next fs) c reason (path_of fs) new h.0,
-      subst (λ (x : Next). IsReadingAt m t old.octets before x fs) (sym h.2) r))
+      (subst (λ (hs : List Frame). IsTurned m t old.octets before hs (turneds.End (ends.Wrong new.place reason back))) (sym h.1) (
+        stopped t old.octets old (next_left (tree m) next fs) c reason (path_of fs) new h.0,
+        subst (λ (x : Next). IsReadingAt m t old.octets before x fs) (sym h.2) r,
+      ))
   turn_halted (halts.Wrong reason back) (Err e) at h o = tt
   turn_halted halts.Memory (Ok result) at h o = absurd o
   turn_halted halts.Memory (Err e) at h o = tt

@@ -79,7 +79,6 @@ RefusesStill fault (Err (errors.Refused bit reason path)) =
     fault ≡ record { bit = bit; reason = reason; path = path_view path.items }
 RefusesStill fault (Err errors.Memory) = Unit {0}
 
-
 -- The end of all pieces: what the octets that are kept give as a whole.
 abbrev pub Finishes : Tree → Feeding → Result Value DecodeError → Type 0
 Finishes t (reading kept) result = Decodes t kept result

@@ -5,6 +5,8 @@
 //! behind a bar what is answered to the octets as a whole. Any other line is passed over.
 #![tactic(auto)]
 
+ghost use Rattle.std.specs.Prelude.{◌<◌, length};
+
 use aper::path_text;
 use aper_decoder::{Decoder, Step, decode};
 use aper_reading::DecodeError;
@@ -53,9 +55,12 @@ fn answer_in(rt: &HostRuntime, module: &Option<Module>, name: &str, given: &str)
     let Some((octets, sizes)) = given.split_once(' ') else {
         return Ok(());
     };
-    match (module.find(name.as_bytes()), octets_of(rt.alloc(), octets)) {
-        (Some(id), Ok(octets)) => answer(rt, module, id, octets.as_slice(), sizes),
-        _ => Ok(()),
+    let Some(id) = module.find(name.as_bytes()) else {
+        return Ok(());
+    };
+    match octets_of(rt.alloc(), octets) {
+        Ok(octets) => answer(rt, module, id, octets.as_slice(), sizes),
+        Err(_) => Ok(()),
     }
 }
 
@@ -94,7 +99,9 @@ fn answer(
     id: TypeId,
     octets: &[u8],
     sizes: &str,
-) -> io::Result<()> {
+) -> io::Result<()>
+    requires { id.number < length module.now.nodes }
+{
     let mut decoder = Decoder::new(rt.alloc(), module, id);
     feed(rt, &mut decoder, octets, sizes)?;
     report_end(rt, decoder.finish())?;

@@ -33,5 +33,5 @@ returns-in-End-clause-ends c =
     let same : l.cursor.octets ≡ c.args.octets.now = ap (λ (x : Cursor). x.octets) l.invariant.at in
     let ensured = c.in_ok-other.ensures {u = tt} in
     λ t r.
-        turned_reads m l.cursor.octets c.args.octets.now same spot fs _ turned (ap taken c.in-End.is)
-        l.spot l.next l.frames ensured.turned t (l.invariant.reading t r)
+    turned_reads m l.cursor.octets c.args.octets.now same spot fs _ turned (ap taken c.in-End.is)
+    l.spot l.next l.frames ensured.turned t (l.invariant.reading t r)
