@@ -1,6 +1,8 @@
-//! Tests of values as JSON by public calls alone: texts that another reading of the specification prints.
+//! Tests of values as JSON by public calls alone: texts that another reading of the specification prints, and octets that are no text.
 #![tactic(auto)]
 
+#[cfg(test)]
+mod octets;
 #[cfg(test)]
 mod printed;
 #[cfg(test)]
