@@ -21,7 +21,9 @@ import random_modules
 
 TOP = pathlib.Path(__file__).resolve().parents[1]
 CRATE = TOP / "crates/decode_pieces"
-PROGRAM = ["rt", "try"]
+# What the gate built, or else the sources, interpreted.
+BUILT = CRATE / "out/decode_pieces"
+PROGRAM = [BUILT] if BUILT.exists() else ["rt", "try"]
 OTHER = TOP / "../shared/oracle/codec.py"
 
 
