@@ -95,8 +95,8 @@ follows_one h (text_size {kind} m) (text_size k) = sized_one kind h m k
 no_shape : {shape : Shape} → None ≡ Some shape → ⊥
 no_shape is = cc
 
-same_shape : {word : Word} {shape other : Shape} → shape_of word ≡ Some shape → shape_of word ≡ Some other → shape ≡ other
-same_shape {word} {shape} {other} is also = same (sym is ∙ also)
+same_shape : (word : Word) {shape other : Shape} → shape_of word ≡ Some shape → shape_of word ≡ Some other → shape ≡ other
+same_shape word {shape} {other} is also = same (sym is ∙ also)
   where
     same : Some shape ≡ Some other → shape ≡ other
     same e = cc
@@ -109,7 +109,7 @@ no_choice : {place : ℕ} {new : Node} {ts rest : Left} → Plain words.Choice p
 no_choice (simple is m) = no_shape is
 
 plain_one : {word : Word} {place : ℕ} {x y : Node} {ts us a b : Left} → ts ≡ us → Plain word place ts x a → Plain word place us y b → One x y a b
-plain_one h (simple is m) (simple also k) = node_one (follows_one h m (subst (λ (shape : Shape). Follows shape _ _ _) (same_shape also is) k))
+plain_one {us} {b} h (simple {word} is m) (simple {definition} also k) = node_one (follows_one h m (subst (λ (shape : Shape). Follows shape us definition b) (same_shape word also is) k))
 plain_one h (simple is m) (ie_container k) = absurd (no_shape is)
 plain_one h (simple is m) (pdu k) = absurd (no_shape is)
 plain_one h (ie_container k) (simple is m) = absurd (no_shape is)

@@ -6,14 +6,17 @@ use Rattle.asn1_types.specs.declared.definition.Size.{Size}
 use Rattle.asn1_types.specs.declared.definition.Definition.{Definition}
 use Rattle.asn1_types.specs.Shapes.{Shape, Alone, BoundsFollow, NamesFollow, StringFollows, TextSizeFollows, shape_of, Nothing, StringSize, TextSize, Parts, Simple, parts_of}
 
+abbrev SameParts : (Option Size → Parts) → (Option Size → Parts) → Type 0
+SameParts parts others = parts ≡ others
+
 -- the types that a word of this shape begins have it as their word
 abbrev Agrees : Word → Option Shape → Type 0
 Agrees w None = w ≡ w
 Agrees w (Some (Alone definition)) = parts_of definition ≡ Simple w Nothing
 Agrees w (Some BoundsFollow) = w ≡ words.Integer
 Agrees w (Some NamesFollow) = w ≡ words.Enumerated
-Agrees w (Some (StringFollows kind)) = (λ (size : Option Size). parts_of (kind size)) ≡ (λ (size : Option Size). Simple w (StringSize size))
-Agrees w (Some (TextSizeFollows kind)) = (λ (size : Option Size). parts_of (kind size)) ≡ (λ (size : Option Size). Simple w (TextSize size))
+Agrees w (Some (StringFollows kind)) = SameParts (λ size. parts_of (kind size)) (λ size. Simple w (StringSize size))
+Agrees w (Some (TextSizeFollows kind)) = SameParts (λ size. parts_of (kind size)) (λ size. Simple w (TextSize size))
 
 -- each row of the other words is proved as this one is
 agrees : (w : Word) → Agrees w (shape_of w)

@@ -97,18 +97,8 @@ kind_at (Members group) = kinds.Type
 kind_at (Added group) = kinds.Type
 
 -- the word of a type isn't END
-<<<<<<< ours
 pub begins_type : {nodes all : List Node} {word : Word} {place : ℕ} {x : Value (Behind word place)} {ts rest : List Placed} → Means (Behind word place) nodes ts x all rest → is_plain (tokens.Word word) ≡ true
-begins_type (plain boolean) = refl
-begins_type (plain (integer a l r h x e)) = refl
-begins_type (plain (enumerated a n)) = refl
-begins_type (plain (bit_string s z)) = refl
-begins_type (plain (octet_string s z)) = refl
-begins_type (plain (printable_string z)) = refl
-=======
-begins_type : {nodes all : List Node} {word : Word} {place : ℕ} {x : Value (Behind word place)} {ts rest : List Placed} → Means (Behind word place) nodes ts x all rest → is_plain (tokens.Word word) ≡ true
 begins_type (plain (simple {word} is f)) = no_end word is
->>>>>>> theirs
 begins_type (plain (ie_container s)) = refl
 begins_type (plain (pdu s)) = refl
 begins_type (sequence_of z o m) = refl
