@@ -17,7 +17,7 @@ pub record Range : Type 0 where
 abbrev pub from_to : ℤ → ℤ → Option Range
 from_to least greatest = Some (record { least = least; greatest = greatest })
 
--- the size that follows these items is that of a PrintableString, which varies
+-- the size that follows these items is one that varies, as that of a PrintableString does
 abbrev pub sizes_text : List Token → Bool
 sizes_text (tokens.Word word ∷ before) = sizes_characters (shape_of word)
 sizes_text _ = false
