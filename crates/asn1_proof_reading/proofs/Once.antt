@@ -1,7 +1,7 @@
 -- A text is one module's, or has one first wrong item, and never both.
 use mathlib.Core.List.{reverse_aux}
 use Rattle.std.proofs.lemmas.List.{append_assoc, append-nil}
-use Rattle.std.proofs.Common.{◌≡◌, ℕ, List, [], ◌∷◌, ◌++◌, reverse, Bool, true, false, refl, sym, ap, ◌∙◌, subst}
+use Rattle.std.proofs.Common.{◌≡◌, ℕ, List, [], ◌∷◌, ◌++◌, reverse, refl, sym, ap, ◌∙◌, subst}
 use Rattle.asn1_proof_values.proofs.gnb_types.Choices.{clash}
 use Rattle.asn1_proof_values.specs.asn1_tokens.declared.token.Token.{Token}
 use Rattle.asn1_proof_values.specs.asn1_tokens.Stream.{Placed}

@@ -12,7 +12,7 @@ use Rattle.asn1_proof_values.specs.asn1_proof_syntax.Grammatical as grammar
 use Rattle.asn1_proof_values.specs.asn1_defs.Spelling.{tokens_of, GoesOn}
 use Rattle.asn1_proof_values.specs.asn1_proof_syntax.Grammatical.{IsModuleFront, IsWrongItem}
 use Rattle.asn1_proof_items.specs.JudgedItems as judged
-use Rattle.asn1_proof_values.specs.asn1_defs.ItemFaults.{passes_bound, is_repeated, IsAllowed, AreAllowed}
+use Rattle.asn1_proof_values.specs.asn1_defs.ItemFaults.{AreAllowed}
 use Rattle.asn1_proof_items.specs.JudgedItems.{Because, AreAllowedTo, IsJudged}
 use Rattle.asn1_proof_values.specs.asn1_defs.ModuleMeanings.{MeansModule}
 use Rattle.asn1_proof_values.specs.asn1_defs.Items.{AreItems}

@@ -27,7 +27,7 @@ use Rattle.asn1_module.specs.asn1_assignments.declared.assignment.Syntax.{Syntax
 use Rattle.asn1_module.specs.asn1_assignments.declared.assignment.Criticality.{Criticality}
 use Rattle.asn1_module.specs.asn1_assignments.declared.assignment.Presence.{Presence}
 use Rattle.asn1_module.specs.asn1_defs.ItemMeanings as items
-use Rattle.asn1_module.specs.asn1_defs.ItemMeanings.{The, Extends, HighBound, ASize, OptionalSize, SetName, AddedNames, Names}
+use Rattle.asn1_module.specs.asn1_defs.ItemMeanings.{The, Extends, HighBound, OptionalSize, SetName, AddedNames, Names}
 use Rattle.asn1_module.specs.asn1_defs.TypeMeanings as means
 use Rattle.asn1_module.specs.asn1_defs.TypeMeanings.{Follows, Plain, MayBeOptional, Piece, AType, Behind, AMember, Members, Added, Value, Means}
 use Rattle.asn1_module.specs.asn1_defs.RowMeanings as rows
