@@ -6,6 +6,7 @@ use Rattle.asn1_tokens.specs.declared.token.Word.TheVariants as words
 use Rattle.asn1_tokens.specs.declared.token.Sign.TheVariants as signs
 use Rattle.asn1_tokens.specs.declared.token.Token.{Token}
 use Rattle.asn1_tokens.specs.declared.token.Token.TheVariants as tokens
+use Rattle.asn1_assignments.specs.asn1_types.Shapes.{shape_of, sizes_characters}
 use Rattle.asn1_assignments.specs.asn1_types.Sizes.{natural, least_high, integer_least, integer_greatest, greatest_beside}
 
 -- the least and the greatest number that may stand at a place
@@ -16,9 +17,9 @@ pub record Range : Type 0 where
 abbrev pub from_to : ℤ → ℤ → Option Range
 from_to least greatest = Some (record { least = least; greatest = greatest })
 
--- the size that follows these items is that of a PrintableString
+-- the size that follows these items is one that varies, as that of a PrintableString does
 abbrev pub sizes_text : List Token → Bool
-sizes_text (tokens.Word words.PrintableString ∷ before) = true
+sizes_text (tokens.Word word ∷ before) = sizes_characters (shape_of word)
 sizes_text _ = false
 
 -- behind this word

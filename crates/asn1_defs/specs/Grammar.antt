@@ -1,13 +1,14 @@
 -- The grammar of modules, as productions over lexical items (X.680, clauses 13 and 16 to 29; X.681, 12.3 for the object sets in
 -- their fixed notation). A name has its own form here alone: what it refers to, and the bounds of numbers, are no part of it.
-use Rattle.std.specs.Prelude.{List, [], ◌∷◌, Bool, true, false, codes, ◌||◌, ℕ}
+use Rattle.std.specs.Prelude.{List, [], ◌∷◌, Bool, true, false, Option, Some, None, codes, ◌||◌, ℕ}
 use Rattle.asn1_tokens.specs.declared.token.Word.{Word}
 use Rattle.asn1_tokens.specs.declared.token.Word.TheVariants as words
 use Rattle.asn1_tokens.specs.declared.token.Sign.{Sign}
 use Rattle.asn1_tokens.specs.declared.token.Sign.TheVariants as signs
 use Rattle.asn1_tokens.specs.declared.token.Token.{Token}
 use Rattle.asn1_tokens.specs.declared.token.Token.TheVariants as tokens
-use Rattle.asn1_tokens.specs.Words.{is_word, is_sign, is_text}
+use Rattle.asn1_tokens.specs.Words.{all_words, is_word, is_sign, is_text}
+use Rattle.asn1_assignments.specs.asn1_types.Shapes.{Shape, Alone, BoundsFollow, NamesFollow, StringFollows, TextSizeFollows, shape_of}
 
 -- what a lexical item must be at its place
 pub data Terminal : Type 0 where
@@ -127,6 +128,23 @@ set_name = open_brace ∷ open_brace ∷ Item AnUpper ∷ close_brace ∷ close_
 abbrev pub set_end : List Symbol
 set_end = comma ∷ ellipsis ∷ close_brace ∷ []
 
+-- what follows the word of a type of this shape
+abbrev pub behind_word : Shape → List Symbol
+behind_word (Alone definition) = []
+behind_word BoundsFollow = open_bracket ∷ Item ANumber ∷ sign signs.Range ∷ Item ANumber ∷ Whole Mark ∷ close_bracket ∷ []
+behind_word NamesFollow = open_brace ∷ Item ALower ∷ Whole AfterName ∷ []
+behind_word (StringFollows kind) = word words.String ∷ Whole OptionalSize ∷ []
+behind_word (TextSizeFollows kind) = Whole OptionalSize ∷ []
+
+-- the words that begin a type without another one inside, each with what follows it, and then other sequences
+abbrev pub beside_simple : Word → Option Shape → List (List Symbol) → List (List Symbol)
+beside_simple w None others = others
+beside_simple w (Some shape) others = (word w ∷ behind_word shape) ∷ others
+
+abbrev pub simple_types : List Word → List (List Symbol) → List (List Symbol)
+simple_types [] others = others
+simple_types (w ∷ ws) others = beside_simple w (shape_of w) (simple_types ws others)
+
 -- What a part consists of: one of these sequences.
 unfoldable pub productions : Part → List (List Symbol)
 productions Module =
@@ -147,17 +165,12 @@ productions MoreProcedureRows = (sign signs.Bar ∷ Whole ProcedureRows ∷ []) 
 productions SuccessfulOutcome = (word words.Successful ∷ word words.Outcome ∷ Whole AType ∷ []) ∷ [] ∷ []
 productions UnsuccessfulOutcome = (word words.Unsuccessful ∷ word words.Outcome ∷ Whole AType ∷ []) ∷ [] ∷ []
 productions AType =
-    (word words.Boolean ∷ [])
-    ∷ (word words.Integer ∷ open_bracket ∷ Item ANumber ∷ sign signs.Range ∷ Item ANumber ∷ Whole Mark ∷ close_bracket ∷ [])
-    ∷ (word words.Enumerated ∷ open_brace ∷ Item ALower ∷ Whole AfterName ∷ [])
-    ∷ (word words.Bit ∷ word words.String ∷ Whole OptionalSize ∷ [])
-    ∷ (word words.Octet ∷ word words.String ∷ Whole OptionalSize ∷ [])
-    ∷ (word words.PrintableString ∷ Whole OptionalSize ∷ [])
-    ∷ (word words.Sequence ∷ Whole SequenceRest ∷ [])
+    simple_types all_words
+    ((word words.Sequence ∷ Whole SequenceRest ∷ [])
     ∷ (word words.Choice ∷ open_brace ∷ Item ALower ∷ Whole AType ∷ Whole AfterAlternative ∷ [])
     ∷ (word words.ProtocolIeContainer ∷ set_name)
     ∷ (word words.ProtocolPdu ∷ set_name)
-    ∷ (Item AnUpper ∷ []) ∷ []
+    ∷ (Item AnUpper ∷ []) ∷ [])
 productions Mark = (comma ∷ ellipsis ∷ []) ∷ [] ∷ []
 productions OptionalSize = size [] ∷ [] ∷ []
 productions HighSize = (sign signs.Range ∷ Item ANumber ∷ []) ∷ [] ∷ []

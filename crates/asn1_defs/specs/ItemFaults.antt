@@ -44,11 +44,11 @@ is_repeated before tokens.OutOfProfile = false
 is_repeated before tokens.Nothing = false
 is_repeated before tokens.EndOfText = false
 
-pub record IsFine (before : List Token) (token : Token) (behind : List Token) : Type 0 where
+pub record IsAllowed (before : List Token) (token : Token) (behind : List Token) : Type 0 where
   pub within : passes_bound before token behind ≡ false
   pub new : is_repeated before token ≡ false
 
--- each of these is fine, with others before and behind them
-abbrev pub AreFine : List Token → List Token → List Token → Type 0
-AreFine before [] behind = Unit {0}
-AreFine before (token ∷ tokens) behind = IsFine before token (tokens ++ behind) × AreFine (token ∷ before) tokens behind
+-- each of these is allowed, with others before and behind them
+abbrev pub AreAllowed : List Token → List Token → List Token → Type 0
+AreAllowed before [] behind = Unit {0}
+AreAllowed before (token ∷ tokens) behind = IsAllowed before token (tokens ++ behind) × AreAllowed (token ∷ before) tokens behind

@@ -9,6 +9,7 @@ use Rattle.asn1_tokens.specs.declared.token.Token.{Token}
 use Rattle.asn1_tokens.specs.declared.token.Token.TheVariants as tokens
 use Rattle.asn1_assignments.specs.asn1_types.declared.definition.Extensible.{Extensible}
 use Rattle.asn1_tokens.specs.Words.{is_word}
+use Rattle.asn1_assignments.specs.asn1_types.Shapes.{shape_of, ends_alone}
 use Rattle.asn1_assignments.specs.asn1_types.Sizes.{natural}
 use Rattle.asn1_assignments.specs.asn1_types.Members.{no_parts, with_part, extended}
 
@@ -66,10 +67,8 @@ is_given number _ = false
 
 abbrev pub ends_with_word : Word → Bool
 ends_with_word words.Begin = true
-ends_with_word words.Boolean = true
 ends_with_word words.String = true
-ends_with_word words.PrintableString = true
-ends_with_word _ = false
+ends_with_word word = ends_alone (shape_of word)
 
 -- The word BEGIN stands last, or the end of a type or a set: a name of upper form is that of an assignment here.
 abbrev pub begins_assignment : List Token → Bool

@@ -9,7 +9,7 @@ use Rattle.asn1_assignments.specs.asn1_types.declared.fault.Fault.{Fault}
 use Rattle.asn1_assignments.specs.asn1_types.Reading.{reason_of}
 use Rattle.asn1_assignments.specs.declared.assignment.Syntax.{Syntax}
 use Rattle.asn1_defs.specs.Spelling.{tokens_of, IsModuleText, IsOpen, GoesOn}
-use Rattle.asn1_defs.specs.ItemFaults.{passes_bound, is_repeated, AreFine}
+use Rattle.asn1_defs.specs.ItemFaults.{passes_bound, is_repeated, AreAllowed}
 use Rattle.asn1_defs.specs.ModuleMeanings.{MeansModule}
 
 -- The text's items begin with a module's: the grammar spells them, none passes a bound or gives something again, and they mean this
@@ -20,7 +20,7 @@ pub record IsTextOf (text : List ℕ) (m : Syntax) : Type 0 where
   pub rest : List Placed
   pub items : AreItems (length text) text (front ++ last ∷ rest)
   pub spelled : IsModuleText (tokens_of front ++ last.token ∷ [])
-  pub fine : AreFine [] (tokens_of front ++ last.token ∷ []) (tokens_of rest)
+  pub allowed : AreAllowed [] (tokens_of front ++ last.token ∷ []) (tokens_of rest)
   pub means : MeansModule (front ++ last ∷ rest) m
   pub ends : m.end ≡ last.place.end
 
@@ -38,5 +38,5 @@ pub record IsFirstWrong (text : List ℕ) (fault : Fault) : Type 0 where
   pub rest : List Placed
   pub items : AreItems (length text) text (front ++ item ∷ rest)
   pub at : fault.place ≡ item.place.start
-  pub fine : AreFine [] (tokens_of front) (item.token ∷ tokens_of rest)
+  pub allowed : AreAllowed [] (tokens_of front) (item.token ∷ tokens_of rest)
   pub wrong : IsWrong (tokens_of front) item.token (tokens_of rest) fault.reason

@@ -9,27 +9,32 @@ use Rattle.asn1_assignments.specs.asn1_types.declared.definition.Size.{Size}
 use Rattle.asn1_assignments.specs.asn1_types.declared.definition.TypeId.{TypeId}
 use Rattle.asn1_assignments.specs.asn1_types.declared.definition.Component.{Component}
 use Rattle.asn1_assignments.specs.asn1_types.declared.definition.Extensible.{Extensible}
+use Rattle.asn1_assignments.specs.asn1_types.declared.definition.Definition.{Definition}
 use Rattle.asn1_assignments.specs.asn1_types.declared.definition.Definition.TheVariants as types
 use Rattle.asn1_assignments.specs.asn1_types.declared.definition.Node.{Node}
 use Rattle.asn1_assignments.specs.asn1_types.declared.members.Group.{Group}
 use Rattle.asn1_assignments.specs.asn1_types.declared.members.Group.TheVariants as groups
 use Rattle.asn1_assignments.specs.asn1_types.Reading.{Left, begins_with}
 use Rattle.asn1_assignments.specs.asn1_types.Members.{no_parts, component, node}
+use Rattle.asn1_assignments.specs.asn1_types.Shapes.{Shape, Alone, BoundsFollow, NamesFollow, StringFollows, TextSizeFollows, shape_of}
 use Rattle.asn1_assignments.specs.asn1_types.Types.{next_id}
 use Rattle.asn1_defs.specs.ItemMeanings.{The, start_of, Extends, OptionalSize, SetName, Names}
+
+-- What follows the word of a type of this shape: the type.
+pub data Follows : Shape → Left → Definition → Left → Type 0 where
+  alone : {definition : Definition} {ts : Left} → Follows (Alone definition) ts definition ts
+  bounds : {low high : ℤ} {extensible : Bool} {ts a b c d e rest : Left}
+      → The (tokens.Sign signs.LeftParenthesis) ts a → The (tokens.Number low) a b → The (tokens.Sign signs.Range) b c → The (tokens.Number high) c d
+      → Extends d extensible e → The (tokens.Sign signs.RightParenthesis) e rest
+      → Follows BoundsFollow ts (types.Integer low high extensible) rest
+  names : {listed : Extensible (List ℕ)} {ts a rest : Left} → The (tokens.Sign signs.LeftBrace) ts a → Names a listed rest → Follows NamesFollow ts (types.Enumerated listed) rest
+  string : {kind : Option Size → Definition} {size : Option Size} {ts a rest : Left} → The (tokens.Word words.String) ts a → OptionalSize a size rest → Follows (StringFollows kind) ts (kind size) rest
+  text_size : {kind : Option Size → Definition} {size : Option Size} {ts rest : Left} → OptionalSize ts size rest → Follows (TextSizeFollows kind) ts (kind size) rest
 
 -- What follows the first word of a type without another one inside: the type, with the place of the word, or of the name that it
 -- refers by.
 pub data Plain : Word → ℕ → Left → Node → Left → Type 0 where
-  boolean : {place : ℕ} {ts : Left} → Plain words.Boolean place ts (node types.Boolean place) ts
-  integer : {place : ℕ} {low high : ℤ} {extensible : Bool} {ts a b c d e rest : Left}
-      → The (tokens.Sign signs.LeftParenthesis) ts a → The (tokens.Number low) a b → The (tokens.Sign signs.Range) b c → The (tokens.Number high) c d
-      → Extends d extensible e → The (tokens.Sign signs.RightParenthesis) e rest
-      → Plain words.Integer place ts (node (types.Integer low high extensible) place) rest
-  enumerated : {place : ℕ} {names : Extensible (List ℕ)} {ts a rest : Left} → The (tokens.Sign signs.LeftBrace) ts a → Names a names rest → Plain words.Enumerated place ts (node (types.Enumerated names) place) rest
-  bit_string : {place : ℕ} {size : Option Size} {ts a rest : Left} → The (tokens.Word words.String) ts a → OptionalSize a size rest → Plain words.Bit place ts (node (types.BitString size) place) rest
-  octet_string : {place : ℕ} {size : Option Size} {ts a rest : Left} → The (tokens.Word words.String) ts a → OptionalSize a size rest → Plain words.Octet place ts (node (types.OctetString size) place) rest
-  printable_string : {place : ℕ} {size : Option Size} {ts rest : Left} → OptionalSize ts size rest → Plain words.PrintableString place ts (node (types.PrintableString size) place) rest
+  simple : {word : Word} {place : ℕ} {shape : Shape} {definition : Definition} {ts rest : Left} → shape_of word ≡ Some shape → Follows shape ts definition rest → Plain word place ts (node definition place) rest
   ie_container : {place at : ℕ} {set : List ℕ} {ts rest : Left} → SetName ts set at rest → Plain words.ProtocolIeContainer place ts (node (types.IeContainer set) at) rest
   pdu : {place at : ℕ} {set : List ℕ} {ts rest : Left} → SetName ts set at rest → Plain words.ProtocolPdu place ts (node (types.Pdu set) at) rest
 

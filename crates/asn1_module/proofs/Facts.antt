@@ -89,15 +89,7 @@ unfolding is_known
 has_target assignments (types.Reference name) h = type_found name assignments h
 has_target assignments (types.IeContainer set) h = ies_found set assignments h
 has_target assignments (types.Pdu set) h = procedures_found set assignments h
-has_target assignments types.Boolean h = tt
-has_target assignments (types.Integer low high extensible) h = tt
-has_target assignments (types.Enumerated names) h = tt
-has_target assignments (types.BitString size) h = tt
-has_target assignments (types.OctetString size) h = tt
-has_target assignments (types.PrintableString size) h = tt
-has_target assignments (types.Sequence members) h = tt
-has_target assignments (types.Choice members) h = tt
-has_target assignments (types.SequenceOf size element) h = tt
+has_target assignments _ h = tt
 
 pub target_at : (assignments : List Assignment) (nodes : List Node) (i : ℕ) (d : Node) → i < length nodes → first_unknown assignments nodes ≡ None → HasTarget assignments (get_or nodes i d).definition
 target_at assignments nodes i d lt h = has_target assignments (get_or nodes i d).definition (known_at assignments nodes i d lt h)

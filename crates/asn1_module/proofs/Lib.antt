@@ -1,5 +1,6 @@
 pub mod JudgementLemmas
 pub mod TypeCount
+pub mod SimpleTypes
 pub mod LinkLemmas
 pub mod RowLinks
 pub mod Facts
@@ -7,3 +8,4 @@ pub mod NamesByNumber
 pub use Rattle.asn1_proof_reading.proofs as asn1_proof_reading
 pub use Rattle.asn1_graph.proofs as asn1_graph
 pub use Rattle.asn1_proof_reading.proofs.asn1_proof_syntax as asn1_proof_syntax
+pub use Rattle.asn1_types.proofs as asn1_types

@@ -20,9 +20,12 @@ use Rattle.asn1_types.specs.declared.members.Head.{Head}
 use Rattle.asn1_types.specs.declared.members.Head.TheVariants as heads
 use Rattle.asn1_types.specs.Reading.{◌>>=◌, Left, first_word, begins_with_sign, word_at, sign_at, upper_at}
 use Rattle.asn1_types.specs.Sizes.{size_at, optional_size_at, bounded_at, integer_least, integer_greatest, greatest_beside, integer_ellipsis_at, integer_at}
+use Rattle.asn1_types.specs.Shapes.{Shape, Alone, BoundsFollow, NamesFollow, StringFollows, TextSizeFollows, shape_of, Nothing, StringSize, TextSize}
+use Rattle.asn1_types.proofs.ShapeLemmas.{alone_parts, string_parts, text_parts}
 use Rattle.asn1_types.specs.Members.{no_parts, additions_of, put_part, with_part, extended, can_extend, is_full, all_parts, has_component, new_name_at, list_goes_on_at, names_at, least_members, composed, node, named_at, entry_at, optional_at, component, member_end_at, close_at}
-use Rattle.asn1_types.specs.Types.{enumerated_at, bit_string_at, octet_string_at, printable_string_at, simple_rest_at, is_simple, simple_at, list_head_at, components_head_at, sequence_head_at, choice_head_at, set_name_at, container_at, pdu_at, reference_at, head_by, head_at, next_id, Risen, risen, rise_at, type_turn_at, type_goes_on, type_within_at, type_at}
+use Rattle.asn1_types.specs.Types.{enumerated_at, string_at, rest_at, rest_by, simple_rest_at, is_simple, simple_at, list_head_at, components_head_at, sequence_head_at, choice_head_at, set_name_at, container_at, pdu_at, reference_at, head_by, head_at, next_id, Risen, risen, rise_at, type_turn_at, type_goes_on, type_within_at, type_at}
 use Rattle.asn1_defs.specs.Links.{AreBelow, PartsBelow, IsInside, AreOrdered, OptionBelow, OptionFrom}
+use Rattle.asn1_module.proofs.SimpleTypes.{simple_inside}
 
 pub bind_ok : {A B : Type 0} (r : Result A Fault) (f : A → Result B Fault) (y : B) → (r >>= f) ≡ Ok y → (x : A) × (r ≡ Ok x) × (f x ≡ Ok y)
 bind_ok (Ok x) f y h = (x, refl, h)
@@ -132,35 +135,25 @@ enumerated_flat turns ts r h =
     let names = bind_ok (names_at turns a.0) _ r a.2 in
     subst Flat (ok_same _ _ names.2) (λ n. tt)
 
-bits_flat : (ts : Left) (r : Definition × Left) → bit_string_at ts ≡ Ok r → Flat r
-unfolding bit_string_at
-bits_flat ts r h =
-    let a = bind_ok (word_at words.String ts) _ r h in
-    let size = bind_ok (optional_size_at false a.0) _ r a.2 in
-    subst Flat (ok_same _ _ size.2) (λ n. tt)
-
-octets_flat : (ts : Left) (r : Definition × Left) → octet_string_at ts ≡ Ok r → Flat r
-unfolding octet_string_at
-octets_flat ts r h =
-    let a = bind_ok (word_at words.String ts) _ r h in
-    let size = bind_ok (optional_size_at false a.0) _ r a.2 in
-    subst Flat (ok_same _ _ size.2) (λ n. tt)
-
-text_flat : (ts : Left) (r : Definition × Left) → printable_string_at ts ≡ Ok r → Flat r
-unfolding printable_string_at
-text_flat ts r h =
+rest_flat : (turns : ℕ) (w : Word) (shape : Shape) (ts : Left) (r : Definition × Left) → shape_of w ≡ Some shape → rest_at turns shape ts ≡ Ok r → Flat r
+unfolding rest_at
+rest_flat turns w (Alone definition) ts r is h = subst Flat (ok_same _ _ h) (simple_inside definition w Nothing (alone_parts w definition is))
+rest_flat turns w BoundsFollow ts r is h = integer_flat ts r h
+rest_flat turns w NamesFollow ts r is h = enumerated_flat turns ts r h
+rest_flat turns w (StringFollows kind) ts r is h =
+    let size = bind_ok (string_at ts) _ r h in
+    subst Flat (ok_same _ _ size.2) (simple_inside (kind size.0.0) w (StringSize size.0.0) (string_parts w kind is size.0.0))
+rest_flat turns w (TextSizeFollows kind) ts r is h =
     let size = bind_ok (optional_size_at true ts) _ r h in
-    subst Flat (ok_same _ _ size.2) (λ n. tt)
+    subst Flat (ok_same _ _ size.2) (simple_inside (kind size.0.0) w (TextSize size.0.0) (text_parts w kind is size.0.0))
 
 simple_flat : (turns : ℕ) (word : Word) (ts : Left) (r : Definition × Left) → simple_rest_at turns word ts ≡ Ok r → Flat r
 unfolding simple_rest_at
-simple_flat turns words.Boolean ts r h = subst Flat (ok_same _ _ h) (λ n. tt)
-simple_flat turns words.Integer ts r h = integer_flat ts r h
-simple_flat turns words.Enumerated ts r h = enumerated_flat turns ts r h
-simple_flat turns words.Bit ts r h = bits_flat ts r h
-simple_flat turns words.Octet ts r h = octets_flat ts r h
-simple_flat turns words.PrintableString ts r h = text_flat ts r h
-simple_flat turns _ ts r h = cc
+simple_flat turns word ts r h = go (shape_of word) refl h
+  where
+    go : (found : Option Shape) → shape_of word ≡ found → rest_by turns found ts ≡ Ok r → Flat r
+    go None is h = cc
+    go (Some shape) is h = rest_flat turns word shape ts r is h
 
 simple_ok : (n turns : ℕ) (word : Word) (ts : Left) (r : Head × Left) → simple_at turns word ts ≡ Ok r → Headed n r
 unfolding simple_at

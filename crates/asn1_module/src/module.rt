@@ -3,7 +3,7 @@
 ghost use Rattle.std.specs.Prelude.{◌≡◌, ◌==◌, ◌<◌, ◌≤◌, length, MatchResult, IfSome, slice_get, option_map, Some};
 ghost use Rattle.asn1_defs.specs.Links.{IsInside, IesBelow, ProceduresBelow};
 ghost use Rattle.asn1_defs.specs.Readings.{Reads, HasFault};
-ghost use Rattle.asn1_module.specs.Refusals.{RefusedSo};
+ghost use Rattle.asn1_module.specs.Refusals.{IsRefusal};
 ghost use Rattle.asn1_defs.specs.Modules.{IsModule};
 ghost use Rattle.asn1_defs.specs.Targets.{HasTarget, type_of, type_ids, find_type, type_name, is_body_of, ie_rows, ie_rows_of, procedure_rows, procedure_rows_of, definition_at, referred, all_of, element_rows, message_rows};
 ghost use Rattle.asn1_module.specs.Numbers.{body_at, found_in};
@@ -43,7 +43,7 @@ impl Model for Module {
 /// The refusal of a text for this fault.
 fn refused(text: &[u8], fault: Fault) -> ModuleError
     requires { HasFault text.now fault }
-    ensures { RefusedSo text.now result }
+    ensures { IsRefusal text.now result }
 {
     let front = &text[..fault.place.min(text.len())];
     let (line, column) = position_after(front);
@@ -188,7 +188,7 @@ fn procedure_rows_of(body: Option<&Body>) -> &[ProcedureRow]
 
 /// The module at the front of a text, with the number of its octets, or the first fault of the text.
 pub fn read_module(alloc: Global, text: &[u8]) -> Result<(Module, usize), ModuleError>
-    ensures { MatchResult result (λ read. Reads text.now read.1 read.0) (RefusedSo text.now) }
+    ensures { MatchResult result (λ read. Reads text.now read.1 read.0) (IsRefusal text.now) }
 {
     let syntax = match read_syntax(alloc, text) {
         Ok(syntax) => syntax,

@@ -1,4 +1,4 @@
--- A reading function passes items that are fine, and fails at one for a cause that is told of it.
+-- A reading function passes items that are allowed, and fails at one for a cause that is told of it.
 use Rattle.std.proofs.Common.{◌≡◌, ℕ, List, [], ◌∷◌, zero, suc, Bool, true, false, cond, not, ◌&&◌, refl, sym, ap, ◌∙◌, subst}
 use Rattle.std.specs.Prelude.{Result, Ok, Err, ℤ, pos}
 use Rattle.std.specs.Int.Signed.{le_z}
@@ -16,39 +16,39 @@ use Rattle.asn1_proof_syntax.specs.asn1_defs.Spelling.{tokens_of}
 use Rattle.asn1_proof_syntax.proofs.Exact.{a_word, a_sign}
 use Rattle.asn1_proof_syntax.specs.asn1_defs.Bounds.{from_to, range_behind, is_outside}
 use Rattle.asn1_proof_syntax.specs.asn1_defs.Repetitions.{begins_assignment, is_given}
-use Rattle.asn1_proof_syntax.specs.asn1_defs.ItemFaults.{IsFine, sign_passes, passes_bound, is_repeated}
+use Rattle.asn1_proof_syntax.specs.asn1_defs.ItemFaults.{IsAllowed, sign_passes, passes_bound, is_repeated}
 use Rattle.asn1_proof_items.specs.JudgedItems.{Because, misplaced, bounds}
 
--- The items from ts to us are fine, where these are before them; the last list is what is before us then. A module may go on behind
+-- The items from ts to us are allowed, where these are before them; the last list is what is before us then. A module may go on behind
 -- each of them.
-pub data Fines : List Token → Left → List Token → Left → Type 0 where
-  here : {before : List Token} {ts : Left} → Fines before ts before ts
-  past : {p : Placed} {before after : List Token} {ts us : Left} → is_last p.token ≡ false → IsFine before p.token (tokens_of ts) → Fines (p.token ∷ before) ts after us → Fines before (p ∷ ts) after us
+pub data AllowedTo : List Token → Left → List Token → Left → Type 0 where
+  here : {before : List Token} {ts : Left} → AllowedTo before ts before ts
+  past : {p : Placed} {before after : List Token} {ts us : Left} → is_last p.token ≡ false → IsAllowed before p.token (tokens_of ts) → AllowedTo (p.token ∷ before) ts after us → AllowedTo before (p ∷ ts) after us
 
--- a fault behind fine items
+-- a fault behind allowed items
 pub record Wrongs (before : List Token) (ts : Left) (f : Fault) : Type 0 where
   pub after : List Token
   pub us : Left
-  pub fines : Fines before ts after us
+  pub allowed_to : AllowedTo before ts after us
   pub at : f.place ≡ (first_place us).start
   pub because : Because after (first_token us) (tokens_of (others us)) f.reason
 
 -- what is read leaves the items that rest tells, with others before them of which Post is told
 pub data Run {A : Type 0} (before : List Token) (ts : Left) (rest : A → Left) (Post : A → List Token → Type 0) : Result A Fault → Type 0 where
-  goes : {a : A} {after : List Token} → Fines before ts after (rest a) → Post a after → Run before ts rest Post (Ok a)
+  goes : {a : A} {after : List Token} → AllowedTo before ts after (rest a) → Post a after → Run before ts rest Post (Ok a)
   fails : {f : Fault} → Wrongs before ts f → Run before ts rest Post (Err f)
 
-pub fines_then : {a b c : List Token} {ts us vs : Left} → Fines a ts b us → Fines b us c vs → Fines a ts c vs
-fines_then here more = more
-fines_then (past goes_on fine one) more = past goes_on fine (fines_then one more)
+pub allowed_then : {a b c : List Token} {ts us vs : Left} → AllowedTo a ts b us → AllowedTo b us c vs → AllowedTo a ts c vs
+allowed_then here more = more
+allowed_then (past goes_on allowed one) more = past goes_on allowed (allowed_then one more)
 
--- what follows fine items
-pub behind_fines : {A : Type 0} {rest : A → Left} {Post : A → List Token → Type 0} {before mid : List Token} {ts us : Left} {r : Result A Fault} → Fines before ts mid us → Run mid us rest Post r → Run before ts rest Post r
-behind_fines fines (goes more post) = goes (fines_then fines more) post
-behind_fines fines (fails late) = fails (record { after = late.after; us = late.us; fines = fines_then fines late.fines; at = late.at; because = late.because })
+-- what follows allowed items
+pub behind_allowed : {A : Type 0} {rest : A → Left} {Post : A → List Token → Type 0} {before mid : List Token} {ts us : Left} {r : Result A Fault} → AllowedTo before ts mid us → Run mid us rest Post r → Run before ts rest Post r
+behind_allowed allowed_to (goes more post) = goes (allowed_then allowed_to more) post
+behind_allowed allowed_to (fails late) = fails (record { after = late.after; us = late.us; allowed_to = allowed_then allowed_to late.allowed_to; at = late.at; because = late.because })
 
 pub and_then : {A B : Type 0} {before : List Token} {ts : Left} {mid : A → Left} {Mid : A → List Token → Type 0} {rest : B → Left} {Post : B → List Token → Type 0} {r : Result A Fault} {g : A → Result B Fault} → Run before ts mid Mid r → ((a : A) (after : List Token) → Mid a after → Run after (mid a) rest Post (g a)) → Run before ts rest Post (r >>= g)
-and_then (goes {a} {after} fines post) on = behind_fines fines (on a after post)
+and_then (goes {a} {after} allowed_to post) on = behind_allowed allowed_to (on a after post)
 and_then (fails late) on = fails late
 
 pub done : {A : Type 0} {rest : A → Left} {Post : A → List Token → Type 0} {before : List Token} (a : A) → Post a before → Run before (rest a) rest Post (Ok a)
@@ -63,13 +63,13 @@ pub record Stands (t : Token) (ts us : Left) : Type 0 where
 
 -- a fault at the first item
 pub wrong : {A : Type 0} {rest : A → Left} {Post : A → List Token → Type 0} {before : List Token} {t : Token} {ts us : Left} {f : Fault} → Stands t ts us → f.place ≡ (first_place ts).start → Because before t (tokens_of us) f.reason → Run before ts rest Post (Err f)
-wrong {before} {t} {ts} {us} {f} stands at because = fails (record { after = before; us = ts; fines = here; at = at; because = subst (λ (vs : Left). Because before (first_token ts) (tokens_of vs) f.reason) stands.behind (subst (λ (u : Token). Because before u (tokens_of us) f.reason) (sym stands.is) because) })
+wrong {before} {t} {ts} {us} {f} stands at because = fails (record { after = before; us = ts; allowed_to = here; at = at; because = subst (λ (vs : Left). Because before (first_token ts) (tokens_of vs) f.reason) stands.behind (subst (λ (u : Token). Because before u (tokens_of us) f.reason) (sym stands.is) because) })
 
 pub refused : {A : Type 0} {rest : A → Left} {Post : A → List Token → Type 0} {before : List Token} (ts : Left) → Run before ts rest Post (Err (unexpected ts))
 unfolding unexpected
 refused ts = wrong (record { is = refl; behind = refl }) refl misplaced
 
--- the first item is fine
+-- the first item is allowed
 pub took : {A : Type 0} {rest : A → Left} {Post : A → List Token → Type 0} {before : List Token} {r : Result A Fault} {t : Token} {ts us : Left} → Stands t ts us → is_last t ≡ false → passes_bound before t (tokens_of us) ≡ false → is_repeated before t ≡ false → Run (t ∷ before) us rest Post r → Run before ts rest Post r
 took {rest} {Post} {before} {r} {t} {ts} {us} stands not within new run = go ts stands.is (subst (λ (vs : Left). passes_bound before t (tokens_of vs) ≡ false) stands.behind within) (subst (λ (vs : Left). Run (t ∷ before) vs rest Post r) stands.behind run)
   where
@@ -78,7 +78,7 @@ took {rest} {Post} {before} {r} {t} {ts} {us} stands not within new run = go ts 
 
     go : (ts : Left) → first_token ts ≡ t → passes_bound before t (tokens_of (others ts)) ≡ false → Run (t ∷ before) (others ts) rest Post r → Run before ts rest Post r
     go [] is within run = absurd (last (subst (λ (u : Token). is_last u ≡ false) (sym is) not))
-    go (p ∷ ps) is within run = behind_fines (past (subst (λ (u : Token). is_last u ≡ false) (sym is) not) (subst (λ (u : Token). IsFine before u (tokens_of ps)) (sym is) (record { within = within; new = new })) here) (subst (λ (u : Token). Run (u ∷ before) ps rest Post r) (sym is) run)
+    go (p ∷ ps) is within run = behind_allowed (past (subst (λ (u : Token). is_last u ≡ false) (sym is) not) (subst (λ (u : Token). IsAllowed before u (tokens_of ps)) (sym is) (record { within = within; new = new })) here) (subst (λ (u : Token). Run (u ∷ before) ps rest Post r) (sym is) run)
 
 -- this word or sign is taken, or the first item is wrong
 pub word_then : {A : Type 0} {rest : A → Left} {Post : A → List Token → Type 0} {before : List Token} {g : Left → Result A Fault} (w : Word) (ts : Left) → ((us : Left) → Run (tokens.Word w ∷ before) us rest Post (g us)) → Run before ts rest Post (word_at w ts >>= g)

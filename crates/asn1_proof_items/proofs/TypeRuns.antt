@@ -1,5 +1,5 @@
 -- Types, with those inside them.
-use Rattle.std.proofs.Common.{◌≡◌, ℕ, zero, suc, List, [], ◌∷◌, Bool, true, false, cond, refl, Option, Some, None}
+use Rattle.std.proofs.Common.{◌≡◌, ℕ, zero, suc, List, [], ◌∷◌, Bool, true, false, cond, refl, sym, ap, ◌∙◌, subst, Option, Some, None}
 use Rattle.std.specs.Prelude.{Result}
 use Rattle.asn1_proof_syntax.proofs.gnb_types.Choices.{by_choice}
 use Rattle.asn1_proof_syntax.specs.asn1_tokens.declared.token.Word.{Word}
@@ -10,6 +10,7 @@ use Rattle.asn1_proof_syntax.specs.asn1_tokens.declared.token.Token.TheVariants 
 use Rattle.asn1_proof_syntax.specs.asn1_tokens.Words.{is_word}
 use Rattle.asn1_proof_syntax.specs.asn1_tokens.Stream.{first_place}
 use Rattle.asn1_proof_syntax.specs.asn1_types.declared.fault.Fault.{Fault}
+use Rattle.asn1_proof_syntax.specs.asn1_types.declared.definition.Size.{Size}
 use Rattle.asn1_proof_syntax.specs.asn1_types.declared.definition.TypeId.{TypeId}
 use Rattle.asn1_proof_syntax.specs.asn1_types.declared.definition.Node.{Node}
 use Rattle.asn1_proof_syntax.specs.asn1_types.declared.definition.Definition.{Definition}
@@ -20,9 +21,12 @@ use Rattle.asn1_proof_syntax.specs.asn1_types.declared.members.Frame.TheVariants
 use Rattle.asn1_proof_syntax.specs.asn1_types.declared.members.Head.{Head}
 use Rattle.asn1_proof_syntax.specs.asn1_types.declared.members.Head.TheVariants as heads
 use Rattle.asn1_proof_syntax.specs.asn1_types.Reading.{Left, first_word, begins_with_sign}
+use Rattle.asn1_proof_syntax.specs.asn1_types.Shapes.{Shape, Alone, BoundsFollow, NamesFollow, StringFollows, TextSizeFollows, shape_of, is_there, sizes_characters, ends_alone}
+use Rattle.asn1_proof_syntax.specs.asn1_types.Sizes.{integer_at}
 use Rattle.asn1_proof_syntax.specs.asn1_types.Members.{no_parts, node}
-use Rattle.asn1_proof_syntax.specs.asn1_types.Types.{enumerated_at, bit_string_at, octet_string_at, printable_string_at, simple_rest_at, is_simple, simple_at, list_head_at, components_head_at, sequence_head_at, choice_head_at, set_name_at, container_at, pdu_at, reference_at, head_by, head_at, Risen, risen, rise_at, type_turn_at, type_goes_on, type_within_at, type_at}
-use Rattle.asn1_proof_syntax.specs.asn1_defs.Repetitions.{listed, numbers_behind, begins_assignment, assigned, types_assigned}
+use Rattle.asn1_proof_syntax.proofs.asn1_types.ShapeLemmas.{bounds_word}
+use Rattle.asn1_proof_syntax.specs.asn1_types.Types.{enumerated_at, string_at, rest_at, rest_by, simple_rest_at, is_simple, simple_at, list_head_at, components_head_at, sequence_head_at, choice_head_at, set_name_at, container_at, pdu_at, reference_at, head_by, head_at, Risen, risen, rise_at, type_turn_at, type_goes_on, type_within_at, type_at}
+use Rattle.asn1_proof_syntax.specs.asn1_defs.Repetitions.{listed, numbers_behind, ends_with_word, begins_assignment, assigned, types_assigned}
 use Rattle.asn1_proof_items.proofs.Runs.{Run, goes, fails, and_then, done, refused, word_then, sign_then, upper_then}
 use Rattle.asn1_proof_items.proofs.Views.{Same}
 use Rattle.asn1_proof_items.proofs.Insides.{Inside, inside_then, inside_both, same_behind, ended, nowhere, word_inside}
@@ -35,51 +39,67 @@ use Rattle.asn1_proof_items.proofs.MemberRuns.{first_entry, names_run, entry_run
 abbrev RestRun : Word → List Token → ℕ → Left → Type 0
 RestRun w outer turns ts = Run (tokens.Word w ∷ outer) ts (λ (a : Definition × Left). a.1) (λ (a : Definition × Left) after. Same (tokens.Word w ∷ outer) after) (simple_rest_at turns w ts)
 
-boolean_rest : {outer : List Token} (turns : ℕ) (ts : Left) → RestRun words.Boolean outer turns ts
-unfolding simple_rest_at
-boolean_rest turns ts = done (types.Boolean, ts) (ended refl nowhere)
+never : (b : Bool) → b ≡ true → b ≡ false → ⊥
+never b e f = cc
 
-integer_rest : {outer : List Token} (turns : ℕ) (ts : Left) → RestRun words.Integer outer turns ts
-unfolding simple_rest_at
-integer_rest turns ts = integer_run ts
+-- a word that begins a type without another one inside begins no set
+no_set : (w : Word) (shape : Shape) → shape_of w ≡ Some shape → (is_word w words.ProtocolIes ≡ false) × (is_word w words.ElementaryProcedure ≡ false)
+no_set words.ProtocolIes shape h = cc
+no_set words.ElementaryProcedure shape h = cc
+no_set _ shape h = (refl, refl)
 
-enumerated_rest : {outer : List Token} (turns : ℕ) (ts : Left) → RestRun words.Enumerated outer turns ts
-unfolding simple_rest_at enumerated_at
-enumerated_rest turns ts =
+-- the type may end with its word
+may_end : (w : Word) (shape : Shape) → shape_of w ≡ Some shape → ends_alone (Some shape) ≡ true → ends_with_word w ≡ true
+may_end w shape h ends = kept w (ap ends_alone h ∙ ends)
+  where
+    kept : (w : Word) → ends_alone (shape_of w) ≡ true → ends_with_word w ≡ true
+    kept words.Begin e = refl
+    kept words.String e = refl
+    kept _ e = e
+
+bounds_rest : {outer : List Token} (w : Word) (ts : Left) → shape_of w ≡ Some BoundsFollow → Run (tokens.Word w ∷ outer) ts (λ (a : Definition × Left). a.1) (λ (a : Definition × Left) after. Same (tokens.Word w ∷ outer) after) (integer_at ts)
+bounds_rest {outer} w ts is =
+    subst (λ (v : Word). Run (tokens.Word v ∷ outer) ts (λ (a : Definition × Left). a.1) (λ (a : Definition × Left) after. Same (tokens.Word v ∷ outer) after) (integer_at ts)) (sym (bounds_word w is)) (integer_run ts)
+
+-- a size that was read behind the word STRING
+behind_string : {before : List Token} {ts : Left} {r : Result (Option Size × Left) Fault}
+    → Run (tokens.Word words.String ∷ before) ts (λ (a : Option Size × Left). a.1) (λ (a : Option Size × Left) after. Same (tokens.Word words.String ∷ before) after) r
+    → Run (tokens.Word words.String ∷ before) ts (λ (a : Option Size × Left). a.1) (λ (a : Option Size × Left) after. Same before after) r
+behind_string (goes allowed_to same) = goes allowed_to (same_behind (word_inside words.String refl refl nowhere) same)
+behind_string (fails late) = fails late
+
+string_run : {before : List Token} (ts : Left) → Run before ts (λ (a : Option Size × Left). a.1) (λ (a : Option Size × Left) after. Same before after) (string_at ts)
+unfolding string_at
+string_run ts = word_then words.String ts (λ a. behind_string (optional_size_run false a refl refl))
+
+-- what follows a word of this shape
+rest_run : {outer : List Token} (w : Word) (turns : ℕ) (shape : Shape) (ts : Left) → shape_of w ≡ Some shape → Run (tokens.Word w ∷ outer) ts (λ (a : Definition × Left). a.1) (λ (a : Definition × Left) after. Same (tokens.Word w ∷ outer) after) (rest_at turns shape ts)
+unfolding rest_at enumerated_at
+rest_run w turns (Alone definition) ts is = done (definition, ts) (ended (may_end w (Alone definition) is refl) nowhere)
+rest_run w turns BoundsFollow ts is = bounds_rest w ts is
+rest_run w turns NamesFollow ts is =
     sign_then signs.LeftBrace ts refl (λ a.
     and_then (names_run turns a) (λ names after same. done (types.Enumerated names.0, names.1) same))
+rest_run w turns (StringFollows kind) ts is = and_then (string_run ts) (λ found after same. done (kind found.0, found.1) same)
+rest_run w turns (TextSizeFollows kind) ts is =
+    and_then (optional_size_run true ts (may_end w (TextSizeFollows kind) is refl) (ap sizes_characters is)) (λ found after same. done (kind found.0, found.1) same)
 
-bit_rest : {outer : List Token} (turns : ℕ) (ts : Left) → RestRun words.Bit outer turns ts
-unfolding simple_rest_at bit_string_at
-bit_rest turns ts =
-    word_then words.String ts (λ a.
-    and_then (optional_size_run false a refl refl) (λ found after same. done (types.BitString found.0, found.1) (same_behind (word_inside words.String refl refl nowhere) same)))
-
-octet_rest : {outer : List Token} (turns : ℕ) (ts : Left) → RestRun words.Octet outer turns ts
-unfolding simple_rest_at octet_string_at
-octet_rest turns ts =
-    word_then words.String ts (λ a.
-    and_then (optional_size_run false a refl refl) (λ found after same. done (types.OctetString found.0, found.1) (same_behind (word_inside words.String refl refl nowhere) same)))
-
-printable_rest : {outer : List Token} (turns : ℕ) (ts : Left) → RestRun words.PrintableString outer turns ts
-unfolding simple_rest_at printable_string_at
-printable_rest turns ts = and_then (optional_size_run true ts refl refl) (λ found after same. done (types.PrintableString found.0, found.1) same)
-
--- a type that begins with this word, and has no type inside
-simple_run : {outer : List Token} (turns : ℕ) (w : Word) (ts : Left) → is_word w words.ProtocolIes ≡ false → is_word w words.ElementaryProcedure ≡ false → ((us : Left) → RestRun w outer turns us) → HeadRun outer outer ts (simple_at turns w ts)
-unfolding simple_at
-simple_run {outer} turns w ts no_ies no_procedures rest = by_choice (HeadRun outer outer ts) (is_simple w) _ _
-    (λ h. word_then w ts (λ a.
-    and_then (rest a) (λ definition after same. done (heads.Leaf (node definition.0 (first_place ts).start), definition.1) (same_behind (word_inside w no_ies no_procedures nowhere) same))))
-    (λ h. refused ts)
-
--- a word with which no type begins
-no_type : {outer : List Token} (turns : ℕ) (w : Word) (ts : Left) → is_simple w ≡ false → HeadRun outer outer ts (simple_at turns w ts)
-unfolding simple_at
-no_type {outer} turns w ts not = by_choice (HeadRun outer outer ts) (is_simple w) _ _ (λ simple. absurd (never (is_simple w) simple not)) (λ _. refused ts)
+-- a type that begins with this word, and has no type inside; or with this word none begins
+simple_run : {outer : List Token} (turns : ℕ) (w : Word) (ts : Left) → HeadRun outer outer ts (simple_at turns w ts)
+unfolding simple_at simple_rest_at
+simple_run {outer} turns w ts = go (shape_of w) refl
   where
-    never : (b : Bool) → b ≡ true → b ≡ false → ⊥
-    never b e f = cc
+    rest : (shape : Shape) → shape_of w ≡ Some shape → (us : Left) → RestRun w outer turns us
+    rest shape e us = subst (λ (found : Option Shape). Run (tokens.Word w ∷ outer) us (λ (a : Definition × Left). a.1) (λ (a : Definition × Left) after. Same (tokens.Word w ∷ outer) after) (rest_by turns found us)) (sym e) (rest_run w turns shape us e)
+
+    go : (found : Option Shape) → shape_of w ≡ found → HeadRun outer outer ts (simple_at turns w ts)
+    go None e = by_choice (HeadRun outer outer ts) (is_simple w) _ _
+        (λ simple. absurd (never (is_simple w) simple (ap is_there e)))
+        (λ _. refused ts)
+    go (Some shape) e = by_choice (HeadRun outer outer ts) (is_simple w) _ _
+        (λ _. word_then w ts (λ a.
+        and_then (rest shape e a) (λ definition after same. done (heads.Leaf (node definition.0 (first_place ts).start), definition.1) (same_behind (word_inside w (no_set w shape e).0 (no_set w shape e).1 nowhere) same))))
+        (λ not. absurd (never (is_simple w) (ap is_there e) not))
 
 -- ---- types with others inside, and those that name one
 
@@ -90,7 +110,7 @@ headed_behind after (heads.Opens (frames.List size place)) us one opened = (open
 headed_behind after (heads.Opens (frames.Member group members name place)) us one opened = (opened.0, record { inside = inside_both one opened.1.inside; names = opened.1.names })
 
 head_behind : {outer mid before : List Token} {ts : Left} {r : Result (Head × Left) Fault} → Inside 0 outer mid → HeadRun mid before ts r → HeadRun outer before ts r
-head_behind one (goes {a} {after} fines post) = goes fines (headed_behind after a.0 a.1 one post)
+head_behind one (goes {a} {after} allowed_to post) = goes allowed_to (headed_behind after a.0 a.1 one post)
 head_behind one (fails late) = fails late
 
 components_head_run : {outer : List Token} (place : ℕ) (ts : Left) → HeadRun outer (tokens.Sign signs.LeftBrace ∷ outer) ts (components_head_at place ts)
@@ -152,38 +172,11 @@ reference_run ts no_name = upper_then ts no_name (λ name. done (heads.Leaf (nod
 
 word_head_run : {outer : List Token} (turns : ℕ) (w : Word) (ts : Left) → HeadRun outer outer ts (head_by turns (Some w) ts)
 unfolding head_by
-word_head_run turns words.Definitions ts = no_type turns words.Definitions ts refl
-word_head_run turns words.Automatic ts = no_type turns words.Automatic ts refl
-word_head_run turns words.Tags ts = no_type turns words.Tags ts refl
-word_head_run turns words.Begin ts = no_type turns words.Begin ts refl
-word_head_run turns words.End ts = no_type turns words.End ts refl
-word_head_run turns words.Boolean ts = simple_run turns words.Boolean ts refl refl (λ us. boolean_rest turns us)
-word_head_run turns words.Integer ts = simple_run turns words.Integer ts refl refl (λ us. integer_rest turns us)
-word_head_run turns words.Enumerated ts = simple_run turns words.Enumerated ts refl refl (λ us. enumerated_rest turns us)
-word_head_run turns words.Bit ts = simple_run turns words.Bit ts refl refl (λ us. bit_rest turns us)
-word_head_run turns words.Octet ts = simple_run turns words.Octet ts refl refl (λ us. octet_rest turns us)
-word_head_run turns words.String ts = no_type turns words.String ts refl
-word_head_run turns words.PrintableString ts = simple_run turns words.PrintableString ts refl refl (λ us. printable_rest turns us)
 word_head_run turns words.Sequence ts = sequence_head_run ts
 word_head_run turns words.Choice ts = choice_head_run ts
-word_head_run turns words.Of ts = no_type turns words.Of ts refl
-word_head_run turns words.Size ts = no_type turns words.Size ts refl
-word_head_run turns words.Optional ts = no_type turns words.Optional ts refl
 word_head_run turns words.ProtocolIeContainer ts = container_run ts
 word_head_run turns words.ProtocolPdu ts = pdu_run ts
-word_head_run turns words.ProtocolIes ts = no_type turns words.ProtocolIes ts refl
-word_head_run turns words.ElementaryProcedure ts = no_type turns words.ElementaryProcedure ts refl
-word_head_run turns words.Id ts = no_type turns words.Id ts refl
-word_head_run turns words.Criticality ts = no_type turns words.Criticality ts refl
-word_head_run turns words.Type ts = no_type turns words.Type ts refl
-word_head_run turns words.Presence ts = no_type turns words.Presence ts refl
-word_head_run turns words.Initiating ts = no_type turns words.Initiating ts refl
-word_head_run turns words.Message ts = no_type turns words.Message ts refl
-word_head_run turns words.Successful ts = no_type turns words.Successful ts refl
-word_head_run turns words.Unsuccessful ts = no_type turns words.Unsuccessful ts refl
-word_head_run turns words.Outcome ts = no_type turns words.Outcome ts refl
-word_head_run turns words.Procedure ts = no_type turns words.Procedure ts refl
-word_head_run turns words.Code ts = no_type turns words.Code ts refl
+word_head_run turns w ts = simple_run turns w ts
 
 head_run : {outer : List Token} (turns : ℕ) (ts : Left) → begins_assignment outer ≡ false → HeadRun outer outer ts (head_at turns ts)
 unfolding head_by

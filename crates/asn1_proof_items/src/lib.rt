@@ -5,10 +5,10 @@ ghost use Rattle.std.specs.Prelude.{◌≡◌, ℕ, List, Ok, Err};
 ghost use Rattle.asn1_proof_syntax.specs.asn1_types.declared.fault.Fault.{Fault};
 ghost use Rattle.asn1_proof_syntax.specs.asn1_assignments.declared.assignment.Syntax.{Syntax};
 ghost use Rattle.asn1_proof_syntax.specs.asn1_assignments.Module.{syntax_of};
-ghost use Rattle.asn1_proof_items.specs.JudgedItems.{AreFineTo, IsJudged};
+ghost use Rattle.asn1_proof_items.specs.JudgedItems.{AreAllowedTo, IsJudged};
 
 /// The items of a module that is read pass no bound and give nothing again, and neither do those before a fault.
 pub fn judges_the_items()
-    ensures module { (text : List ℕ) (s : Syntax) → syntax_of text ≡ Ok s → AreFineTo text s.end }
+    ensures module { (text : List ℕ) (s : Syntax) → syntax_of text ≡ Ok s → AreAllowedTo text s.end }
     ensures fault { (text : List ℕ) (f : Fault) → syntax_of text ≡ Err f → IsJudged text f }
 {}

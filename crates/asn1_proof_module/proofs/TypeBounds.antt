@@ -24,10 +24,12 @@ use Rattle.asn1_module.specs.asn1_types.declared.members.Head.{Head}
 use Rattle.asn1_module.specs.asn1_types.declared.members.Head.TheVariants as heads
 use Rattle.asn1_module.specs.asn1_types.Reading.{◌>>=◌, Left, fault_at, unexpected, first_word, begins_with_sign, word_at, sign_at, lower_at, upper_at, number_at}
 use Rattle.asn1_module.specs.asn1_types.Sizes.{natural, bounded_at, natural_at, ellipsis_at, size_end_at, least_high, size_rest_at, size_at, optional_size_at, integer_ellipsis_at, integer_least, integer_greatest, greatest_beside, integer_at}
+use Rattle.asn1_module.specs.asn1_types.Shapes.{Shape, Alone, BoundsFollow, NamesFollow, StringFollows, TextSizeFollows, shape_of}
+use Rattle.asn1_module.proofs.asn1_types.ShapeLemmas.{alone_parts, string_parts, text_parts}
 use Rattle.asn1_module.specs.asn1_types.Members.{no_parts, with_part, extended, can_extend, all_parts, is_full, has_name, has_component, new_name_at, list_goes_on_at, name_entry_at, names_turn_at, names_at, least_members, composed, node, named_at, entry_at, optional_at, component, member_end_at, close_at}
-use Rattle.asn1_module.specs.asn1_types.Types.{enumerated_at, bit_string_at, octet_string_at, printable_string_at, simple_rest_at, is_simple, simple_at, list_head_at, components_head_at, sequence_head_at, choice_head_at, set_name_at, container_at, pdu_at, reference_at, head_by, next_id, Risen, risen, rise_at, type_turn_at, type_goes_on, type_within_at, type_at}
+use Rattle.asn1_module.specs.asn1_types.Types.{enumerated_at, string_at, rest_at, rest_by, simple_rest_at, is_simple, simple_at, list_head_at, components_head_at, sequence_head_at, choice_head_at, set_name_at, container_at, pdu_at, reference_at, head_by, next_id, Risen, risen, rise_at, type_turn_at, type_goes_on, type_within_at, type_at}
 use Rattle.asn1_module.proofs.asn1_proof_syntax.Gives.{Gives, ok, no_value, and_gives, gives_so, and_parts, Next, repeat_gives}
-use Rattle.asn1_proof_module.specs.Proper.{IsNew, Each, IsSize, IsTextSize, Maybe, AreParts, component_name, own_name, IsWithin}
+use Rattle.asn1_proof_module.specs.Proper.{IsNew, Each, IsSize, IsTextSize, Maybe, AreParts, component_name, own_name, ArePartsWithin, IsWithin}
 use Rattle.asn1_proof_module.proofs.Parts.{le_of, or_parts, each_put, new_of, text_differs, Growing, none_yet, whole, put_grows, extended_grows}
 
 pub any_value : {A : Type 0} (r : Result A Fault) → Gives (λ _. Unit {0}) r
@@ -218,15 +220,25 @@ close_within (frames.Member group members name place) definition ts f = member_e
 
 -- ---- heads
 
+string_within : (ts : Left) → Gives (λ (a : Option Size × Left). Maybe IsSize a.0) (string_at ts)
+unfolding string_at
+string_within ts = and_gives (any_value (word_at words.String ts)) (λ a _. optional_size_within false a)
+
+rest_within : (turns : ℕ) (w : Word) (shape : Shape) (ts : Left) → shape_of w ≡ Some shape → Within (rest_at turns shape ts)
+unfolding rest_at enumerated_at
+rest_within turns w (Alone definition) ts is = ok (subst ArePartsWithin (sym (alone_parts w definition is)) tt)
+rest_within turns w BoundsFollow ts is = integer_within ts
+rest_within turns w NamesFollow ts is = and_gives (any_value (sign_at signs.LeftBrace ts)) (λ a _. and_gives (names_within turns a) (λ names h. ok h))
+rest_within turns w (StringFollows kind) ts is = and_gives (string_within ts) (λ found h. ok (subst ArePartsWithin (sym (string_parts w kind is found.0)) h))
+rest_within turns w (TextSizeFollows kind) ts is = and_gives (optional_size_within true ts) (λ found h. ok (subst ArePartsWithin (sym (text_parts w kind is found.0)) h))
+
 simple_rest_within : (turns : ℕ) (w : Word) (ts : Left) → Within (simple_rest_at turns w ts)
-unfolding simple_rest_at enumerated_at bit_string_at octet_string_at printable_string_at
-simple_rest_within turns words.Boolean ts = ok tt
-simple_rest_within turns words.Integer ts = integer_within ts
-simple_rest_within turns words.Enumerated ts = and_gives (any_value (sign_at signs.LeftBrace ts)) (λ a _. and_gives (names_within turns a) (λ names h. ok h))
-simple_rest_within turns words.Bit ts = and_gives (any_value (word_at words.String ts)) (λ a _. and_gives (optional_size_within false a) (λ found h. ok h))
-simple_rest_within turns words.Octet ts = and_gives (any_value (word_at words.String ts)) (λ a _. and_gives (optional_size_within false a) (λ found h. ok h))
-simple_rest_within turns words.PrintableString ts = and_gives (optional_size_within true ts) (λ found h. ok h)
-simple_rest_within turns _ ts = no_value
+unfolding simple_rest_at
+simple_rest_within turns w ts = go (shape_of w) refl
+  where
+    go : (found : Option Shape) → shape_of w ≡ found → Within (rest_by turns found ts)
+    go None is = no_value
+    go (Some shape) is = rest_within turns w shape ts is
 
 simple_within : (turns : ℕ) (w : Word) (ts : Left) → Gives HeadWithin (simple_at turns w ts)
 unfolding simple_at

@@ -6,7 +6,8 @@ use Rattle.asn1_module.specs.asn1_types.declared.definition.Size.{Size}
 use Rattle.asn1_module.specs.asn1_types.declared.definition.Component.{Component}
 use Rattle.asn1_module.specs.asn1_types.declared.definition.Extensible.{Extensible}
 use Rattle.asn1_module.specs.asn1_types.declared.definition.Definition.{Definition}
-use Rattle.asn1_module.specs.asn1_types.declared.definition.Definition.TheVariants as types
+use Rattle.asn1_module.specs.asn1_types.declared.members.Group.TheVariants as groups
+use Rattle.asn1_module.specs.asn1_types.Shapes.{Content, Nothing, Interval, NameList, StringSize, TextSize, Parts, Simple, Composed, Elements, parts_of}
 use Rattle.asn1_module.specs.asn1_types.Members.{all_parts, additions_of}
 use Rattle.asn1_module.specs.asn1_assignments.declared.assignment.IeRow.{IeRow}
 use Rattle.asn1_module.specs.asn1_assignments.declared.assignment.ProcedureRow.{ProcedureRow}
@@ -66,20 +67,24 @@ component_name component = component.name
 abbrev pub own_name : List ℕ → List ℕ
 own_name name = name
 
+-- what follows the word of a type is within the bounds
+abbrev pub IsContentWithin : Content → Type 0
+IsContentWithin Nothing = Unit {0}
+IsContentWithin (Interval low high extensible) = IsRange low high extensible
+IsContentWithin (NameList names) = AreParts 1 own_name names
+IsContentWithin (StringSize size) = Maybe IsSize size
+IsContentWithin (TextSize size) = Maybe IsTextSize size
+
+abbrev pub ArePartsWithin : Parts → Type 0
+ArePartsWithin (Simple word content) = IsContentWithin content
+ArePartsWithin (Composed groups.Sequence members) = AreParts 0 component_name members
+ArePartsWithin (Composed groups.Choice members) = AreParts 1 component_name members
+ArePartsWithin (Elements size element) = Maybe IsSize size
+ArePartsWithin _ = Unit {0}
+
 -- a type within the bounds
 abbrev pub IsWithin : Definition → Type 0
-IsWithin types.Boolean = Unit {0}
-IsWithin (types.Integer low high extensible) = IsRange low high extensible
-IsWithin (types.Enumerated names) = AreParts 1 own_name names
-IsWithin (types.BitString size) = Maybe IsSize size
-IsWithin (types.OctetString size) = Maybe IsSize size
-IsWithin (types.PrintableString size) = Maybe IsTextSize size
-IsWithin (types.Sequence members) = AreParts 0 component_name members
-IsWithin (types.Choice members) = AreParts 1 component_name members
-IsWithin (types.SequenceOf size element) = Maybe IsSize size
-IsWithin (types.Reference name) = Unit {0}
-IsWithin (types.IeContainer set) = Unit {0}
-IsWithin (types.Pdu set) = Unit {0}
+IsWithin definition = ArePartsWithin (parts_of definition)
 
 abbrev pub ie_id : IeRow → ℕ
 ie_id row = row.id

@@ -303,12 +303,7 @@ module _ (m : Syntax) (is : IsModule m) (Q : ℕ → Type 0)
       rows_are (bodies.Type d) h = tt
       rows_are (bodies.IeSet rows) h = tt
       rows_are (bodies.ProcedureSet rows) h = h
-  each_by types.Boolean inside step = tt
-  each_by (types.Integer low high extensible) inside step = tt
-  each_by (types.Enumerated parts) inside step = tt
-  each_by (types.BitString size) inside step = tt
-  each_by (types.OctetString size) inside step = tt
-  each_by (types.PrintableString size) inside step = tt
+  each_by _ inside step = tt
 
   -- the types inside a type, that of its name and those in its set
   pub each_reached : ((n : ℕ) → IsStep (vertex_count m) (edges_of m) id n → Q n)

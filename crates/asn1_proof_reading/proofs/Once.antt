@@ -1,7 +1,7 @@
 -- A text is one module's, or has one first wrong item, and never both.
 use mathlib.Core.List.{reverse_aux}
 use Rattle.std.proofs.lemmas.List.{append_assoc, append-nil}
-use Rattle.std.proofs.Common.{◌≡◌, ℕ, List, [], ◌∷◌, ◌++◌, reverse, Bool, true, false, refl, sym, ap, ◌∙◌, subst}
+use Rattle.std.proofs.Common.{◌≡◌, ℕ, List, [], ◌∷◌, ◌++◌, reverse, refl, sym, ap, ◌∙◌, subst}
 use Rattle.asn1_proof_values.proofs.gnb_types.Choices.{clash}
 use Rattle.asn1_proof_values.specs.asn1_tokens.declared.token.Token.{Token}
 use Rattle.asn1_proof_values.specs.asn1_tokens.Stream.{Placed}
@@ -9,7 +9,7 @@ use Rattle.asn1_proof_values.specs.asn1_types.declared.fault.ModuleReason.{Modul
 use Rattle.asn1_proof_values.specs.asn1_types.declared.fault.Fault.{Fault}
 use Rattle.asn1_proof_values.specs.asn1_assignments.declared.assignment.Syntax.{Syntax}
 use Rattle.asn1_proof_values.specs.asn1_defs.Spelling.{tokens_of, IsModuleText, IsOpen, GoesOn}
-use Rattle.asn1_proof_values.specs.asn1_defs.ItemFaults.{IsFine, AreFine}
+use Rattle.asn1_proof_values.specs.asn1_defs.ItemFaults.{IsAllowed, AreAllowed}
 use Rattle.asn1_proof_values.specs.asn1_defs.Items.{AreItems}
 use Rattle.asn1_proof_lexical.proofs.Streams.{items_scanned}
 use Rattle.asn1_proof_values.specs.asn1_defs.Texts.{IsTextOf, IsWrong, not_open, bounds, twice, IsFirstWrong}
@@ -20,10 +20,10 @@ tokens_apart : (f : List Placed) (p : Placed) (mid : List Placed) → tokens_of 
 tokens_apart [] p mid = refl
 tokens_apart (x ∷ f) p mid = ap (λ (l : List Token). x.token ∷ l) (tokens_apart f p mid)
 
--- each of fine items is fine
-fine_there : (before f : List Token) (t : Token) (mid behind : List Token) → AreFine before (f ++ t ∷ mid) behind → IsFine (reverse_aux f before) t (mid ++ behind)
-fine_there before [] t mid behind fine = fine.0
-fine_there before (x ∷ f) t mid behind fine = fine_there (x ∷ before) f t mid behind fine.1
+-- each of allowed items is allowed
+allowed_there : (before f : List Token) (t : Token) (mid behind : List Token) → AreAllowed before (f ++ t ∷ mid) behind → IsAllowed (reverse_aux f before) t (mid ++ behind)
+allowed_there before [] t mid behind allowed = allowed.0
+allowed_there before (x ∷ f) t mid behind allowed = allowed_there (x ∷ before) f t mid behind allowed.1
 
 open_front : (f : List Token) (t : Token) (mid : List Token) → IsOpen (f ++ t ∷ mid) → IsOpen (f ++ t ∷ [])
 open_front f t mid (more, spelled) = (mid ++ more, subst IsModuleText (append_assoc f (t ∷ mid) more ∙ sym (append_assoc f (t ∷ []) (mid ++ more))) spelled)
@@ -36,14 +36,14 @@ goes_before (not_open on not) = on
 goes_before {t = t} (bounds is_open h) = (t, is_open)
 goes_before {t = t} (twice is_open h g) = (t, is_open)
 
--- an item that is fine, and with which a module goes on, isn't wrong
-fine_not_wrong : {f : List Token} {t : Token} {behind : List Token} {r : ModuleReason} → IsFine (reverse f) t behind → IsOpen (f ++ t ∷ []) → IsWrong f t behind r → ⊥
-fine_not_wrong fine is_open (not_open on not) = not is_open
-fine_not_wrong fine is_open (bounds o h) = clash _ h fine.within
-fine_not_wrong fine is_open (twice o h g) = clash _ g fine.new
+-- an item that is allowed, and with which a module goes on, isn't wrong
+allowed_not_wrong : {f : List Token} {t : Token} {behind : List Token} {r : ModuleReason} → IsAllowed (reverse f) t behind → IsOpen (f ++ t ∷ []) → IsWrong f t behind r → ⊥
+allowed_not_wrong allowed is_open (not_open on not) = not is_open
+allowed_not_wrong allowed is_open (bounds o h) = clash _ h allowed.within
+allowed_not_wrong allowed is_open (twice o h g) = clash _ g allowed.new
 
-not_inside : (f : List Token) (t : Token) (mid behind : List Token) (r : ModuleReason) → AreFine [] (f ++ t ∷ mid) behind → IsOpen (f ++ t ∷ mid) → IsWrong f t (mid ++ behind) r → ⊥
-not_inside f t mid behind r fine is_open wrong = fine_not_wrong (fine_there [] f t mid behind fine) (open_front f t mid is_open) wrong
+not_inside : (f : List Token) (t : Token) (mid behind : List Token) (r : ModuleReason) → AreAllowed [] (f ++ t ∷ mid) behind → IsOpen (f ++ t ∷ mid) → IsWrong f t (mid ++ behind) r → ⊥
+not_inside f t mid behind r allowed is_open wrong = allowed_not_wrong (allowed_there [] f t mid behind allowed) (open_front f t mid is_open) wrong
 
 -- a text has one list of items
 pub one_items : {total : ℕ} {text : List ℕ} {a b : List Placed} → AreItems total text a → AreItems total text b → a ≡ b
@@ -55,7 +55,7 @@ one_items x y = items_scanned x ∙ sym (items_scanned y)
 not_before : (text : List ℕ) (f g : Fault) (w : IsFirstWrong text f) (v : IsFirstWrong text g) (mid : List Placed) → v.front ≡ w.front ++ w.item ∷ mid → w.rest ≡ mid ++ v.item ∷ v.rest → ⊥
 not_before text f g w v mid fronts rests =
     not_inside (tokens_of w.front) w.item.token (tokens_of mid) (v.item.token ∷ tokens_of v.rest) f.reason
-    (subst (λ (l : List Token). AreFine [] l (v.item.token ∷ tokens_of v.rest)) front v.fine)
+    (subst (λ (l : List Token). AreAllowed [] l (v.item.token ∷ tokens_of v.rest)) front v.allowed)
     (goes_open _ (subst GoesOn front (goes_before v.wrong)))
     (subst (λ (l : List Token). IsWrong (tokens_of w.front) w.item.token l f.reason) (ap tokens_of rests ∙ tokens_apart mid v.item v.rest) w.wrong)
   where
@@ -104,7 +104,7 @@ is_opened t = ([], subst IsModuleText (sym (append-nil (whole t))) t.spelled)
 not_within : (text : List ℕ) (m : Syntax) (f : Fault) (t : IsTextOf text m) (w : IsFirstWrong text f) (mid : List Token) → whole t ≡ tokens_of w.front ++ w.item.token ∷ mid → tokens_of w.rest ≡ mid ++ tokens_of t.rest → ⊥
 not_within text m f t w mid front rest =
     not_inside (tokens_of w.front) w.item.token mid (tokens_of t.rest) f.reason
-    (subst (λ (l : List Token). AreFine [] l (tokens_of t.rest)) front t.fine)
+    (subst (λ (l : List Token). AreAllowed [] l (tokens_of t.rest)) front t.allowed)
     (subst IsOpen front (is_opened t))
     (subst (λ (l : List Token). IsWrong (tokens_of w.front) w.item.token l f.reason) rest w.wrong)
 

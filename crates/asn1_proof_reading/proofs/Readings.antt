@@ -6,7 +6,7 @@ use Rattle.asn1_proof_values.specs.asn1_types.declared.fault.Fault.{Fault}
 use Rattle.asn1_proof_values.specs.asn1_assignments.declared.assignment.Syntax.{Syntax}
 use Rattle.asn1_proof_values.specs.asn1_assignments.Module.{syntax_of}
 use Rattle.asn1_proof_values.proofs.asn1_proof_syntax.Readings.{module_front, wrong_item}
-use Rattle.asn1_proof_items.proofs.Judged.{fine_to, judged}
+use Rattle.asn1_proof_items.proofs.Judged.{allowed_to, judged}
 use Rattle.asn1_proof_values.specs.asn1_defs.ModuleMeanings.{MeansModule}
 use Rattle.asn1_proof_values.proofs.ModuleTaken.{module_means}
 use Rattle.asn1_proof_values.proofs.OneModule.{one_module}
@@ -15,7 +15,7 @@ use Rattle.asn1_proof_reading.proofs.Texts.{text_of, first_wrong}
 use Rattle.asn1_proof_reading.proofs.Once.{one_items, one_wrong, not_both}
 
 pub is_text_of : (text : List ℕ) (m : Syntax) → syntax_of text ≡ Ok m → IsTextOf text m
-is_text_of text m e = text_of text m (module_front text m e) (fine_to text m e) (module_means text m e)
+is_text_of text m e = text_of text m (module_front text m e) (allowed_to text m e) (module_means text m e)
 
 pub is_first_wrong : (text : List ℕ) (f : Fault) → syntax_of text ≡ Err f → IsFirstWrong text f
 is_first_wrong text f e = first_wrong text f (wrong_item text f e) (judged text f e)

@@ -12,8 +12,8 @@ use Rattle.asn1_proof_values.specs.asn1_proof_syntax.Grammatical as grammar
 use Rattle.asn1_proof_values.specs.asn1_defs.Spelling.{tokens_of, GoesOn}
 use Rattle.asn1_proof_values.specs.asn1_proof_syntax.Grammatical.{IsModuleFront, IsWrongItem}
 use Rattle.asn1_proof_items.specs.JudgedItems as judged
-use Rattle.asn1_proof_values.specs.asn1_defs.ItemFaults.{passes_bound, is_repeated, IsFine, AreFine}
-use Rattle.asn1_proof_items.specs.JudgedItems.{Because, AreFineTo, IsJudged}
+use Rattle.asn1_proof_values.specs.asn1_defs.ItemFaults.{AreAllowed}
+use Rattle.asn1_proof_items.specs.JudgedItems.{Because, AreAllowedTo, IsJudged}
 use Rattle.asn1_proof_values.specs.asn1_defs.ModuleMeanings.{MeansModule}
 use Rattle.asn1_proof_values.specs.asn1_defs.Items.{AreItems}
 use Rattle.asn1_proof_lexical.proofs.Streams.{all_items}
@@ -23,22 +23,22 @@ use Rattle.asn1_proof_reading.proofs.Alone.{spelled_goes}
 
 -- ---- a module's text
 
-one_text : (text : List ℕ) (m : Syntax) (g : IsModuleFront text m.end) (a : AreFineTo text m.end) → OneSplit g.front g.last g.rest a.front a.last a.rest → MeansModule (items_of text) m → IsTextOf text m
+one_text : (text : List ℕ) (m : Syntax) (g : IsModuleFront text m.end) (a : AreAllowedTo text m.end) → OneSplit g.front g.last g.rest a.front a.last a.rest → MeansModule (items_of text) m → IsTextOf text m
 one_text text m g a split means = record {
   front = g.front;
   last = g.last;
   rest = g.rest;
   items = subst (AreItems (length text) text) g.items (all_items text);
   spelled = g.spelled;
-  fine =
-      subst (λ (f : List Placed). AreFine [] (tokens_of f ++ g.last.token ∷ []) (tokens_of g.rest)) (sym split.fronts)
-      (subst (λ (p : Placed). AreFine [] (tokens_of a.front ++ p.token ∷ []) (tokens_of g.rest)) (sym split.items)
-      (subst (λ (r : List Placed). AreFine [] (tokens_of a.front ++ a.last.token ∷ []) (tokens_of r)) (sym split.rests) a.fine));
+  allowed =
+      subst (λ (f : List Placed). AreAllowed [] (tokens_of f ++ g.last.token ∷ []) (tokens_of g.rest)) (sym split.fronts)
+      (subst (λ (p : Placed). AreAllowed [] (tokens_of a.front ++ p.token ∷ []) (tokens_of g.rest)) (sym split.items)
+      (subst (λ (r : List Placed). AreAllowed [] (tokens_of a.front ++ a.last.token ∷ []) (tokens_of r)) (sym split.rests) a.allowed));
   means = subst (λ (l : List Placed). MeansModule l m) g.items means;
   ends = g.ends;
 }
 
-pub text_of : (text : List ℕ) (m : Syntax) → IsModuleFront text m.end → AreFineTo text m.end → MeansModule (items_of text) m → IsTextOf text m
+pub text_of : (text : List ℕ) (m : Syntax) → IsModuleFront text m.end → AreAllowedTo text m.end → MeansModule (items_of text) m → IsTextOf text m
 text_of text m g a means = one_text text m g a
     (by_end g.front g.last g.rest a.front a.last a.rest (items_of text) (items-ordered text) g.items a.items (spelled_goes (tokens_of g.front) g.last.token [] g.spelled) (ap is_last a.word) (sym g.ends ∙ a.ends))
     means
@@ -85,10 +85,10 @@ one_wrong_item text f g j split = record {
   rest = g.rest;
   items = subst (AreItems (length text) text) g.items (all_items text);
   at = g.at;
-  fine =
-      subst (λ (l : List Placed). AreFine [] (tokens_of l) (g.item.token ∷ tokens_of g.rest)) (sym split.fronts)
-      (subst (λ (p : Placed). AreFine [] (tokens_of j.front) (p.token ∷ tokens_of g.rest)) (sym split.items)
-      (subst (λ (r : List Placed). AreFine [] (tokens_of j.front) (j.item.token ∷ tokens_of r)) (sym split.rests) j.fine));
+  allowed =
+      subst (λ (l : List Placed). AreAllowed [] (tokens_of l) (g.item.token ∷ tokens_of g.rest)) (sym split.fronts)
+      (subst (λ (p : Placed). AreAllowed [] (tokens_of j.front) (p.token ∷ tokens_of g.rest)) (sym split.items)
+      (subst (λ (r : List Placed). AreAllowed [] (tokens_of j.front) (j.item.token ∷ tokens_of r)) (sym split.rests) j.allowed));
   wrong = wrong_since (tokens_of g.front) g.item.token (tokens_of g.rest) f.reason f.reason refl g.before g.wrong
       (subst (λ (l : List Placed). Because (reverse (tokens_of l)) g.item.token (tokens_of g.rest) f.reason) (sym split.fronts)
       (subst (λ (p : Placed). Because (reverse (tokens_of j.front)) p.token (tokens_of g.rest) f.reason) (sym split.items)

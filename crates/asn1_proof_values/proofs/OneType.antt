@@ -1,5 +1,5 @@
 -- Types have one meaning: the same items, behind the same types, give the same type and the same list of types, and end there.
-use Rattle.std.proofs.Common.{◌≡◌, ℕ, List, [], ◌∷◌, Bool, refl, sym, ap, subst, Option, Some, None}
+use Rattle.std.proofs.Common.{◌≡◌, ℕ, List, [], ◌∷◌, Bool, refl, sym, ap, ◌∙◌, subst, Option, Some, None}
 use Rattle.std.specs.Prelude.{ℤ}
 use Rattle.asn1_proof_syntax.specs.asn1_tokens.declared.token.Word.{Word}
 use Rattle.asn1_proof_syntax.specs.asn1_tokens.declared.token.Word.TheVariants as words
@@ -16,9 +16,10 @@ use Rattle.asn1_proof_syntax.specs.asn1_types.declared.definition.Node.{Node}
 use Rattle.asn1_proof_syntax.specs.asn1_types.declared.members.Group.{Group}
 use Rattle.asn1_proof_syntax.specs.asn1_types.Reading.{Left}
 use Rattle.asn1_proof_syntax.specs.asn1_types.Members.{component, node}
+use Rattle.asn1_proof_syntax.specs.asn1_types.Shapes.{Shape, shape_of}
 use Rattle.asn1_proof_syntax.specs.asn1_types.Types.{next_id}
 use Rattle.asn1_proof_syntax.specs.asn1_defs.ItemMeanings.{The, start_of, Extends, OptionalSize, sized, unsized, SetName}
-use Rattle.asn1_proof_syntax.specs.asn1_defs.TypeMeanings.{Plain, boolean, integer, enumerated, bit_string, octet_string, printable_string, ie_container, pdu, MayBeOptional, optional, required, alternative, Piece, Behind, AMember, Members, Value, with_type, Means, reference, worded, plain, sequence_of, empty_sequence, sequence, choice, member, mark, last, more, no_more, one_more}
+use Rattle.asn1_proof_syntax.specs.asn1_defs.TypeMeanings.{Follows, alone, bounds, names, string, text_size, Plain, simple, ie_container, pdu, MayBeOptional, optional, required, alternative, Piece, Behind, AMember, Members, Value, with_type, Means, reference, worded, plain, sequence_of, empty_sequence, sequence, choice, member, mark, last, more, no_more, one_more}
 use Rattle.asn1_proof_values.proofs.OneItem.{One, the_same, rest_one, word_clash, value_one, word_one, upper_one, lower_one, extends_one, opens_with, size_one, set_one, names_one, lower_sign, comma_brace}
 
 -- the same value, the same list of types, and the same items behind it
@@ -78,19 +79,41 @@ integer_one h a low r high x e a' low' r' high' x' e' =
 node_one : {d e : Definition} {p : ℕ} {a b : Left} → One d e a b → One (node d p) (node e p) a b
 node_one {p} one = record { value = ap (λ (d : Definition). node d p) one.value; rest = one.rest }
 
-sized_one : (kind : Option Size → Definition) {x y : Option Size} {p : ℕ} {ts us a b : Left} → ts ≡ us → OptionalSize ts x a → OptionalSize us y b → One (node (kind x) p) (node (kind y) p) a b
-sized_one kind h x y = let one = size_one h x y in node_one (record { value = ap kind one.value; rest = one.rest })
+sized_one : (kind : Option Size → Definition) {x y : Option Size} {ts us a b : Left} → ts ≡ us → OptionalSize ts x a → OptionalSize us y b → One (kind x) (kind y) a b
+sized_one kind h x y = let one = size_one h x y in record { value = ap kind one.value; rest = one.rest }
 
 set_node_one : (kind : List ℕ → Definition) {m n : List ℕ} {p q : ℕ} {ts us a b : Left} → ts ≡ us → SetName ts m p a → SetName us n q b → One (node (kind m) p) (node (kind n) q) a b
 set_node_one kind h m n = let one = set_one h m n in record { value = λ i. node (kind (one.set i)) (one.place i); rest = one.rest }
 
+follows_one : {shape : Shape} {x y : Definition} {ts us a b : Left} → ts ≡ us → Follows shape ts x a → Follows shape us y b → One x y a b
+follows_one h alone alone = record { value = refl; rest = h }
+follows_one h (bounds a low r high x e) (bounds a' low' r' high' x' e') = integer_one h a low r high x e a' low' r' high' x' e'
+follows_one h (names a m) (names b k) = let one = names_one (rest_one h a b) m k in record { value = ap (λ (x : Extensible (List ℕ)). types.Enumerated x) one.value; rest = one.rest }
+follows_one h (string {kind} a m) (string b k) = sized_one kind (rest_one h a b) m k
+follows_one h (text_size {kind} m) (text_size k) = sized_one kind h m k
+
+no_shape : {shape : Shape} → None ≡ Some shape → ⊥
+no_shape is = cc
+
+same_shape : (word : Word) {shape other : Shape} → shape_of word ≡ Some shape → shape_of word ≡ Some other → shape ≡ other
+same_shape word {shape} {other} is also = same (sym is ∙ also)
+  where
+    same : Some shape ≡ Some other → shape ≡ other
+    same e = cc
+
+-- the words of types with others inside begin no other type
+no_sequence : {place : ℕ} {new : Node} {ts rest : Left} → Plain words.Sequence place ts new rest → ⊥
+no_sequence (simple is m) = no_shape is
+
+no_choice : {place : ℕ} {new : Node} {ts rest : Left} → Plain words.Choice place ts new rest → ⊥
+no_choice (simple is m) = no_shape is
+
 plain_one : {word : Word} {place : ℕ} {x y : Node} {ts us a b : Left} → ts ≡ us → Plain word place ts x a → Plain word place us y b → One x y a b
-plain_one h boolean boolean = record { value = refl; rest = h }
-plain_one h (integer a low r high x e) (integer a' low' r' high' x' e') = node_one (integer_one h a low r high x e a' low' r' high' x' e')
-plain_one h (enumerated a m) (enumerated b k) = let one = names_one (rest_one h a b) m k in node_one (record { value = ap (λ (x : Extensible (List ℕ)). types.Enumerated x) one.value; rest = one.rest })
-plain_one h (bit_string a m) (bit_string b k) = sized_one (λ x. types.BitString x) (rest_one h a b) m k
-plain_one h (octet_string a m) (octet_string b k) = sized_one (λ x. types.OctetString x) (rest_one h a b) m k
-plain_one h (printable_string m) (printable_string k) = sized_one (λ x. types.PrintableString x) h m k
+plain_one {us} {b} h (simple {word} is m) (simple {definition} also k) = node_one (follows_one h m (subst (λ (shape : Shape). Follows shape us definition b) (same_shape word also is) k))
+plain_one h (simple is m) (ie_container k) = absurd (no_shape is)
+plain_one h (simple is m) (pdu k) = absurd (no_shape is)
+plain_one h (ie_container k) (simple is m) = absurd (no_shape is)
+plain_one h (pdu k) (simple is m) = absurd (no_shape is)
 plain_one h (ie_container m) (ie_container k) = set_node_one (λ x. types.IeContainer x) h m k
 plain_one h (pdu m) (pdu k) = set_node_one (λ x. types.Pdu x) h m k
 
@@ -153,11 +176,11 @@ one_type n h (last k b) (mark a m) = absurd (mark_clash (sym h) a k)
 one_type n h (more k b q) (mark a m) = absurd (mark_clash (sym h) a k)
 one_type n h (no_more a) (one_more b k q) = absurd (comma_brace (the_same (sym h) b a))
 one_type n h (one_more b k q) (no_more a) = absurd (comma_brace (the_same h b a))
-one_type n h (plain m) (sequence_of t b k) = elim m [ ]
-one_type n h (plain m) (empty_sequence c d) = elim m [ ]
-one_type n h (plain m) (sequence b k) = elim m [ ]
-one_type n h (plain m) (choice b k) = elim m [ ]
-one_type n h (sequence_of t b k) (plain m) = elim m [ ]
-one_type n h (empty_sequence c d) (plain m) = elim m [ ]
-one_type n h (sequence b k) (plain m) = elim m [ ]
-one_type n h (choice b k) (plain m) = elim m [ ]
+one_type n h (plain m) (sequence_of t b k) = absurd (no_sequence m)
+one_type n h (plain m) (empty_sequence c d) = absurd (no_sequence m)
+one_type n h (plain m) (sequence b k) = absurd (no_sequence m)
+one_type n h (plain m) (choice b k) = absurd (no_choice m)
+one_type n h (sequence_of t b k) (plain m) = absurd (no_sequence m)
+one_type n h (empty_sequence c d) (plain m) = absurd (no_sequence m)
+one_type n h (sequence b k) (plain m) = absurd (no_sequence m)
+one_type n h (choice b k) (plain m) = absurd (no_choice m)

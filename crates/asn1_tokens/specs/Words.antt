@@ -1,5 +1,5 @@
 -- Which names are reserved words (X.680, 12.38), and which of ASN.1's the profile leaves out.
-use Rattle.std.specs.Prelude.{ℕ, ◌==◌, List, Bool, Option, Some, None, if◌then◌else◌, codes, nat_eq, ◌||◌}
+use Rattle.std.specs.Prelude.{ℕ, ◌==◌, List, [], ◌∷◌, Bool, Option, Some, None, if◌then◌else◌, codes, nat_eq, ◌||◌}
 use Rattle.std.specs.Cmp.Lexicographic.{pointwise}
 use Rattle.asn1_tokens.specs.declared.token.Word.{Word}
 use Rattle.asn1_tokens.specs.declared.token.Word.TheVariants as words
@@ -40,6 +40,15 @@ word_number words.Unsuccessful = 28
 word_number words.Outcome = 29
 word_number words.Procedure = 30
 word_number words.Code = 31
+
+-- all words, in the order of their numbers
+abbrev pub all_words : List Word
+all_words =
+    words.Definitions ∷ words.Automatic ∷ words.Tags ∷ words.Begin ∷ words.End ∷ words.Boolean ∷ words.Integer ∷ words.Enumerated ∷
+    words.Bit ∷ words.Octet ∷ words.String ∷ words.PrintableString ∷ words.Sequence ∷ words.Choice ∷ words.Of ∷ words.Size ∷ words.Optional
+    ∷ words.ProtocolIeContainer ∷ words.ProtocolPdu ∷ words.ProtocolIes ∷ words.ElementaryProcedure ∷ words.Id ∷ words.Criticality ∷
+    words.Type ∷ words.Presence ∷ words.Initiating ∷ words.Message ∷ words.Successful ∷ words.Unsuccessful ∷ words.Outcome ∷
+    words.Procedure ∷ words.Code ∷ []
 
 abbrev pub is_word : Word → Word → Bool
 is_word a b = word_number a == word_number b

@@ -1,4 +1,5 @@
 pub mod Reading
 pub mod Sizes
 pub mod Members
+pub mod Shapes
 pub mod Types

@@ -5,6 +5,7 @@ use Rattle.asn1_tokens.specs.declared.token.Word.TheVariants as words
 use Rattle.asn1_tokens.specs.declared.token.Sign.TheVariants as signs
 use Rattle.asn1_tokens.specs.Stream.{first_place}
 use Rattle.asn1_types.specs.declared.fault.Fault.{Fault}
+use Rattle.asn1_types.specs.declared.definition.Size.{Size}
 use Rattle.asn1_types.specs.declared.definition.TypeId.{TypeId}
 use Rattle.asn1_types.specs.declared.definition.Node.{Node}
 use Rattle.asn1_types.specs.declared.definition.Definition.{Definition}
@@ -16,6 +17,7 @@ use Rattle.asn1_types.specs.declared.members.Head.{Head}
 use Rattle.asn1_types.specs.declared.members.Head.TheVariants as heads
 use Rattle.asn1_types.specs.Reading.{◌>>=◌, Left, first_word, unexpected, begins_with_sign, word_at, sign_at, upper_at}
 use Rattle.asn1_types.specs.Sizes.{size_at, optional_size_at, integer_at}
+use Rattle.asn1_types.specs.Shapes.{Shape, Alone, BoundsFollow, NamesFollow, StringFollows, TextSizeFollows, shape_of, is_there}
 use Rattle.asn1_types.specs.Members.{no_parts, names_at, entry_at, node, close_at}
 
 -- behind the word ENUMERATED
@@ -25,44 +27,35 @@ enumerated_at turns ts = do
   names ← names_at turns a
   Ok (types.Enumerated names.0, names.1)
 
--- behind the words BIT and OCTET
-unfoldable pub bit_string_at : Left → Result (Definition × Left) Fault
-bit_string_at ts = do
+-- behind the words BIT and OCTET: the size
+unfoldable pub string_at : Left → Result (Option Size × Left) Fault
+string_at ts = do
   a ← word_at words.String ts
-  size ← optional_size_at false a
-  Ok (types.BitString size.0, size.1)
+  optional_size_at false a
 
-unfoldable pub octet_string_at : Left → Result (Definition × Left) Fault
-octet_string_at ts = do
-  a ← word_at words.String ts
-  size ← optional_size_at false a
-  Ok (types.OctetString size.0, size.1)
-
--- behind the word PrintableString
-unfoldable pub printable_string_at : Left → Result (Definition × Left) Fault
-printable_string_at ts = do
+-- behind the word of a type of this shape
+unfoldable pub rest_at : ℕ → Shape → Left → Result (Definition × Left) Fault
+rest_at turns (Alone definition) ts = Ok (definition, ts)
+rest_at turns BoundsFollow ts = integer_at ts
+rest_at turns NamesFollow ts = enumerated_at turns ts
+rest_at turns (StringFollows kind) ts = do
+  size ← string_at ts
+  Ok (kind size.0, size.1)
+rest_at turns (TextSizeFollows kind) ts = do
   size ← optional_size_at true ts
-  Ok (types.PrintableString size.0, size.1)
+  Ok (kind size.0, size.1)
+
+abbrev pub rest_by : ℕ → Option Shape → Left → Result (Definition × Left) Fault
+rest_by turns None ts = Err (unexpected ts)
+rest_by turns (Some shape) ts = rest_at turns shape ts
 
 -- the rest of a type that begins with this word, and has no type inside
 unfoldable pub simple_rest_at : ℕ → Word → Left → Result (Definition × Left) Fault
-simple_rest_at turns words.Boolean ts = Ok (types.Boolean, ts)
-simple_rest_at turns words.Integer ts = integer_at ts
-simple_rest_at turns words.Enumerated ts = enumerated_at turns ts
-simple_rest_at turns words.Bit ts = bit_string_at ts
-simple_rest_at turns words.Octet ts = octet_string_at ts
-simple_rest_at turns words.PrintableString ts = printable_string_at ts
-simple_rest_at turns _ ts = Err (unexpected ts)
+simple_rest_at turns word ts = rest_by turns (shape_of word) ts
 
 -- the words that begin a type without another one inside
 abbrev pub is_simple : Word → Bool
-is_simple words.Boolean = true
-is_simple words.Integer = true
-is_simple words.Enumerated = true
-is_simple words.Bit = true
-is_simple words.Octet = true
-is_simple words.PrintableString = true
-is_simple _ = false
+is_simple word = is_there (shape_of word)
 
 -- a type that begins with this word
 unfoldable pub simple_at : ℕ → Word → Left → Result (Head × Left) Fault

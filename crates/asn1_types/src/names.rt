@@ -53,7 +53,7 @@ impl<T: Drop> Extensible<T> {
         self.additions = Some(Items::new(alloc));
     }
 
-    /// One more part, of the root or of the additions. After an error the state is free.
+    /// One more part, of the root or of the additions. After an error the state is unspecified.
     pub fn put(&mut self, part: T) -> Result<(), Memory>
         ensures { OnOk result (self.new ≡ with_part self.old part) }
     {

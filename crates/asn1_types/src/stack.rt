@@ -31,7 +31,7 @@ impl Stack {
         }
     }
 
-    /// Puts a type inside all others. After an error the state is free.
+    /// Puts a type inside all others. After an error the state is unspecified.
     pub fn push(&mut self, frame: Frame) -> Result<(), Memory>
         ensures { OnOk result (self.new ≡ frame ∷ self.old) }
     {

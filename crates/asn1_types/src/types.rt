@@ -3,9 +3,9 @@
 ghost use Rattle.std.specs.Prelude.{◌≡◌, ◌++◌, [], ◌∷◌, IfOk, OnOk, OnErr};
 ghost use Rattle.asn1_types.specs.Reading.{Gives};
 ghost use Rattle.asn1_types.specs.Members.{node};
-ghost use Rattle.asn1_types.specs.Types.{enumerated_at, bit_string_at, octet_string_at, printable_string_at, simple_rest_at, is_simple, simple_at, list_head_at, components_head_at, sequence_head_at, choice_head_at, set_name_at, container_at, pdu_at, reference_at, head_by, head_at, next_id, rise_at, risen, type_turn_at, type_within_at, type_at};
+ghost use Rattle.asn1_types.specs.Types.{enumerated_at, string_at, simple_rest_at, is_simple, simple_at, list_head_at, components_head_at, sequence_head_at, choice_head_at, set_name_at, container_at, pdu_at, reference_at, head_by, head_at, next_id, rise_at, risen, type_turn_at, type_within_at, type_at};
 
-use crate::definition::{Definition, Extensible, Node, TypeId};
+use crate::definition::{Definition, Extensible, Node, Size, TypeId};
 use crate::fault::ReadError;
 use crate::items::Items;
 use crate::members::{Frame, Group, Head};
@@ -15,7 +15,7 @@ use asn1_tokens::{Sign, Word};
 use gnb_types::octets::Octets;
 
 impl Items<Node> {
-    /// One more type, and its number. After an error the state is free.
+    /// One more type, and its number. After an error the state is unspecified.
     fn add(&mut self, node: Node) -> Result<TypeId, ReadError>
         ensures id { IfOk result (λ id. id ≡ next_id self.old) }
         ensures ok { OnOk result (self.new ≡ self.old ++ node ∷ []) }
@@ -51,31 +51,17 @@ impl<'a> Reader<'a> {
         Ok(Definition::Enumerated(self.names(turns)?))
     }
 
-    #[tactic(auto, unfolding(crate::specs::Types::bit_string_at))]
-    fn bit_string(&mut self) -> Result<Definition, ReadError>
-        ensures { Gives (λ definition. (definition, self.new)) result (bit_string_at self.old) }
+    /// Takes the word STRING, and a size where one stands.
+    #[tactic(auto, unfolding(crate::specs::Types::string_at))]
+    fn string(&mut self) -> Result<Option<Size>, ReadError>
+        ensures { Gives (λ size. (size, self.new)) result (string_at self.old) }
     {
         self.word(Word::String)?;
-        Ok(Definition::BitString(self.optional_size(false)?))
-    }
-
-    #[tactic(auto, unfolding(crate::specs::Types::octet_string_at))]
-    fn octet_string(&mut self) -> Result<Definition, ReadError>
-        ensures { Gives (λ definition. (definition, self.new)) result (octet_string_at self.old) }
-    {
-        self.word(Word::String)?;
-        Ok(Definition::OctetString(self.optional_size(false)?))
-    }
-
-    #[tactic(auto, unfolding(crate::specs::Types::printable_string_at))]
-    fn printable_string(&mut self) -> Result<Definition, ReadError>
-        ensures { Gives (λ definition. (definition, self.new)) result (printable_string_at self.old) }
-    {
-        Ok(Definition::PrintableString(self.optional_size(true)?))
+        self.optional_size(false)
     }
 
     /// Takes the rest of a type that begins with this word, and has no other one inside.
-    #[tactic(auto, unfolding(crate::specs::Types::simple_rest_at))]
+    #[tactic(auto, unfolding(crate::specs::Types::simple_rest_at, crate::specs::Types::rest_at))]
     fn simple_rest(&mut self, turns: u64, word: Word) -> Result<Definition, ReadError>
         ensures { Gives (λ definition. (definition, self.new)) result (simple_rest_at turns word self.old) }
     {
@@ -83,9 +69,9 @@ impl<'a> Reader<'a> {
             Word::Boolean => Ok(Definition::Boolean),
             Word::Integer => self.integer(),
             Word::Enumerated => self.enumerated(turns),
-            Word::Bit => self.bit_string(),
-            Word::Octet => self.octet_string(),
-            Word::PrintableString => self.printable_string(),
+            Word::Bit => Ok(Definition::BitString(self.string()?)),
+            Word::Octet => Ok(Definition::OctetString(self.string()?)),
+            Word::PrintableString => Ok(Definition::PrintableString(self.optional_size(true)?)),
             _ => Err(self.unexpected()),
         }
     }

@@ -6,14 +6,17 @@ use Rattle.asn1_tokens.specs.declared.token.Word.TheVariants as words
 use Rattle.asn1_tokens.specs.declared.token.Sign.TheVariants as signs
 use Rattle.asn1_tokens.specs.declared.token.Token.TheVariants as tokens
 use Rattle.asn1_tokens.specs.Stream.{Placed}
+use Rattle.asn1_types.specs.declared.definition.Definition.{Definition}
 use Rattle.asn1_types.specs.declared.definition.Definition.TheVariants as types
 use Rattle.asn1_types.specs.declared.definition.Node.{Node}
 use Rattle.asn1_types.specs.declared.members.Group.{Group}
+use Rattle.asn1_types.specs.Shapes.{Shape, shape_of, Content, Simple, parts_of}
 use Rattle.asn1_types.specs.Members.{no_parts, node}
+use Rattle.asn1_module.proofs.SimpleTypes.{followed_parts}
 use Rattle.asn1_module.specs.asn1_defs.Numbers.{name_in}
 use Rattle.asn1_module.specs.asn1_defs.Judgement.{weight_of}
 use Rattle.asn1_module.specs.asn1_defs.ItemMeanings.{The, start_of, SetName, set_name}
-use Rattle.asn1_module.specs.asn1_defs.TypeMeanings.{Plain, boolean, integer, enumerated, bit_string, octet_string, printable_string, ie_container, pdu, MayBeOptional, optional, required, alternative, Piece, AType, Behind, AMember, Members, Added, Value, Means, reference, worded, plain, sequence_of, empty_sequence, sequence, choice, member, mark, last, more, no_more, one_more}
+use Rattle.asn1_module.specs.asn1_defs.TypeMeanings.{Follows, alone, bounds, names, string, text_size, Plain, simple, ie_container, pdu, MayBeOptional, optional, required, alternative, Piece, AType, Behind, AMember, Members, Added, Value, Means, reference, worded, plain, sequence_of, empty_sequence, sequence, choice, member, mark, last, more, no_more, one_more}
 use Rattle.law_asn1_names.specs.Held.{given_kind}
 use Rattle.law_asn1_names.proofs.Passing.{begins_with_the}
 use Rattle.law_asn1_names.proofs.TypesHeld.{optional_follows, added_follows, begins_type}
@@ -97,6 +100,46 @@ optional_flat : {group : Group} {x : Bool} {ts rest : List Placed} (t : ℕ) (xs
 optional_flat t xs (optional a) = flat (tokens.Word words.Optional) refl t (t ∷ xs) (at_level t) a
 optional_flat {rest} t xs (required w) = none_flat t (t ∷ xs) rest
 optional_flat {rest} t xs alternative = none_flat t (t ∷ xs) rest
+
+-- what follows the word of a type without another one inside
+follows_flat : {shape : Shape} {definition : Definition} {ts rest : List Placed} (y : ℕ) (xs : List ℕ) → Follows shape ts definition rest → Flat y (y ∷ xs) (y ∷ xs) ts rest
+follows_flat {rest} y xs alone = none_flat y (y ∷ xs) rest
+follows_flat y xs (bounds a l r h x e) = bounds_flat y xs a l r h x e
+follows_flat y xs (names a n) = brace_flat y xs a and names_flat y xs n
+follows_flat y xs (string s z) = flat (tokens.Word words.String) refl y (y ∷ xs) (at_level y) s and optional_size_flat y xs z
+follows_flat y xs (text_size z) = optional_size_flat y xs z
+
+-- its word leaves the levels as they are
+same_levels : (w : Word) {shape : Shape} → shape_of w ≡ Some shape → (stack : List ℕ) → behind (tokens.Word w) stack ≡ stack
+same_levels words.Sequence h stack = cc
+same_levels words.Choice h stack = cc
+same_levels words.ProtocolIeContainer h stack = cc
+same_levels words.ProtocolPdu h stack = cc
+same_levels words.Type h stack = cc
+same_levels words.Message h stack = cc
+same_levels words.Outcome h stack = cc
+same_levels _ h stack = refl
+
+-- such a type counts no level, refers by no name, and holds no type
+simple_weight : (definition : Definition) (w : Word) (content : Content) → parts_of definition ≡ Simple w content → weight_of definition ≡ 0
+simple_weight (types.Sequence members) w content h = cc
+simple_weight (types.Choice members) w content h = cc
+simple_weight (types.SequenceOf size element) w content h = cc
+simple_weight (types.IeContainer set) w content h = cc
+simple_weight (types.Pdu set) w content h = cc
+simple_weight _ w content h = refl
+
+simple_nameless : (definition : Definition) (w : Word) (content : Content) → parts_of definition ≡ Simple w content → name_in definition ≡ None
+simple_nameless (types.Reference name) w content h = cc
+simple_nameless (types.IeContainer set) w content h = cc
+simple_nameless (types.Pdu set) w content h = cc
+simple_nameless _ w content h = refl
+
+simple_holds : (definition : Definition) (w : Word) (content : Content) → parts_of definition ≡ Simple w content → (r : ℕ) → Holds definition r → ⊥
+simple_holds (types.Sequence members) w content h r held = cc
+simple_holds (types.Choice members) w content h r held = cc
+simple_holds (types.SequenceOf size element) w content h r held = cc
+simple_holds _ w content h r held = held
 
 -- Items from ts to rest, behind an item or none, that show the types from first to before end; the levels are these before them, and behind
 -- them the innermost is as deep as an item that they could show.
@@ -262,14 +305,11 @@ module _ (whole : List Node) where
 
   plain_stands : {word : Word} {place b end : ℕ} {new : Node} {ts rest : List Placed} (y : ℕ) (xs : List ℕ) → slice_get whole b ≡ Some new → end ≡ suc b
       → Plain word place ts new rest → Stood whole (λ r. r ≡ b) b end y (front_of word y xs) (behind (tokens.Word word) (y ∷ xs)) xs ts rest
-  plain_stands {new = new} {rest = rest} y xs there ends boolean = none_inside y y new there ends (same_level y) refl (λ r h. h) (none_flat y (y ∷ xs) rest)
-  plain_stands {new = new} y xs there ends (integer a l r h x e) = none_inside y y new there ends (same_level y) refl (λ r h. h) (bounds_flat y xs a l r h x e)
-  plain_stands {new = new} y xs there ends (enumerated a n) = none_inside y y new there ends (same_level y) refl (λ r h. h) (brace_flat y xs a and names_flat y xs n)
-  plain_stands {new = new} y xs there ends (bit_string s z) =
-      none_inside y y new there ends (same_level y) refl (λ r h. h) (flat (tokens.Word words.String) refl y (y ∷ xs) (at_level y) s and optional_size_flat y xs z)
-  plain_stands {new = new} y xs there ends (octet_string s z) =
-      none_inside y y new there ends (same_level y) refl (λ r h. h) (flat (tokens.Word words.String) refl y (y ∷ xs) (at_level y) s and optional_size_flat y xs z)
-  plain_stands {new = new} y xs there ends (printable_string z) = none_inside y y new there ends (same_level y) refl (λ r h. h) (optional_size_flat y xs z)
+  plain_stands {b = b} {end = end} {ts = ts} {rest = rest} y xs there ends (simple {word} {place} {definition} is f) =
+      let parts = followed_parts word is f in
+      subst (λ (levels : List ℕ). Stood whole (λ r. r ≡ b) b end y (bare (innermost levels) ∷ []) levels xs ts rest) (sym (same_levels word is (y ∷ xs)))
+      (none_inside y y (node definition place) there ends (omega (arith, simple_weight definition word parts.0 parts.1)) (simple_nameless definition word parts.0 parts.1)
+      (simple_holds definition word parts.0 parts.1) (follows_flat y xs f))
   plain_stands {new = new} y xs there ends (ie_container s) = set_stands y xs new there ends refl refl (λ r h. h) s
   plain_stands {new = new} y xs there ends (pdu s) = set_stands y xs new there ends refl refl (λ r h. h) s
 

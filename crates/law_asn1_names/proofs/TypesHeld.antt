@@ -1,19 +1,22 @@
 -- The items of types hold the names by which the types refer, in their order.
-use Rattle.std.proofs.Common.{◌≡◌, ℕ, ◌+◌, ◌≤◌, List, [], ◌∷◌, ◌++◌, length, true, refl, arith, length-append}
-use Rattle.std.specs.Prelude.{Bool, None}
+use Rattle.std.proofs.Common.{◌≡◌, ℕ, ◌+◌, ◌≤◌, List, [], ◌∷◌, ◌++◌, length, true, refl, sym, subst, arith, length-append}
+use Rattle.std.specs.Prelude.{Bool, Some, None}
 use Rattle.asn1_tokens.specs.declared.token.Word.{Word}
 use Rattle.asn1_tokens.specs.declared.token.Word.TheVariants as words
 use Rattle.asn1_tokens.specs.declared.token.Sign.TheVariants as signs
 use Rattle.asn1_tokens.specs.declared.token.Token.TheVariants as tokens
 use Rattle.asn1_tokens.specs.Stream.{Placed}
+use Rattle.asn1_types.specs.declared.definition.Definition.{Definition}
 use Rattle.asn1_types.specs.declared.definition.Definition.TheVariants as types
 use Rattle.asn1_types.specs.declared.definition.Node.{Node}
 use Rattle.asn1_types.specs.declared.members.Group.{Group}
+use Rattle.asn1_types.specs.Shapes.{Shape, shape_of, Content, Simple, parts_of}
 use Rattle.asn1_types.specs.Members.{no_parts, node, additions_of}
+use Rattle.asn1_module.proofs.SimpleTypes.{followed_parts}
 use Rattle.asn1_module.specs.asn1_defs.declared.names.Kind.{Kind}
 use Rattle.asn1_module.specs.asn1_defs.declared.names.Kind.TheVariants as kinds
 use Rattle.asn1_module.specs.asn1_defs.ItemMeanings.{The, start_of, SetName, set_name}
-use Rattle.asn1_module.specs.asn1_defs.TypeMeanings.{Plain, boolean, integer, enumerated, bit_string, octet_string, printable_string, ie_container, pdu, MayBeOptional, optional, required, alternative, Piece, AType, Behind, AMember, Members, Added, Value, Means, reference, worded, plain, sequence_of, empty_sequence, sequence, choice, member, mark, last, more, no_more, one_more}
+use Rattle.asn1_module.specs.asn1_defs.TypeMeanings.{Follows, alone, bounds, names, string, text_size, Plain, simple, ie_container, pdu, MayBeOptional, optional, required, alternative, Piece, AType, Behind, AMember, Members, Added, Value, Means, reference, worded, plain, sequence_of, empty_sequence, sequence, choice, member, mark, last, more, no_more, one_more}
 use Rattle.law_asn1_names.specs.Held.{given_kind, kind_behind}
 use Rattle.law_asn1_names.proofs.Passing.{Passes, ◌then◌, none_passed, is_plain, plain_passed, sign_passed, upper_passed, begins_with_the, mention_of, AllFrom, IsFrom, all_from_less, Grown, not_grown, later_grown, grown_then, grown_both, grown_with, grown_around}
 use Rattle.law_asn1_names.proofs.ItemsHeld.{Bare, extends_passed, number_passed, lower_passed, optional_size_passed, names_passed}
@@ -28,17 +31,44 @@ set_passed kind (set_name {name} a b n c d) =
     upper_passed name kind (begins_with_the (tokens.Sign signs.RightBrace) c) n then
     sign_passed signs.RightBrace kinds.Type c then sign_passed signs.RightBrace kinds.Type d
 
+-- what follows the word of a type without another one inside
+follows_passed : {shape : Shape} {definition : Definition} {ts rest : List Placed} → Follows shape ts definition rest → Passes kinds.Type kinds.Type ts rest []
+follows_passed {rest} alone = none_passed kinds.Type rest
+follows_passed (bounds {low} {high} a l r h x e) =
+    sign_passed signs.LeftParenthesis kinds.Type a then number_passed low l then sign_passed signs.Range kinds.Type r then number_passed high h then
+    extends_passed x then sign_passed signs.RightParenthesis kinds.Type e
+follows_passed (names a n) = sign_passed signs.LeftBrace kinds.Type a then names_passed n
+follows_passed (string s z) = word_passed words.String refl s then optional_size_passed z
+follows_passed (text_size z) = optional_size_passed z
+
+-- such a type refers by no name, no set is expected behind its word, and its word isn't END
+no_mention : (definition : Definition) (w : Word) (content : Content) → parts_of definition ≡ Simple w content → (place : ℕ) → mention_of definition place ≡ []
+no_mention (types.Reference name) w content h place = cc
+no_mention (types.IeContainer set) w content h place = cc
+no_mention (types.Pdu set) w content h place = cc
+no_mention _ w content h place = refl
+
+no_set : (w : Word) {shape : Shape} → shape_of w ≡ Some shape → kind_behind kinds.Type (tokens.Word w) ≡ kinds.Type
+no_set words.ProtocolIeContainer h = cc
+no_set words.ProtocolPdu h = cc
+no_set _ h = refl
+
+no_end : (w : Word) {shape : Shape} → shape_of w ≡ Some shape → is_plain (tokens.Word w) ≡ true
+no_end words.End h = cc
+no_end _ h = refl
+
+simple_from : (n : ℕ) (definition : Definition) (w : Word) (content : Content) → parts_of definition ≡ Simple w content → IsFrom n definition
+simple_from n (types.Sequence members) w content h = cc
+simple_from n (types.Choice members) w content h = cc
+simple_from n (types.SequenceOf size element) w content h = cc
+simple_from n _ w content h = tt
+
 -- the first word of a type without another one inside
 plain_type : {word : Word} {place : ℕ} {new : Node} {ts rest : List Placed} → Plain word place ts new rest
     → Passes (kind_behind kinds.Type (tokens.Word word)) kinds.Type ts rest (mention_of new.definition new.place)
-plain_type {rest} boolean = none_passed kinds.Type rest
-plain_type (integer {low} {high} a l r h x e) =
-    sign_passed signs.LeftParenthesis kinds.Type a then number_passed low l then sign_passed signs.Range kinds.Type r then number_passed high h then
-    extends_passed x then sign_passed signs.RightParenthesis kinds.Type e
-plain_type (enumerated a n) = sign_passed signs.LeftBrace kinds.Type a then names_passed n
-plain_type (bit_string s z) = word_passed words.String refl s then optional_size_passed z
-plain_type (octet_string s z) = word_passed words.String refl s then optional_size_passed z
-plain_type (printable_string z) = optional_size_passed z
+plain_type {ts} {rest} (simple {word} {place} {definition} is f) =
+    subst (λ (kind : Kind). Passes kind kinds.Type ts rest (mention_of definition place)) (sym (no_set word is))
+    (subst (Passes kinds.Type kinds.Type ts rest) (sym (no_mention definition word (followed_parts word is f).0 (followed_parts word is f).1 place)) (follows_passed f))
 plain_type (ie_container s) = set_passed kinds.IeSet s
 plain_type (pdu s) = set_passed kinds.ProcedureSet s
 
@@ -68,12 +98,7 @@ kind_at (Added group) = kinds.Type
 
 -- the word of a type isn't END
 pub begins_type : {nodes all : List Node} {word : Word} {place : ℕ} {x : Value (Behind word place)} {ts rest : List Placed} → Means (Behind word place) nodes ts x all rest → is_plain (tokens.Word word) ≡ true
-begins_type (plain boolean) = refl
-begins_type (plain (integer a l r h x e)) = refl
-begins_type (plain (enumerated a n)) = refl
-begins_type (plain (bit_string s z)) = refl
-begins_type (plain (octet_string s z)) = refl
-begins_type (plain (printable_string z)) = refl
+begins_type (plain (simple {word} is f)) = no_end word is
 begins_type (plain (ie_container s)) = refl
 begins_type (plain (pdu s)) = refl
 begins_type (sequence_of z o m) = refl
@@ -84,12 +109,7 @@ begins_type (choice a m) = refl
 -- ---- what stands inside a type has a number from that of the types that ended before on
 
 plain_from : (n : ℕ) {word : Word} {place : ℕ} {new : Node} {ts rest : List Placed} → Plain word place ts new rest → IsFrom n new.definition
-plain_from n boolean = tt
-plain_from n (integer a l r h x e) = tt
-plain_from n (enumerated a m) = tt
-plain_from n (bit_string s z) = tt
-plain_from n (octet_string s z) = tt
-plain_from n (printable_string z) = tt
+plain_from n (simple {word} {definition} is f) = simple_from n definition word (followed_parts word is f).0 (followed_parts word is f).1
 plain_from n (ie_container s) = tt
 plain_from n (pdu s) = tt
 

@@ -10,6 +10,7 @@ use Rattle.asn1_tokens.specs.declared.token.Sign.TheVariants as signs
 use Rattle.asn1_tokens.specs.declared.token.Token.{Token}
 use Rattle.asn1_tokens.specs.Stream.{Placed, first_place}
 use Rattle.asn1_types.specs.declared.fault.Fault.{Fault}
+use Rattle.asn1_types.specs.declared.definition.Size.{Size}
 use Rattle.asn1_types.specs.declared.definition.TypeId.{TypeId}
 use Rattle.asn1_types.specs.declared.definition.Component.{Component}
 use Rattle.asn1_types.specs.declared.definition.Extensible.{Extensible}
@@ -21,10 +22,12 @@ use Rattle.asn1_types.specs.declared.members.Frame.{Frame}
 use Rattle.asn1_types.specs.declared.members.Head.{Head}
 use Rattle.asn1_types.specs.declared.members.Head.TheVariants as heads
 use Rattle.asn1_types.specs.Reading.{Left, first_word, begins_with_sign}
+use Rattle.asn1_types.specs.Shapes.{Shape, Alone, BoundsFollow, NamesFollow, StringFollows, TextSizeFollows, shape_of, Nothing, StringSize, TextSize, Parts, Simple, parts_of}
 use Rattle.asn1_types.specs.Members.{no_parts, close_at, additions_of}
-use Rattle.asn1_types.specs.Types.{enumerated_at, bit_string_at, octet_string_at, printable_string_at, simple_rest_at, is_simple, simple_at, list_head_at, components_head_at, sequence_head_at, choice_head_at, set_name_at, container_at, pdu_at, reference_at, head_by, next_id, Risen, risen, rise_at, type_turn_at, type_goes_on, type_within_at, type_at}
+use Rattle.asn1_types.proofs.ShapeLemmas.{alone_parts, string_parts, text_parts, bounds_word, names_word}
+use Rattle.asn1_types.specs.Types.{enumerated_at, string_at, rest_at, rest_by, simple_rest_at, is_simple, simple_at, list_head_at, components_head_at, sequence_head_at, choice_head_at, set_name_at, container_at, pdu_at, reference_at, head_by, next_id, Risen, risen, rise_at, type_turn_at, type_goes_on, type_within_at, type_at}
 use Rattle.asn1_module.specs.asn1_defs.Links.{AreBelow, PartsBelow, IsInside, AreOrdered}
-use Rattle.law_asn1_text.specs.Written.{Written, word, sign, lower, optional_text, separated, addition_entries, entries_of, braced, optional_size_text, type_text, component_text, set_name_text, definition_text, with_text, texts_of}
+use Rattle.law_asn1_text.specs.Written.{Written, word, sign, lower, optional_text, separated, addition_entries, entries_of, braced, optional_size_text, type_text, component_text, set_name_text, parts_text, definition_text, with_text, texts_of}
 use Rattle.asn1_proof_syntax.proofs.Gives.{Gives, ok, no_value, and_gives, gives_so}
 use Rattle.law_asn1_text.proofs.Taken.{Taken, ◌then◌, nothing_taken, written_as, word_gives, sign_gives, upper_gives}
 use Rattle.law_asn1_text.proofs.SizeTexts.{size_gives, optional_size_gives, integer_gives}
@@ -38,17 +41,38 @@ Heads texts start r = Gives (λ (a : Head × Left). Taken (head_text texts a.0) 
 
 -- ---- heads
 
-simple_rest_gives : (texts : List Written) (turns : ℕ) (w : Word) (start ts : List Placed) → Taken (word w) start ts → Made texts start (simple_rest_at turns w ts)
-unfolding simple_rest_at enumerated_at bit_string_at octet_string_at printable_string_at definition_text
-simple_rest_gives texts turns words.Boolean start ts p = ok p
-simple_rest_gives texts turns words.Integer start ts p = integer_gives texts start ts p
-simple_rest_gives texts turns words.Enumerated start ts p =
+enumerated_gives : (texts : List Written) (turns : ℕ) (start ts : List Placed) → Taken (word words.Enumerated) start ts → Made texts start (enumerated_at turns ts)
+unfolding enumerated_at definition_text
+enumerated_gives texts turns start ts p =
     and_gives (sign_gives signs.LeftBrace ts) (λ a t1.
     and_gives (names_gives (λ t. word words.Enumerated (sign signs.LeftBrace t)) start turns a (p then t1)) (λ names t2. ok t2))
-simple_rest_gives texts turns words.Bit start ts p = and_gives (word_gives words.String ts) (λ a t1. and_gives (optional_size_gives false a) (λ found t2. ok (p then t1 then t2)))
-simple_rest_gives texts turns words.Octet start ts p = and_gives (word_gives words.String ts) (λ a t1. and_gives (optional_size_gives false a) (λ found t2. ok (p then t1 then t2)))
-simple_rest_gives texts turns words.PrintableString start ts p = and_gives (optional_size_gives true ts) (λ found t. ok (p then t))
-simple_rest_gives texts turns _ start ts p = no_value
+
+string_gives : (ts : List Placed) → Gives (λ (a : Option Size × Left). Taken (λ t. word words.String (optional_size_text a.0 t)) ts a.1) (string_at ts)
+unfolding string_at
+string_gives ts = and_gives (word_gives words.String ts) (λ a t1. gives_so (optional_size_gives false a) (λ found t2. t1 then t2))
+
+-- the text of a type is that of its parts
+text_of_parts : (texts : List Written) (definition : Definition) (parts : Parts) (start ts : List Placed) → parts_of definition ≡ parts → Taken (parts_text texts parts) start ts → Taken (definition_text texts definition) start ts
+unfolding definition_text
+text_of_parts texts definition parts start ts is p = subst (λ (found : Parts). Taken (parts_text texts found) start ts) (sym is) p
+
+rest_gives : (texts : List Written) (turns : ℕ) (w : Word) (shape : Shape) (start ts : List Placed) → shape_of w ≡ Some shape → Taken (word w) start ts → Made texts start (rest_at turns shape ts)
+unfolding rest_at
+rest_gives texts turns w (Alone definition) start ts is p = ok (text_of_parts texts definition (Simple w Nothing) start ts (alone_parts w definition is) p)
+rest_gives texts turns w BoundsFollow start ts is p = integer_gives texts start ts (subst (λ (v : Word). Taken (word v) start ts) (bounds_word w is) p)
+rest_gives texts turns w NamesFollow start ts is p = enumerated_gives texts turns start ts (subst (λ (v : Word). Taken (word v) start ts) (names_word w is) p)
+rest_gives texts turns w (StringFollows kind) start ts is p = and_gives (string_gives ts) (λ found t.
+    ok (text_of_parts texts (kind found.0) (Simple w (StringSize found.0)) start found.1 (string_parts w kind is found.0) (p then t)))
+rest_gives texts turns w (TextSizeFollows kind) start ts is p = and_gives (optional_size_gives true ts) (λ found t.
+    ok (text_of_parts texts (kind found.0) (Simple w (TextSize found.0)) start found.1 (text_parts w kind is found.0) (p then t)))
+
+simple_rest_gives : (texts : List Written) (turns : ℕ) (w : Word) (start ts : List Placed) → Taken (word w) start ts → Made texts start (simple_rest_at turns w ts)
+unfolding simple_rest_at
+simple_rest_gives texts turns w start ts p = go (shape_of w) refl
+  where
+    go : (found : Option Shape) → shape_of w ≡ found → Made texts start (rest_by turns found ts)
+    go None is = no_value
+    go (Some shape) is = rest_gives texts turns w shape start ts is p
 
 simple_gives : (texts : List Written) (turns : ℕ) (w : Word) (ts : List Placed) → Heads texts ts (simple_at turns w ts)
 unfolding simple_at

@@ -14,7 +14,8 @@ use Rattle.asn1_types.specs.declared.definition.Component.{Component}
 use Rattle.asn1_types.specs.declared.definition.Extensible.{Extensible}
 use Rattle.asn1_types.specs.declared.definition.Node.{Node}
 use Rattle.asn1_types.specs.declared.definition.Definition.{Definition}
-use Rattle.asn1_types.specs.declared.definition.Definition.TheVariants as types
+use Rattle.asn1_types.specs.declared.members.Group.TheVariants as groups
+use Rattle.asn1_types.specs.Shapes.{Content, Nothing, Interval, NameList, StringSize, TextSize, Parts, Simple, Composed, Elements, Named, SetOf, parts_of}
 use Rattle.asn1_assignments.specs.declared.assignment.Criticality.{Criticality}
 use Rattle.asn1_assignments.specs.declared.assignment.Criticality.TheVariants as criticalities
 use Rattle.asn1_assignments.specs.declared.assignment.Presence.{Presence}
@@ -95,21 +96,27 @@ component_text texts component tail = lower component.name (type_text texts comp
 abbrev pub set_name_text : List ℕ → Written
 set_name_text set tail = sign signs.LeftBrace (sign signs.LeftBrace (upper set (sign signs.RightBrace (sign signs.RightBrace tail))))
 
--- a type, where these are the texts of those inside it
+-- what follows the word of a type without another one inside
+abbrev pub content_text : Content → Written
+content_text Nothing tail = tail
+content_text (Interval low high extensible) tail =
+    sign signs.LeftParenthesis (tokens.Number low ∷ sign signs.Range (tokens.Number high ∷ mark_text extensible (sign signs.RightParenthesis tail)))
+content_text (NameList names) tail = braced (entries_of lower names) tail
+content_text (StringSize size) tail = word words.String (optional_size_text size tail)
+content_text (TextSize size) tail = optional_size_text size tail
+
+-- the parts of a type, where these are the texts of the types inside it
+abbrev pub parts_text : List Written → Parts → Written
+parts_text texts (Simple w content) tail = word w (content_text content tail)
+parts_text texts (Composed groups.Sequence members) tail = word words.Sequence (braced (entries_of (component_text texts) members) tail)
+parts_text texts (Composed groups.Choice members) tail = word words.Choice (braced (entries_of (component_text texts) members) tail)
+parts_text texts (Elements size element) tail = word words.Sequence (optional_size_text size (word words.Of (type_text texts element tail)))
+parts_text texts (Named name) tail = upper name tail
+parts_text texts (SetOf w set) tail = word w (set_name_text set tail)
+
+-- a type
 unfoldable pub definition_text : List Written → Definition → Written
-definition_text texts types.Boolean tail = word words.Boolean tail
-definition_text texts (types.Integer low high extensible) tail =
-    word words.Integer (sign signs.LeftParenthesis (tokens.Number low ∷ sign signs.Range (tokens.Number high ∷ mark_text extensible (sign signs.RightParenthesis tail))))
-definition_text texts (types.Enumerated names) tail = word words.Enumerated (braced (entries_of lower names) tail)
-definition_text texts (types.BitString size) tail = word words.Bit (word words.String (optional_size_text size tail))
-definition_text texts (types.OctetString size) tail = word words.Octet (word words.String (optional_size_text size tail))
-definition_text texts (types.PrintableString size) tail = word words.PrintableString (optional_size_text size tail)
-definition_text texts (types.Sequence members) tail = word words.Sequence (braced (entries_of (component_text texts) members) tail)
-definition_text texts (types.Choice members) tail = word words.Choice (braced (entries_of (component_text texts) members) tail)
-definition_text texts (types.SequenceOf size element) tail = word words.Sequence (optional_size_text size (word words.Of (type_text texts element tail)))
-definition_text texts (types.Reference name) tail = upper name tail
-definition_text texts (types.IeContainer set) tail = word words.ProtocolIeContainer (set_name_text set tail)
-definition_text texts (types.Pdu set) tail = word words.ProtocolPdu (set_name_text set tail)
+definition_text texts definition tail = parts_text texts (parts_of definition) tail
 
 -- The texts of all types: a type stands behind those inside it, so each is written with the texts of those before it.
 abbrev pub with_text : List Written → Node → List Written

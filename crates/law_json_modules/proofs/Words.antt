@@ -16,7 +16,9 @@ use Rattle.asn1_types.specs.declared.definition.Node.{Node}
 use Rattle.asn1_types.specs.declared.definition.Size.{Size}
 use Rattle.asn1_types.specs.declared.members.Group.{Group}
 use Rattle.asn1_types.specs.Reading.{Left}
+use Rattle.asn1_types.specs.Shapes.{Shape, Content, Simple, parts_of}
 use Rattle.asn1_types.specs.Members.{additions_of}
+use Rattle.asn1_module.proofs.SimpleTypes.{followed_parts}
 use Rattle.asn1_module.specs.asn1_assignments.declared.assignment.IeRow.{IeRow}
 use Rattle.asn1_module.specs.asn1_assignments.declared.assignment.ProcedureRow.{ProcedureRow}
 use Rattle.asn1_module.specs.asn1_assignments.declared.assignment.Body.{Body}
@@ -25,9 +27,9 @@ use Rattle.asn1_module.specs.asn1_assignments.declared.assignment.Syntax.{Syntax
 use Rattle.asn1_module.specs.asn1_assignments.declared.assignment.Criticality.{Criticality}
 use Rattle.asn1_module.specs.asn1_assignments.declared.assignment.Presence.{Presence}
 use Rattle.asn1_module.specs.asn1_defs.ItemMeanings as items
-use Rattle.asn1_module.specs.asn1_defs.ItemMeanings.{The, Extends, HighBound, ASize, OptionalSize, SetName, AddedNames, Names}
+use Rattle.asn1_module.specs.asn1_defs.ItemMeanings.{The, Extends, HighBound, OptionalSize, SetName, AddedNames, Names}
 use Rattle.asn1_module.specs.asn1_defs.TypeMeanings as means
-use Rattle.asn1_module.specs.asn1_defs.TypeMeanings.{Plain, MayBeOptional, Piece, AType, Behind, AMember, Members, Added, Value, Means}
+use Rattle.asn1_module.specs.asn1_defs.TypeMeanings.{Follows, Plain, MayBeOptional, Piece, AType, Behind, AMember, Members, Added, Value, Means}
 use Rattle.asn1_module.specs.asn1_defs.RowMeanings as rows
 use Rattle.asn1_module.specs.asn1_defs.RowMeanings.{ACriticality, APresence, AnIe, Outcome, AProcedure, Rows}
 use Rattle.asn1_module.specs.asn1_defs.ModuleMeanings as modules
@@ -132,16 +134,7 @@ AreMembers parts = Each IsMember parts.root × Each IsMember (additions_of parts
 abbrev pub HasWords : Definition → Type 0
 HasWords (types.Sequence members) = AreMembers members
 HasWords (types.Choice members) = AreMembers members
-HasWords (types.SequenceOf size element) = Unit {0}
-HasWords (types.Reference name) = Unit {0}
-HasWords (types.IeContainer set) = Unit {0}
-HasWords (types.Pdu set) = Unit {0}
-HasWords types.Boolean = Unit {0}
-HasWords (types.Integer low high extensible) = Unit {0}
-HasWords (types.Enumerated parts) = Unit {0}
-HasWords (types.BitString size) = Unit {0}
-HasWords (types.OctetString size) = Unit {0}
-HasWords (types.PrintableString size) = Unit {0}
+HasWords _ = Unit {0}
 
 abbrev NodeWords : Node → Type 0
 NodeWords node = HasWords node.definition
@@ -152,14 +145,23 @@ AllWords nodes = Each NodeWords nodes
 put : (nodes : List Node) (new : Node) → AllWords nodes → HasWords new.definition → AllWords (nodes ++ new ∷ [])
 put nodes new n h = each_put NodeWords nodes new n h
 
+follows_past : {shape : Shape} {definition : Definition} {ts rest : Left} → Follows shape ts definition rest → AreWords ts → AreWords rest
+follows_past means.alone h = h
+follows_past (means.bounds a b c d mark e) h = past e (extends_past mark (past d (past c (past b (past a h)))))
+follows_past (means.names a names) h = names_past names (past a h)
+follows_past (means.string a size) h = optional_size_past size (past a h)
+follows_past (means.text_size size) h = optional_size_past size h
+
+simple_words : (definition : Definition) (w : Word) (content : Content) → parts_of definition ≡ Simple w content → HasWords definition
+simple_words (types.Sequence members) w content h = cc
+simple_words (types.Choice members) w content h = cc
+simple_words _ w content h = tt
+
 plain_words : {word : Word} {place : ℕ} {new : Node} {ts rest : Left} → Plain word place ts new rest → AreWords ts
     → HasWords new.definition × AreWords rest
-plain_words means.boolean h = (tt, h)
-plain_words (means.integer a b c d mark e) h = (tt, past e (extends_past mark (past d (past c (past b (past a h))))))
-plain_words (means.enumerated a names) h = (tt, names_past names (past a h))
-plain_words (means.bit_string a size) h = (tt, optional_size_past size (past a h))
-plain_words (means.octet_string a size) h = (tt, optional_size_past size (past a h))
-plain_words (means.printable_string size) h = (tt, optional_size_past size h)
+plain_words (means.simple {word} {definition} is follows) h =
+    let parts = followed_parts word is follows in
+    (simple_words definition word parts.0 parts.1, follows_past follows h)
 plain_words (means.ie_container set) h = (tt, set_name_past set h)
 plain_words (means.pdu set) h = (tt, set_name_past set h)
 

@@ -5,7 +5,7 @@ use Rattle.asn1_tokens.specs.Words.{is_text, module_word, simple_type_word, part
 use Rattle.asn1_types.specs.Members.{new_name_at, list_goes_on_at, name_entry_at, names_turn_at, names_at, named_at, entry_at, optional_at, member_end_at}
 use Rattle.asn1_types.specs.Reading.{unexpected, word_at, sign_at, upper_at, lower_at, number_at, repeat_at}
 use Rattle.asn1_types.specs.Sizes.{bounded_at, natural_at, ellipsis_at, size_end_at, size_rest_at, size_at, optional_size_at, integer_ellipsis_at, integer_at}
-use Rattle.asn1_types.specs.Types.{enumerated_at, bit_string_at, octet_string_at, printable_string_at, simple_rest_at, simple_at, list_head_at, components_head_at, sequence_head_at, choice_head_at, set_name_at, container_at, pdu_at, reference_at, head_by, rise_at, type_turn_at, type_within_at, type_at}
+use Rattle.asn1_types.specs.Types.{enumerated_at, string_at, rest_at, simple_rest_at, simple_at, list_head_at, components_head_at, sequence_head_at, choice_head_at, set_name_at, container_at, pdu_at, reference_at, head_by, rise_at, type_turn_at, type_within_at, type_at}
 use Rattle.asn1_assignments.specs.Module.{new_assignment_at, ie_body_at, procedure_body_at, type_body_at, body_at, assignment_at, module_turn_at, header_at, assignments_at, syntax_at}
 use Rattle.asn1_assignments.specs.Rows.{new_number_at, criticality_of, criticality_at, presence_of, presence_at, ie_row_at, outcome_at, messages_at, procedure_row_at}
 use Rattle.asn1_assignments.specs.Sets.{set_goes_on_at, ie_turn_at, procedure_turn_at, set_start_at, ie_set_at, procedure_set_at}
@@ -20,5 +20,5 @@ use Rattle.profile_proof_text.proofs.Read.{is_read}
 use Rattle.profile_proof_text.proofs.profile_texts_agree.Goals as goal
 
 pub returns : goal.returns
-unfolding raise relaxed rounds layers member_edges node_edges nodes_edges range_edges parts_edges edges_of node_weights type_ids kind_of_name is_known first_unknown after_gap after_name after_digits after_number magnitude name_token long_sign short_sign number_lexeme lexeme_at scan is_text module_word simple_type_word part_type_word set_word procedure_word word_of is_left_out new_name_at list_goes_on_at name_entry_at names_turn_at names_at named_at entry_at optional_at member_end_at unexpected word_at sign_at upper_at lower_at number_at repeat_at bounded_at natural_at ellipsis_at size_end_at size_rest_at size_at optional_size_at integer_ellipsis_at integer_at enumerated_at bit_string_at octet_string_at printable_string_at simple_rest_at simple_at list_head_at components_head_at sequence_head_at choice_head_at set_name_at container_at pdu_at reference_at head_by rise_at type_turn_at type_within_at type_at new_assignment_at ie_body_at procedure_body_at type_body_at body_at assignment_at module_turn_at header_at assignments_at syntax_at new_number_at criticality_of criticality_at presence_of presence_at ie_row_at outcome_at messages_at procedure_row_at set_goes_on_at ie_turn_at procedure_turn_at set_start_at ie_set_at procedure_set_at find_type ie_rows procedure_rows profile_types is_form are_components are_additions are_elements are_procedures is_outcome
+unfolding raise relaxed rounds layers member_edges node_edges nodes_edges range_edges parts_edges edges_of node_weights type_ids kind_of_name is_known first_unknown after_gap after_name after_digits after_number magnitude name_token long_sign short_sign number_lexeme lexeme_at scan is_text module_word simple_type_word part_type_word set_word procedure_word word_of is_left_out new_name_at list_goes_on_at name_entry_at names_turn_at names_at named_at entry_at optional_at member_end_at unexpected word_at sign_at upper_at lower_at number_at repeat_at bounded_at natural_at ellipsis_at size_end_at size_rest_at size_at optional_size_at integer_ellipsis_at integer_at enumerated_at string_at rest_at simple_rest_at simple_at list_head_at components_head_at sequence_head_at choice_head_at set_name_at container_at pdu_at reference_at head_by rise_at type_turn_at type_within_at type_at new_assignment_at ie_body_at procedure_body_at type_body_at body_at assignment_at module_turn_at header_at assignments_at syntax_at new_number_at criticality_of criticality_at presence_of presence_at ie_row_at outcome_at messages_at procedure_row_at set_goes_on_at ie_turn_at procedure_turn_at set_start_at ie_set_at procedure_set_at find_type ie_rows procedure_rows profile_types is_form are_components are_additions are_elements are_procedures is_outcome
 returns c = record { one = is_read (profile_types 1) _ refl; two = is_read (profile_types 2) _ refl }

@@ -1,6 +1,6 @@
 use Rattle.std.proofs.Common.{subst, sym}
 use Rattle.asn1_module.specs.declared.error.ModuleError.{ModuleError}
-use Rattle.asn1_module.specs.Refusals.{RefusedSo}
+use Rattle.asn1_module.specs.Refusals.{IsRefusal}
 use Rattle.profile_module.specs.Profiles.{IsBuiltin}
 use Rattle.profile_module.proofs.Built.{built, never_wrong}
 use Rattle.profile_module.proofs.built_in.of_text.Goals as goal
@@ -12,7 +12,7 @@ of-requires c =
 pub unreachable-requires : goal.unreachable-requires
 unreachable-requires c =
     never_wrong c.args.version c.profile_texts_agree.ensures.one c.profile_texts_agree.ensures.two _ _ _ _ c.text.ensures
-    (subst (λ (e : ModuleError). RefusedSo c.text.result.now e) c.in-Err-Refused.field-0-is c.in-Err-Refused.ensures)
+    (subst (λ (e : ModuleError). IsRefusal c.text.result.now e) c.in-Err-Refused.field-0-is c.in-Err-Refused.ensures)
 
 pub returns-in-Ok : goal.returns-in-Ok
 returns-in-Ok c =
