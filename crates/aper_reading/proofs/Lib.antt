@@ -4,4 +4,5 @@ pub mod ReadsSteps
 pub mod FormBounds
 pub mod HeavyLemmas
 pub mod Turns
+pub mod InPlace
 pub mod Front

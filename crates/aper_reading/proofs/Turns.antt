@@ -25,6 +25,7 @@ use Rattle.aper_frames.specs.Steps.{left}
 use Rattle.aper_frames.specs.Weights.{frames_weight, turn_weight}
 use Rattle.aper_reading.specs.Forms.{form_weight}
 use Rattle.aper_reading.specs.Heavy.{heavy, weighed}
+use Rattle.aper_reading.specs.InModule.{IsOfModule}
 use Rattle.aper_reading.specs.Turns.{IsTurnInside, TakesTurn, ReadsValue}
 use Rattle.aper_reading.proofs.HeavyLemmas.{weighed_inside, form_weighed, is_inside}
 
@@ -62,6 +63,10 @@ module _ (m : Syntax) (whole : ℕ) (first : Cursor) (turn : Turn) (fs : List Fr
           → IsTurnInside (length m.nodes) x
       inside (turns.Read id) least = is_inside m id.number (heavy (tree m whole)) (λ other. omega (arith, least other))
       inside (turns.Made v) least = tt
+
+  -- and so are those inside the frames
+  pub turn_frames : IsOfModule m (λ w. frames_weight w fs)
+  turn_frames = record { most = heavy (tree m whole); bounded = λ other. omega (arith, t.least other) }
 
   pub next_turn : (next : Turn) (gs : List Frame) (d : Cursor) → run (left (tree m) turn fs) c ≡ run (left (tree m) next gs) d
       → ((other : ℕ) → turn_weight (weighed m other) next + frames_weight (weighed m other) gs

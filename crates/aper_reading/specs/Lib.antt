@@ -1,4 +1,5 @@
 pub mod Forms
 pub mod Heavy
+pub mod InModule
 pub mod Turns
 pub mod Decoding

@@ -6,7 +6,9 @@ ghost use Rattle.aper_defs.specs.Reading.{run, decoded};
 ghost use Rattle.aper_types.specs.Types.{tree};
 ghost use Rattle.aper_frames.specs.Frames.{path_of};
 ghost use Rattle.aper_frames.specs.Steps.{left};
+ghost use Rattle.aper_frames.specs.Weights.{frames_weight};
 ghost use Rattle.aper_reading.specs.Decoding.{Decodes};
+ghost use Rattle.aper_reading.specs.InModule.{IsOfModule};
 ghost use Rattle.aper_reading.specs.Turns.{ReadsWhole, ReadsValue, IsRefusal, IsTurnInside, TakesTurn, Lessens};
 
 use crate::begin::begin;
@@ -134,7 +136,8 @@ fn take_turn<'m>(
     frames: &mut Stack<'m>,
     turn: Turn,
 ) -> Result<Progress, Unanswered>
-    requires { IsTurnInside (length m.now.nodes) turn }
+    requires turn { IsTurnInside (length m.now.nodes) turn }
+    requires frames { IsOfModule m.now (λ w. frames_weight w frames.old) }
     ensures asked { TakesTurn (tree m.now) (run (left (tree m.now) turn frames.old) cursor.old) cursor.new frames.new result }
     ensures lighter { Lessens m.now turn frames.old frames.new result }
 {
@@ -142,7 +145,7 @@ fn take_turn<'m>(
         Turn::Read(id) => Ok(Progress::Next(begin(alloc, cursor, frames, form_of(m, id))?)),
         Turn::Made(value) => match frames.pop() {
             None => Ok(Progress::Whole(value)),
-            Some(frame) => Ok(Progress::Next(go_on(alloc, cursor, frames, frame, value)?)),
+            Some(frame) => Ok(Progress::Next(go_on(alloc, m, cursor, frames, frame, value)?)),
         },
     }
 }

@@ -7,6 +7,7 @@ mod error;
 mod goes_on;
 mod list;
 mod sequence;
+mod simple;
 
 pub use decoder::{decode, refused};
 pub use error::DecodeError;

@@ -1,16 +1,18 @@
 //! SEQUENCE.
 
-ghost use Rattle.std.specs.Prelude.{◌+◌};
+ghost use Rattle.std.specs.Prelude.{◌+◌, OnOk};
 ghost use Rattle.asn1_types.specs.Members.{additions_of};
 ghost use Rattle.aper_defs.specs.Asking.{asks};
 ghost use Rattle.aper_defs.specs.Trees.{sequence};
-ghost use Rattle.aper_types.specs.Types.{sequence_tree, parts_of};
+ghost use Rattle.aper_types.specs.Types.{sequence_tree, parts_of, tree};
 ghost use Rattle.aper_values.specs.Views.{view};
 ghost use Rattle.aper_frames.specs.Frames.{components_left, component_after, additions_left, addition_after, path_of, next_of, after_components, options_before};
 ghost use Rattle.aper_frames.specs.Steps.{Steps};
 ghost use Rattle.aper_frames.specs.Weights.{sequence_weight, components_weight, additions_weight, frames_weight, Lighter};
+ghost use Rattle.aper_reading.specs.InModule.{IsOfModule, StepsIn, IsAround};
 ghost use Rattle.aper_defs.specs.Values as seen;
 
+use crate::simple::read_simple;
 use aper_asking::ask_extension;
 use aper_cursor::{Cursor, Unanswered};
 use aper_frames::{
@@ -21,7 +23,9 @@ use aper_heads::{ask_flags, ask_marks};
 use aper_members::rows::named;
 use aper_values::make::components;
 use aper_values::value::Value;
+use asn1_module::Module;
 use asn1_types::{Component, Extensible};
+use gnb_types::items::Memory;
 use std::alloc::Global;
 
 pub fn begin_sequence<'m>(
@@ -71,20 +75,66 @@ fn begin_components<'m>(
     next_component(alloc, cursor, frames, components)
 }
 
-/// After a component.
+/// After a component: those that hold no other values are read at once.
 pub fn after_component<'m>(
     alloc: Global,
+    m: &'m Module,
     cursor: &mut Cursor,
     frames: &mut Stack<'m>,
     components: Components<'m>,
     value: Value,
 ) -> Result<Turn, Unanswered>
-    ensures asked { Steps (λ of. component_after of components.entry (path_of frames.old) (next_of of frames.old) (view value)) cursor.old cursor.new frames.new result }
+    requires { IsOfModule m.now (λ w. components_weight w components) }
+    ensures asked { StepsIn (tree m.now) (component_after (tree m.now) components.entry (path_of frames.old) (next_of (tree m.now) frames.old) (view value))
+        cursor.old cursor.new frames.new result }
     ensures lighter { Lighter (λ w. components_weight w components.entry + frames_weight w frames.old) frames.new result }
 {
     let mut components = components;
     components.made.push(Some(value))?;
-    next_component(alloc, cursor, frames, components)
+    read_components(alloc, m, cursor, frames, components)
+}
+
+/// The components that are left, as far as they hold no other values.
+fn read_components<'m>(
+    alloc: Global,
+    m: &'m Module,
+    cursor: &mut Cursor,
+    frames: &mut Stack<'m>,
+    components: Components<'m>,
+) -> Result<Turn, Unanswered>
+    requires { IsOfModule m.now (λ w. components_weight w components) }
+    ensures asked { StepsIn (tree m.now) (components_left (tree m.now) components.entry (path_of frames.old) (next_of (tree m.now) frames.old))
+        cursor.old cursor.new frames.new result }
+    ensures lighter { Lighter (λ w. components_weight w components.entry + frames_weight w frames.old) frames.new result }
+{
+    let mut others = components;
+    while let Some(component) = others.next()? {
+        match read_simple(alloc, m, cursor, component.definition) {
+            Ok(Some(value)) => others.made.push(Some(value))?,
+            Ok(None) => {
+                push_component(frames, component, others)?;
+                return Ok(Turn::Read(component.definition));
+            }
+            Err(error) => {
+                push_component(frames, component, others)?;
+                return Err(error);
+            }
+        }
+    }
+    begin_additions(alloc, cursor, frames, others)
+}
+
+/// A component is read next, and the others after it.
+fn push_component<'m>(
+    frames: &mut Stack<'m>,
+    component: &'m Component,
+    others: Components<'m>,
+) -> Result<(), Memory>
+    ensures { OnOk result (IsAround component.now others.entry frames.old frames.new) }
+{
+    let name = component.name.as_slice();
+    frames.push(Frame::Component(ComponentFrame { name, others }))?;
+    Ok(())
 }
 
 /// The next component, or what comes after the last one.
@@ -101,8 +151,7 @@ fn next_component<'m>(
     match others.next()? {
         None => begin_additions(alloc, cursor, frames, others),
         Some(component) => {
-            let name = component.name.as_slice();
-            frames.push(Frame::Component(ComponentFrame { name, others }))?;
+            push_component(frames, component, others)?;
             Ok(Turn::Read(component.definition))
         }
     }

@@ -1,6 +1,6 @@
 use Rattle.std.proofs.Common.{Ok, subst}
 use Rattle.aper_reading.specs.Turns.{Lessens}
-use Rattle.aper_reading.proofs.Turns.{first_turn, turn_inside, turn_lessens}
+use Rattle.aper_reading.proofs.Turns.{first_turn, turn_inside, turn_frames, turn_lessens}
 use Rattle.aper_reading.proofs.decoder.read_value.Goals as goal
 
 pub loop-next-init : goal.loop-next-init
@@ -9,7 +9,10 @@ loop-next-init c = first_turn c.args.m.now c.args.cursor.now c.args.id c.args.fr
 pub take_turn-requires : goal.take_turn-requires
 take_turn-requires c =
     let l = c.loop-next in
-    turn_inside c.args.m.now c.args.id.number c.args.cursor.now l.turn l.frames l.cursor l.invariant
+    record {
+      turn = turn_inside c.args.m.now c.args.id.number c.args.cursor.now l.turn l.frames l.cursor l.invariant;
+      frames = turn_frames c.args.m.now c.args.id.number c.args.cursor.now l.turn l.frames l.cursor l.invariant;
+    }
 
 pub loop-next-smaller : goal.loop-next-smaller
 loop-next-smaller c =
