@@ -211,7 +211,7 @@ acked_down a d h item rest is some = by item.content.says (acked_one a.radio h.k
 
 -- ---- more comes to its end
 
-pub more_down : (a : Air) (d : Part) (h : IsDown a d) (more : List OnRadio) → (a.epoch ≡ None → more ≡ []) → Fits d h.waits (packets_on more)
+unfoldable pub more_down : (a : Air) (d : Part) (h : IsDown a d) (more : List OnRadio) → (a.epoch ≡ None → more ≡ []) → Fits d h.waits (packets_on more)
     → IsDown (with_more a more) d
 more_down a d h more none fits = record {
   known = h.known;
