@@ -2,14 +2,6 @@
 //! the law.
 #![tactic(auto)]
 
-ghost use Rattle.law_radio_downs.specs.Down.{down_key, IsDown};
-ghost use Rattle.law_waiting_frames.specs.Frames.{Fits};
-ghost use Rattle.law_radio_downs.specs.Heard.{heard_by, IsKept, OwedHeard, OwedRest};
-ghost use Rattle.law_run_links.specs.Own.{HoldTheirOwn};
-ghost use Rattle.law_terminal_inputs.specs.Inputs.{Parts};
-ghost use Rattle.run_defs.specs.Runs.{Reading};
-ghost use Rattle.run_defs.specs.Units.{Units};
-ghost use Rattle.std.specs.Prelude.{List, Option, ℕ, ◌<◌};
 ghost use Rattle.chain_defs.specs.Orders.{Order, run};
 ghost use Rattle.chain_defs.specs.Parts.{Part};
 ghost use Rattle.gnb_types.specs.declared.names.BearerId.{BearerId};
@@ -17,14 +9,24 @@ ghost use Rattle.gnb_types.specs.declared.names.NodeId.{NodeId};
 ghost use Rattle.gnb_types.specs.declared.names.SnBits.{SnBits};
 ghost use Rattle.gnb_types.specs.declared.names.UeId.{UeId};
 ghost use Rattle.law_heard_packets.specs.Heard.{LeavesRadio};
+ghost use Rattle.law_radio_downs.specs.Down.{down_key, IsDown};
 ghost use Rattle.law_radio_downs.specs.Down.{packets_down, Puts, Stays, WasReceived};
-ghost use Rattle.law_radio_steps.specs.Radios.{on_air};
+ghost use Rattle.law_radio_downs.specs.Heard.{heard_by, IsKept, OwedHeard, OwedRest};
+ghost use Rattle.law_radio_steps.specs.Radios.{OnAir, on_air};
 ghost use Rattle.law_radio_ties.specs.Radio.{IsAtTerminal, IsBeside, IsUeStep};
 ghost use Rattle.law_radio_ties.specs.Radio.{OnRadio, RunCause, RunState};
+ghost use Rattle.law_run_links.specs.Own.{HoldTheirOwn};
 ghost use Rattle.law_steps.specs.Causes.{by_ack, Stands};
+ghost use Rattle.law_terminal_inputs.specs.Inputs.{Parts};
+ghost use Rattle.law_waiting_frames.specs.Frames.{Fits};
 ghost use Rattle.message_types.specs.declared.rrc.Token.{Token};
+ghost use Rattle.run_defs.specs.Runs.{Reading};
+ghost use Rattle.run_defs.specs.Units.{Units};
+ghost use Rattle.run_defs.specs.Written.{Written};
+ghost use Rattle.run_defs.specs.transport_defs.Links.{silent};
 ghost use Rattle.scenario_text.specs.declared.event.Event.{Event};
 ghost use Rattle.std.specs.List.{AllByRecursion};
+ghost use Rattle.std.specs.Prelude.{List, Option, ℕ, ◌<◌, ◌≡◌};
 ghost use Rattle.unit_defs.specs.Ue.{UeNode};
 ghost use Rattle.unit_defs.specs.Ways.{Input, Message, Output, Pdu};
 
@@ -61,4 +63,9 @@ pub fn others_keep_the_radio_down()
         → IsDown (on_air s (down_key ue bearer)) d → (home : NodeId) (item : OnRadio)
         (rest : List OnRadio) → Stands event s (by_ack (down_key ue bearer) home item rest)
         → WasReceived d item.content.says }
+{}
+
+/// A radio on which nothing stands is so, whatever the part is: as where the terminal comes to a DU, and where its radio begins anew.
+pub fn a_silent_radio_is_so()
+    ensures { (air : OnAir (Written Pdu)) (d : Part) → air.radio ≡ silent → IsDown air d }
 {}
