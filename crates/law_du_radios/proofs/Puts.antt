@@ -4,23 +4,24 @@ use Rattle.std.specs.Prelude.{if◌then◌else◌}
 use Rattle.std.proofs.lemmas.List.{append-nil}
 use Rattle.std.specs.Ordering.{eq_by_cmp}
 use Rattle.std.specs.Cmp.{Equal-is, tied_itself}
-use Rattle.std.specs.Ordering.{is_eq}
+use Rattle.std.specs.Ordering.{nat_cmp, is_eq}
 use Rattle.gnb_types.specs.declared.names.UeId.{UeId}
 use Rattle.gnb_types.specs.declared.names.BearerId.{BearerId}
 use Rattle.gnb_types.specs.declared.names.Dir.TheVariants.{Dl, Ul}
 use Rattle.gnb_types.specs.declared.keys.EntityKey.{EntityKey}
 use Rattle.gnb_types.specs.Orders.{ue_cmp, bearer_cmp, entity_cmp}
-use Rattle.gnb_types.proofs.OrderLemmas.{ue_total, ue_exact, entity_exact}
+use Rattle.gnb_types.proofs.OrderLemmas.{ue_total, ue_exact, bearer_total, entity_exact}
+use Rattle.tables.specs.Tables.{find}
 use Rattle.message_types.specs.declared.rrc.Token.{Token}
-use Rattle.unit_defs.specs.Ways.{Message, Pdu, packet_pdu, report_pdu, Input, Output, control, packet, radio, deliver, dropped, held, opened, closed, failed, no, Answer, gives}
-use Rattle.unit_defs.specs.Du.{du_acts}
+use Rattle.unit_defs.specs.Ways.{Message, Pdu, packet_pdu, report_pdu, frame, Input, packet_input, Output, control, packet, radio, deliver, dropped, held, opened, closed, failed, no, Answer, gives}
+use Rattle.unit_defs.specs.Du.{DuTunnel, du_acts}
 use Rattle.run_defs.specs.transport_defs.Links.{is_epoch}
 use Rattle.run_defs.specs.Written.{written_put}
 use Rattle.run_defs.specs.States.{Lengths, entity}
-use Rattle.run_defs.specs.Runs.{plain_way}
+use Rattle.run_defs.specs.Runs.{plain_way, taken_of}
 use Rattle.law_run_units.specs.Happenings.{DuRecord}
 use Rattle.law_downlink_path.specs.Paths.{carried_by, gap_after}
-use Rattle.law_du_inputs.specs.Changes.{Change, stays, takes, renews, sets_up, ends, DuPart, part_of, change_by}
+use Rattle.law_du_inputs.specs.Changes.{Change, stays, takes, renews, sets_up, ends, DuPart, part_of, of_tunnel, change_by}
 use Rattle.law_du_inputs.specs.Puts.{is_of, radio_put, of_part, carried_if, carried_of, Puts}
 use Rattle.law_du_puts.specs.Inputs.{ups_by, IsInOrder}
 use Rattle.law_du_puts.proofs.Letters.{input_puts}
@@ -127,3 +128,13 @@ puts_frames ue bearer r left input outputs lengths at in_order answers =
     let put = subst (λ (a : Answer (Message Token) Pdu DuRecord). Puts ue bearer (ups_by plain_way ue bearer r input)
     (of_part (carried_of (change_by plain_way ue bearer r input)) (part_of r ue bearer)) a) answers (input_puts plain_way ue bearer r input in_order) in
     all_say ue bearer lengths at outputs ∙ ap (packets_at at) put.1 ∙ change_says at (change_by plain_way ue bearer r input) (part_of r ue bearer)
+
+pub frame_changes : (ue : UeId) (bearer : BearerId) (r : DuRecord) (teid : ℕ) (poll restart : Bool) (number : ℕ) (pdu : Option Pdu)
+    → find nat_cmp r.tunnels teid ≡ Some (record { ue = ue; bearer = bearer })
+    → change_by plain_way ue bearer r (packet_input teid (taken_of (frame poll restart number pdu)))
+    ≡ takes (record { poll = poll; restart = restart; number = number; pdu = pdu })
+unfolding change_by
+frame_changes ue bearer r teid poll restart number pdu found =
+    ap (λ (o : Option DuTunnel). of_tunnel ue bearer (taken_of (frame poll restart number pdu)) o) found
+    ∙ (λ i. if ap is_eq (tied_itself ue_total ue) i
+    then (if ap is_eq (tied_itself bearer_total bearer) i then takes (record { poll = poll; restart = restart; number = number; pdu = pdu }) else stays) else stays)

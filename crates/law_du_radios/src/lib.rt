@@ -16,23 +16,31 @@ ghost use Rattle.law_radio_ties.specs.Radio.{IsBeside, RunCause, RunState};
 ghost use Rattle.law_run_units.specs.Happenings.{DuRecord};
 ghost use Rattle.law_steps.specs.Causes.{Stands};
 ghost use Rattle.message_types.specs.declared.rrc.Token.{Token};
-ghost use Rattle.run_defs.specs.Runs.{plain_way, Reading};
+ghost use Rattle.run_defs.specs.Runs.{plain_way, Reading, taken_of};
 ghost use Rattle.run_defs.specs.States.{Lengths, sn_of};
 ghost use Rattle.run_defs.specs.Units.{du_of, with_du};
 ghost use Rattle.run_defs.specs.Written.{written_put};
 ghost use Rattle.scenario_text.specs.declared.event.Event.{Event};
-ghost use Rattle.std.specs.Prelude.{[], List, map, Option, Some, ◌≡◌, ◌∷◌, ℕ};
+ghost use Rattle.std.specs.Ordering.{nat_cmp};
+ghost use Rattle.std.specs.Prelude.{[], Bool, List, map, Option, Some, ◌≡◌, ◌∷◌, ℕ};
+ghost use Rattle.tables.specs.Tables.{find};
 ghost use Rattle.unit_defs.specs.Du.{du_acts, DuBearer};
-ghost use Rattle.unit_defs.specs.Ways.{gives, Input, Message, Output, Pdu};
+ghost use Rattle.unit_defs.specs.Ways.{frame, gives, Input, Message, Output, packet_input, Pdu};
 
 /// Whatever a DU is given, the packets that it puts on a bearer's radio down are what the frame carries that it takes, where that radio is
-/// connected in the epoch of the DU's context, and the frame isn't in a gap; else none.
+/// connected in the epoch of the DU's context, and the frame isn't in a gap; else none. A frame on a tunnel that is the bearer's is taken.
 pub fn a_du_puts_frames_on_the_radio()
-    ensures { (ue : UeId) (bearer : BearerId) (r left : DuRecord) (input : Input Token Pdu)
+    ensures puts { (ue : UeId) (bearer : BearerId) (r left : DuRecord) (input : Input Token Pdu)
         (outputs : List (Output (Message Token) Pdu)) (lengths : Lengths) (at : Option ℕ)
         → IsInOrder r ue → du_acts plain_way r input ≡ gives outputs left
         → packets_down (down_key ue bearer) at (map (written_put lengths) outputs)
         ≡ packets_by at (change_by plain_way ue bearer r input) (part_of r ue bearer) }
+    ensures frame { (ue : UeId) (bearer : BearerId) (r : DuRecord) (teid : ℕ) (poll restart : Bool)
+        (number : ℕ) (pdu : Option Pdu)
+        → find nat_cmp r.tunnels teid ≡ Some (record { ue = ue; bearer = bearer })
+        → change_by plain_way ue bearer r
+        (packet_input teid (taken_of (frame poll restart number pdu)))
+        ≡ takes (record { poll = poll; restart = restart; number = number; pdu = pdu }) }
 {}
 
 /// Where what waits on a terminal's radio down is so, in the epoch of a DU's context, and so are the frames on the DU's tunnel, a step by
