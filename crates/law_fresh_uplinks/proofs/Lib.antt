@@ -1,3 +1,4 @@
 pub mod Orders
 pub mod Puts
 pub mod Runs
+pub mod Hops
