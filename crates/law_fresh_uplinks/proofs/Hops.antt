@@ -1,12 +1,11 @@
 -- Orders of the core, of DUs, and of the terminal and its radio leave where hops lead.
-use Rattle.std.proofs.Common.{◌≡◌, ◌==◌, ℕ, Bool, true, false, List, [], ◌∷◌, ◌++◌, Option, Some, None, refl, sym, ap, ◌∙◌, eqb-true}
+use Rattle.std.proofs.Common.{◌≡◌, ◌==◌, ℕ, Bool, true, false, List, [], ◌∷◌, Option, Some, None, refl, sym, ap, ◌∙◌, eqb-true}
 use Rattle.std.specs.Prelude.{if◌then◌else◌}
 use Rattle.std.specs.List.{AllByRecursion}
 use Rattle.gnb_types.specs.declared.names.UeId.{UeId}
 use Rattle.gnb_types.specs.declared.names.BearerId.{BearerId}
 use Rattle.pdcp_defs.specs.Receivers.{Delivery, is_duplicate, stored, deliver}
-use Rattle.unit_defs.specs.Ways.{Pdu, packet_pdu, report_pdu, Load, numbered, fresh, frame, uplink, status, end_marker, packet}
-use Rattle.run_defs.specs.States.{◌next◌}
+use Rattle.unit_defs.specs.Ways.{Pdu, packet_pdu, report_pdu, Load, numbered, fresh, frame, uplink, status, end_marker}
 use Rattle.law_tie_facts.specs.law_bearer_lists.chain_defs.Parts as down_parts
 use Rattle.law_tie_facts.specs.law_bearer_lists.chain_defs.Parts.{set}
 use Rattle.law_tie_facts.specs.law_bearer_lists.chain_defs.Orders as down
@@ -22,6 +21,7 @@ use Rattle.law_du_steps.specs.Steps.{order_of}
 use Rattle.law_core_rows.specs.Shown.{Places, Goal, to_first, orders_to}
 use Rattle.law_tied_runs.specs.law_core_ties.Core.{orders_offered}
 use Rattle.law_tied_runs.specs.Steps.{IsOfRadio, IsOfTerminal}
+use Rattle.law_fresh_uplinks.proofs.Puts.{run_more}
 
 abbrev pub SameDown : down_parts.Part → down_parts.Part → Type 0
 SameDown d e = (y : ℕ) → (e.members y).next_hop ≡ (d.members y).next_hop
@@ -77,11 +77,6 @@ put_same : (u : up_parts.Part) (p : OnTunnel) (o : Option Owned) → SameUp u (u
 unfolding up.run
 put_same u p None = λ y. refl
 put_same u p (Some o) = load_same o.context p.teid u p.load
-
-run_more : (u : up_parts.Part) (os more : List up.Order) → up.run u (os ++ more) ≡ up.run (up.run u os) more
-unfolding up.run
-run_more u [] more = refl
-run_more u (o ∷ os) more = run_more (up.after u o) os more
 
 pub puts_same : (n : Numbering) (ue : UeId) (bearer : BearerId) (units : PlainUnits) (u : up_parts.Part) (ps : List OnTunnel)
     → SameUp u (up.run u (orders_up n ue bearer units u ps))

@@ -92,6 +92,11 @@ asked_puts_none ue bearer x b cs (order ∷ orders) =
 
 -- ---- a DU
 
+pub run_more : (u : up_parts.Part) (os more : List up.Order) → up.run u (os ++ more) ≡ up.run (up.run u os) more
+unfolding up.run
+run_more u [] more = refl
+run_more u (o ∷ os) more = run_more (up.after u o) os more
+
 module _ (n : Numbering) (ue : UeId) (bearer : BearerId) (units : PlainUnits) (owned : AreOwned units) (at : Place) (teid : ℕ)
     (new : below (up_of units at.gnb at.number).next_teid ≤ teid) where
   -- an open tunnel is another one
@@ -136,11 +141,6 @@ module _ (n : Numbering) (ue : UeId) (bearer : BearerId) (units : PlainUnits) (o
   unfolding up.run
   one_put u p None is lead empty = (empty, refl)
   one_put u p (Some o) is lead empty = after_order u p p.load o is lead empty
-
-  run_more : (u : up_parts.Part) (os more : List up.Order) → up.run u (os ++ more) ≡ up.run (up.run u os) more
-  unfolding up.run
-  run_more u [] more = refl
-  run_more u (o ∷ os) more = run_more (up.after u o) os more
 
   pub puts_elsewhere : (u : up_parts.Part) (ps : List OnTunnel) → AllLead n ue bearer units u.station ps → IsEmptyIn u
       → IsEmptyIn (up.run u (orders_up n ue bearer units u ps))

@@ -1,13 +1,12 @@
 -- Steps of a run of which only what is owed is asked, one after another, are steps of `law_tied_runs`.
-use Rattle.std.proofs.Common.{◌≡◌, ◌==◌, ◌≤◌, ◌+◌, ℕ, Bool, true, false, List, [], ◌∷◌, Option, Some, None, refl, sym, ap, subst, ◌∙◌, eqb-true, arith}
-use Rattle.std.specs.Prelude.{if◌then◌else◌, is_some}
+use Rattle.std.proofs.Common.{◌≡◌, ◌≤◌, ◌+◌, ℕ, false, List, Option, Some, None, refl, sym, ap, subst, ◌∙◌, arith}
+use Rattle.std.specs.Prelude.{is_some}
 use Rattle.gnb_types.specs.declared.names.Gnb.TheVariants.{A}
 use Rattle.gnb_types.specs.declared.names.SnBits.{SnBits}
 use Rattle.gnb_types.specs.declared.names.SnBits.TheVariants.{Len12}
 use Rattle.gnb_types.specs.declared.names.UeId.{UeId}
 use Rattle.gnb_types.specs.declared.names.BearerId.{BearerId}
 use Rattle.unit_defs.specs.UpRecords.{UpFlags, UpBearer, SourceHop, Downlink}
-use Rattle.unit_defs.specs.UpBearers.{made}
 use Rattle.unit_defs.specs.Static.{up_placed, du_placed, cp_placed}
 use Rattle.unit_defs.specs.Ue.{new_ue}
 use Rattle.tables.specs.Tables.{find, put, at}
@@ -17,7 +16,6 @@ use Rattle.run_defs.specs.Runs.{Reading}
 use Rattle.law_teids.specs.Given.{below, GiveOnce}
 use Rattle.law_context_tests.specs.Tests.{is_final}
 use Rattle.law_tie_facts.specs.law_bearer_lists.chain_defs.Parts as down_parts
-use Rattle.law_tie_facts.specs.law_bearer_lists.chain_defs.Orders as down
 use Rattle.law_tie_facts.specs.law_bearer_lists.uplink_defs.Parts as up_parts
 use Rattle.law_tie_facts.specs.law_bearer_lists.law_context_orders.Orders.{UpPart}
 use Rattle.law_tie_facts.specs.law_bearer_lists.law_down_orders.Down.{IsDown, without_end}
@@ -39,6 +37,7 @@ use Rattle.law_first_runs.proofs.Runs.{begins}
 use Rattle.law_fresh_uplinks.specs.Later as later
 use Rattle.law_fresh_uplinks.specs.Later.{AreFresh, Comes}
 use Rattle.law_fresh_uplinks.proofs.Runs.{passes_give, starts_fresh, all_steps as fresh_steps, delivers as fresh_delivers}
+use Rattle.law_fresh_uplinks.proofs.Begun.{IsPlain, begun, begun_plain, up_plain}
 use Rattle.law_owed_orders.specs.Steady.{IsOld, EndsWereGiven, IsSteady, AreSteady}
 use Rattle.law_owed_orders.specs.Owed.{final_asks}
 use Rattle.law_owed_orders.proofs.Steps.{step_asked}
@@ -118,46 +117,6 @@ module _ (reading : Reading) (n : Numbering) (ue : UeId) (bearer : BearerId) (sn
   -- ---- the first parts, after the switch by which the first context has its downlink
 
   module _ (first teid : ℕ) (d : Downlink) where
-    abbrev begun : down_parts.Part
-    begun = down.run (down_parts.start first teid) (down.switches first d 0 ∷ [])
-
-    -- no hop, and neither frozen nor released
-    record IsPlain (m : down_parts.Member) : Type 0 where
-      pub next_hop : m.next_hop ≡ 0
-      pub hop : without_end m.bearer.hop ≡ None
-      pub frozen : m.flags.frozen ≡ false
-      pub released : m.flags.released ≡ false
-
-    abbrev started : Bool → down_parts.Member
-    started t = if t then down_parts.new_member false teid else down_parts.no_member
-
-    abbrev switched_on : down_parts.Member → down_parts.Member
-    switched_on m = record m { flags = record m.flags { frozen = false; arrived = true }; bearer = down.on_downlink m.bearer d; epoch = 0 }
-
-    switched_plain : (t : Bool) → IsPlain (switched_on (started t))
-    unfolding made
-    switched_plain true = record { next_hop = refl; hop = refl; frozen = refl; released = refl }
-    switched_plain false = record { next_hop = refl; hop = refl; frozen = refl; released = refl }
-
-    abbrev begun_at : Bool → down_parts.Member
-    begun_at t = if t then switched_on (started (first == first)) else started t
-
-    begun_plain : (y : ℕ) → (begun.members y).is_there ≡ true → (y ≡ first) × IsPlain (begun.members y)
-    unfolding down.run down.after down_parts.start
-    begun_plain y there = by (y == first) refl there
-      where
-        by : (t : Bool) → (y == first) ≡ t → (begun_at t).is_there ≡ true → (y ≡ first) × IsPlain (begun_at t)
-        by true e h = (eqb-true y first e, switched_plain (first == first))
-        by false e h = clash h
-
-    up_plain : (y : ℕ) → ((up_parts.start first teid).members y).next_hop ≡ 0
-    unfolding up_parts.start
-    up_plain y = by (y == first)
-      where
-        by : (t : Bool) → (if t then up_parts.new_member false teid else up_parts.no_member).next_hop ≡ 0
-        by true = refl
-        by false = refl
-
     module _ (p : Point) (are : AreFirst first teid d p) (ties : Tied p) (old : IsOld n ue bearer p.state.units first) where
       abbrev cs : Contexts
       cs = contexts_of n ue bearer p.state.units
@@ -166,11 +125,11 @@ module _ (reading : Reading) (n : Numbering) (ue : UeId) (bearer : BearerId) (sn
         its_down : IsDown (p.down.members y) w
         its_down = (subst (λ (o : Option UpPart). downs.IsIn sn quota (p.down.members y) o) there (ties.down y)).0
 
-        member_is : p.down.members y ≡ begun.members y
+        member_is : p.down.members y ≡ (begun first teid d).members y
         member_is = ap (λ (k : down_parts.Part). k.members y) are.down
 
-        plain_there : (y ≡ first) × IsPlain (begun.members y)
-        plain_there = begun_plain y (sym (ap (λ (m : down_parts.Member). m.is_there) member_is) ∙ its_down.there)
+        plain_there : (y ≡ first) × IsPlain ((begun first teid d).members y)
+        plain_there = begun_plain first teid d y (sym (ap (λ (m : down_parts.Member). m.is_there) member_is) ∙ its_down.there)
 
         its_plain : IsPlain (p.down.members y)
         its_plain = subst IsPlain (sym member_is) plain_there.1
@@ -200,7 +159,7 @@ module _ (reading : Reading) (n : Numbering) (ue : UeId) (bearer : BearerId) (sn
             let clashes : None ≡ Some w = sym none ∙ ap cs zero ∙ there in cc
 
         up_next : (p.up.members y).next_hop ≡ 0
-        up_next = ap (λ (k : up_parts.Part). (k.members y).next_hop) are.up ∙ up_plain y
+        up_next = ap (λ (k : up_parts.Part). (k.members y).next_hop) are.up ∙ up_plain first teid d y
 
         first_context : IsSteady n ue bearer p.state.units y (p.down.members y) (p.up.members y) w
         first_context = record {
