@@ -13,18 +13,20 @@ use Rattle.law_tie_facts.specs.law_bearer_lists.chain_defs.Orders as down
 use Rattle.law_tie_facts.specs.law_bearer_lists.law_bearer_orders.Happenings.{Beside}
 use Rattle.law_tie_facts.specs.law_run_units.Happenings.{UpRecord}
 use Rattle.law_tie_facts.specs.law_run_bearers.Bearers.{Numbering, contexts_of}
-use Rattle.law_tie_facts.specs.Asked.{RunCause, IsUpStep, down_after, up_after, step_asks}
+use Rattle.law_tie_facts.specs.Asked.{RunCause, IsUpStep, down_after, up_after}
 use Rattle.law_tied_runs.specs.law_core_ties.Core.{IsOffer, orders_offered, IsCoreStep, orders_told}
-use Rattle.law_tied_runs.specs.Steps.{Point, Step, a_cu_up, an_offer, a_message}
+use Rattle.law_tied_runs.specs.Steps.{Point}
+use Rattle.law_owed_orders.specs.Owed.{final_asks}
+use Rattle.law_owed_runs.specs.Owing.{Step, a_cu_up, an_offer, a_message}
 use Rattle.law_guards.specs.Guards.{OfCuUp, OfOffer, OfMessage}
 
 module _ (reading : Reading) (n : Numbering) (ue : UeId) (bearer : BearerId) (sn : SnBits) (quota : ℕ) (p q : Point) where
   pub cu_up_step : (gnb : Gnb) (number : ℕ) (cause : RunCause) (input : Input Token Pdu) (outputs : List (Output (Message Token) Pdu)) (left : UpRecord)
       (beside : Beside) → IsUpStep reading p.state q.state gnb number cause input outputs left → OfCuUp n ue bearer sn quota p gnb number cause input beside
       → q.down ≡ down_after n ue bearer p.state.units sn quota p.down (contexts_of n ue bearer p.state.units)
-      (step_asks n ue bearer p.state gnb number cause input beside)
+      (final_asks n ue bearer p.state gnb number cause input beside)
       → q.up ≡ up_after n ue bearer p.state.units sn quota p.up (contexts_of n ue bearer p.state.units)
-      (step_asks n ue bearer p.state gnb number cause input beside) → Step reading n ue bearer sn quota p q
+      (final_asks n ue bearer p.state gnb number cause input beside) → Step reading n ue bearer sn quota p q
   cu_up_step gnb number cause input outputs left beside acts owed down_is up_is = a_cu_up (record {
     gnb = gnb;
     number = number;
@@ -34,8 +36,7 @@ module _ (reading : Reading) (n : Numbering) (ue : UeId) (bearer : BearerId) (sn
     left = left;
     beside = beside;
     acts = acts;
-    asks = owed.asks;
-    fresh = owed.fresh;
+    owes = owed.owes;
     down = down_is;
     up = up_is;
   })

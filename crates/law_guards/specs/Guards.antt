@@ -13,23 +13,21 @@ use Rattle.law_tie_facts.specs.law_bearer_lists.chain_defs.Guards as down_guards
 use Rattle.law_tie_facts.specs.law_bearer_lists.law_context_orders.Shown.{is_bearer}
 use Rattle.law_tie_facts.specs.law_bearer_lists.law_bearer_orders.Happenings.{Beside}
 use Rattle.law_tie_facts.specs.law_run_bearers.Bearers.{Numbering, contexts_of}
-use Rattle.law_tie_facts.specs.Asked.{RunCause, AllAsk, step_asks}
+use Rattle.law_tie_facts.specs.Asked.{RunCause}
+use Rattle.law_owed_orders.specs.Owed.{AllOwe, final_asks}
 use Rattle.law_tied_runs.specs.law_core_ties.Core.{PathLeads, orders_told}
-use Rattle.law_up_ties.specs.Fresh.{UplinksAreFresh}
 use Rattle.law_tied_runs.specs.Steps.{Point}
 
 module _ (n : Numbering) (ue : UeId) (bearer : BearerId) (sn : SnBits) (quota : ℕ) (p : Point) where
   -- ---- a CU-UP acts
 
   pub record OfCuUp (gnb : Gnb) (number : ℕ) (cause : RunCause) (input : Input Token Pdu) (beside : Beside) : Type 0 where
-    -- Control: a context is made where none is, a freeze leads from the context that the terminal is at to an untouched one, an SN status
-    -- says what the source had, switch, resume and release come where they belong; and the two TEIDs of a hop are the forwarding
-    -- tunnels of the context that the freeze leads to (`HopLeads`). Not shown yet: that a hop goes on leading there, to another context;
-    -- and that what confirms a COUNT, or reports one, tells of what was received.
-    pub asks : AllAsk n ue bearer p.state.units sn quota p.down p.up (contexts_of n ue bearer p.state.units)
-        (step_asks n ue bearer p.state gnb number cause input beside)
-    -- Not shown yet: of an uplink whose TEID wasn't given the part has nothing.
-    pub fresh : UplinksAreFresh n ue bearer p.state gnb number p.up
+    -- Control (`Owes` of `law_owed_orders`): a context is made as a target, a freeze leads from the context that the terminal is at to an
+    -- untouched one, by the forwarding tunnels of that one, an SN status says what the source had, switch, resume, release and closing come
+    -- where they belong, and End Markers and COUNTs to a bearer that takes them. Not shown yet: that what confirms a COUNT, or reports one,
+    -- tells of what was received (`ItemOwes`).
+    pub owes : AllOwe n ue bearer p.state.units sn quota p.down p.up (contexts_of n ue bearer p.state.units)
+        (final_asks n ue bearer p.state gnb number cause input beside)
 
   -- ---- a DU acts: where it takes what stands next on the radio up, `HomeLeads` of `law_home_ties`; else nothing (`law_du_ties`)
 

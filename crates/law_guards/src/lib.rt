@@ -6,12 +6,14 @@ ghost use Rattle.gnb_types.specs.declared.names.Gnb.{Gnb};
 ghost use Rattle.gnb_types.specs.declared.names.SnBits.{SnBits};
 ghost use Rattle.gnb_types.specs.declared.names.UeId.{UeId};
 ghost use Rattle.law_guards.specs.Guards.{OfCuUp, OfMessage, OfOffer};
-ghost use Rattle.law_tie_facts.specs.Asked.{down_after, IsUpStep, RunCause, step_asks, up_after};
+ghost use Rattle.law_owed_orders.specs.Owed.{final_asks};
+ghost use Rattle.law_owed_runs.specs.Owing.{Step};
+ghost use Rattle.law_tie_facts.specs.Asked.{down_after, IsUpStep, RunCause, up_after};
 ghost use Rattle.law_tie_facts.specs.law_bearer_lists.chain_defs.Orders as down;
 ghost use Rattle.law_tie_facts.specs.law_bearer_lists.law_bearer_orders.Happenings.{Beside};
 ghost use Rattle.law_tie_facts.specs.law_run_bearers.Bearers.{contexts_of, Numbering};
 ghost use Rattle.law_tie_facts.specs.law_run_units.Happenings.{UpRecord};
-ghost use Rattle.law_tied_runs.specs.Steps.{Point, Step};
+ghost use Rattle.law_tied_runs.specs.Steps.{Point};
 ghost use Rattle.law_tied_runs.specs.law_core_ties.Core.{IsCoreStep, IsOffer};
 ghost use Rattle.law_tied_runs.specs.law_core_ties.Core.{orders_offered, orders_told};
 ghost use Rattle.message_types.specs.declared.rrc.Token.{Token};
@@ -21,7 +23,7 @@ ghost use Rattle.std.specs.Prelude.{List, ◌≡◌, ℕ};
 ghost use Rattle.unit_defs.specs.Core.{CorePath, CoreRecord};
 ghost use Rattle.unit_defs.specs.Ways.{Input, Message, Output, Pdu};
 
-/// A step of a CU-UP or the core in a run is one of those of which `law_tied_runs` speaks, where what `Guards` tells of it is so, and the
+/// A step of a CU-UP or the core in a run is one of those of which `law_owed_runs` speaks, where what `Guards` tells of it is so, and the
 /// parts go on by its orders: nothing else is owed.
 pub fn nothing_else_is_owed()
     ensures cu_up { (reading : Reading) (n : Numbering) (ue : UeId) (bearer : BearerId) (sn : SnBits)
@@ -32,10 +34,10 @@ pub fn nothing_else_is_owed()
         → OfCuUp n ue bearer sn quota p gnb number cause input beside
         → q.down ≡ down_after n ue bearer p.state.units sn quota p.down
         (contexts_of n ue bearer p.state.units)
-        (step_asks n ue bearer p.state gnb number cause input beside)
+        (final_asks n ue bearer p.state gnb number cause input beside)
         → q.up ≡ up_after n ue bearer p.state.units sn quota p.up
         (contexts_of n ue bearer p.state.units)
-        (step_asks n ue bearer p.state gnb number cause input beside)
+        (final_asks n ue bearer p.state gnb number cause input beside)
         → Step reading n ue bearer sn quota p q }
     ensures offer { (reading : Reading) (n : Numbering) (ue : UeId) (bearer : BearerId) (sn : SnBits)
         (quota : ℕ) (p q : Point) (who : UeId) (which : BearerId) (packet : List ℕ)

@@ -23,7 +23,7 @@ use Rattle.law_run_tunnels.specs.Own.{IsOfKind, IsOwnAt}
 use Rattle.law_run_tunnels.proofs.Runs.{own_in_runs}
 use Rattle.law_item_fits.specs.Fits.{ControlOwes, IsFit}
 
-fits : (p : UpPart) (kind : TunnelKind) (dir : Dir) (load : Load Pdu) → IsOfKind kind dir load → ControlOwes p kind (taken_of load) → IsFit p kind (taken_of load)
+pub fits : (p : UpPart) (kind : TunnelKind) (dir : Dir) (load : Load Pdu) → IsOfKind kind dir load → ControlOwes p kind (taken_of load) → IsFit p kind (taken_of load)
 fits p n3 Dl (fresh packet) is owed = inl tt
 fits p n3 Dl end_marker is owed = inl owed
 fits p n3 Dl (numbered sn count packet) is owed = absurd is
