@@ -17,8 +17,8 @@ use Rattle.law_tie_facts.specs.Asked.{RunCause, IsUpStep, down_after, up_after}
 use Rattle.law_tied_runs.specs.law_core_ties.Core.{IsOffer, orders_offered, IsCoreStep, orders_told}
 use Rattle.law_tied_runs.specs.Steps.{Point}
 use Rattle.law_owed_orders.specs.Owed.{final_asks}
-use Rattle.law_owed_runs.specs.Owing.{Step, a_cu_up, an_offer, a_message}
-use Rattle.law_guards.specs.Guards.{OfCuUp, OfOffer, OfMessage}
+use Rattle.law_path_ties.specs.Paths.{Step, a_cu_up, an_offer, a_message}
+use Rattle.law_guards.specs.Guards.{OfCuUp, OfMessage}
 
 module _ (reading : Reading) (n : Numbering) (ue : UeId) (bearer : BearerId) (sn : SnBits) (quota : ℕ) (p q : Point) where
   pub cu_up_step : (gnb : Gnb) (number : ℕ) (cause : RunCause) (input : Input Token Pdu) (outputs : List (Output (Message Token) Pdu)) (left : UpRecord)
@@ -42,15 +42,14 @@ module _ (reading : Reading) (n : Numbering) (ue : UeId) (bearer : BearerId) (sn
   })
 
   pub offer_step : (who : UeId) (which : BearerId) (packet : List ℕ) (path : CorePath) → IsOffer reading p.state q.state who which packet path
-      → OfOffer n ue bearer sn quota p who which → q.down ≡ down.run p.down (orders_offered ue bearer who which packet) → q.up ≡ p.up
+      → q.down ≡ down.run p.down (orders_offered ue bearer who which packet) → q.up ≡ p.up
       → Step reading n ue bearer sn quota p q
-  offer_step who which packet path offers owed down_is up_is = an_offer (record {
+  offer_step who which packet path offers down_is up_is = an_offer (record {
     who = who;
     which = which;
     packet = packet;
     path = path;
     offers = offers;
-    leads = owed.leads;
     down = down_is;
     up = up_is;
   })
@@ -64,8 +63,7 @@ module _ (reading : Reading) (n : Numbering) (ue : UeId) (bearer : BearerId) (sn
     outputs = outputs;
     core = core;
     takes = takes;
-    leads = owed.leads;
-    one = owed.one;
+    names = owed.names;
     asks = owed.asks;
     down = down_is;
     up = up_is;

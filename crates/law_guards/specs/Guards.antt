@@ -1,6 +1,6 @@
 -- All that is owed of the steps of a run, for one bearer: what control owes the packets, and, under headings of their own, what of the
 -- packets isn't shown yet.
-use Rattle.std.specs.Prelude.{◌≡◌, ℕ, true}
+use Rattle.std.specs.Prelude.{ℕ}
 use Rattle.gnb_types.specs.declared.names.Gnb.{Gnb}
 use Rattle.gnb_types.specs.declared.names.SnBits.{SnBits}
 use Rattle.gnb_types.specs.declared.names.UeId.{UeId}
@@ -8,15 +8,15 @@ use Rattle.gnb_types.specs.declared.names.BearerId.{BearerId}
 use Rattle.message_types.specs.declared.rrc.Token.{Token}
 use Rattle.unit_defs.specs.Ways.{Message, Pdu, Input}
 use Rattle.run_defs.specs.transport_defs.declared.Letter.{Letter}
-use Rattle.law_core_rows.specs.Shown.{goal_by, IsOne}
+use Rattle.law_core_rows.specs.Shown.{goal_by}
 use Rattle.law_tie_facts.specs.law_bearer_lists.chain_defs.Guards as down_guards
-use Rattle.law_tie_facts.specs.law_bearer_lists.law_context_orders.Shown.{is_bearer}
 use Rattle.law_tie_facts.specs.law_bearer_lists.law_bearer_orders.Happenings.{Beside}
 use Rattle.law_tie_facts.specs.law_run_bearers.Bearers.{Numbering, contexts_of}
 use Rattle.law_tie_facts.specs.Asked.{RunCause}
 use Rattle.law_owed_orders.specs.Owed.{AllOwe, final_asks}
-use Rattle.law_tied_runs.specs.law_core_ties.Core.{PathLeads, orders_told}
+use Rattle.law_tied_runs.specs.law_core_ties.Core.{orders_told}
 use Rattle.law_tied_runs.specs.Steps.{Point}
+use Rattle.law_path_ties.specs.Paths.{NamesN3}
 
 module _ (n : Numbering) (ue : UeId) (bearer : BearerId) (sn : SnBits) (quota : ℕ) (p : Point) where
   -- ---- a CU-UP acts
@@ -31,14 +31,11 @@ module _ (n : Numbering) (ue : UeId) (bearer : BearerId) (sn : SnBits) (quota : 
 
   -- ---- a DU acts: where it takes what stands next on the radio up, `HomeLeads` of `law_home_ties`; else nothing (`law_du_ties`)
 
-  -- ---- a packet is offered, and the core takes a message
+  -- ---- a packet is offered: nothing
 
-  -- Control: a path switch names the N3 tunnel of the context that the terminal is at, after the one that feeds it. Not shown yet: that
-  -- the core's path goes on leading there between.
-  pub record OfOffer (who : UeId) (which : BearerId) : Type 0 where
-    pub leads : is_bearer ue bearer who which ≡ true → PathLeads n ue bearer p.state p.down
+  -- ---- the core takes a message
 
+  -- Control: a path switch names the N3 tunnel of the context that the terminal is at, after the one that feeds it.
   pub record OfMessage (l : Letter (Message Token)) : Type 0 where
-    pub leads : PathLeads n ue bearer p.state p.down
-    pub one : IsOne (goal_by ue bearer p.state.core l.from l.message)
+    pub names : NamesN3 n ue bearer p.state.units (goal_by ue bearer p.state.core l.from l.message)
     pub asks : down_guards.AreKept sn quota p.down (orders_told n ue bearer p.state l)

@@ -5,9 +5,9 @@ ghost use Rattle.gnb_types.specs.declared.names.BearerId.{BearerId};
 ghost use Rattle.gnb_types.specs.declared.names.Gnb.{Gnb};
 ghost use Rattle.gnb_types.specs.declared.names.SnBits.{SnBits};
 ghost use Rattle.gnb_types.specs.declared.names.UeId.{UeId};
-ghost use Rattle.law_guards.specs.Guards.{OfCuUp, OfMessage, OfOffer};
+ghost use Rattle.law_guards.specs.Guards.{OfCuUp, OfMessage};
 ghost use Rattle.law_owed_orders.specs.Owed.{final_asks};
-ghost use Rattle.law_owed_runs.specs.Owing.{Step};
+ghost use Rattle.law_path_ties.specs.Paths.{Step};
 ghost use Rattle.law_tie_facts.specs.Asked.{down_after, IsUpStep, RunCause, up_after};
 ghost use Rattle.law_tie_facts.specs.law_bearer_lists.chain_defs.Orders as down;
 ghost use Rattle.law_tie_facts.specs.law_bearer_lists.law_bearer_orders.Happenings.{Beside};
@@ -23,7 +23,7 @@ ghost use Rattle.std.specs.Prelude.{List, ◌≡◌, ℕ};
 ghost use Rattle.unit_defs.specs.Core.{CorePath, CoreRecord};
 ghost use Rattle.unit_defs.specs.Ways.{Input, Message, Output, Pdu};
 
-/// A step of a CU-UP or the core in a run is one of those of which `law_owed_runs` speaks, where what `Guards` tells of it is so, and the
+/// A step of a CU-UP or the core in a run is one of those of which `law_path_ties` speaks, where what `Guards` tells of it is so, and the
 /// parts go on by its orders: nothing else is owed.
 pub fn nothing_else_is_owed()
     ensures cu_up { (reading : Reading) (n : Numbering) (ue : UeId) (bearer : BearerId) (sn : SnBits)
@@ -43,7 +43,6 @@ pub fn nothing_else_is_owed()
         (quota : ℕ) (p q : Point) (who : UeId) (which : BearerId) (packet : List ℕ)
         (path : CorePath)
         → IsOffer reading p.state q.state who which packet path
-        → OfOffer n ue bearer sn quota p who which
         → q.down ≡ down.run p.down (orders_offered ue bearer who which packet) → q.up ≡ p.up
         → Step reading n ue bearer sn quota p q }
     ensures message { (reading : Reading) (n : Numbering) (ue : UeId) (bearer : BearerId)

@@ -112,7 +112,7 @@ module _ (reading : Reading) (n : Numbering) (ue : UeId) (bearer : BearerId) (s 
       ∙ at-put node_total (new_cu_up g k) s.units.ups here v (up_id g k) ∙ ap (λ (b : Bool). cond b v (up_of s.units g k)) far
 
   -- a tunnel that is the bearer's then, and wasn't before, is one that this CU-UP opened
-  opened_at : (node : NodeId) (teid : ℕ) (o : Owned) → owned_on n ue bearer s.units node teid ≡ None → owned_on n ue bearer t.units node teid ≡ Some o
+  pub opened_at : (node : NodeId) (teid : ℕ) (o : Owned) → owned_on n ue bearer s.units node teid ≡ None → owned_on n ue bearer t.units node teid ≡ Some o
       → (node ≡ here) × IsOpened reading n ue bearer s t gnb number cause input outputs v step sound teid o
   opened_at (up_id g k) teid o none is = by (eq_by_cmp node_cmp (up_id g k) here) refl
     where
@@ -148,7 +148,7 @@ module _ (reading : Reading) (n : Numbering) (ue : UeId) (bearer : BearerId) (s 
             let high = opens.new in
             absurd (omega (arith, teids, low, high))
 
-    not_there : (kind : TunnelKind) (next : ℕ) → is_kind f1u_uplink kind ≡ false → IsOld n ue bearer s.units next → (is_kind o.kind kind && o.context == next) ≡ false
+    pub not_there : (kind : TunnelKind) (next : ℕ) → is_kind f1u_uplink kind ≡ false → IsOld n ue bearer s.units next → (is_kind o.kind kind && o.context == next) ≡ false
     not_there kind next other old = by (result reading n ue bearer s t gnb number cause input outputs v step sound teid o opens).1
       where
         and_false : (a b : Bool) → a ≡ false → a && b ≡ false

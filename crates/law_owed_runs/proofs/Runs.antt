@@ -195,7 +195,7 @@ unfolding find put at up_placed du_placed cp_placed new_ue
 next_there = refl
 
 module _ (reading : Reading) (n : Numbering) (positive : NoneIsZero n) where
-  first_old : IsOld n terminal its_bearer first_run.set_up.units (first_run.first n)
+  pub first_old : IsOld n terminal its_bearer first_run.set_up.units (first_run.first n)
   first_old at is =
       let both : Some at ≡ Some (place A 1 1) = sym (n.found at) ∙ ap n.place_of (sym is) ∙ n.found (place A 1 1) in
       let one : at ≡ place A 1 1 = cc in

@@ -1,0 +1,4 @@
+pub mod Cores
+pub mod Orders
+pub mod Leads
+pub mod Runs

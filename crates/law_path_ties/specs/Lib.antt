@@ -1,0 +1,3 @@
+pub mod Paths
+pub use Rattle.law_tied_runs.specs as law_tied_runs
+pub use Rattle.law_owed_runs.specs as law_owed_runs
