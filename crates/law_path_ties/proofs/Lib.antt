@@ -2,3 +2,4 @@ pub mod Cores
 pub mod Orders
 pub mod Leads
 pub mod Runs
+pub mod Worked

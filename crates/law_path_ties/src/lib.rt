@@ -2,6 +2,7 @@
 //! path switch names one. Each function does nothing: its contract is the law.
 #![tactic(auto)]
 
+ghost use Rattle.gnb_types.specs.declared.keys.TunnelEnd.{TunnelEnd};
 ghost use Rattle.gnb_types.specs.declared.names.BearerId.{BearerId};
 ghost use Rattle.gnb_types.specs.declared.names.NodeId.TheVariants.{Core};
 ghost use Rattle.gnb_types.specs.declared.names.NodeId.{NodeId};
@@ -16,27 +17,31 @@ ghost use Rattle.law_owed_orders.specs.Steady.{IsOld};
 ghost use Rattle.law_owed_runs.specs.Owing as owed;
 ghost use Rattle.law_owed_runs.specs.Owing.{IsSteadyAt, NoneIsZero};
 ghost use Rattle.law_path_ties.specs.Paths.{CameAbout, LeadsAt, PathStays, Step, Steps};
+ghost use Rattle.law_path_ties.specs.Worked.{LeadsThere};
 ghost use Rattle.law_steps.specs.Causes.{count_of, first_of, node_of};
 ghost use Rattle.law_tie_facts.specs.Asked.{RunCause};
-ghost use Rattle.law_tie_facts.specs.Ties.{RunState};
+ghost use Rattle.law_tie_facts.specs.Ties.{RunItem, RunState};
 ghost use Rattle.law_tie_facts.specs.law_run_bearers.Bearers.{Numbering};
 ghost use Rattle.law_tie_facts.specs.law_run_bearers.Things.{PlainUnits};
+ghost use Rattle.law_tie_facts.specs.law_tunnel_steps.law_steps.Reached.{reached};
 ghost use Rattle.law_tied_runs.specs.Steps.{IsPassed, IsTied, Point};
+ghost use Rattle.law_tied_runs.specs.law_core_ties.Worked.{switched_run};
 ghost use Rattle.law_tied_runs.specs.law_core_ties.law_put_ties.Worked.{bearer, terminal};
 ghost use Rattle.message_types.specs.declared.rrc.Token.{Token};
 ghost use Rattle.run_defs.specs.Conditions.{statically};
 ghost use Rattle.run_defs.specs.Lines.{RunLine};
 ghost use Rattle.run_defs.specs.Runs.{plain_world, Reading};
-ghost use Rattle.run_defs.specs.States.{core_stepped, goes, octets_from, sn_of, ◌next◌};
+ghost use Rattle.run_defs.specs.States.{core_stepped, goes, new_state, octets_from, sn_of, ◌next◌};
 ghost use Rattle.run_defs.specs.Steps.{carried_out, check_spans, put_out_all};
 ghost use Rattle.run_defs.specs.Written.{Written};
-ghost use Rattle.std.specs.Prelude.{List, None, ◌≡◌, ◌≢◌, ℕ};
+ghost use Rattle.run_defs.specs.transport_defs.Links.{Bag};
+ghost use Rattle.std.specs.Prelude.{Bool, List, None, ◌≡◌, ◌≢◌, ℕ};
 ghost use Rattle.unit_defs.specs.Core.{CoreRecord};
 ghost use Rattle.unit_defs.specs.UpRecords.{Downlink};
 ghost use Rattle.unit_defs.specs.Ways.{Load, Message, Pdu, Put};
 
 /// A step of a unit leaves the core's path of every terminal, whatever makes it act; the set-up of another terminal leaves that of this
-/// one; and so do octets from outside that the core is given.
+/// one; and so do octets from outside that the core is given, and where a run begins, messages land or are lost, or items are lost.
 pub fn all_else_leaves_the_path()
     ensures unit { (reading : Reading) (ue : UeId) (s t : RunState) (cause : RunCause)
         (outputs : List (Put (Message Token) (Written (Load Pdu)) (Written Pdu)))
@@ -55,6 +60,9 @@ pub fn all_else_leaves_the_path()
         → (put_out_all (plain_world reading) Core None outputs (record s { core = core })
         next check_spans) ≡ goes lines t
         → PathStays ue s t }
+    ensures lost { (ue : UeId) (s : RunState) (started : Bool) (bag : Bag (Message Token))
+        (tunnels : List (TunnelEnd × List RunItem))
+        → PathStays ue s (record s { started = started; bag = bag; tunnels = tunnels }) }
 {}
 
 /// Where the core's path of the bearer leads to the N3 tunnel of the context that the part sends to, a step is one that `law_owed_runs`
@@ -102,4 +110,11 @@ pub fn a_terminal_delivers_in_order()
         × LeadsAt reading n terminal bearer Len12 64 (start n teid d)
         × ((q : Point) → Steps reading n terminal bearer Len12 64 (start n teid d) q
         → DeliverInOrder reading n terminal bearer Len12 64 (start n teid d) q) }
+{}
+
+/// There is a run with a path switch by which the path leads so: after a handover to the other gNB the core's path leads to the N3 tunnel
+/// of the target's context.
+pub fn a_worked_switch_leads_there()
+    ensures { (reading : Reading) (n : Numbering)
+        → LeadsThere n (reached (plain_world reading) switched_run new_state) }
 {}
