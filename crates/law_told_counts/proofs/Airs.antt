@@ -128,6 +128,12 @@ module _ (ue : UeId) (bearer : BearerId) (deliv : ℕ) where
     radio = subst (AirTells deliv) (sym same) told.radio;
   }
 
+  pub told_alike : (s t : RunState) → t.tunnels ≡ s.tunnels → on_air t key ≡ on_air s key → IsTold ue bearer deliv s → IsTold ue bearer deliv t
+  told_alike s t is same told = record {
+    tunnels = λ end. subst (StandingTells ue bearer deliv) (sym (ap (λ tunnels. find tunnel_cmp tunnels end) is)) (told.tunnels end);
+    radio = subst (AirTells deliv) (sym same) told.radio;
+  }
+
   pub told_put : (reading : Reading) (s t : RunState) (node : NodeId) (taken : Option ℕ) (outputs : List RunPut) (lines : List (RunLine (Message Token)))
       → (put_out_all (plain_world reading) node taken outputs s next check_spans) ≡ goes lines t → IsTold ue bearer deliv s
       → PutsTell ue bearer deliv outputs → IsTold ue bearer deliv t

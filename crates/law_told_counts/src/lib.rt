@@ -27,11 +27,15 @@ ghost use Rattle.unit_defs.specs.UpRecords.{TunnelKind};
 ghost use Rattle.unit_defs.specs.Ways.{Load, Message, Pdu};
 
 /// Where all that stands on the tunnels and on the radio up of a bearer tells of what its terminal received, it does so still where more
-/// was received, and where the oldest item of a tunnel is lost; and so it is where a run begins.
+/// was received, where tunnels and that radio stay as they are, and where the oldest item of a tunnel is lost; and so it is where a run
+/// begins.
 pub fn what_is_told_stays_so()
     ensures first { (ue : UeId) (bearer : BearerId) (deliv : ℕ) → IsTold ue bearer deliv new_state }
     ensures later { (ue : UeId) (bearer : BearerId) (deliv later : ℕ) (s : RunState)
         → deliv ≤ later → IsTold ue bearer deliv s → IsTold ue bearer later s }
+    ensures alike { (ue : UeId) (bearer : BearerId) (deliv : ℕ) (s t : RunState)
+        → t.tunnels ≡ s.tunnels → on_air t (up_key ue bearer) ≡ on_air s (up_key ue bearer)
+        → IsTold ue bearer deliv s → IsTold ue bearer deliv t }
     ensures lost { (ue : UeId) (bearer : BearerId) (deliv : ℕ) (s t : RunState) (end : TunnelEnd)
         (item : RunItem) (rest : List RunItem) → standing s end ≡ Some (item ∷ rest)
         → t.tunnels ≡ put tunnel_cmp s.tunnels end rest

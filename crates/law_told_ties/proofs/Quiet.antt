@@ -35,7 +35,7 @@ use Rattle.law_told_counts.proofs.Airs.{told_then}
 -- ---- what each unit puts is of its links, in a state that a run passes
 
 module _ (reading : Reading) where
-  held_past : (events : List Event) (event : Event) (before : RunState) → reached (plain_world reading) events new_state ≡ Some before
+  pub held_past : (events : List Event) (event : Event) (before : RunState) → reached (plain_world reading) events new_state ≡ Some before
       → (t : RunState) → Passes (plain_world reading) event before t → Hold (written_facts link_items) t
   held_past events event before there t (not_yet x) = plain_run_holds link_items items_keep reading events before there
   held_past events event before there t (further x y u told p made) =

@@ -7,6 +7,7 @@ ghost use Rattle.gnb_types.specs.declared.names.BearerId.{BearerId};
 ghost use Rattle.gnb_types.specs.declared.names.Gnb.{Gnb};
 ghost use Rattle.gnb_types.specs.declared.names.UeId.{UeId};
 ghost use Rattle.law_beside_downs.specs.Nodes.{HasNoRadio};
+ghost use Rattle.law_core_ties.specs.Core.{IsCoreStep, IsOffer};
 ghost use Rattle.law_own_events.specs.law_own_steps.Own.{IsActed};
 ghost use Rattle.law_put_ties.specs.Puts.{IsDuStep};
 ghost use Rattle.law_radio_downs.specs.Down.{down_key, IsDown};
@@ -23,8 +24,10 @@ ghost use Rattle.run_defs.specs.States.{goes, sn_of};
 ghost use Rattle.run_defs.specs.Steps.{carried_out};
 ghost use Rattle.run_defs.specs.Units.{Units, with_du};
 ghost use Rattle.run_defs.specs.Written.{written_put};
+ghost use Rattle.run_defs.specs.transport_defs.declared.Letter.{Letter};
 ghost use Rattle.scenario_text.specs.declared.event.Event.{Event};
 ghost use Rattle.std.specs.Prelude.{List, map, ◌≡◌, ℕ};
+ghost use Rattle.unit_defs.specs.Core.{CorePath, CoreRecord};
 ghost use Rattle.unit_defs.specs.Ways.{Input, Message, Output, Pdu};
 
 /// In each state that a run from the first one passes, within events too: where all that stands on a bearer's tunnels and on its radio up
@@ -52,4 +55,17 @@ pub fn a_du_keeps_what_is_told()
         → IsDuStep reading s t gnb number cause input outputs left
         → IsDown (on_air s (down_key ue bearer)) d
         → IsTold ue bearer d.terminal.deliv s → IsTold ue bearer d.terminal.deliv t }
+{}
+
+/// And so it is where the core takes a message, and where a packet is offered there.
+pub fn the_core_keeps_what_is_told()
+    ensures messages { (reading : Reading) (s t : RunState) (ue : UeId) (bearer : BearerId) (deliv : ℕ)
+        (number : ℕ) (l : Letter (Message Token)) (outputs : List (Output (Message Token) Pdu))
+        (core : CoreRecord (Message Token) Token) → IsPassed reading s
+        → IsCoreStep reading s t number l outputs core
+        → IsTold ue bearer deliv s → IsTold ue bearer deliv t }
+    ensures offers { (reading : Reading) (s t : RunState) (ue : UeId) (bearer : BearerId) (deliv : ℕ)
+        (who : UeId) (which : BearerId) (packet : List ℕ) (path : CorePath)
+        → IsOffer reading s t who which packet path
+        → IsTold ue bearer deliv s → IsTold ue bearer deliv t }
 {}
