@@ -1,0 +1,71 @@
+//! Laws of the steps of a run that aren't a terminal's own, beside what tells a CU-UP what the terminal received. Each function does
+//! nothing: its contract is the law.
+#![tactic(auto)]
+
+ghost use Rattle.chain_defs.specs.Parts.{Part};
+ghost use Rattle.gnb_types.specs.declared.names.BearerId.{BearerId};
+ghost use Rattle.gnb_types.specs.declared.names.Gnb.{Gnb};
+ghost use Rattle.gnb_types.specs.declared.names.UeId.{UeId};
+ghost use Rattle.law_beside_downs.specs.Nodes.{HasNoRadio};
+ghost use Rattle.law_core_ties.specs.Core.{IsCoreStep, IsOffer};
+ghost use Rattle.law_own_events.specs.law_own_steps.Own.{IsActed};
+ghost use Rattle.law_put_ties.specs.Puts.{IsDuStep};
+ghost use Rattle.law_radio_downs.specs.Down.{down_key, IsDown};
+ghost use Rattle.law_radio_steps.specs.Radios.{on_air};
+ghost use Rattle.law_radio_ties.specs.Radio.{RunCause, RunState};
+ghost use Rattle.law_run_units.specs.Happenings.{DuRecord};
+ghost use Rattle.law_steps.specs.Causes.{count_of, first_of, node_of};
+ghost use Rattle.law_tied_runs.specs.Steps.{IsPassed};
+ghost use Rattle.law_told_counts.specs.Told.{IsTold, RunPut};
+ghost use Rattle.message_types.specs.declared.rrc.Token.{Token};
+ghost use Rattle.run_defs.specs.Lines.{RunLine};
+ghost use Rattle.run_defs.specs.Runs.{plain_world, Reading};
+ghost use Rattle.run_defs.specs.States.{goes, sn_of};
+ghost use Rattle.run_defs.specs.Steps.{carried_out};
+ghost use Rattle.run_defs.specs.Units.{Units, with_du};
+ghost use Rattle.run_defs.specs.Written.{written_put};
+ghost use Rattle.run_defs.specs.transport_defs.declared.Letter.{Letter};
+ghost use Rattle.scenario_text.specs.declared.event.Event.{Event};
+ghost use Rattle.std.specs.Prelude.{List, map, ◌≡◌, ℕ};
+ghost use Rattle.unit_defs.specs.Core.{CorePath, CoreRecord};
+ghost use Rattle.unit_defs.specs.Ways.{Input, Message, Output, Pdu};
+
+/// In each state that a run from the first one passes, within events too: where all that stands on a bearer's tunnels and on its radio up
+/// tells of what its terminal received, it does so after each step of a CU-CP or a CU-UP: these put nothing that tells of it.
+pub fn units_without_a_radio_keep_what_is_told()
+    ensures { (reading : Reading) (ue : UeId) (bearer : BearerId) (deliv : ℕ) (s t : RunState)
+        (event : Event) (cause : RunCause) (outputs : List RunPut) (units : Units (Message Token) Token)
+        (lines : List (RunLine (Message Token)))
+        → IsPassed reading s → IsActed (plain_world reading) event s cause outputs units
+        → HasNoRadio (node_of cause)
+        → carried_out (plain_world reading) (node_of cause) (count_of cause)
+        (first_of (plain_world reading) cause) outputs units s ≡ goes lines t
+        → IsTold ue bearer deliv s → IsTold ue bearer deliv t }
+{}
+
+/// And so it is after each step of a DU, where what was carried on the terminal's radio down and isn't confirmed was received: a DU tells
+/// of what is confirmed there, and passes on what comes up.
+pub fn a_du_keeps_what_is_told()
+    ensures { (reading : Reading) (event : Event) (s t : RunState) (ue : UeId) (bearer : BearerId)
+        (d : Part) (gnb : Gnb) (number : ℕ) (cause : RunCause) (input : Input Token Pdu)
+        (outputs : List (Output (Message Token) Pdu)) (left : DuRecord)
+        → IsPassed reading s
+        → IsActed (plain_world reading) event s cause (map (written_put (sn_of s)) outputs)
+        (with_du s.units gnb number left)
+        → IsDuStep reading s t gnb number cause input outputs left
+        → IsDown (on_air s (down_key ue bearer)) d
+        → IsTold ue bearer d.terminal.deliv s → IsTold ue bearer d.terminal.deliv t }
+{}
+
+/// And so it is where the core takes a message, and where a packet is offered there.
+pub fn the_core_keeps_what_is_told()
+    ensures messages { (reading : Reading) (s t : RunState) (ue : UeId) (bearer : BearerId) (deliv : ℕ)
+        (number : ℕ) (l : Letter (Message Token)) (outputs : List (Output (Message Token) Pdu))
+        (core : CoreRecord (Message Token) Token) → IsPassed reading s
+        → IsCoreStep reading s t number l outputs core
+        → IsTold ue bearer deliv s → IsTold ue bearer deliv t }
+    ensures offers { (reading : Reading) (s t : RunState) (ue : UeId) (bearer : BearerId) (deliv : ℕ)
+        (who : UeId) (which : BearerId) (packet : List ℕ) (path : CorePath)
+        → IsOffer reading s t who which packet path
+        → IsTold ue bearer deliv s → IsTold ue bearer deliv t }
+{}
