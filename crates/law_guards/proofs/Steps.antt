@@ -14,9 +14,9 @@ use Rattle.law_tie_facts.specs.law_bearer_lists.law_bearer_orders.Happenings.{Be
 use Rattle.law_tie_facts.specs.law_run_units.Happenings.{UpRecord}
 use Rattle.law_tie_facts.specs.law_run_bearers.Bearers.{Numbering, contexts_of}
 use Rattle.law_tie_facts.specs.Asked.{RunCause, IsUpStep, down_after, up_after}
-use Rattle.law_tied_runs.specs.law_core_ties.Core.{IsOffer, orders_offered, IsCoreStep, orders_told}
-use Rattle.law_tied_runs.specs.Steps.{Point}
-use Rattle.law_owed_orders.specs.Owed.{final_asks}
+use Rattle.law_path_ties.specs.law_owed_runs.law_fresh_uplinks.law_tied_runs.law_core_ties.Core.{IsOffer, orders_offered, IsCoreStep, orders_told}
+use Rattle.law_path_ties.specs.law_owed_runs.law_fresh_uplinks.law_tied_runs.Steps.{Point}
+use Rattle.law_path_ties.specs.law_owed_runs.law_owed_orders.Owed.{final_asks}
 use Rattle.law_path_ties.specs.Paths.{Step, a_cu_up, an_offer, a_message}
 use Rattle.law_guards.specs.Guards.{OfCuUp, OfMessage}
 

@@ -13,9 +13,9 @@ use Rattle.law_tie_facts.specs.law_bearer_lists.chain_defs.Guards as down_guards
 use Rattle.law_tie_facts.specs.law_bearer_lists.law_bearer_orders.Happenings.{Beside}
 use Rattle.law_tie_facts.specs.law_run_bearers.Bearers.{Numbering, contexts_of}
 use Rattle.law_tie_facts.specs.Asked.{RunCause}
-use Rattle.law_owed_orders.specs.Owed.{AllOwe, final_asks}
-use Rattle.law_tied_runs.specs.law_core_ties.Core.{orders_told}
-use Rattle.law_tied_runs.specs.Steps.{Point}
+use Rattle.law_path_ties.specs.law_owed_runs.law_owed_orders.Owed.{AllOwe, final_asks}
+use Rattle.law_path_ties.specs.law_owed_runs.law_fresh_uplinks.law_tied_runs.law_core_ties.Core.{orders_told}
+use Rattle.law_path_ties.specs.law_owed_runs.law_fresh_uplinks.law_tied_runs.Steps.{Point}
 use Rattle.law_path_ties.specs.Paths.{NamesN3}
 
 module _ (n : Numbering) (ue : UeId) (bearer : BearerId) (sn : SnBits) (quota : ℕ) (p : Point) where

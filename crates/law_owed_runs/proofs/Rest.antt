@@ -33,8 +33,8 @@ use Rattle.law_put_ties.specs.Puts.{orders_up, puts_of}
 use Rattle.law_put_ties.proofs.Apart.{on_same, contexts_same}
 use Rattle.law_put_ties.proofs.Stands.{Ends, after_told, and_no_more, units_put, ups_stay}
 use Rattle.law_core_rows.specs.Shown.{goal_by}
-use Rattle.law_tied_runs.specs.law_core_ties.Core.{orders_offered, places_of, orders_told}
-use Rattle.law_tied_runs.specs.Steps.{Point, DuActs, CoreOffers, CoreTakes, StaysBeside}
+use Rattle.law_fresh_uplinks.specs.law_tied_runs.law_core_ties.Core.{orders_offered, places_of, orders_told}
+use Rattle.law_fresh_uplinks.specs.law_tied_runs.Steps.{Point, DuActs, CoreOffers, CoreTakes, StaysBeside}
 use Rattle.law_fresh_uplinks.proofs.Hops.{SameDown, SameUp, offered_same, told_same, puts_same, radio_same, terminal_same}
 use Rattle.law_owed_runs.specs.Owing.{IsSteadyAt}
 use Rattle.law_owed_runs.proofs.Grows.{steady_by, steady_later}

@@ -26,14 +26,14 @@ use Rattle.law_tie_facts.specs.law_run_bearers.Bearers.{Place, Numbering, at_pla
 use Rattle.law_tie_facts.specs.Asked.{AreSound, HopLeads, down_after}
 use Rattle.law_tie_facts.proofs.Ends.{clash}
 use Rattle.law_put_ties.proofs.Apart.{place}
-use Rattle.law_tied_runs.specs.law_core_ties.law_put_ties.Worked.{terminal, bearer as its_bearer}
-use Rattle.law_tied_runs.specs.Steps.{Point, IsPassed, IsTied}
-use Rattle.law_tied_runs.proofs.Sound.{passed_sound}
-use Rattle.law_tied_runs.proofs.Runs.{steps_then}
-use Rattle.law_first_ties.specs.First as first_run
-use Rattle.law_first_ties.proofs.Start.{starts, tied as tied_there}
-use Rattle.law_first_runs.specs.First.{AreFirst, DeliverInOrder}
-use Rattle.law_first_runs.proofs.Runs.{begins}
+use Rattle.law_fresh_uplinks.specs.law_tied_runs.law_core_ties.law_put_ties.Worked.{terminal, bearer as its_bearer}
+use Rattle.law_fresh_uplinks.specs.law_tied_runs.Steps.{Point, IsPassed, IsTied}
+use Rattle.law_fresh_uplinks.proofs.law_tied_runs.Sound.{passed_sound}
+use Rattle.law_fresh_uplinks.proofs.law_tied_runs.Runs.{steps_then}
+use Rattle.law_fresh_uplinks.specs.law_first_ties.First as first_run
+use Rattle.law_fresh_uplinks.proofs.law_first_ties.Start.{starts, tied as tied_there}
+use Rattle.law_fresh_uplinks.specs.law_first_runs.First.{AreFirst, DeliverInOrder}
+use Rattle.law_fresh_uplinks.proofs.law_first_runs.Runs.{begins}
 use Rattle.law_fresh_uplinks.specs.Later as later
 use Rattle.law_fresh_uplinks.specs.Later.{AreFresh, Comes}
 use Rattle.law_fresh_uplinks.proofs.Runs.{passes_give, starts_fresh, all_steps as fresh_steps, delivers as fresh_delivers}

@@ -11,7 +11,7 @@ use Rattle.law_tie_facts.specs.law_bearer_lists.law_bearer_orders.Happenings.{Be
 use Rattle.law_tie_facts.specs.law_run_units.Happenings.{UpRecord}
 use Rattle.law_tie_facts.specs.law_run_bearers.Bearers.{Numbering, contexts_of}
 use Rattle.law_tie_facts.specs.Asked.{RunCause, IsUpStep, down_after, up_after}
-use Rattle.law_tied_runs.specs.Steps.{Point, IsPassed, DuActs, CoreOffers, CoreTakes, StaysBeside}
+use Rattle.law_fresh_uplinks.specs.law_tied_runs.Steps.{Point, IsPassed, DuActs, CoreOffers, CoreTakes, StaysBeside}
 use Rattle.law_fresh_uplinks.specs.Later.{Comes}
 use Rattle.law_owed_orders.specs.Steady.{AreSteady}
 use Rattle.law_owed_orders.specs.Owed.{AllOwe, final_asks}

@@ -55,10 +55,10 @@ use Rattle.law_tie_facts.proofs.Puts.{Outs}
 use Rattle.law_put_ties.proofs.Apart.{on_same, end_same, on_n3}
 use Rattle.law_put_ties.proofs.Stands.{Ends, after_told, and_no_more, units_put, ups_stay}
 use Rattle.law_up_ties.proofs.Opened.{owners_stay}
-use Rattle.law_owed_orders.specs.Steady.{IsOld}
-use Rattle.law_owed_orders.proofs.Rooms.{open_as}
-use Rattle.law_tied_runs.specs.law_core_ties.Core.{context_of, places_of}
-use Rattle.law_tied_runs.specs.Steps.{Point, IsTied, DuActs}
+use Rattle.law_owed_runs.specs.law_owed_orders.Steady.{IsOld}
+use Rattle.law_owed_runs.proofs.law_owed_orders.Rooms.{open_as}
+use Rattle.law_owed_runs.specs.law_fresh_uplinks.law_tied_runs.law_core_ties.Core.{context_of, places_of}
+use Rattle.law_owed_runs.specs.law_fresh_uplinks.law_tied_runs.Steps.{Point, IsTied, DuActs}
 use Rattle.law_owed_runs.specs.Owing.{IsSteadyAt, CuUpActs}
 use Rattle.law_owed_runs.proofs.Grows.{opened_at, not_there}
 use Rattle.law_path_ties.specs.Paths.{CameAbout, PathStays, NamesN3, LeadsAt, CoreOffers, CoreTakes, StaysBeside}

@@ -22,8 +22,8 @@ use Rattle.law_tie_facts.specs.law_bearer_lists.law_context_orders.Shown.{is_bea
 use Rattle.law_tie_facts.specs.law_run_bearers.Things.{PlainUnits}
 use Rattle.law_tie_facts.specs.law_run_bearers.Bearers.{Numbering}
 use Rattle.law_tie_facts.specs.Asked.{down_after}
-use Rattle.law_tied_runs.specs.law_core_ties.Core.{orders_offered}
-use Rattle.law_tied_runs.specs.Steps.{IsOfRadio}
+use Rattle.law_owed_runs.specs.law_fresh_uplinks.law_tied_runs.law_core_ties.Core.{orders_offered}
+use Rattle.law_owed_runs.specs.law_fresh_uplinks.law_tied_runs.Steps.{IsOfRadio}
 
 abbrev pub IsNoSwitch : down.Order → Type 0
 IsNoSwitch (down.switches_path to) = ⊥

@@ -19,19 +19,19 @@ use Rattle.law_tie_facts.specs.law_bearer_lists.chain_defs.Orders as down
 use Rattle.law_tie_facts.specs.law_bearer_lists.chain_defs.Guards as down_guards
 use Rattle.law_tie_facts.specs.law_run_bearers.Bearers.{Numbering}
 use Rattle.law_tie_facts.specs.Asked.{AreSound}
-use Rattle.law_tied_runs.specs.law_core_ties.law_put_ties.Worked.{terminal, bearer as its_bearer}
-use Rattle.law_tied_runs.specs.Steps as tied
-use Rattle.law_tied_runs.specs.Steps.{Point, IsPassed, IsTied, AreOrders}
-use Rattle.law_tied_runs.proofs.Sound.{passed_sound}
-use Rattle.law_tied_runs.proofs.Runs.{step_then}
-use Rattle.law_first_ties.specs.First as first_run
-use Rattle.law_first_ties.proofs.Start.{starts, tied as tied_there}
-use Rattle.law_first_runs.specs.First.{AreFirst, DeliverInOrder}
-use Rattle.law_first_runs.proofs.Runs.{begins}
-use Rattle.law_fresh_uplinks.specs.Later as later
-use Rattle.law_fresh_uplinks.specs.Later.{AreFresh, Comes}
-use Rattle.law_fresh_uplinks.proofs.Runs.{starts_fresh, one_step as fresh_step}
-use Rattle.law_owed_orders.specs.Steady.{IsOld}
+use Rattle.law_owed_runs.specs.law_fresh_uplinks.law_tied_runs.law_core_ties.law_put_ties.Worked.{terminal, bearer as its_bearer}
+use Rattle.law_owed_runs.specs.law_fresh_uplinks.law_tied_runs.Steps as tied
+use Rattle.law_owed_runs.specs.law_fresh_uplinks.law_tied_runs.Steps.{Point, IsPassed, IsTied, AreOrders}
+use Rattle.law_owed_runs.proofs.law_fresh_uplinks.law_tied_runs.Sound.{passed_sound}
+use Rattle.law_owed_runs.proofs.law_fresh_uplinks.law_tied_runs.Runs.{step_then}
+use Rattle.law_owed_runs.specs.law_fresh_uplinks.law_first_ties.First as first_run
+use Rattle.law_owed_runs.proofs.law_fresh_uplinks.law_first_ties.Start.{starts, tied as tied_there}
+use Rattle.law_owed_runs.specs.law_fresh_uplinks.law_first_runs.First.{AreFirst, DeliverInOrder}
+use Rattle.law_owed_runs.proofs.law_fresh_uplinks.law_first_runs.Runs.{begins}
+use Rattle.law_owed_runs.specs.law_fresh_uplinks.Later as later
+use Rattle.law_owed_runs.specs.law_fresh_uplinks.Later.{AreFresh, Comes}
+use Rattle.law_owed_runs.proofs.law_fresh_uplinks.Runs.{starts_fresh, one_step as fresh_step}
+use Rattle.law_owed_runs.specs.law_owed_orders.Steady.{IsOld}
 use Rattle.law_owed_runs.specs.Owing as owed
 use Rattle.law_owed_runs.specs.Owing.{NoneIsZero, IsSteadyAt}
 use Rattle.law_owed_runs.proofs.Runs.{one_step as owed_step, first_steady, delivers as owed_delivers, first_old}

@@ -37,8 +37,8 @@ use Rattle.run_defs.specs.States.{new_state}
 use Rattle.law_tie_facts.specs.law_tunnel_steps.law_steps.Reached.{reached}
 use Rattle.law_tie_facts.specs.law_run_bearers.Bearers.{Numbering}
 use Rattle.law_tie_facts.specs.Ties.{RunState, Owned, owned_on}
-use Rattle.law_tied_runs.specs.law_core_ties.Worked.{switched_run}
-use Rattle.law_tied_runs.specs.law_core_ties.law_put_ties.Worked.{terminal, bearer}
+use Rattle.law_owed_runs.specs.law_fresh_uplinks.law_tied_runs.law_core_ties.Worked.{switched_run}
+use Rattle.law_owed_runs.specs.law_fresh_uplinks.law_tied_runs.law_core_ties.law_put_ties.Worked.{terminal, bearer}
 use Rattle.law_path_ties.specs.Worked.{LeadsThere}
 
 -- the core's path, and whose the first TEID of the other gNB's CU-UP is

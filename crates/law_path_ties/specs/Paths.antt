@@ -18,10 +18,10 @@ use Rattle.law_tie_facts.specs.law_bearer_lists.chain_defs.Guards as down_guards
 use Rattle.law_tie_facts.specs.law_run_bearers.Things.{PlainUnits}
 use Rattle.law_tie_facts.specs.law_run_bearers.Bearers.{Numbering}
 use Rattle.law_tie_facts.specs.Ties.{RunState, owned_on}
-use Rattle.law_tied_runs.specs.law_core_ties.Core.{PathLeads, IsOffer, orders_offered, IsCoreStep, orders_told}
-use Rattle.law_tied_runs.specs.Steps as tied
-use Rattle.law_tied_runs.specs.Steps.{Point, IsPassed, DuActs}
-use Rattle.law_fresh_uplinks.specs.Later.{Comes}
+use Rattle.law_owed_runs.specs.law_fresh_uplinks.law_tied_runs.law_core_ties.Core.{PathLeads, IsOffer, orders_offered, IsCoreStep, orders_told}
+use Rattle.law_owed_runs.specs.law_fresh_uplinks.law_tied_runs.Steps as tied
+use Rattle.law_owed_runs.specs.law_fresh_uplinks.law_tied_runs.Steps.{Point, IsPassed, DuActs}
+use Rattle.law_owed_runs.specs.law_fresh_uplinks.Later.{Comes}
 use Rattle.law_owed_runs.specs.Owing.{CuUpActs}
 
 -- the downlink's part came about by orders each of which asked what it does

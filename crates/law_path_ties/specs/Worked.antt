@@ -4,8 +4,8 @@ use Rattle.gnb_types.specs.declared.names.Gnb.TheVariants.{B}
 use Rattle.law_tie_facts.specs.law_bearer_lists.chain_defs.Parts as down_parts
 use Rattle.law_tie_facts.specs.law_run_bearers.Bearers.{Numbering}
 use Rattle.law_tie_facts.specs.Ties.{RunState}
-use Rattle.law_tied_runs.specs.law_core_ties.Core.{PathLeads}
-use Rattle.law_tied_runs.specs.law_core_ties.law_put_ties.Worked.{terminal, bearer}
+use Rattle.law_owed_runs.specs.law_fresh_uplinks.law_tied_runs.law_core_ties.Core.{PathLeads}
+use Rattle.law_owed_runs.specs.law_fresh_uplinks.law_tied_runs.law_core_ties.law_put_ties.Worked.{terminal, bearer}
 
 -- it leads there for a part that sends to the target's context
 abbrev pub LeadsThere : Numbering → Option RunState → Type 0

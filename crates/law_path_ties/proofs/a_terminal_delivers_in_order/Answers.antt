@@ -1,4 +1,4 @@
-use Rattle.law_first_ties.proofs.Start.{starts, tied}
+use Rattle.law_owed_runs.proofs.law_fresh_uplinks.law_first_ties.Start.{starts, tied}
 use Rattle.law_path_ties.proofs.Runs.{delivers_on, leads_there}
 use Rattle.law_path_ties.proofs.a_terminal_delivers_in_order.Goals as goal
 
