@@ -19,8 +19,8 @@ use Rattle.law_put_ties.specs.Puts.{orders_up, order_up, owned_to}
 use Rattle.law_du_inputs.specs.Puts.{OnTunnel}
 use Rattle.law_du_steps.specs.Steps.{order_of}
 use Rattle.law_core_rows.specs.Shown.{Places, Goal, to_first, orders_to}
-use Rattle.law_tied_runs.specs.law_core_ties.Core.{orders_offered}
-use Rattle.law_tied_runs.specs.Steps.{IsOfRadio, IsOfTerminal}
+use Rattle.law_first_runs.specs.law_tied_runs.law_core_ties.Core.{orders_offered}
+use Rattle.law_first_runs.specs.law_tied_runs.Steps.{IsOfRadio, IsOfTerminal}
 use Rattle.law_fresh_uplinks.proofs.Puts.{run_more}
 
 abbrev pub SameDown : down_parts.Part → down_parts.Part → Type 0

@@ -17,7 +17,7 @@ use Rattle.law_steps.specs.Made.{Made}
 use Rattle.law_steps.proofs.Frames.{made_relates}
 use Rattle.law_teids.specs.Given.{below, GiveOnce}
 use Rattle.law_teids.proofs.Runs.{give_same, give_then, placed_gives, answer_gives}
-use Rattle.law_tied_runs.specs.law_own_events.Passed.{Passes, not_yet, further}
+use Rattle.law_first_runs.specs.law_tied_runs.law_own_events.Passed.{Passes, not_yet, further}
 use Rattle.law_tie_facts.specs.law_bearer_lists.uplink_defs.Parts as up_parts
 use Rattle.law_tie_facts.specs.law_bearer_lists.uplink_defs.Orders as up
 use Rattle.law_tie_facts.specs.law_bearer_lists.law_context_orders.Inputs.{orders_of}
@@ -29,14 +29,14 @@ use Rattle.law_tie_facts.specs.Asked.{AreSound, context_at, beside_of, step_asks
 use Rattle.law_put_ties.specs.Puts.{puts_of}
 use Rattle.law_run_ties.proofs.Runs.{up_runs}
 use Rattle.law_up_ties.proofs.Ups as of_cu_ups
-use Rattle.law_tied_runs.specs.law_core_ties.law_put_ties.Worked.{terminal, bearer as its_bearer}
-use Rattle.law_tied_runs.specs.Steps as tied
-use Rattle.law_tied_runs.specs.Steps.{Point, IsPassed, IsTied, IsOfTerminal}
-use Rattle.law_tied_runs.proofs.Sound.{passed_sound}
-use Rattle.law_tied_runs.proofs.Runs.{steps_then}
+use Rattle.law_first_runs.specs.law_tied_runs.law_core_ties.law_put_ties.Worked.{terminal, bearer as its_bearer}
+use Rattle.law_first_runs.specs.law_tied_runs.Steps as tied
+use Rattle.law_first_runs.specs.law_tied_runs.Steps.{Point, IsPassed, IsTied, IsOfTerminal}
+use Rattle.law_first_runs.proofs.law_tied_runs.Sound.{passed_sound}
+use Rattle.law_first_runs.proofs.law_tied_runs.Runs.{steps_then}
 use Rattle.law_first_runs.specs.First.{AreFirst, DeliverInOrder}
 use Rattle.law_first_runs.proofs.Runs.{delivers_after, begins}
-use Rattle.law_first_ties.proofs.Start.{starts, tied as tied_there}
+use Rattle.law_first_runs.proofs.law_first_ties.Start.{starts, tied as tied_there}
 use Rattle.law_fresh_uplinks.specs.Later.{AreFresh, Comes, CuUpActs, Step, a_cu_up, a_du, an_offer, a_message, all_else, Steps, not_yet as no_steps, further as one_more}
 use Rattle.law_fresh_uplinks.proofs.Orders.{IsEmpty, PutsNone, Keeps, all_keep}
 use Rattle.law_fresh_uplinks.proofs.Puts.{asked_puts_none, puts_elsewhere}

@@ -27,9 +27,9 @@ use Rattle.law_terminal_inputs.specs.Inputs.{Parts, Orders, none, carried_out, r
 use Rattle.law_own_events.specs.law_own_steps.Own.{IsActed}
 use Rattle.law_own_events.specs.law_own_steps.law_run_links.Own.{HoldTheirOwn}
 use Rattle.law_own_events.proofs.Passed.{sound_past}
-use Rattle.law_tied_runs.specs.Steps.{Point, IsPassed, IsOfRadio, IsLeft, StaysBeside}
-use Rattle.law_rest_ties.specs.Nodes.{PutsNoItem}
-use Rattle.law_rest_ties.proofs.Rest.{bearer_is_left}
+use Rattle.law_terminal_ties.specs.law_tied_runs.Steps.{Point, IsPassed, IsOfRadio, IsLeft, StaysBeside}
+use Rattle.law_terminal_ties.specs.law_rest_ties.Nodes.{PutsNoItem}
+use Rattle.law_terminal_ties.proofs.law_rest_ties.Rest.{bearer_is_left}
 use Rattle.law_radio_ties.specs.Radio.{RunCause, RunState, IsAtTerminal, IsUeStep}
 use Rattle.law_radio_ties.proofs.Terminals.{terminal_then}
 use Rattle.law_terminal_ties.specs.Owed.{both, OwedStill}

@@ -47,7 +47,7 @@ use Rattle.law_put_ties.proofs.Apart.{place, IsAt, at_end}
 use Rattle.law_own_events.specs.law_own_steps.Own.{IsActed}
 use Rattle.law_own_events.proofs.Passed.{sound_past}
 use Rattle.law_own_events.proofs.law_own_steps.Steps.{Sound}
-use Rattle.law_tied_runs.specs.Steps.{Point, IsPassed, IsTied, DuActs}
+use Rattle.law_terminal_ties.specs.law_tied_runs.Steps.{Point, IsPassed, IsTied, DuActs}
 use Rattle.law_radio_ties.specs.Radio.{OnRadio, up_key, IsAtTerminal, StandsNext, IsBeside}
 use Rattle.law_radio_ties.proofs.Others.{stands_next, carried_then}
 use Rattle.law_beside_ties.proofs.Beside.{is_beside}

@@ -9,7 +9,7 @@ use Rattle.law_du_inputs.specs.Changes.{DuPart, part_of}
 use Rattle.law_tie_facts.specs.law_bearer_lists.uplink_defs.Guards.{NoEnd}
 use Rattle.law_tie_facts.specs.law_run_bearers.Bearers.{Numbering}
 use Rattle.law_tie_facts.specs.Ties.{owned_on}
-use Rattle.law_tied_runs.specs.Steps.{Point}
+use Rattle.law_terminal_ties.specs.law_tied_runs.Steps.{Point}
 
 -- it has the bearer, and puts on an open uplink tunnel of the context that the terminal is at, on which no End Marker stands
 pub record HomeLeads (n : Numbering) (ue : UeId) (bearer : BearerId) (p : Point) (gnb : Gnb) (number : ℕ) : Type 0 where

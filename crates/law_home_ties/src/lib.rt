@@ -15,7 +15,7 @@ ghost use Rattle.law_terminal_ties.specs.Owed.{both};
 ghost use Rattle.law_tie_facts.specs.law_bearer_lists.uplink_defs.Orders as up;
 ghost use Rattle.law_tie_facts.specs.law_run_bearers.Bearers.{Numbering};
 ghost use Rattle.law_tie_facts.specs.law_run_units.Happenings.{DuRecord};
-ghost use Rattle.law_tied_runs.specs.Steps.{DuActs, IsPassed, IsTied, Point};
+ghost use Rattle.law_terminal_ties.specs.law_tied_runs.Steps.{DuActs, IsPassed, IsTied, Point};
 ghost use Rattle.message_types.specs.declared.rrc.Token.{Token};
 ghost use Rattle.run_defs.specs.Runs.{plain_world, Reading};
 ghost use Rattle.run_defs.specs.States.{sn_of};

@@ -1,4 +1,4 @@
-use Rattle.law_first_ties.proofs.Start.{starts, tied}
+use Rattle.law_first_runs.proofs.law_first_ties.Start.{starts, tied}
 use Rattle.law_fresh_uplinks.proofs.Runs.{delivers_on}
 use Rattle.law_fresh_uplinks.proofs.a_terminal_delivers_in_order.Goals as goal
 
