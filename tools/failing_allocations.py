@@ -8,7 +8,8 @@ they should be; so do those of tests_transactions, of a call. Tests of other cra
 
 A C compiler makes the library that lets a request fail; where there is none this is said, and the check passes. Nothing of this is proved.
 
-Usage: tools/failing_allocations.py [CRATE]..
+Usage: tools/failing_allocations.py [--rows | CRATE..]
+    --rows: the rows of the tests alone.
 """
 
 import ast
@@ -39,10 +40,14 @@ def answer(library, words, given, number):
 # ---- the program
 
 
-def calls():
-    """The calls of the program: a name, the words, and the input."""
+def examples():
+    """The examples' calls of the program: a name, the words, and the input."""
     for path in sorted(path for path in (TOP / "examples").iterdir() if is_input(path)):
         yield path.name, *call_of(path)
+
+
+def rows_of_tests():
+    """The calls of the program that its tests have a row of."""
     rows = re.findall(r'\(\s*"((?:en|de)code [^"]+)",\s*"((?:[^"\\]|\\.)*)",', ROWS.read_text())
     for number, (words, given) in enumerate(rows, 1):
         yield f"row {number}, {words}", words.split(), ast.literal_eval(f'"{given}"').encode()
@@ -65,9 +70,9 @@ def each_fails(library, name, words, given):
     return None
 
 
-def calls_fail(library):
+def calls_fail(library, calls):
     subprocess.run([TOP / "gnb", "run"], input=b"module builtin\n", stdout=subprocess.DEVNULL, check=True)
-    for name, words, given in calls():
+    for name, words, given in calls:
         wrong = each_fails(library, name, words, given)
         if wrong:
             print(f"{name}: {wrong}")
@@ -108,7 +113,7 @@ def tests_pass(library, crate):
 
 
 def main():
-    crates = sys.argv[1:]
+    with_examples, crates = "--rows" not in sys.argv, [word for word in sys.argv[1:] if word != "--rows"]
     for crate in crates:
         if not tests_of(crate).is_file():
             print(f"failing_allocations: there is no {tests_of(crate)}; 'rt test' in the folder of a crate of tests makes it", file=sys.stderr)
@@ -121,7 +126,7 @@ def main():
         library = f"{folder}/failing.so"
         subprocess.run([compiler, "-shared", "-fPIC", "-o", library, TOP / "tools/failing_allocations.c", "-ldl"], check=True)
         if not crates:
-            return calls_fail(library)
+            return calls_fail(library, [*(examples() if with_examples else []), *rows_of_tests()])
         return max(tests_pass(library, crate) for crate in crates)
 
 

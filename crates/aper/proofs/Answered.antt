@@ -7,11 +7,11 @@ use Rattle.aper_defs.specs.Fields.{Path}
 use Rattle.aper_defs.specs.Bounds.{IsBounded}
 use Rattle.aper_defs.specs.Spelling.{Spells}
 use Rattle.aper_defs.specs.Reading.{Fault, decoded}
-use Rattle.aper_proof_spelled.proofs.Spelled.{spelled_decoded}
+use Rattle.aper_proof_refused.proofs.aper_proof_spelled.Spelled.{spelled_decoded}
 use Rattle.aper_loose_defs.specs.Wrong.{WrongAt}
 use Rattle.aper_loose_defs.specs.Sets.{HasSets, LeavesIds}
 use Rattle.aper_proof_refused.proofs.Refused.{refused_wrong}
-use Rattle.aper_frames.specs.Paths.{path_view}
+use Rattle.aper_reading.specs.aper_frames.Paths.{path_view}
 use Rattle.aper_reading.specs.declared.error.DecodeError as reading
 use Rattle.aper_reading.specs.declared.error.DecodeError.TheVariants as undecoded
 use Rattle.aper_reading.specs.Decoding.{Decodes}

@@ -13,15 +13,15 @@ use Rattle.asn1_assignments.specs.declared.assignment.IeRow.{IeRow}
 use Rattle.asn1_assignments.specs.declared.assignment.ProcedureRow.{ProcedureRow}
 use Rattle.asn1_assignments.specs.declared.assignment.Assignment.{Assignment}
 use Rattle.asn1_assignments.specs.declared.assignment.Syntax.{Syntax}
-use Rattle.asn1_module.proofs.asn1_proof_reading.Readings.{read_of}
-use Rattle.asn1_module.specs.asn1_defs.Targets.{find_type, ie_rows, ie_rows_of, procedure_rows, definition_at, all_of}
-use Rattle.asn1_module.specs.asn1_defs.Modules.{IsModule}
-use Rattle.asn1_proof_module.specs.Proper.{Each, IsNew, AreOnce, ie_id, IsBodyWithin}
-use Rattle.asn1_proof_module.proofs.ModuleBounds.{proper}
+use Rattle.aper_reading.proofs.asn1_proof_reading.Readings.{read_of}
+use Rattle.aper_reading.specs.asn1_defs.Targets.{find_type, ie_rows, ie_rows_of, procedure_rows, definition_at, all_of}
+use Rattle.aper_reading.specs.asn1_defs.Modules.{IsModule}
+use Rattle.aper_reading.specs.asn1_proof_module.Proper.{Each, IsNew, AreOnce, ie_id, IsBodyWithin}
+use Rattle.aper_reading.proofs.asn1_proof_module.ModuleBounds.{proper}
 use Rattle.aper_defs.specs.Trees.{Tree, slots, has_slot}
 use Rattle.aper_loose_defs.specs.Sets.{AreOwnIds, IsSet, LeavesId, EachSet, EachSetOfParts, EachSetOfRows, EachSetOfProcedures, EachSetOfOutcome, HasSets, LeavesIds}
 use Rattle.aper_proof_answers.proofs.NumberFacts.{by_cases, below, not_below, same, is_same}
-use Rattle.aper_types.specs.Types.{parts_of, rows_of, outcome_of, procedures_of, named_tree, definition_tree, tree_by, tree}
+use Rattle.aper_value_checks.specs.aper_types.Types.{parts_of, rows_of, outcome_of, procedures_of, named_tree, definition_tree, tree_by, tree}
 
 -- ---- numbers below a bound, each once, are no more than the bound
 true_not_false : true ≡ false → ⊥

@@ -10,8 +10,8 @@ ghost use Rattle.aper.specs.inside.Printed.{IsPrinted};
 use crate::error::DecodeError;
 use crate::path::path_text;
 use aper_reading::DecodeError as Undecoded;
+use aper_reading::from_asn1_module::{Module, TypeId};
 use aper_values::value::Value;
-use asn1_module::{Module, TypeId};
 use std::alloc::Global;
 
 /// The value of a type of a module that these octets spell.

@@ -13,3 +13,8 @@ pub use aper_values::value::{Element, Ie, Ies, OptValues, Value, Values};
 pub use decoder::decode;
 pub use error::DecodeError;
 pub use path::path_text;
+
+/// Of `aper_reading`, for crates above.
+pub mod from_aper_reading {
+    pub use aper_reading::DecodeError;
+}

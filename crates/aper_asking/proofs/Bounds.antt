@@ -1,6 +1,6 @@
 -- How great answers are.
 use Rattle.std.proofs.Common.{◌≡◌, ℕ, ◌+◌, ◌*◌, ◌^◌, ◌<◌, ◌≤◌, Option, Ok, refl, sym, ap, subst, ◌∙◌, arith}
-use Rattle.asn1_types.specs.declared.definition.Size.{Size}
+use Rattle.aper_defs.specs.asn1_types.declared.definition.Size.{Size}
 use Rattle.aper_defs.specs.Fields.{Ask, extent, whole, part}
 use Rattle.aper_defs.specs.Reading.{Cursor, asked_width, answer_of, read}
 use Rattle.aper_cursor.proofs.aper_proof_values.Found.{Answered, answer_read}

@@ -4,13 +4,13 @@ use Rattle.std.specs.Prelude.{ℤ, pos, ◌+ℤ◌}
 use Rattle.std.specs.Int.Signed.{le_z}
 use Rattle.std.proofs.lemmas.Int.{ints}
 use Rattle.aper_defs.specs.Numbers.{above}
-use Rattle.asn1_types.specs.declared.definition.Size.{Size}
+use Rattle.aper_defs.specs.asn1_types.declared.definition.Size.{Size}
 use Rattle.aper_defs.specs.declared.reason.Reason.{Reason}
 use Rattle.aper_defs.specs.Fields.{Path, Ask, RunUnit, bit, octet, pad, opening}
 use Rattle.aper_defs.specs.Bits.{unit_width}
 use Rattle.aper_defs.specs.Questions.{Prog, ask, take, ask_aligned, ask_extension, ask_index, ask_index_by, ask_integer, ask_integer_by, ask_count, ask_count_by}
 use Rattle.aper_defs.specs.Reading.{Cursor, Fault, passes, bit_limit, read, read_units, units_within, run, goes_on, answered_at, moved_by}
-use Rattle.aper_proof_answers.proofs.Standing.{answered}
+use Rattle.aper_cursor.proofs.aper_proof_answers.Standing.{answered}
 use Rattle.aper_cursor.proofs.aper_proof_values.Found.{Answered, answer_read, taken_limit}
 use Rattle.aper_cursor.proofs.aper_proof_values.FoundBits.{written}
 use Rattle.aper_cursor.specs.declared.error.Unanswered.{Unanswered}

@@ -10,7 +10,7 @@ use crate::numbers::{ask_extension, ask_number};
 use crate::steps::{ask_aligned, ask_one};
 use aper_cursor::{Cursor, Extent, Question, Role};
 use aper_defs::Reason;
-use asn1_types::Size;
+use aper_defs::from_asn1_types::Size;
 
 /// An index, among so many of the root or past them.
 pub fn ask_index(cursor: &mut Cursor, count: u64, extensible: bool) -> Result<u64, Reason>

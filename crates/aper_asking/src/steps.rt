@@ -10,6 +10,7 @@ use aper_cursor::{Cursor, Question, RunUnit, Unanswered};
 use aper_defs::Reason;
 
 /// A question.
+#[inline(always)]
 #[tactic(auto, using(crate::proofs::Onward::asked_on, crate::proofs::Onward::asked_wrong, crate::proofs::Onward::asked_later, crate::proofs::Onward::asked_limit))]
 pub fn ask_one(cursor: &mut Cursor, question: Question) -> Result<u64, Reason>
     requires { IsAskable question }
@@ -22,6 +23,7 @@ pub fn ask_one(cursor: &mut Cursor, question: Question) -> Result<u64, Reason>
 }
 
 /// A question after a pad.
+#[inline(always)]
 pub fn ask_aligned(cursor: &mut Cursor, question: Question) -> Result<u64, Reason>
     requires { IsAskable question }
     ensures asked { GoesOn (λ p. ask_aligned p (question_of question.entry)) cursor.old cursor.new result }
@@ -34,6 +36,7 @@ pub fn ask_aligned(cursor: &mut Cursor, question: Question) -> Result<u64, Reaso
 }
 
 /// A bit of its own.
+#[inline(always)]
 pub fn ask_flag(cursor: &mut Cursor) -> Result<bool, Reason>
     ensures { GoesOn (λ p K. ask p flag (λ b. K (b == 1))) cursor.old cursor.new result }
 {

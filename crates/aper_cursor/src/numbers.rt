@@ -1,14 +1,32 @@
 //! How many bits or octets numbers take, and numbers in two's complement.
 
 ghost use Rattle.std.specs.Prelude.{◌≡◌, ◌+◌, ◌*◌, ◌^◌, ◌<◌, ◌≤◌, true};
-ghost use Rattle.aper_defs.specs.Numbers.{least_count, bits_for, octets_for, signed_octets_for, signed_number, unsigned_part, is_signed};
+ghost use Rattle.aper_proof_values.specs.aper_defs.Numbers.{bits_for, octets_for, signed_octets_for, signed_number, unsigned_part, is_signed};
 
-/// The fewest bits of a number below 256.
+/// The fewest bits of a number below 256; without a loop, since it is asked for each small number that is read.
 pub fn bits_for(number: u64) -> u32
     ensures bits { result ≡ bits_for number }
     ensures most { result ≤ 8 }
 {
-    least_count(1, 8, 0, number)
+    if number < 1 {
+        0
+    } else if number < 2 {
+        1
+    } else if number < 4 {
+        2
+    } else if number < 8 {
+        3
+    } else if number < 16 {
+        4
+    } else if number < 32 {
+        5
+    } else if number < 64 {
+        6
+    } else if number < 128 {
+        7
+    } else {
+        8
+    }
 }
 
 /// The fewest octets of a number, at least one.
@@ -17,7 +35,23 @@ pub fn octets_for(number: u64) -> u32
     ensures some { 1 ≤ result }
     ensures most { result ≤ 8 }
 {
-    least_count(8, 7, 1, number)
+    if number < 1 << 8 {
+        1
+    } else if number < 1 << 16 {
+        2
+    } else if number < 1 << 24 {
+        3
+    } else if number < 1 << 32 {
+        4
+    } else if number < 1 << 40 {
+        5
+    } else if number < 1 << 48 {
+        6
+    } else if number < 1 << 56 {
+        7
+    } else {
+        8
+    }
 }
 
 /// The fewest octets in two's complement of a number of 64 bits.
@@ -54,23 +88,4 @@ fn unsigned_part(number: i128) -> u64
     } else {
         number as u64
     }
-}
-
-/// The least count from one on, such that the number is below 2 to the power of so many times the unit; at most so many more
-/// are tried.
-fn least_count(unit: u32, tries: u32, first: u32, number: u64) -> u32
-    requires some { 1 ≤ unit }
-    requires unit { unit ≤ 8 }
-    requires tries { unit * (first + tries) ≤ 64 }
-    requires first { first + tries < 2 ^ 32 }
-    ensures count { result ≡ least_count unit tries first number }
-    ensures least { first ≤ result }
-    ensures most { result ≤ first + tries }
-{
-    let mut count = first;
-    let end = first + tries;
-    while count < end && number >= 1 << (unit * count) {
-        count += 1;
-    }
-    count
 }

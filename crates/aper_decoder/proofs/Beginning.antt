@@ -8,12 +8,12 @@ use Rattle.aper_defs.specs.Questions.{Prog}
 use Rattle.aper_defs.specs.Reading.{Cursor, at_first}
 use Rattle.aper_cursor.specs.declared.cursor.Span.{Span}
 use Rattle.aper_cursor.specs.Spans.{span_view}
-use Rattle.aper_types.specs.Types.{tree}
+use Rattle.aper_steps.specs.aper_types.Types.{tree}
 use Rattle.aper_frames.specs.declared.frame.Frame.{Frame}
-use Rattle.aper_reading.specs.Heavy.{heavy}
-use Rattle.aper_reading.proofs.HeavyLemmas.{weighed_inside}
-use Rattle.aper_resuming.specs.declared.pending.Pending.TheVariants as pendings
-use Rattle.aper_resuming.specs.Turns.{left}
+use Rattle.aper_steps.specs.aper_reading.Heavy.{heavy}
+use Rattle.aper_steps.proofs.aper_reading.HeavyLemmas.{weighed_inside}
+use Rattle.aper_steps.specs.aper_resuming.declared.pending.Pending.TheVariants as pendings
+use Rattle.aper_steps.specs.aper_resuming.Turns.{left}
 use Rattle.aper_proof_resuming.specs.Reading.{IsReading}
 use Rattle.aper_proof_resuming.proofs.Turned.{at_beginning}
 use Rattle.aper_steps.specs.declared.step.Next.{Next}

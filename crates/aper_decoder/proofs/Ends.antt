@@ -7,10 +7,10 @@ use Rattle.aper_defs.specs.Values as seen
 use Rattle.aper_defs.specs.Reading.{Fault, only, decoded}
 use Rattle.aper_values.specs.declared.value.Value.{Value}
 use Rattle.aper_frames.specs.declared.frame.Frame.{Frame}
-use Rattle.aper_reading.specs.declared.error.DecodeError.{DecodeError}
-use Rattle.aper_reading.specs.declared.error.DecodeError.TheVariants as errors
-use Rattle.aper_reading.specs.Decoding.{Decodes}
-use Rattle.aper_reading.specs.Turns.{IsRefusal}
+use Rattle.aper_steps.specs.aper_reading.declared.error.DecodeError.{DecodeError}
+use Rattle.aper_steps.specs.aper_reading.declared.error.DecodeError.TheVariants as errors
+use Rattle.aper_steps.specs.aper_reading.Decoding.{Decodes}
+use Rattle.aper_steps.specs.aper_reading.Turns.{IsRefusal}
 use Rattle.aper_decoder.specs.declared.spot.Spot.{Spot}
 use Rattle.aper_decoder.specs.declared.turns.End.{End}
 use Rattle.aper_decoder.specs.declared.turns.End.TheVariants as ends

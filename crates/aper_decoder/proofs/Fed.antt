@@ -4,11 +4,11 @@ use Rattle.aper_defs.specs.declared.reason.Reason.{Reason}
 use Rattle.aper_defs.specs.Trees.{Tree}
 use Rattle.aper_defs.specs.Reading.{Fault}
 use Rattle.aper_feeding_defs.specs.Feeding.{stage, wrong}
-use Rattle.aper_types.specs.Types.{tree}
+use Rattle.aper_steps.specs.aper_types.Types.{tree}
 use Rattle.aper_values.specs.declared.value.Value.{Value}
 use Rattle.aper_frames.specs.Frames.{path_of}
-use Rattle.aper_reading.specs.declared.error.DecodeError.{DecodeError}
-use Rattle.aper_reading.specs.declared.error.DecodeError.TheVariants as errors
+use Rattle.aper_steps.specs.aper_reading.declared.error.DecodeError.{DecodeError}
+use Rattle.aper_steps.specs.aper_reading.declared.error.DecodeError.TheVariants as errors
 use Rattle.aper_steps.specs.declared.step.Next.{Next}
 use Rattle.aper_decoder.specs.declared.decoder.Decoder.TheInside.{Inside}
 use Rattle.aper_decoder.specs.declared.decoder.Reader.{Reader}

@@ -12,7 +12,7 @@ use Rattle.aper_proof_answers.proofs.NumberFacts.{by_cases, at_most}
 use Rattle.aper_proof_pieces.specs.Onto.{StillRefused}
 use Rattle.aper_proof_pieces.proofs.Onward.{run_ok, run_wrong}
 use Rattle.aper_feeding_defs.specs.Feeding.{stage, stage_of, refused_for}
-use Rattle.aper_reading.proofs.Front.{front_decoded}
+use Rattle.aper_steps.proofs.aper_reading.Front.{front_decoded}
 
 -- octets of which as many are decoded alike are at the same stage
 module _ (t : Tree) (A B : List ℕ) (same : decoded t (A ++ B) ≡ decoded t A) where

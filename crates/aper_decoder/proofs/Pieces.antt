@@ -9,7 +9,7 @@ use Rattle.aper_defs.specs.Trees.{Tree}
 use Rattle.aper_defs.specs.Reading.{Fault}
 use Rattle.aper_feeding_defs.specs.Feeding.{Stage, stage, stage_of, whole, cut, wrong, refused_for}
 use Rattle.aper_proof_resuming.proofs.Turned.{with_more}
-use Rattle.aper_types.specs.Types.{tree}
+use Rattle.aper_steps.specs.aper_types.Types.{tree}
 use Rattle.aper_values.specs.Views.{view}
 use Rattle.aper_frames.specs.declared.frame.Frame.{Frame}
 use Rattle.aper_frames.specs.Frames.{path_of}

@@ -6,9 +6,9 @@ use Rattle.aper_defs.specs.Fields.{Path}
 use Rattle.aper_defs.specs.Reading.{Fault}
 use Rattle.aper_frames.specs.declared.path.Step.{Step}
 use Rattle.aper_frames.specs.Paths.{path_view}
-use Rattle.aper_reading.specs.declared.error.DecodeError.{DecodeError}
-use Rattle.aper_reading.specs.declared.error.DecodeError.TheVariants as errors
-use Rattle.aper_reading.specs.Turns.{IsRefusal}
+use Rattle.aper_steps.specs.aper_reading.declared.error.DecodeError.{DecodeError}
+use Rattle.aper_steps.specs.aper_reading.declared.error.DecodeError.TheVariants as errors
+use Rattle.aper_steps.specs.aper_reading.Turns.{IsRefusal}
 use Rattle.aper_decoder.specs.Feeding.{RefusesStill}
 use Rattle.aper_decoder.specs.inside.States.{Gives}
 

@@ -6,7 +6,7 @@ use Rattle.gnb_types.specs.declared.items.Memory.{Memory}
 use Rattle.aper_defs.specs.Trees.{Tree}
 use Rattle.aper_defs.specs.Reading.{Cursor}
 use Rattle.aper_proof_followed.proofs.Shut.{octets_kept}
-use Rattle.aper_types.specs.Types.{tree}
+use Rattle.aper_steps.specs.aper_types.Types.{tree}
 use Rattle.aper_values.specs.declared.value.Value.{Value}
 use Rattle.aper_values.specs.Views.{view}
 use Rattle.aper_frames.specs.declared.frame.Frame.{Frame}

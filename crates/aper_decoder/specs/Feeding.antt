@@ -5,13 +5,13 @@ use Rattle.asn1_assignments.specs.declared.assignment.Syntax.{Syntax}
 use Rattle.aper_defs.specs.Trees.{Tree}
 use Rattle.aper_defs.specs.Reading.{Fault}
 use Rattle.aper_feeding_defs.specs.Feeding.{stage, whole, cut, wrong}
-use Rattle.aper_types.specs.Types.{tree}
+use Rattle.aper_steps.specs.aper_types.Types.{tree}
 use Rattle.aper_frames.specs.Paths.{path_view}
 use Rattle.aper_values.specs.declared.value.Value.{Value}
 use Rattle.aper_values.specs.Views.{view}
-use Rattle.aper_reading.specs.declared.error.DecodeError.{DecodeError}
-use Rattle.aper_reading.specs.declared.error.DecodeError.TheVariants as errors
-use Rattle.aper_reading.specs.Decoding.{Decodes}
+use Rattle.aper_steps.specs.aper_reading.declared.error.DecodeError.{DecodeError}
+use Rattle.aper_steps.specs.aper_reading.declared.error.DecodeError.TheVariants as errors
+use Rattle.aper_steps.specs.aper_reading.Decoding.{Decodes}
 use Rattle.aper_decoder.specs.declared.decoder.Step.{Step}
 use Rattle.aper_decoder.specs.declared.decoder.Step.TheVariants as steps
 

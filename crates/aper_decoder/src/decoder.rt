@@ -1,11 +1,11 @@
 //! A decoder whose octets come in pieces.
 
 ghost use Rattle.std.specs.Prelude.{◌≡◌, ◌≤◌, ◌<◌, ◌++◌, [], length, take, IfOk};
-ghost use Rattle.aper_types.specs.Types.{tree};
+ghost use Rattle.aper_steps.specs.aper_types.Types.{tree};
 ghost use Rattle.aper_defs.specs.declared.reason.Reason.TheVariants as reasons;
 ghost use Rattle.aper_frames.specs.Frames.{path_of};
-ghost use Rattle.aper_reading.specs.Decoding.{Decodes};
-ghost use Rattle.aper_reading.specs.Turns.{IsRefusal};
+ghost use Rattle.aper_steps.specs.aper_reading.Decoding.{Decodes};
+ghost use Rattle.aper_steps.specs.aper_reading.Turns.{IsRefusal};
 ghost use Rattle.aper_decoder.specs.Feeding.{reading, tree_of, Feeds, Finishes};
 ghost use Rattle.aper_decoder.specs.inside.Reading.{end_of};
 ghost use Rattle.aper_decoder.specs.inside.States.{type_of, front, IsFed, IsStateSound, IsSameType, IsNew, PieceEnds, StateAfter, IsStateOf, ReadsPiece, Advances, Answers, UnlessFailed, FinishesState, Gives};
@@ -14,8 +14,8 @@ use crate::spot::Spot;
 use crate::turns::{End, take_turns};
 use aper_defs::Reason;
 use aper_frames::{Stack, path_of};
-use aper_reading::DecodeError;
-use aper_resuming::Pending;
+use aper_steps::from_aper_reading::DecodeError;
+use aper_steps::from_aper_resuming::Pending;
 use aper_steps::{Next, begun};
 use aper_values::value::Value;
 use asn1_module::{Module, TypeId};

@@ -13,3 +13,4 @@ pub mod Reading
 pub mod Bounds
 pub use Rattle.asn1_types.specs as asn1_types
 pub use Rattle.bits_core.specs as bits_core
+pub use Rattle.bits_core.specs.gnb_types as gnb_types

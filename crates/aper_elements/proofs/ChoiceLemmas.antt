@@ -5,18 +5,18 @@ use Rattle.std.specs.Borrow.{Bor}
 use Rattle.std.proofs.lemmas.Bool.{ltb-true, ltb-false}
 use Rattle.std.proofs.lemmas.Option.{slice_get-get_or, slice_get_past}
 use Rattle.asn1_types.specs.declared.definition.Component.{Component}
-use Rattle.aper_defs.specs.declared.reason.Reason.{Reason}
-use Rattle.aper_defs.specs.Trees.{Tree, choice, part_count}
-use Rattle.aper_defs.specs.Values as seen
-use Rattle.aper_defs.specs.Fields.{Path}
-use Rattle.aper_defs.specs.Fields as fields
-use Rattle.aper_defs.specs.Questions.{Prog, ask_index, ask_open}
-use Rattle.aper_defs.specs.Asking.{asks, ask_alternative, ask_added}
-use Rattle.aper_proof_answers.proofs.NumberFacts.{is_below, is_not_below}
-use Rattle.aper_defs.specs.Reading.{Cursor, run}
+use Rattle.aper_values.specs.aper_defs.declared.reason.Reason.{Reason}
+use Rattle.aper_values.specs.aper_defs.Trees.{Tree, choice, part_count}
+use Rattle.aper_values.specs.aper_defs.Values as seen
+use Rattle.aper_values.specs.aper_defs.Fields.{Path}
+use Rattle.aper_values.specs.aper_defs.Fields as fields
+use Rattle.aper_values.specs.aper_defs.Questions.{Prog, ask_index, ask_open}
+use Rattle.aper_values.specs.aper_defs.Asking.{asks, ask_alternative, ask_added}
+use Rattle.aper_cursor.proofs.aper_proof_answers.NumberFacts.{is_below, is_not_below}
+use Rattle.aper_values.specs.aper_defs.Reading.{Cursor, run}
 use Rattle.aper_cursor.specs.declared.error.Unanswered.{Unanswered}
 use Rattle.aper_cursor.specs.declared.error.Unanswered.TheVariants.{Wrong}
-use Rattle.aper_asking.specs.Going.{GoesOn}
+use Rattle.aper_frames.specs.aper_asking.Going.{GoesOn}
 use Rattle.aper_members.specs.aper_types.Types.{parts_of}
 use Rattle.aper_frames.specs.declared.frame.Frame.{Frame}
 use Rattle.aper_frames.specs.declared.frame.Turn.{Turn}

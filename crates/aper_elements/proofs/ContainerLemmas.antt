@@ -4,25 +4,25 @@ use Rattle.asn1_types.specs.declared.definition.TypeId.{TypeId}
 use Rattle.asn1_assignments.specs.declared.assignment.IeRow.{IeRow}
 use Rattle.asn1_assignments.specs.declared.assignment.Presence.{Presence}
 use Rattle.asn1_assignments.specs.declared.assignment.Presence.TheVariants as presences
-use Rattle.aper_defs.specs.declared.reason.Reason.{Reason}
-use Rattle.aper_defs.specs.Trees.{Tree, Slot, container, slots, slots_left, mandatory_count}
-use Rattle.aper_defs.specs.Values as seen
-use Rattle.aper_defs.specs.Fields.{Path, ie_count}
-use Rattle.aper_defs.specs.Fields as fields
-use Rattle.aper_defs.specs.Questions.{Prog, ask_aligned, ask_open, ask_raw, ask_ies}
-use Rattle.aper_defs.specs.Asking.{asks, ask_row}
-use Rattle.aper_defs.specs.Reading.{Cursor, run}
+use Rattle.aper_values.specs.aper_defs.declared.reason.Reason.{Reason}
+use Rattle.aper_values.specs.aper_defs.Trees.{Tree, Slot, container, slots, slots_left, mandatory_count}
+use Rattle.aper_values.specs.aper_defs.Values as seen
+use Rattle.aper_values.specs.aper_defs.Fields.{Path, ie_count}
+use Rattle.aper_values.specs.aper_defs.Fields as fields
+use Rattle.aper_values.specs.aper_defs.Questions.{Prog, ask_aligned, ask_open, ask_raw, ask_ies}
+use Rattle.aper_values.specs.aper_defs.Asking.{asks, ask_row}
+use Rattle.aper_values.specs.aper_defs.Reading.{Cursor, run}
 use Rattle.aper_cursor.specs.declared.error.Unanswered.{Unanswered}
 use Rattle.aper_cursor.specs.declared.error.Unanswered.TheVariants.{Wrong}
 use Rattle.aper_cursor.specs.Questions.{slots_of, slot_of, is_mandatory}
-use Rattle.aper_asking.specs.Going.{GoesOn}
+use Rattle.aper_frames.specs.aper_asking.Going.{GoesOn}
 use Rattle.aper_members.specs.aper_types.Types.{rows_of}
 use Rattle.aper_members.specs.aper_types.Types as types
 use Rattle.aper_values.specs.declared.value.Value.{Value}
 use Rattle.aper_values.specs.declared.value.Element.{Element}
 use Rattle.aper_values.specs.Views.{view, ies_view}
-use Rattle.aper_heads.specs.declared.elements.ElementHead.{ElementHead}
-use Rattle.aper_heads.specs.Heads.{ask_element_head}
+use Rattle.aper_frames.specs.aper_heads.declared.elements.ElementHead.{ElementHead}
+use Rattle.aper_frames.specs.aper_heads.Heads.{ask_element_head}
 use Rattle.aper_members.specs.Rows.{row_type}
 use Rattle.aper_frames.specs.declared.frame.Elements.{Elements}
 use Rattle.aper_frames.specs.declared.frame.Frame.{Frame}

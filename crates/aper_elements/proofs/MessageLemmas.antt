@@ -2,23 +2,23 @@
 use Rattle.std.proofs.Common.{◌≡◌, ℕ, ◌+◌, ◌<◌, ◌≤◌, ◌==◌, cond, Bool, true, false, List, [], ◌∷◌, Option, Some, None, Result, Ok, Err, refl, sym, ap, ◌∙◌, arith}
 use Rattle.asn1_types.specs.declared.definition.TypeId.{TypeId}
 use Rattle.asn1_assignments.specs.declared.assignment.ProcedureRow.{ProcedureRow}
-use Rattle.aper_defs.specs.declared.reason.Reason.{Reason}
-use Rattle.aper_defs.specs.Trees.{Tree, pdu}
-use Rattle.aper_defs.specs.Values as seen
-use Rattle.aper_defs.specs.Fields.{Path}
-use Rattle.aper_defs.specs.Fields as fields
-use Rattle.aper_defs.specs.Questions.{Prog, ask_open, ask_raw}
-use Rattle.aper_defs.specs.Asking.{asks, ask_body, ask_outcome}
+use Rattle.aper_values.specs.aper_defs.declared.reason.Reason.{Reason}
+use Rattle.aper_values.specs.aper_defs.Trees.{Tree, pdu}
+use Rattle.aper_values.specs.aper_defs.Values as seen
+use Rattle.aper_values.specs.aper_defs.Fields.{Path}
+use Rattle.aper_values.specs.aper_defs.Fields as fields
+use Rattle.aper_values.specs.aper_defs.Questions.{Prog, ask_open, ask_raw}
+use Rattle.aper_values.specs.aper_defs.Asking.{asks, ask_body, ask_outcome}
 use Rattle.aper_members.specs.aper_types.Types.{procedures_of, outcome_of}
-use Rattle.aper_heads.specs.declared.messages.MessageHead.{MessageHead}
-use Rattle.aper_heads.specs.declared.messages.MessageHead.TheVariants.{Known, Past}
-use Rattle.aper_heads.specs.Heads.{ask_message_head}
-use Rattle.aper_defs.specs.Reading.{Cursor, run}
+use Rattle.aper_frames.specs.aper_heads.declared.messages.MessageHead.{MessageHead}
+use Rattle.aper_frames.specs.aper_heads.declared.messages.MessageHead.TheVariants.{Known, Past}
+use Rattle.aper_frames.specs.aper_heads.Heads.{ask_message_head}
+use Rattle.aper_values.specs.aper_defs.Reading.{Cursor, run}
 use Rattle.aper_cursor.specs.declared.error.Unanswered.{Unanswered}
 use Rattle.aper_cursor.specs.declared.error.Unanswered.TheVariants.{Wrong}
-use Rattle.aper_asking.specs.Going.{GoesOn}
+use Rattle.aper_frames.specs.aper_asking.Going.{GoesOn}
 use Rattle.aper_members.specs.Rows.{message_type}
-use Rattle.aper_proof_answers.proofs.NumberFacts.{is_below, is_not_below}
+use Rattle.aper_cursor.proofs.aper_proof_answers.NumberFacts.{is_below, is_not_below}
 use Rattle.aper_frames.specs.declared.frame.BodyFrame.{BodyFrame}
 use Rattle.aper_frames.specs.declared.frame.Frame.{Frame}
 use Rattle.aper_frames.specs.declared.frame.Frame.TheVariants as frames

@@ -2,19 +2,19 @@
 
 ghost use Rattle.std.specs.Prelude.{◌∷◌, ◌+◌, ◌≤◌, length, Some, option_copied};
 ghost use Rattle.asn1_types.specs.Members.{additions_of};
-ghost use Rattle.aper_defs.specs.Asking.{asks};
-ghost use Rattle.aper_defs.specs.Trees.{choice};
-ghost use Rattle.aper_defs.specs.Values as seen;
-ghost use Rattle.aper_defs.specs.Fields as fields;
-ghost use Rattle.aper_defs.specs.Reading.{Cursor as Place};
+ghost use Rattle.aper_values.specs.aper_defs.Asking.{asks};
+ghost use Rattle.aper_values.specs.aper_defs.Trees.{choice};
+ghost use Rattle.aper_values.specs.aper_defs.Values as seen;
+ghost use Rattle.aper_values.specs.aper_defs.Fields as fields;
+ghost use Rattle.aper_values.specs.aper_defs.Reading.{Cursor as Place};
 ghost use Rattle.aper_members.specs.aper_types.Types.{choice_tree, parts_of};
 ghost use Rattle.aper_frames.specs.Frames.{path_of, next_of};
 ghost use Rattle.aper_frames.specs.Steps.{Steps};
 ghost use Rattle.aper_frames.specs.Weights.{part_weight, choice_weight, frames_weight, Lighter};
 ghost use Rattle.aper_elements.specs.Added.{asked_added};
 
-use aper_asking::ask_index;
 use aper_cursor::{Cursor, Unanswered};
+use aper_frames::from_aper_asking::ask_index;
 use aper_frames::{AlternativeFrame, Frame, Stack, Turn, ask_inside, ask_unknown};
 use aper_members::rows::named;
 use asn1_types::{Component, Extensible};

@@ -1,8 +1,8 @@
 //! ProtocolIE-Container.
 
 ghost use Rattle.std.specs.Prelude.{◌+◌};
-ghost use Rattle.aper_defs.specs.Trees.{container};
-ghost use Rattle.aper_defs.specs.Asking.{asks};
+ghost use Rattle.aper_values.specs.aper_defs.Trees.{container};
+ghost use Rattle.aper_values.specs.aper_defs.Asking.{asks};
 ghost use Rattle.aper_members.specs.aper_types.Types.{rows_of};
 ghost use Rattle.aper_values.specs.Views.{view};
 ghost use Rattle.aper_frames.specs.Frames.{elements_left, element_after, path_of, next_of};
@@ -10,8 +10,8 @@ ghost use Rattle.aper_frames.specs.Steps.{Steps};
 ghost use Rattle.aper_frames.specs.Weights.{container_weight, elements_weight, frames_weight, Lighter};
 
 use aper_cursor::{Cursor, Unanswered};
+use aper_frames::from_aper_heads::{ask_element_count, ask_element_head, rows_left};
 use aper_frames::{ElementFrame, Elements, Frame, Stack, Turn, ask_contents};
-use aper_heads::{ask_element_count, ask_element_head, rows_left};
 use aper_members::rows::row_type;
 use aper_values::make;
 use aper_values::value::{Ie, Value};

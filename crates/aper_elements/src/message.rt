@@ -1,17 +1,17 @@
 //! Protocol-PDU.
 
 ghost use Rattle.std.specs.Prelude.{◌+◌, ◌<◌};
-ghost use Rattle.aper_defs.specs.Trees.{pdu};
-ghost use Rattle.aper_defs.specs.Asking.{asks, ask_body};
-ghost use Rattle.aper_defs.specs.Values as seen;
+ghost use Rattle.aper_values.specs.aper_defs.Trees.{pdu};
+ghost use Rattle.aper_values.specs.aper_defs.Asking.{asks, ask_body};
+ghost use Rattle.aper_values.specs.aper_defs.Values as seen;
 ghost use Rattle.aper_members.specs.aper_types.Types.{procedures_of};
 ghost use Rattle.aper_frames.specs.Frames.{path_of, next_of};
 ghost use Rattle.aper_frames.specs.Steps.{Steps};
 ghost use Rattle.aper_frames.specs.Weights.{message_weight, frames_weight, Lighter};
 
 use aper_cursor::{Cursor, Unanswered};
+use aper_frames::from_aper_heads::{MessageHead, ask_message_head};
 use aper_frames::{BodyFrame, Frame, Stack, Turn, ask_contents, ask_unknown};
-use aper_heads::{MessageHead, ask_message_head};
 use aper_members::rows::message_type;
 use asn1_assignments::ProcedureRow;
 use std::alloc::Global;

@@ -3,13 +3,13 @@ use Rattle.std.proofs.Common.{◌≡◌, ℕ, zero, suc, ◌+◌, ◌<◌, List,
 use Rattle.bits_core.specs.Writing.{Written}
 use Rattle.asn1_types.specs.declared.definition.Component.{Component}
 use Rattle.aper_defs.specs.Trees.{Tree}
-use Rattle.aper_types.specs.Types.{parts_of}
+use Rattle.aper_writing.specs.aper_types.Types.{parts_of}
 use Rattle.aper_values.specs.declared.value.Value.{Value}
 use Rattle.aper_values.specs.Views.{view, options_view}
-use Rattle.aper_members.specs.Membership.{IsValue, AreComponents}
-use Rattle.aper_members.specs.Followed.{ValueFollows, ComponentsFollow}
-use Rattle.aper_members.proofs.Turns.{item_at, component_absent, component_present, component_value, components_left}
-use Rattle.aper_members.proofs.Members.{further}
+use Rattle.aper_writing.specs.aper_members.Membership.{IsValue, AreComponents}
+use Rattle.aper_writing.specs.aper_members.Followed.{ValueFollows, ComponentsFollow}
+use Rattle.aper_writing.proofs.aper_members.Turns.{item_at, component_absent, component_present, component_value, components_left}
+use Rattle.aper_writing.proofs.aper_members.Members.{further}
 
 module _ (of : ℕ → Tree) where
   pub component_at : (parts : List Component) (i : ℕ) (c : Component) (v : Value) (vs : List (Option Value)) → i < length parts

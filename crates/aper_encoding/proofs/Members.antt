@@ -10,14 +10,14 @@ use Rattle.aper_defs.specs.Fields as fields
 use Rattle.aper_defs.specs.Bits.{put_all}
 use Rattle.aper_defs.specs.Layouts.{added_fields}
 use Rattle.aper_defs.specs.Membership.{HasComponents, HasAdded}
-use Rattle.aper_types.specs.Types.{parts_of}
+use Rattle.aper_writing.specs.aper_types.Types.{parts_of}
 use Rattle.aper_values.specs.declared.value.Value.{Value}
 use Rattle.aper_values.specs.Views.{view, options_view}
-use Rattle.aper_members.specs.Rows.{part_type}
-use Rattle.aper_members.specs.Membership.{IsInside, AreComponents, AreNamed}
-use Rattle.aper_members.specs.Followed.{InsideFollows, AdditionsFollow}
-use Rattle.aper_members.proofs.Members.{further}
-use Rattle.aper_members.proofs.Turns.{addition_named, addition_raw, addition_value, addition_unknown, additions_left, unknown_left}
+use Rattle.aper_writing.specs.aper_members.Rows.{part_type}
+use Rattle.aper_writing.specs.aper_members.Membership.{IsInside, AreComponents, AreNamed}
+use Rattle.aper_writing.specs.aper_members.Followed.{InsideFollows, AdditionsFollow}
+use Rattle.aper_writing.proofs.aper_members.Members.{further}
+use Rattle.aper_writing.proofs.aper_members.Turns.{addition_named, addition_raw, addition_value, addition_unknown, additions_left, unknown_left}
 
 abbrev no_components : List Component
 no_components = []

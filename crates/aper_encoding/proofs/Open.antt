@@ -9,9 +9,9 @@ use Rattle.aper_defs.specs.Bits.{put_all, closed, octet_count, open_fields}
 use Rattle.aper_defs.specs.Layouts.{layout}
 use Rattle.aper_defs.specs.Membership.{Has}
 use Rattle.aper_defs.specs.Spelling.{Spells, spelling_limit, whole_layout}
-use Rattle.aper_members.specs.Membership.{FitsInside}
-use Rattle.aper_members.specs.Followed.{ValueFollows, OpenFollows}
-use Rattle.aper_members.proofs.SpelledLemmas.{put_alone, spelled, fits_inside}
+use Rattle.aper_writing.specs.aper_members.Membership.{FitsInside}
+use Rattle.aper_writing.specs.aper_members.Followed.{ValueFollows, OpenFollows}
+use Rattle.aper_writing.proofs.aper_members.SpelledLemmas.{put_alone, spelled, fits_inside}
 
 -- the octets are the complete encoding of what was put, whatever fields these bits are
 abbrev pub Completes : Written → List ℕ → Type 0

@@ -13,19 +13,19 @@ use Rattle.aper_defs.specs.Bits.{put_all}
 use Rattle.aper_defs.specs.Parts.{index_fields, count_fields}
 use Rattle.aper_defs.specs.Layouts.{layout, alternative_fields, added_fields, ie_fields, row_fields, body_fields, message_head}
 use Rattle.aper_defs.specs.Membership.{Has, HasAdded}
-use Rattle.aper_proof_answers.proofs.NumberFacts.{is_below, is_not_below}
+use Rattle.aper_fields.proofs.aper_proof_answers.NumberFacts.{is_below, is_not_below}
 use Rattle.aper_fields.specs.Following.{Follows}
-use Rattle.aper_types.specs.Types.{parts_of, rows_of}
+use Rattle.aper_writing.specs.aper_types.Types.{parts_of, rows_of}
 use Rattle.aper_values.specs.declared.value.Value.{Value}
 use Rattle.aper_values.specs.declared.value.Element.{Element}
 use Rattle.aper_values.specs.Views.{values_view, ies_view}
-use Rattle.aper_members.specs.Membership.{IsValue, IsInside}
-use Rattle.aper_members.specs.Followed.{ValueFollows, InsideFollows, MembersFollow, ElementsFollow, past_fields}
-use Rattle.aper_members.proofs.ChoiceLemmas.{parts_count}
-use Rattle.aper_members.proofs.Shapes.{where_false}
-use Rattle.aper_members.proofs.Turns.{both_follow}
-use Rattle.aper_members.specs.Rows.{part_type}
-use Rattle.aper_members.proofs.Members.{values_count, elements_count}
+use Rattle.aper_writing.specs.aper_members.Membership.{IsValue, IsInside}
+use Rattle.aper_writing.specs.aper_members.Followed.{ValueFollows, InsideFollows, MembersFollow, ElementsFollow, past_fields}
+use Rattle.aper_writing.proofs.aper_members.ChoiceLemmas.{parts_count}
+use Rattle.aper_writing.proofs.aper_members.Shapes.{where_false}
+use Rattle.aper_writing.proofs.aper_members.Turns.{both_follow}
+use Rattle.aper_writing.specs.aper_members.Rows.{part_type}
+use Rattle.aper_writing.proofs.aper_members.Members.{values_count, elements_count}
 use Rattle.aper_encoding.proofs.Members.{added_inside, added_follows}
 
 -- ---- a type as its form

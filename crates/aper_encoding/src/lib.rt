@@ -5,7 +5,7 @@ ghost use Rattle.std.specs.Prelude.{◌<◌, ◌≤◌, [], length, IfOk};
 ghost use Rattle.aper_defs.specs.Bits.{octet_count};
 ghost use Rattle.aper_defs.specs.Membership.{Has};
 ghost use Rattle.aper_defs.specs.Spelling.{Spells, spelling_limit, whole_layout};
-ghost use Rattle.aper_types.specs.Types.{tree};
+ghost use Rattle.aper_writing.specs.aper_types.Types.{tree};
 ghost use Rattle.aper_values.specs.Views.{view};
 
 mod values;
@@ -13,7 +13,7 @@ mod values;
 use crate::values::put_value;
 use aper_fields::contents::completed;
 use aper_values::value::Value;
-use asn1_module::Module;
+use aper_writing::from_asn1_module::Module;
 use asn1_types::TypeId;
 use bits_core::writer::BitWriter;
 use gnb_types::octets::{Memory, Octets};

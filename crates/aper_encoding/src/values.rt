@@ -1,30 +1,30 @@
 //! Values of types with types inside.
 
 ghost use Rattle.std.specs.Prelude.{◌≡◌, ◌<◌, ◌≤◌, false, length, OnOk};
-ghost use Rattle.asn1_module.specs.asn1_defs.Links.{AreBelow, OptionBelow, PartsBelow, IesBelow, ProceduresBelow};
+ghost use Rattle.aper_writing.specs.asn1_defs.Links.{AreBelow, OptionBelow, PartsBelow, IesBelow, ProceduresBelow};
 ghost use Rattle.aper_defs.specs.Bounds.{IsBounded, IsSizeBounded};
 ghost use Rattle.aper_defs.specs.Trees.{container, pdu, sequence_of};
-ghost use Rattle.aper_types.specs.Forms.{form_tree, IsFormInside};
-ghost use Rattle.aper_types.specs.Types.{tree, parts_of, rows_of, procedures_of, sequence_tree, choice_tree};
+ghost use Rattle.aper_writing.specs.aper_types.Forms.{form_tree, IsFormInside};
+ghost use Rattle.aper_writing.specs.aper_types.Types.{tree, parts_of, rows_of, procedures_of, sequence_tree, choice_tree};
 ghost use Rattle.aper_values.specs.Views.{view, options_view};
-ghost use Rattle.aper_members.specs.Membership.{IsValue, IsInside, AreComponents, AreNamed};
-ghost use Rattle.aper_members.specs.Followed.{ValueFollows, InsideFollows, ComponentsFollow, AdditionsFollow};
+ghost use Rattle.aper_writing.specs.aper_members.Membership.{IsValue, IsInside, AreComponents, AreNamed};
+ghost use Rattle.aper_writing.specs.aper_members.Followed.{ValueFollows, InsideFollows, ComponentsFollow, AdditionsFollow};
 
 use aper_fields::contents::{completed, put_contents};
 use aper_fields::fields::{put_constrained, put_ie_count, put_ie_id, put_pad};
 use aper_fields::numbers::{put_extension, put_index};
 use aper_fields::strings::put_count;
-use aper_members::heads::{put_flags, put_head, put_marks};
-use aper_members::raw::{put_past, put_raw};
-use aper_members::rows::{message_type, named, part_type, row_type};
-use aper_types::{Form, form_of};
 use aper_values::value::Value;
+use aper_writing::from_aper_members::heads::{put_flags, put_head, put_marks};
+use aper_writing::from_aper_members::raw::{put_past, put_raw};
+use aper_writing::from_aper_members::rows::{message_type, named, part_type, row_type};
+use aper_writing::from_aper_types::{Form, form_of};
+use aper_writing::from_asn1_module::Module;
 use aper_writing::simple::{
     put_bit_string, put_boolean, put_enumerated, put_octet_string, put_printable_string,
     put_whole_number,
 };
 use asn1_assignments::{IeRow, ProcedureRow};
-use asn1_module::Module;
 use asn1_types::{Component, Extensible, Size, TypeId};
 use bits_core::writer::BitWriter;
 use gnb_types::items::Memory;

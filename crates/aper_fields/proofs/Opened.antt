@@ -2,9 +2,9 @@
 use Rattle.std.proofs.Common.{◌≡◌, ℕ, ◌+◌, ◌*◌, ◌%◌, ◌/◌, cond, nat_lt, Bool, List, [], ◌∷◌, ◌++◌, length, refl, sym, ap, ◌∙◌, arith, append_assoc, append-nil}
 use Rattle.std.proofs.lemmas.List.{length-append}
 use Rattle.std.proofs.lemmas.Grind.{fold-append}
-use Rattle.bits_core.specs.Bits.{bits_of, octet_bits}
-use Rattle.bits_core.specs.Writing.{Written}
-use Rattle.bits_core.proofs.BitLemmas.{length-octet_bits}
+use Rattle.aper_defs.specs.bits_core.Bits.{bits_of, octet_bits}
+use Rattle.aper_defs.specs.bits_core.Writing.{Written}
+use Rattle.aper_defs.proofs.bits_core.BitLemmas.{length-octet_bits}
 use Rattle.aper_defs.specs.Fields.{Path, Field, asked, pad, opening, closing, end, octet}
 use Rattle.aper_defs.specs.Fields as fields
 use Rattle.aper_defs.specs.Bits.{put, put_all, closed, octet_count, open_fields, extent_width}

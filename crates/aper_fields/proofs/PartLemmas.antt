@@ -1,8 +1,8 @@
 -- Strings in parts, put one part after another.
 use Rattle.std.proofs.Common.{◌≡◌, ℕ, zero, suc, ◌+◌, ◌-◌, ◌*◌, ◌/◌, ◌<◌, ◌≤◌, cond, nat_lt, min, List, ◌++◌, length, take, drop, Option, refl, sym, ap, subst, ◌∙◌, arith, append_assoc}
 use Rattle.std.proofs.lemmas.List.{length-drop}
-use Rattle.asn1_types.specs.declared.definition.Size.{Size}
-use Rattle.bits_core.specs.Writing.{Written}
+use Rattle.aper_defs.specs.asn1_types.declared.definition.Size.{Size}
+use Rattle.aper_defs.specs.bits_core.Writing.{Written}
 use Rattle.aper_defs.specs.Fields.{Path, Field}
 use Rattle.aper_defs.specs.Bits.{part_units, put_all}
 use Rattle.aper_defs.specs.Parts.{Content, next_part, part_of_fields, part_fields}

@@ -12,7 +12,7 @@ ghost use Rattle.aper_fields.specs.Outside.{outside_fields};
 use crate::counts::{bits_for, octets_for};
 use crate::fields::{put_constrained, put_digits, put_flag, put_pad, put_signed, put_small};
 use crate::lengths::put_extent;
-use bits_core::writer::BitWriter;
+use aper_defs::from_bits_core::writer::BitWriter;
 use gnb_types::items::Memory;
 
 /// The extension bit of a type that is extensible.

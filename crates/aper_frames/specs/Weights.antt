@@ -5,7 +5,7 @@ use Rattle.asn1_types.specs.declared.definition.TypeId.{TypeId}
 use Rattle.asn1_types.specs.declared.definition.Component.{Component}
 use Rattle.asn1_assignments.specs.declared.assignment.IeRow.{IeRow}
 use Rattle.asn1_assignments.specs.declared.assignment.ProcedureRow.{ProcedureRow}
-use Rattle.aper_cursor.specs.declared.error.Unanswered.{Unanswered}
+use Rattle.aper_heads.specs.aper_cursor.declared.error.Unanswered.{Unanswered}
 use Rattle.aper_frames.specs.declared.frame.Components.{Components}
 use Rattle.aper_frames.specs.declared.frame.Additions.{Additions}
 use Rattle.aper_frames.specs.declared.frame.Members.{Members}

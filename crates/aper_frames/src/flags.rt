@@ -31,6 +31,7 @@ impl Flags {
     }
 
     /// Whether the next part is there.
+    #[inline(always)]
     pub fn next(&mut self) -> Option<bool>
         ensures { MatchOption result ((self.old ≡ []) × (self.new ≡ [])) (λ flag. self.old ≡ flag ∷ self.new) }
     {

@@ -7,8 +7,8 @@ ghost use Rattle.aper_frames.specs.Weights.{contents_weight, frame_weight, frame
 
 use crate::frame::{Frame, Turn};
 use crate::stack::Stack;
-use aper_asking::ask_opening;
-use aper_cursor::{Cursor, Unanswered};
+use aper_heads::from_aper_asking::ask_opening;
+use aper_heads::from_aper_cursor::{Cursor, Unanswered};
 use aper_heads::{RawError, ask_raw};
 use asn1_types::TypeId;
 use std::alloc::Global;

@@ -17,3 +17,16 @@ pub use inside::{ask_contents, ask_inside, ask_unknown};
 pub use parts::Addition;
 pub use path::{Step, path_of};
 pub use stack::Stack;
+
+/// Of `aper_asking`, for crates above.
+pub mod from_aper_asking {
+    pub use aper_heads::from_aper_asking::ask_index;
+}
+
+/// Of `aper_heads`, for crates above.
+pub mod from_aper_heads {
+    pub use aper_heads::{
+        MessageHead, ask_element_count, ask_element_head, ask_flags, ask_marks, ask_message_head,
+        rows_left,
+    };
+}

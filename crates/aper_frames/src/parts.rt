@@ -1,10 +1,10 @@
 //! Which part of a SEQUENCE comes next.
 
 ghost use Rattle.std.specs.Prelude.{ℕ, ◌≡◌, ◌+◌, ◌≤◌, [], ◌∷◌, IfOk, MatchOption, option_copied};
-ghost use Rattle.aper_defs.specs.Trees.{Tree};
-ghost use Rattle.aper_defs.specs.Values as seen;
-ghost use Rattle.aper_defs.specs.Fields.{Path};
-ghost use Rattle.aper_defs.specs.Questions.{Prog};
+ghost use Rattle.aper_values.specs.aper_defs.Trees.{Tree};
+ghost use Rattle.aper_values.specs.aper_defs.Values as seen;
+ghost use Rattle.aper_values.specs.aper_defs.Fields.{Path};
+ghost use Rattle.aper_values.specs.aper_defs.Questions.{Prog};
 ghost use Rattle.aper_frames.specs.Frames.{components_left, components_next, additions_left, additions_next, IsNamed};
 ghost use Rattle.aper_frames.specs.Weights.{part_weight, components_weight, addition_weight, additions_weight};
 
@@ -41,6 +41,7 @@ impl<'m> Components<'m> {
     }
 
     /// Takes the next component.
+    #[inline(always)]
     fn take(&mut self) -> Option<&'m Component>
         ensures next { MatchOption result ((self.old.left.now ≡ []) × (self.new.left.now ≡ [])) (λ part. self.old.left.now ≡ part.now ∷ self.new.left.now) }
         ensures there { self.new.there ≡ self.old.there }

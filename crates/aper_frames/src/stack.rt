@@ -36,6 +36,7 @@ impl<'m> Stack<'m> {
     }
 
     /// Puts one inside all others. After an error the state is unspecified.
+    #[inline(always)]
     pub fn push(&mut self, frame: Frame<'m>) -> Result<(), Memory>
         ensures { OnOk result (self.new ≡ frame.entry ∷ self.old) }
     {
@@ -44,6 +45,7 @@ impl<'m> Stack<'m> {
     }
 
     /// Takes the innermost one.
+    #[inline(always)]
     pub fn pop(&mut self) -> Option<Frame<'m>>
         ensures { MatchOption result ((self.old ≡ []) × (self.new ≡ [])) (λ frame. self.old ≡ frame ∷ self.new) }
     {

@@ -24,7 +24,7 @@ pub fn ask_flags(
     ensures asked { (of : ℕ → Tree) → GoesOnOrMemory (λ p. ask_flags p (parts_of of parts.now)) cursor.old cursor.new result }
     ensures size { IfOk result (λ there. length there ≡ length parts.now) }
 {
-    let mut there = Vec::new(alloc);
+    let mut there = Vec::with_capacity(alloc, parts.len())?;
     for part in parts {
         // As an extension bit, it stands only where it may be 0 or 1.
         let marked = ask_extension(cursor, part.optional)?;

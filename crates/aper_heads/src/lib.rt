@@ -11,3 +11,13 @@ pub use elements::{ElementHead, ask_element_count, ask_element_head, rows_left};
 pub use flags::{ask_flags, ask_marks};
 pub use messages::{MessageHead, ask_message_head};
 pub use raw::{RawError, ask_raw};
+
+/// Of `aper_cursor`, for crates above.
+pub mod from_aper_cursor {
+    pub use aper_cursor::{Cursor, Unanswered};
+}
+
+/// Of `aper_asking`, for crates above.
+pub mod from_aper_asking {
+    pub use aper_asking::{ask_index, ask_opening};
+}

@@ -1,7 +1,7 @@
 -- Fields of numbers, strings and counts of which it is left open whether they stand in the root of an extensible range or size, or
 -- outside it.
 use Rattle.std.specs.Prelude.{◌≡◌, ℕ, ◌-◌, ◌≤◌, List, [], ◌∷◌, ◌++◌, Bool, true, Option, Some, None, if◌then◌else◌, ℤ}
-use Rattle.asn1_types.specs.declared.definition.Size.{Size}
+use Rattle.aper_defs.specs.asn1_types.declared.definition.Size.{Size}
 use Rattle.aper_defs.specs.Numbers.{signed_octets_for, twos_complement, is_signed, in_range, above}
 use Rattle.aper_defs.specs.Fields.{Path, Field, signed, extent, pad, whole, asked}
 use Rattle.aper_defs.specs.Fields as roles

@@ -4,14 +4,14 @@
 -- that closes an encoding has either answer, a pad or an octet of zeros; its place tells which of them can stand there.
 use Rattle.std.specs.Prelude.{◌≡◌, ℕ, zero, suc, ◌-◌, ◌<◌, ◌≤◌, ◌==◌, List, [], ◌∷◌, ◌++◌, length, map, Bool, true, Option, nat_lt}
 use Rattle.std.specs.List.{list_all}
-use Rattle.bits_core.specs.Bits.{bit_value}
+use Rattle.aper_defs.specs.bits_core.Bits.{bit_value}
 use Rattle.aper_defs.specs.Trees.{Tree, Parts, Rows, Procedures, Outcome, Slot, slots, slots_left, mandatory_count, part_count}
 use Rattle.aper_defs.specs.Trees.{boolean, integer, enumerated, bit_string, octet_string, printable_string, sequence, choice, sequence_of, container, pdu, no_parts, part, no_rows, row, no_procedures, procedure, no_outcome, outcome}
 use Rattle.aper_defs.specs.Values.{Value, Values, Options, Ies, value_count, ie_count, has_options}
 use Rattle.aper_defs.specs.Values.{truth, number, enumeral, bits, octets, text, components, chosen, list, elements, message, no_values, value, no_options, absent, present, no_ies, ie}
 use Rattle.aper_defs.specs.Fields.{Path, Field, flag, constrained, small, ie_id, pad, opening, closing, end, asked}
 use Rattle.aper_defs.specs.Fields as fields
-use Rattle.asn1_types.specs.declared.definition.Size.{Size}
+use Rattle.aper_defs.specs.asn1_types.declared.definition.Size.{Size}
 use Rattle.aper_defs.specs.Parts.{Content, of_bits, of_octets, of_characters, extension_fields, index_fields}
 use Rattle.aper_defs.specs.Layouts.{raw_fields, flag_fields, mark_fields, message_head}
 use Rattle.aper_defs.specs.Membership.{Either, is_index_of, is_printable, are_octets, IsRaw, AreAdditions, IsInOrder}

@@ -7,8 +7,8 @@ use Rattle.aper_defs.specs.Fields.{Path, Field, asked, flag, small, constrained,
 use Rattle.aper_defs.specs.Fields as fields
 use Rattle.aper_defs.specs.Layouts.{flag_fields, mark_fields, message_head}
 use Rattle.aper_defs.specs.Membership.{HasComponents, AreAdditions, some_present}
-use Rattle.aper_proof_answers.proofs.NumberFacts.{same}
-use Rattle.aper_proof_places.proofs.Bits.{total}
+use Rattle.aper_widths.proofs.aper_proof_answers.NumberFacts.{same}
+use Rattle.aper_widths.proofs.aper_proof_places.Bits.{total}
 use Rattle.aper_members.specs.aper_types.Types.{parts_of}
 use Rattle.aper_values.specs.declared.value.Value.{Value}
 use Rattle.aper_values.specs.Views.{options_view}

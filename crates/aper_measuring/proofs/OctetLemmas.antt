@@ -7,7 +7,7 @@ use Rattle.aper_defs.specs.Fields.{Path, Field, asked, pad, extent, whole, run, 
 use Rattle.aper_defs.specs.Parts.{string_fields, of_octets}
 use Rattle.aper_defs.specs.Layouts.{layout}
 use Rattle.aper_defs.specs.Membership.{Has, are_octets, is_count_of}
-use Rattle.aper_proof_answers.proofs.NumberFacts.{is_below}
+use Rattle.aper_widths.proofs.aper_proof_answers.NumberFacts.{is_below}
 use Rattle.aper_widths.specs.Ends.{end_of, Ends}
 use Rattle.aper_measuring.specs.Measured.{ValueMeasured, RawMeasured}
 

@@ -4,7 +4,7 @@ use Rattle.std.proofs.lemmas.List.{drop_more, drop_all, take_rest}
 use Rattle.asn1_assignments.specs.declared.assignment.IeRow.{IeRow}
 use Rattle.aper_defs.specs.Trees.{Tree, Slot, slots, has_slot, slots_before, slots_after, mandatory_count}
 use Rattle.aper_defs.specs.Membership.{Either}
-use Rattle.aper_proof_answers.proofs.NumberFacts.{by_cases, same, is_same}
+use Rattle.aper_widths.proofs.aper_proof_answers.NumberFacts.{by_cases, same, is_same}
 use Rattle.aper_members.specs.aper_types.Types.{rows_of, is_mandatory}
 use Rattle.aper_members.specs.Rows.{row_type}
 use Rattle.aper_measuring.specs.Order.{LeavesRows, LeavesKnown}

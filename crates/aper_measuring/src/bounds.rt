@@ -6,8 +6,8 @@ ghost use Rattle.asn1_types.specs.declared.definition.Size.{Size};
 ghost use Rattle.aper_defs.specs.Numbers.{is_signed};
 ghost use Rattle.aper_defs.specs.Membership.{is_number_of, is_index_of, is_count_of, is_printable};
 
-use aper_fields::numbers::in_range;
-use aper_fields::strings::in_size;
+use aper_members::from_aper_fields::numbers::in_range;
+use aper_members::from_aper_fields::strings::in_size;
 use asn1_types::Size;
 
 /// The most members that a list has where its size doesn't say.

@@ -7,3 +7,20 @@ pub mod contents;
 pub mod heads;
 pub mod order;
 pub mod simple;
+
+/// Of `asn1_module`, for crates above.
+pub mod from_asn1_module {
+    pub use aper_members::from_asn1_module::Module;
+}
+
+/// Of `aper_types`, for crates above.
+pub mod from_aper_types {
+    pub use aper_members::from_aper_types::{Form, form_of};
+}
+
+/// Of `aper_members`, for crates above.
+pub mod from_aper_members {
+    pub mod rows {
+        pub use aper_members::rows::{message_type, named, part_type, row_type};
+    }
+}

@@ -11,7 +11,7 @@ ghost use Rattle.aper_values.specs.Views.{view};
 ghost use Rattle.aper_measuring.specs.Measured.{ValueMeasured};
 
 use crate::bounds::{are_printable, is_index_of, is_length_of, is_number_of};
-use aper_fields::strings::Units;
+use aper_members::from_aper_fields::strings::Units;
 use aper_values::value::Value;
 use aper_widths::numbers::{after_index, after_integer};
 use aper_widths::place::{Place, passed};

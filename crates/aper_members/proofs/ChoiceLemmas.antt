@@ -3,15 +3,15 @@ use Rattle.std.proofs.Common.{◌≡◌, ℕ, zero, suc, ◌-◌, ◌<◌, ◌�
 use Rattle.std.specs.Prelude.{nat_lt}
 use Rattle.bits_core.specs.Writing.{Written}
 use Rattle.asn1_types.specs.declared.definition.Component.{Component}
-use Rattle.aper_defs.specs.Trees.{Tree, part_count, choice}
-use Rattle.aper_defs.specs.Values.{Value as SeenValue, chosen}
-use Rattle.aper_defs.specs.Fields.{Path, Field}
-use Rattle.aper_defs.specs.Fields as fields
-use Rattle.aper_defs.specs.Bits.{put_all, open_fields}
-use Rattle.aper_defs.specs.Parts.{index_fields}
-use Rattle.aper_defs.specs.Layouts.{layout, raw_fields, alternative_fields, added_fields}
-use Rattle.aper_defs.specs.Membership.{Has, HasAlternative, HasAdded, IsRaw}
-use Rattle.aper_proof_answers.proofs.NumberFacts.{is_below, is_not_below}
+use Rattle.aper_values.specs.aper_defs.Trees.{Tree, part_count, choice}
+use Rattle.aper_values.specs.aper_defs.Values.{Value as SeenValue, chosen}
+use Rattle.aper_values.specs.aper_defs.Fields.{Path, Field}
+use Rattle.aper_values.specs.aper_defs.Fields as fields
+use Rattle.aper_values.specs.aper_defs.Bits.{put_all, open_fields}
+use Rattle.aper_values.specs.aper_defs.Parts.{index_fields}
+use Rattle.aper_values.specs.aper_defs.Layouts.{layout, raw_fields, alternative_fields, added_fields}
+use Rattle.aper_values.specs.aper_defs.Membership.{Has, HasAlternative, HasAdded, IsRaw}
+use Rattle.aper_fields.proofs.aper_proof_answers.NumberFacts.{is_below, is_not_below}
 use Rattle.aper_fields.specs.Following.{Follows}
 use Rattle.aper_types.specs.Types.{parts_of}
 use Rattle.aper_members.specs.Membership.{IsValue, FitsInside}

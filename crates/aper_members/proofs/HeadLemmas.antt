@@ -5,13 +5,13 @@ use Rattle.std.proofs.Math.Nat.{pow-suc}
 use Rattle.bits_core.specs.Bits.{number_of}
 use Rattle.bits_core.specs.Writing.{Written}
 use Rattle.asn1_types.specs.declared.definition.Component.{Component}
-use Rattle.aper_defs.specs.Trees.{Tree}
-use Rattle.aper_defs.specs.Values.{presence}
-use Rattle.aper_defs.specs.Fields.{Path, Field, Role, asked, flag, small, addition_bits}
-use Rattle.aper_defs.specs.Fields as fields
-use Rattle.aper_defs.specs.Parts.{extension_fields}
-use Rattle.aper_defs.specs.Bits.{put_all}
-use Rattle.aper_defs.specs.Layouts.{flag_fields, mark_fields}
+use Rattle.aper_values.specs.aper_defs.Trees.{Tree}
+use Rattle.aper_values.specs.aper_defs.Values.{presence}
+use Rattle.aper_values.specs.aper_defs.Fields.{Path, Field, Role, asked, flag, small, addition_bits}
+use Rattle.aper_values.specs.aper_defs.Fields as fields
+use Rattle.aper_values.specs.aper_defs.Parts.{extension_fields}
+use Rattle.aper_values.specs.aper_defs.Bits.{put_all}
+use Rattle.aper_values.specs.aper_defs.Layouts.{flag_fields, mark_fields}
 use Rattle.aper_fields.specs.Following.{Follows}
 use Rattle.aper_types.specs.Types.{parts_of}
 use Rattle.aper_values.specs.declared.value.Value.{Value}

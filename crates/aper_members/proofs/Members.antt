@@ -2,7 +2,7 @@
 use Rattle.std.proofs.Common.{◌≡◌, ℕ, zero, suc, ◌+◌, List, [], ◌∷◌, length, drop, refl, ap, arith}
 use Rattle.asn1_types.specs.declared.definition.Component.{Component}
 use Rattle.aper_types.specs.asn1_module.asn1_defs.Links.{AreBelow, OptionBelow}
-use Rattle.aper_defs.specs.Values.{value_count, ie_count}
+use Rattle.aper_values.specs.aper_defs.Values.{value_count, ie_count}
 use Rattle.aper_values.specs.declared.value.Value.{Value}
 use Rattle.aper_values.specs.declared.value.Element.{Element}
 use Rattle.aper_values.specs.Views.{values_view, ies_view}

@@ -2,16 +2,16 @@
 use Rattle.std.proofs.Common.{◌≡◌, ℕ, ◌<◌, ◌==◌, cond, Bool, true, false, List, [], ◌∷◌, ◌++◌, Option, Some, None, refl, sym, ap, subst, ◌∙◌}
 use Rattle.bits_core.specs.Writing.{Written}
 use Rattle.asn1_types.specs.declared.definition.TypeId.{TypeId}
-use Rattle.asn1_assignments.specs.declared.assignment.ProcedureRow.{ProcedureRow}
+use Rattle.aper_types.specs.asn1_assignments.declared.assignment.ProcedureRow.{ProcedureRow}
 use Rattle.aper_types.specs.asn1_module.asn1_defs.Links.{OptionBelow, ProceduresBelow}
-use Rattle.aper_defs.specs.Trees.{Tree}
-use Rattle.aper_defs.specs.Values.{Value as SeenValue}
-use Rattle.aper_defs.specs.Fields.{Path, Field}
-use Rattle.aper_defs.specs.Fields as fields
-use Rattle.aper_defs.specs.Bits.{put_all, open_fields}
-use Rattle.aper_defs.specs.Layouts.{layout, raw_fields, body_fields, outcome_fields}
-use Rattle.aper_defs.specs.Membership.{HasBody, HasOutcome, IsRaw, Either}
-use Rattle.aper_proof_answers.proofs.NumberFacts.{by_cases}
+use Rattle.aper_values.specs.aper_defs.Trees.{Tree}
+use Rattle.aper_values.specs.aper_defs.Values.{Value as SeenValue}
+use Rattle.aper_values.specs.aper_defs.Fields.{Path, Field}
+use Rattle.aper_values.specs.aper_defs.Fields as fields
+use Rattle.aper_values.specs.aper_defs.Bits.{put_all, open_fields}
+use Rattle.aper_values.specs.aper_defs.Layouts.{layout, raw_fields, body_fields, outcome_fields}
+use Rattle.aper_values.specs.aper_defs.Membership.{HasBody, HasOutcome, IsRaw, Either}
+use Rattle.aper_fields.proofs.aper_proof_answers.NumberFacts.{by_cases}
 use Rattle.aper_fields.specs.Following.{Follows}
 use Rattle.aper_types.specs.Types.{outcome_of, procedures_of}
 use Rattle.aper_members.specs.Membership.{FitsInside, IsInside, IsMessage}

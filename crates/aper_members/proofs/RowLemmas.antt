@@ -2,16 +2,16 @@
 use Rattle.std.proofs.Common.{◌≡◌, ℕ, ◌<◌, ◌==◌, cond, List, [], ◌∷◌, ◌++◌, Option, Some, None, refl, sym, ap, subst, ◌∙◌, append_assoc}
 use Rattle.bits_core.specs.Writing.{Written}
 use Rattle.asn1_types.specs.declared.definition.TypeId.{TypeId}
-use Rattle.asn1_assignments.specs.declared.assignment.IeRow.{IeRow}
+use Rattle.aper_types.specs.asn1_assignments.declared.assignment.IeRow.{IeRow}
 use Rattle.aper_types.specs.asn1_module.asn1_defs.Links.{OptionBelow, IesBelow}
-use Rattle.aper_defs.specs.Trees.{Tree, Slot, slots_left}
-use Rattle.aper_defs.specs.Values.{Value as SeenValue, ie_count}
-use Rattle.aper_defs.specs.Fields.{Path, Field, asked, pad, ie_id, constrained}
-use Rattle.aper_defs.specs.Fields as fields
-use Rattle.aper_defs.specs.Bits.{put_all, open_fields}
-use Rattle.aper_defs.specs.Layouts.{layout, raw_fields, ie_fields, row_fields}
-use Rattle.aper_defs.specs.Membership.{Has, HasRow, FitsOpen, IsRaw, Either}
-use Rattle.aper_proof_answers.proofs.NumberFacts.{by_cases}
+use Rattle.aper_values.specs.aper_defs.Trees.{Tree, Slot, slots_left}
+use Rattle.aper_values.specs.aper_defs.Values.{Value as SeenValue, ie_count}
+use Rattle.aper_values.specs.aper_defs.Fields.{Path, Field, asked, pad, ie_id, constrained}
+use Rattle.aper_values.specs.aper_defs.Fields as fields
+use Rattle.aper_values.specs.aper_defs.Bits.{put_all, open_fields}
+use Rattle.aper_values.specs.aper_defs.Layouts.{layout, raw_fields, ie_fields, row_fields}
+use Rattle.aper_values.specs.aper_defs.Membership.{Has, HasRow, FitsOpen, IsRaw, Either}
+use Rattle.aper_fields.proofs.aper_proof_answers.NumberFacts.{by_cases}
 use Rattle.aper_fields.specs.Following.{Follows}
 use Rattle.aper_types.specs.Types.{rows_of}
 use Rattle.aper_values.specs.declared.value.Element.{Element}

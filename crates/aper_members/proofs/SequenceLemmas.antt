@@ -3,10 +3,10 @@ use Rattle.std.proofs.Common.{◌≡◌, ℕ, suc, ◌==◌, not, arith, Bool, f
 use Rattle.std.proofs.lemmas.Bool.Decides.{nat_tests}
 use Rattle.bits_core.specs.Writing.{Written}
 use Rattle.asn1_types.specs.declared.definition.Component.{Component}
-use Rattle.aper_defs.specs.Trees.{Tree, sequence}
-use Rattle.aper_defs.specs.Values.{components, has_options}
-use Rattle.aper_defs.specs.Parts.{extension_fields}
-use Rattle.aper_defs.specs.Layouts.{layout, flag_fields, mark_fields, component_fields, addition_fields}
+use Rattle.aper_values.specs.aper_defs.Trees.{Tree, sequence}
+use Rattle.aper_values.specs.aper_defs.Values.{components, has_options}
+use Rattle.aper_values.specs.aper_defs.Parts.{extension_fields}
+use Rattle.aper_values.specs.aper_defs.Layouts.{layout, flag_fields, mark_fields, component_fields, addition_fields}
 use Rattle.aper_fields.specs.Following.{Follows}
 use Rattle.aper_types.specs.Types.{parts_of}
 use Rattle.aper_values.specs.declared.value.Value.{Value}

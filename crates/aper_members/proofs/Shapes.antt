@@ -2,16 +2,16 @@
 use Rattle.std.proofs.Common.{◌≡◌, ℕ, suc, ◌<◌, ◌≤◌, Bool, true, false, List, ◌∷◌, length, Option, Some, None, refl, subst, arith}
 use Rattle.std.specs.Prelude.{ℤ, nat_lt, nat_le, ◌&&◌, ◌||◌}
 use Rattle.asn1_types.specs.declared.definition.Size.{Size}
-use Rattle.aper_defs.specs.Trees.{Tree, Parts, Rows, Procedures, Slot, part_count, slots_left}
-use Rattle.aper_defs.specs.Trees.{integer, enumerated, sequence, choice, sequence_of, container, pdu}
-use Rattle.aper_defs.specs.Values.{Value, Values, Options, Ies, value_count, ie_count, presence}
-use Rattle.aper_defs.specs.Values.{number, enumeral, components, chosen, list, elements, message, no_values, value, no_ies, ie, no_options, absent, present}
-use Rattle.aper_defs.specs.Fields.{Path}
-use Rattle.aper_defs.specs.Fields as fields
-use Rattle.aper_defs.specs.Parts.{in_size}
-use Rattle.aper_defs.specs.Membership.{Has, Either, EachFrom, AreElements, AreAdditions, HasRow, IsRaw, is_number_of, is_index_of, is_count_of}
-use Rattle.aper_defs.specs.Bounds.{IsSizeBounded}
-use Rattle.aper_proof_answers.proofs.NumberFacts.{at_most, is_below, is_not_below, second_of_both}
+use Rattle.aper_values.specs.aper_defs.Trees.{Tree, Parts, Rows, Procedures, Slot, part_count, slots_left}
+use Rattle.aper_values.specs.aper_defs.Trees.{integer, enumerated, sequence, choice, sequence_of, container, pdu}
+use Rattle.aper_values.specs.aper_defs.Values.{Value, Values, Options, Ies, value_count, ie_count, presence}
+use Rattle.aper_values.specs.aper_defs.Values.{number, enumeral, components, chosen, list, elements, message, no_values, value, no_ies, ie, no_options, absent, present}
+use Rattle.aper_values.specs.aper_defs.Fields.{Path}
+use Rattle.aper_values.specs.aper_defs.Fields as fields
+use Rattle.aper_values.specs.aper_defs.Parts.{in_size}
+use Rattle.aper_values.specs.aper_defs.Membership.{Has, Either, EachFrom, AreElements, AreAdditions, HasRow, IsRaw, is_number_of, is_index_of, is_count_of}
+use Rattle.aper_values.specs.aper_defs.Bounds.{IsSizeBounded}
+use Rattle.aper_fields.proofs.aper_proof_answers.NumberFacts.{at_most, is_below, is_not_below, second_of_both}
 use Rattle.aper_members.specs.Membership.{IsValue, AreComponents, AreNamed, AreMembers, AreBodies, IsMessage}
 
 pub as_of : (t u : Tree) (v w : Value) → t ≡ u → v ≡ w → IsValue t v → IsValue u w

@@ -3,13 +3,13 @@ use Rattle.std.proofs.Common.{◌≡◌, ℕ, ◌*◌, ◌≤◌, List, [], ◌+
 use Rattle.bits_core.specs.Bits.{octet_bits}
 use Rattle.bits_core.specs.Writing.{Written}
 use Rattle.bits_core.proofs.BitLemmas.{length-octet_bits}
-use Rattle.aper_defs.specs.Trees.{Tree}
-use Rattle.aper_defs.specs.Values.{Value as SeenValue}
-use Rattle.aper_defs.specs.Fields.{Path}
-use Rattle.aper_defs.specs.Bits.{put_all, closed, octet_count}
-use Rattle.aper_defs.specs.Layouts.{layout}
-use Rattle.aper_defs.specs.Membership.{Has}
-use Rattle.aper_defs.specs.Spelling.{Spells, spelling_limit, whole_layout}
+use Rattle.aper_values.specs.aper_defs.Trees.{Tree}
+use Rattle.aper_values.specs.aper_defs.Values.{Value as SeenValue}
+use Rattle.aper_values.specs.aper_defs.Fields.{Path}
+use Rattle.aper_values.specs.aper_defs.Bits.{put_all, closed, octet_count}
+use Rattle.aper_values.specs.aper_defs.Layouts.{layout}
+use Rattle.aper_values.specs.aper_defs.Membership.{Has}
+use Rattle.aper_values.specs.aper_defs.Spelling.{Spells, spelling_limit, whole_layout}
 use Rattle.aper_members.specs.Followed.{ValueFollows}
 
 -- what was put for a value alone

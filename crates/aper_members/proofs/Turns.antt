@@ -4,13 +4,13 @@ use Rattle.std.proofs.lemmas.List.{drop_more, drop_all}
 use Rattle.bits_core.specs.Writing.{Written}
 use Rattle.asn1_types.specs.declared.definition.Component.{Component}
 use Rattle.aper_types.specs.asn1_module.asn1_defs.Links.{AreBelow}
-use Rattle.aper_defs.specs.Trees.{Tree}
-use Rattle.aper_defs.specs.Values.{each_from}
-use Rattle.aper_defs.specs.Fields.{Path, Field, asked, pad, ie_id, constrained}
-use Rattle.aper_defs.specs.Fields as fields
-use Rattle.aper_defs.specs.Bits.{put_all, open_fields}
-use Rattle.aper_defs.specs.Layouts.{layout, raw_fields, raw_additions, component_fields, addition_fields}
-use Rattle.aper_defs.specs.Membership.{HasComponents, HasAdditions, IsRaw}
+use Rattle.aper_values.specs.aper_defs.Trees.{Tree}
+use Rattle.aper_values.specs.aper_defs.Values.{each_from}
+use Rattle.aper_values.specs.aper_defs.Fields.{Path, Field, asked, pad, ie_id, constrained}
+use Rattle.aper_values.specs.aper_defs.Fields as fields
+use Rattle.aper_values.specs.aper_defs.Bits.{put_all, open_fields}
+use Rattle.aper_values.specs.aper_defs.Layouts.{layout, raw_fields, raw_additions, component_fields, addition_fields}
+use Rattle.aper_values.specs.aper_defs.Membership.{HasComponents, HasAdditions, IsRaw}
 use Rattle.aper_fields.specs.Following.{Follows}
 use Rattle.aper_types.specs.Types.{parts_of}
 use Rattle.aper_values.specs.declared.value.Value.{Value}

@@ -3,14 +3,14 @@ use Rattle.std.specs.Prelude.{◌≡◌, ℕ, ◌-◌, List, ◌∷◌, ◌++◌
 use Rattle.asn1_types.specs.declared.definition.TypeId.{TypeId}
 use Rattle.bits_core.specs.Writing.{Written}
 use Rattle.asn1_types.specs.declared.definition.Component.{Component}
-use Rattle.asn1_assignments.specs.declared.assignment.IeRow.{IeRow}
-use Rattle.aper_defs.specs.Trees.{Tree, Slot}
-use Rattle.aper_defs.specs.Values.{Value as SeenValue}
-use Rattle.aper_defs.specs.Fields.{Path, Field, asked, flag, small}
-use Rattle.aper_defs.specs.Fields as fields
-use Rattle.aper_defs.specs.Bits.{put_all, open_fields}
-use Rattle.aper_defs.specs.Values.{each_from}
-use Rattle.aper_defs.specs.Layouts.{layout, raw_fields, component_fields, addition_fields, ie_fields, row_fields}
+use Rattle.aper_types.specs.asn1_assignments.declared.assignment.IeRow.{IeRow}
+use Rattle.aper_values.specs.aper_defs.Trees.{Tree, Slot}
+use Rattle.aper_values.specs.aper_defs.Values.{Value as SeenValue}
+use Rattle.aper_values.specs.aper_defs.Fields.{Path, Field, asked, flag, small}
+use Rattle.aper_values.specs.aper_defs.Fields as fields
+use Rattle.aper_values.specs.aper_defs.Bits.{put_all, open_fields}
+use Rattle.aper_values.specs.aper_defs.Values.{each_from}
+use Rattle.aper_values.specs.aper_defs.Layouts.{layout, raw_fields, component_fields, addition_fields, ie_fields, row_fields}
 use Rattle.aper_fields.specs.Following.{Follows}
 use Rattle.aper_types.specs.Types.{parts_of, rows_of}
 use Rattle.aper_values.specs.declared.value.Value.{Value}

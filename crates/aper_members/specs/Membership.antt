@@ -1,11 +1,11 @@
 -- Values of types, on some way to them: a way has no bits, and an encoder knows none.
 use Rattle.std.specs.Prelude.{ℕ, ◌≤◌, Option, Some, None}
 use Rattle.asn1_types.specs.declared.definition.TypeId.{TypeId}
-use Rattle.aper_defs.specs.Trees.{Tree, Parts, Rows, Procedures}
-use Rattle.aper_defs.specs.Values.{Value, Values, Options, Ies, no_values, value, no_ies, ie}
-use Rattle.aper_defs.specs.Fields.{Path}
-use Rattle.aper_defs.specs.Layouts.{layout}
-use Rattle.aper_defs.specs.Membership.{Has, HasComponents, HasAdditions, HasRow, HasBody, FitsOpen, IsRaw}
+use Rattle.aper_values.specs.aper_defs.Trees.{Tree, Parts, Rows, Procedures}
+use Rattle.aper_values.specs.aper_defs.Values.{Value, Values, Options, Ies, no_values, value, no_ies, ie}
+use Rattle.aper_values.specs.aper_defs.Fields.{Path}
+use Rattle.aper_values.specs.aper_defs.Layouts.{layout}
+use Rattle.aper_values.specs.aper_defs.Membership.{Has, HasComponents, HasAdditions, HasRow, HasBody, FitsOpen, IsRaw}
 
 pub record IsValue (t : Tree) (v : Value) : Type 0 where
   pub path : Path

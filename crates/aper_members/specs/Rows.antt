@@ -2,8 +2,8 @@
 use Rattle.std.specs.Prelude.{ℕ, ◌==◌, List, [], ◌∷◌, Option, Some, None, option_map, slice_get, if◌then◌else◌}
 use Rattle.asn1_types.specs.declared.definition.TypeId.{TypeId}
 use Rattle.asn1_types.specs.declared.definition.Component.{Component}
-use Rattle.asn1_assignments.specs.declared.assignment.IeRow.{IeRow}
-use Rattle.asn1_assignments.specs.declared.assignment.ProcedureRow.{ProcedureRow}
+use Rattle.aper_types.specs.asn1_assignments.declared.assignment.IeRow.{IeRow}
+use Rattle.aper_types.specs.asn1_assignments.declared.assignment.ProcedureRow.{ProcedureRow}
 
 -- that of the part at a place, counted from 0
 abbrev pub part_type : ℕ → List Component → Option TypeId

@@ -2,9 +2,9 @@
 
 ghost use Rattle.std.specs.Prelude.{◌≡◌, ℕ, ◌<◌, ◌≤◌, ◌^◌, false, length, OnOk};
 ghost use Rattle.bits_core.specs.Bits.{number_of};
-ghost use Rattle.aper_defs.specs.Trees.{Tree};
-ghost use Rattle.aper_defs.specs.Values.{presence};
-ghost use Rattle.aper_defs.specs.Layouts.{flag_fields, mark_fields, message_head};
+ghost use Rattle.aper_values.specs.aper_defs.Trees.{Tree};
+ghost use Rattle.aper_values.specs.aper_defs.Values.{presence};
+ghost use Rattle.aper_values.specs.aper_defs.Layouts.{flag_fields, mark_fields, message_head};
 ghost use Rattle.aper_fields.specs.Following.{Follows};
 ghost use Rattle.aper_types.specs.Types.{parts_of};
 ghost use Rattle.aper_values.specs.Views.{options_view};

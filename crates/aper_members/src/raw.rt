@@ -1,7 +1,7 @@
 //! What isn't known.
 
 ghost use Rattle.std.specs.Prelude.{◌≡◌, ◌<◌, ◌≤◌, false, OnOk};
-ghost use Rattle.aper_defs.specs.Membership.{IsRaw};
+ghost use Rattle.aper_values.specs.aper_defs.Membership.{IsRaw};
 ghost use Rattle.aper_fields.specs.Following.{Follows};
 ghost use Rattle.aper_values.specs.Views.{view};
 ghost use Rattle.aper_members.specs.Followed.{RawFollows, past_fields};

@@ -4,7 +4,7 @@ ghost use Rattle.std.specs.Prelude.{◌≡◌};
 ghost use Rattle.asn1_types.specs.Members.{additions_of};
 ghost use Rattle.aper_members.specs.Rows.{part_type, row_type, outcome_type, message_type};
 
-use asn1_assignments::{IeRow, ProcedureRow};
+use aper_types::from_asn1_assignments::{IeRow, ProcedureRow};
 use asn1_types::{Component, Items, TypeId};
 
 /// The named additions.

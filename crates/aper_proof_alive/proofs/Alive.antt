@@ -6,18 +6,18 @@ use Rattle.std.proofs.lemmas.Nat.{pow-add, pow_pos}
 use Rattle.std.proofs.Math.Nat.{pow-le-pow_right}
 use Rattle.bits_core.specs.Bits.{bits_of, pad_of}
 use Rattle.asn1_types.specs.declared.definition.Size.{Size}
-use Rattle.aper_defs.specs.Values.{Value, raw}
-use Rattle.aper_defs.specs.Numbers.{bits_for, octets_for, signed_number, above}
-use Rattle.aper_defs.specs.Fields.{Path, Role, Ask, RunUnit, Field, flag, constrained, digits, signed, small, extent, character, addition_bits, pad, opening, closing, end, whole, part, bit, octet, asked, run as run_field}
-use Rattle.aper_defs.specs.Fields as fields
-use Rattle.aper_defs.specs.Bits.{part_units, width_at, unit_width, extent_width}
-use Rattle.aper_defs.specs.Parts.{Content, of_bits, of_octets, of_characters, pad_limit}
-use Rattle.aper_defs.specs.Questions.{Prog, done, ask, take, never, ask_aligned, ask_large, ask_number, ask_extension, ask_integer, ask_integer_by, ask_index, ask_index_by, ask_characters, ask_units, ask_parts, ask_all_parts, ask_sized, ask_string, ask_string_by, ask_count, ask_count_by, ask_open, ask_raw}
-use Rattle.aper_defs.specs.Asking.{ask_marks}
-use Rattle.aper_defs.specs.Reading.{bit_limit}
-use Rattle.aper_proof_answers.proofs.NumberFacts.{by_cases, below, not_below, at_most, octets_least}
-use Rattle.aper_proof_places.proofs.Placed.{AreBelow}
-use Rattle.aper_proof_values.proofs.FoundNumbers.{IsDigits}
+use Rattle.aper_proof_loose.specs.aper_defs.Values.{Value, raw}
+use Rattle.aper_proof_loose.specs.aper_defs.Numbers.{bits_for, octets_for, signed_number, above}
+use Rattle.aper_proof_loose.specs.aper_defs.Fields.{Path, Role, Ask, RunUnit, Field, flag, constrained, digits, signed, small, extent, character, addition_bits, pad, opening, closing, end, whole, part, bit, octet, asked, run as run_field}
+use Rattle.aper_proof_loose.specs.aper_defs.Fields as fields
+use Rattle.aper_proof_loose.specs.aper_defs.Bits.{part_units, width_at, unit_width, extent_width}
+use Rattle.aper_proof_loose.specs.aper_defs.Parts.{Content, of_bits, of_octets, of_characters, pad_limit}
+use Rattle.aper_proof_loose.specs.aper_defs.Questions.{Prog, done, ask, take, never, ask_aligned, ask_large, ask_number, ask_extension, ask_integer, ask_integer_by, ask_index, ask_index_by, ask_characters, ask_units, ask_parts, ask_all_parts, ask_sized, ask_string, ask_string_by, ask_count, ask_count_by, ask_open, ask_raw}
+use Rattle.aper_proof_loose.specs.aper_defs.Asking.{ask_marks}
+use Rattle.aper_proof_loose.specs.aper_defs.Reading.{bit_limit}
+use Rattle.aper_proof_loose.proofs.aper_proof_answers.NumberFacts.{by_cases, below, not_below, at_most, octets_least}
+use Rattle.aper_proof_loose.proofs.aper_proof_places.Placed.{AreBelow}
+use Rattle.aper_proof_loose.proofs.aper_proof_values.FoundNumbers.{IsDigits}
 use Rattle.aper_proof_alive.proofs.Allowed.{Allowed, few, IsSigned}
 use Rattle.aper_proof_alive.proofs.Steps.{Steps}
 

@@ -1,17 +1,17 @@
 -- Every right answer can be gone on with up to a value: each form of type.
 use Rattle.std.proofs.Common.{◌≡◌, ℕ, zero, suc, ◌+◌, ◌-◌, ◌<◌, ◌≤◌, ◌==◌, nat_lt, cond, Bool, true, false, List, [], ◌∷◌, ◌++◌, length, map, refl, sym, ap, subst, ◌∙◌, arith}
-use Rattle.aper_defs.specs.Trees.{Tree, Parts, Rows, Procedures, Outcome, Slot, slots, slots_left, slots_before, slots_after, has_slot, mandatory_count, part_count}
-use Rattle.aper_defs.specs.Trees.{boolean, integer, enumerated, bit_string, octet_string, printable_string, sequence, choice, sequence_of, container, pdu, no_parts, part, no_rows, row, no_procedures, procedure, no_outcome, outcome}
-use Rattle.aper_defs.specs.Values.{Value, Values, Options, Ies}
-use Rattle.aper_defs.specs.Values.{truth, number, enumeral, bits, octets, text, components, chosen, list, elements, message, no_values, value, no_options, absent, present, no_ies, ie}
-use Rattle.aper_defs.specs.Fields.{Path, Ask, flag, constrained, small, ie_id, pad, closing}
-use Rattle.aper_defs.specs.Fields as fields
-use Rattle.aper_defs.specs.Parts.{of_bits, of_octets, of_characters}
-use Rattle.aper_defs.specs.Questions.{Prog, done, ask, ask_aligned, ask_raw, ask_flags, ask_members, ask_raw_additions, ask_ies}
-use Rattle.aper_defs.specs.Asking.{ask_marks, asks, asks_whole, ask_components, ask_additions, ask_alternative, ask_added, ask_row, ask_body, ask_outcome}
-use Rattle.aper_loose_defs.specs.Sets.{AreOwnIds, IsSet, HasSets, EachSet, EachSetOfParts, EachSetOfRows, EachSetOfProcedures, EachSetOfOutcome}
-use Rattle.aper_proof_answers.proofs.NumberFacts.{by_cases, below, not_below, same, is_same}
-use Rattle.aper_proof_values.proofs.FoundElements.{IsNext, either_yes, either_no}
+use Rattle.aper_proof_loose.specs.aper_defs.Trees.{Tree, Parts, Rows, Procedures, Outcome, Slot, slots, slots_left, slots_before, slots_after, has_slot, mandatory_count, part_count}
+use Rattle.aper_proof_loose.specs.aper_defs.Trees.{boolean, integer, enumerated, bit_string, octet_string, printable_string, sequence, choice, sequence_of, container, pdu, no_parts, part, no_rows, row, no_procedures, procedure, no_outcome, outcome}
+use Rattle.aper_proof_loose.specs.aper_defs.Values.{Value, Values, Options, Ies}
+use Rattle.aper_proof_loose.specs.aper_defs.Values.{truth, number, enumeral, bits, octets, text, components, chosen, list, elements, message, no_values, value, no_options, absent, present, no_ies, ie}
+use Rattle.aper_proof_loose.specs.aper_defs.Fields.{Path, Ask, flag, constrained, small, ie_id, pad, closing}
+use Rattle.aper_proof_loose.specs.aper_defs.Fields as fields
+use Rattle.aper_proof_loose.specs.aper_defs.Parts.{of_bits, of_octets, of_characters}
+use Rattle.aper_proof_loose.specs.aper_defs.Questions.{Prog, done, ask, ask_aligned, ask_raw, ask_flags, ask_members, ask_raw_additions, ask_ies}
+use Rattle.aper_proof_loose.specs.aper_defs.Asking.{ask_marks, asks, asks_whole, ask_components, ask_additions, ask_alternative, ask_added, ask_row, ask_body, ask_outcome}
+use Rattle.aper_proof_loose.specs.aper_loose_defs.Sets.{AreOwnIds, IsSet, HasSets, EachSet, EachSetOfParts, EachSetOfRows, EachSetOfProcedures, EachSetOfOutcome}
+use Rattle.aper_proof_loose.proofs.aper_proof_answers.NumberFacts.{by_cases, below, not_below, same, is_same}
+use Rattle.aper_proof_loose.proofs.aper_proof_values.FoundElements.{IsNext, either_yes, either_no}
 use Rattle.aper_proof_alive.proofs.Alive.{Live, Always, always_ask, always_aligned, always_by, always_extension, always_integer, always_index, always_string, always_count, always_open, always_raw, always_marks}
 
 always_done : (v : Value) → Always (done v)

@@ -1,19 +1,19 @@
 -- What is so of the answers to a question, whatever octets they stand in.
 use Rattle.std.proofs.Common.{◌≡◌, ℕ, ◌*◌, ◌^◌, ◌<◌, ◌≤◌, ◌==◌, cond, true, Option, Ok, subst, arith}
 use Rattle.asn1_types.specs.declared.definition.Size.{Size}
-use Rattle.aper_defs.specs.Numbers.{signed_octets_for, signed_number}
-use Rattle.aper_defs.specs.Fields.{Ask, flag, constrained, digits, signed, small, extent, addition_bits, character, ie_count, ie_id, pad, opening, closing, end, whole, part}
-use Rattle.aper_defs.specs.Bits.{part_units}
-use Rattle.aper_defs.specs.Membership.{is_printable}
-use Rattle.aper_defs.specs.Reading.{Cursor, start_of, read}
-use Rattle.aper_proof_answers.proofs.NumberFacts.{by_cases}
-use Rattle.aper_proof_values.proofs.Found.{Answered, answer_read}
-use Rattle.aper_proof_values.proofs.FoundNumbers.{flag_read, pad_read, constrained_read, small_read, IsDigits, digits_read}
-use Rattle.aper_proof_values.proofs.FoundExtents.{IsLength, whole_read, opening_read, PartLength, last, more, part_read}
-use Rattle.aper_proof_values.proofs.FoundIndices.{IsOutside, signed_read}
-use Rattle.aper_proof_values.proofs.FoundStrings.{character_read}
-use Rattle.aper_proof_values.proofs.FoundElements.{SomeBits, bits_read, IsNext, id_read, count_read}
-use Rattle.aper_proof_values.proofs.FoundOpen.{end_read}
+use Rattle.aper_proof_loose.specs.aper_defs.Numbers.{signed_octets_for, signed_number}
+use Rattle.aper_proof_loose.specs.aper_defs.Fields.{Ask, flag, constrained, digits, signed, small, extent, addition_bits, character, ie_count, ie_id, pad, opening, closing, end, whole, part}
+use Rattle.aper_proof_loose.specs.aper_defs.Bits.{part_units}
+use Rattle.aper_proof_loose.specs.aper_defs.Membership.{is_printable}
+use Rattle.aper_proof_loose.specs.aper_defs.Reading.{Cursor, start_of, read}
+use Rattle.aper_proof_loose.proofs.aper_proof_answers.NumberFacts.{by_cases}
+use Rattle.aper_proof_loose.proofs.aper_proof_values.Found.{Answered, answer_read}
+use Rattle.aper_proof_loose.proofs.aper_proof_values.FoundNumbers.{flag_read, pad_read, constrained_read, small_read, IsDigits, digits_read}
+use Rattle.aper_proof_loose.proofs.aper_proof_values.FoundExtents.{IsLength, whole_read, opening_read, PartLength, last, more, part_read}
+use Rattle.aper_proof_loose.proofs.aper_proof_values.FoundIndices.{IsOutside, signed_read}
+use Rattle.aper_proof_loose.proofs.aper_proof_values.FoundStrings.{character_read}
+use Rattle.aper_proof_loose.proofs.aper_proof_values.FoundElements.{SomeBits, bits_read, IsNext, id_read, count_read}
+use Rattle.aper_proof_loose.proofs.aper_proof_values.FoundOpen.{end_read}
 
 -- the length of a part: the last one, or up to four times so many units, after a part of as many
 pub data IsPart (previous n : ℕ) : Type 0 where

@@ -1,10 +1,10 @@
 -- Fields that answer what is asked up to its end, whatever octets they stand in.
 use Rattle.std.proofs.Common.{◌≡◌, ℕ, ◌^◌, cond, Bool, true, false, List, [], ◌∷◌, ◌++◌, length, refl, sym, ap, subst, ◌∙◌, arith, append_assoc}
-use Rattle.aper_defs.specs.Values.{Value}
-use Rattle.aper_defs.specs.Fields.{Path, Ask, RunUnit, Field, pad, asked, run as run_field}
-use Rattle.aper_defs.specs.Bits.{unit_width}
-use Rattle.aper_defs.specs.Questions.{Prog, done, ask, take, ask_aligned}
-use Rattle.aper_proof_places.proofs.Placed.{AreBelow}
+use Rattle.aper_proof_loose.specs.aper_defs.Values.{Value}
+use Rattle.aper_proof_loose.specs.aper_defs.Fields.{Path, Ask, RunUnit, Field, pad, asked, run as run_field}
+use Rattle.aper_proof_loose.specs.aper_defs.Bits.{unit_width}
+use Rattle.aper_proof_loose.specs.aper_defs.Questions.{Prog, done, ask, take, ask_aligned}
+use Rattle.aper_proof_loose.proofs.aper_proof_places.Placed.{AreBelow}
 use Rattle.aper_proof_loose.proofs.Following.{IsAnswer}
 use Rattle.aper_proof_loose.proofs.Determined.{question_in, way_in, answer_in, unit_in, count_in, units_in, is_ask, not_both}
 use Rattle.aper_proof_alive.proofs.Allowed.{Allowed}

@@ -4,18 +4,18 @@ use Rattle.std.specs.Prelude.{ℤ, pos, ◌+ℤ◌, nat_le}
 use Rattle.std.specs.Int.Signed.{le_z}
 use Rattle.std.proofs.Math.Nat.{pow-le-pow_right}
 use Rattle.std.proofs.lemmas.Bool.Decides.{nat_tests}
-use Rattle.aper_defs.specs.Values.{Value}
-use Rattle.aper_defs.specs.Numbers.{bits_for, octets_for, unsigned_part, signed_octets_for, twos_complement, signed_number, is_signed, above}
-use Rattle.aper_defs.specs.Fields.{Path, Role, Ask, Field, flag, constrained, digits, signed, small, extent, character, pad, whole, part, bit, octet, asked, run as run_field}
-use Rattle.aper_defs.specs.Fields as fields
-use Rattle.aper_defs.specs.Parts.{large_fields, number_fields, extension_fields, index_fields}
-use Rattle.aper_defs.specs.Membership.{is_index_of}
-use Rattle.aper_defs.specs.Questions.{Prog, done, ask, ask_aligned, ask_large, ask_number, ask_extension, ask_integer, ask_integer_by, ask_index, ask_index_by}
-use Rattle.aper_proof_answers.proofs.NumberFacts.{is_below, is_not_below, is_at_most, octets_at_most}
-use Rattle.aper_proof_values.proofs.FoundNumbers.{IsDigits, octets_few, octets_unique}
-use Rattle.aper_proof_values.proofs.FoundIndices.{half, IsOctets, octets_again, extensible_is, in_its_range, index_fields_are}
-use Rattle.aper_proof_values.proofs.FoundElements.{bit_again}
-use Rattle.aper_loose_defs.specs.Forms.{integer_form, HasIntegerForm}
+use Rattle.aper_proof_alive.specs.aper_defs.Values.{Value}
+use Rattle.aper_proof_alive.specs.aper_defs.Numbers.{bits_for, octets_for, unsigned_part, signed_octets_for, twos_complement, signed_number, is_signed, above}
+use Rattle.aper_proof_alive.specs.aper_defs.Fields.{Path, Role, Ask, Field, flag, constrained, digits, signed, small, extent, character, pad, whole, part, bit, octet, asked, run as run_field}
+use Rattle.aper_proof_alive.specs.aper_defs.Fields as fields
+use Rattle.aper_proof_alive.specs.aper_defs.Parts.{large_fields, number_fields, extension_fields, index_fields}
+use Rattle.aper_proof_alive.specs.aper_defs.Membership.{is_index_of}
+use Rattle.aper_proof_alive.specs.aper_defs.Questions.{Prog, done, ask, ask_aligned, ask_large, ask_number, ask_extension, ask_integer, ask_integer_by, ask_index, ask_index_by}
+use Rattle.aper_proof_alive.proofs.aper_proof_answers.NumberFacts.{is_below, is_not_below, is_at_most, octets_at_most}
+use Rattle.aper_proof_alive.proofs.aper_proof_values.FoundNumbers.{IsDigits, octets_few, octets_unique}
+use Rattle.aper_proof_alive.proofs.aper_proof_values.FoundIndices.{half, IsOctets, octets_again, extensible_is, in_its_range, index_fields_are}
+use Rattle.aper_proof_alive.proofs.aper_proof_values.FoundElements.{bit_again}
+use Rattle.aper_proof_alive.specs.aper_loose_defs.Forms.{integer_form, HasIntegerForm}
 use Rattle.aper_proof_alive.proofs.Allowed.{Allowed, IsSigned}
 use Rattle.aper_proof_alive.proofs.Steps.{Steps, Parted, parted_none, parted_as, parted_then, parted_by, joined_is, parted_ask, parted_aligned}
 

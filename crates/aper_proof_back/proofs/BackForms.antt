@@ -2,25 +2,25 @@
 use Rattle.std.proofs.Common.{◌≡◌, ℕ, zero, suc, ◌+◌, ◌-◌, ◌<◌, ◌≤◌, ◌==◌, nat_lt, cond, Bool, true, false, List, [], ◌∷◌, ◌++◌, length, map, None, refl, sym, ap, subst, ◌∙◌, arith, append_assoc}
 use Rattle.bits_core.specs.Bits.{bits_of, number_of}
 use Rattle.bits_core.proofs.BitLemmas.{length-bits_of, number_is}
-use Rattle.aper_defs.specs.Trees.{Tree, Parts, Rows, Procedures, Outcome, Slot, slots, slots_left, mandatory_count, part_count}
-use Rattle.aper_defs.specs.Trees.{boolean, integer, enumerated, bit_string, octet_string, printable_string, sequence, choice, sequence_of, container, pdu, no_parts, part, no_rows, row, no_procedures, procedure, no_outcome, outcome}
-use Rattle.aper_defs.specs.Values.{Value, Values, Options, Ies, value_count, ie_count, presence, has_options}
-use Rattle.aper_defs.specs.Values.{truth, number, enumeral, bits, octets, text, components, chosen, list, elements, message, raw, no_values, value, no_options, absent, present, no_ies, ie}
-use Rattle.aper_defs.specs.Fields.{Path, Ask, Field, flag, constrained, small, extent, addition_bits, ie_id, pad, opening, closing, end, whole, octet, asked, run as run_field}
-use Rattle.aper_defs.specs.Fields as fields
-use Rattle.aper_defs.specs.Parts.{of_bits, of_octets, of_characters, extension_fields, index_fields}
-use Rattle.aper_defs.specs.Layouts.{flag_fields, mark_fields, message_head}
-use Rattle.aper_defs.specs.Membership.{Either, is_index_of}
-use Rattle.aper_defs.specs.Bounds.{IsBounded, ArePartsBounded, AreRowsBounded, AreProceduresBounded, IsOutcomeBounded}
-use Rattle.aper_defs.specs.Questions.{Prog, done, ask, take, ask_aligned, ask_open, ask_raw, ask_flags, ask_members, ask_raw_additions, ask_ies}
-use Rattle.aper_defs.specs.Asking.{ask_marks, asks, ask_components, ask_additions, ask_alternative, ask_added, ask_row, ask_body, ask_outcome}
-use Rattle.aper_proof_answers.proofs.NumberFacts.{is_below, is_not_below}
-use Rattle.aper_proof_places.proofs.Placed.{AreBelow}
-use Rattle.aper_proof_values.proofs.FoundOpen.{octets_so}
-use Rattle.aper_proof_values.proofs.FoundValues.{bit_so, bits_so}
-use Rattle.aper_proof_values.proofs.FoundElements.{either_yes, either_no, flags_of, AreThere, flags_are, bit_again, marks_of, marks_are, AreMarks, marks_some, SomeBits, additions_so, IsNext}
-use Rattle.aper_loose_defs.specs.Forms.{HasCountForm, count_form}
-use Rattle.aper_loose_defs.specs.Loose.{After, LooseOpen, LooseString, LooseRaw, LooseRawAdditions, LooseEach, LooseElements, Loose, LooseComponents, LooseAdditions, LooseAlternative, LooseAdded, LooseRow, LooseBody, LooseOutcome}
+use Rattle.aper_proof_alive.specs.aper_defs.Trees.{Tree, Parts, Rows, Procedures, Outcome, Slot, slots, slots_left, mandatory_count, part_count}
+use Rattle.aper_proof_alive.specs.aper_defs.Trees.{boolean, integer, enumerated, bit_string, octet_string, printable_string, sequence, choice, sequence_of, container, pdu, no_parts, part, no_rows, row, no_procedures, procedure, no_outcome, outcome}
+use Rattle.aper_proof_alive.specs.aper_defs.Values.{Value, Values, Options, Ies, value_count, ie_count, presence, has_options}
+use Rattle.aper_proof_alive.specs.aper_defs.Values.{truth, number, enumeral, bits, octets, text, components, chosen, list, elements, message, raw, no_values, value, no_options, absent, present, no_ies, ie}
+use Rattle.aper_proof_alive.specs.aper_defs.Fields.{Path, Ask, Field, flag, constrained, small, extent, addition_bits, ie_id, pad, opening, closing, end, whole, octet, asked, run as run_field}
+use Rattle.aper_proof_alive.specs.aper_defs.Fields as fields
+use Rattle.aper_proof_alive.specs.aper_defs.Parts.{of_bits, of_octets, of_characters, extension_fields, index_fields}
+use Rattle.aper_proof_alive.specs.aper_defs.Layouts.{flag_fields, mark_fields, message_head}
+use Rattle.aper_proof_alive.specs.aper_defs.Membership.{Either, is_index_of}
+use Rattle.aper_proof_alive.specs.aper_defs.Bounds.{IsBounded, ArePartsBounded, AreRowsBounded, AreProceduresBounded, IsOutcomeBounded}
+use Rattle.aper_proof_alive.specs.aper_defs.Questions.{Prog, done, ask, take, ask_aligned, ask_open, ask_raw, ask_flags, ask_members, ask_raw_additions, ask_ies}
+use Rattle.aper_proof_alive.specs.aper_defs.Asking.{ask_marks, asks, ask_components, ask_additions, ask_alternative, ask_added, ask_row, ask_body, ask_outcome}
+use Rattle.aper_proof_alive.proofs.aper_proof_answers.NumberFacts.{is_below, is_not_below}
+use Rattle.aper_proof_alive.proofs.aper_proof_places.Placed.{AreBelow}
+use Rattle.aper_proof_alive.proofs.aper_proof_values.FoundOpen.{octets_so}
+use Rattle.aper_proof_alive.proofs.aper_proof_values.FoundValues.{bit_so, bits_so}
+use Rattle.aper_proof_alive.proofs.aper_proof_values.FoundElements.{either_yes, either_no, flags_of, AreThere, flags_are, bit_again, marks_of, marks_are, AreMarks, marks_some, SomeBits, additions_so, IsNext}
+use Rattle.aper_proof_alive.specs.aper_loose_defs.Forms.{HasCountForm, count_form}
+use Rattle.aper_proof_alive.specs.aper_loose_defs.Loose.{After, LooseOpen, LooseString, LooseRaw, LooseRawAdditions, LooseEach, LooseElements, Loose, LooseComponents, LooseAdditions, LooseAlternative, LooseAdded, LooseRow, LooseBody, LooseOutcome}
 use Rattle.aper_proof_alive.proofs.Steps.{Steps, Parted, parted_none, parted_as, parted_then, joined_is, parted_ask, parted_take, parted_aligned}
 use Rattle.aper_proof_back.proofs.Back.{back_extension, back_integer, IsLooseInteger, back_index}
 use Rattle.aper_proof_back.proofs.BackStrings.{no_never, back_string, IsLooseString, back_count, IsLooseCount}

@@ -2,21 +2,21 @@
 use Rattle.std.proofs.Common.{◌≡◌, ℕ, zero, suc, ◌+◌, ◌-◌, ◌*◌, ◌/◌, ◌≤◌, ◌==◌, nat_lt, cond, ◌&&◌, Bool, true, false, List, [], ◌∷◌, ◌++◌, length, None, Some, Option, refl, sym, ap, subst, ◌∙◌, arith, append-nil, append_assoc}
 use Rattle.std.specs.List.{list_all}
 use Rattle.asn1_types.specs.declared.definition.Size.{Size}
-use Rattle.aper_defs.specs.Values.{Value}
-use Rattle.aper_defs.specs.Fields.{Path, Ask, Field, bit, octet, character, extent, pad, whole, part, asked, run as run_field}
-use Rattle.aper_defs.specs.Fields as fields
-use Rattle.aper_defs.specs.Bits.{part_units}
-use Rattle.aper_defs.specs.Parts.{Content, of_bits, of_octets, of_characters, unit_fields, pad_limit, in_size, part_of_fields, all_part_fields, sized_fields, extension_fields, number_fields}
-use Rattle.aper_defs.specs.Membership.{is_printable}
-use Rattle.aper_defs.specs.Bounds.{IsSizeBounded}
-use Rattle.aper_defs.specs.Questions.{Prog, done, ask, take, never, ask_units, ask_characters, ask_parts, ask_all_parts, turn_limit, ask_sized, ask_string, ask_string_by, ask_count, ask_count_by, ask_number}
-use Rattle.aper_proof_answers.proofs.NumberFacts.{is_below, is_not_below}
-use Rattle.aper_proof_places.proofs.Placed.{AreBelow}
-use Rattle.aper_proof_places.proofs.PlacedStrings.{AreUnits}
-use Rattle.aper_proof_values.proofs.FoundIndices.{extensible_is}
-use Rattle.aper_proof_values.proofs.FoundStrings.{whole_parts, last_fields, further_fields, in_the_root, units_joined}
-use Rattle.aper_loose_defs.specs.Forms.{string_form, HasStringForm, count_form, HasCountForm}
-use Rattle.aper_proof_loose.proofs.Determined.{is_ask}
+use Rattle.aper_proof_alive.specs.aper_defs.Values.{Value}
+use Rattle.aper_proof_alive.specs.aper_defs.Fields.{Path, Ask, Field, bit, octet, character, extent, pad, whole, part, asked, run as run_field}
+use Rattle.aper_proof_alive.specs.aper_defs.Fields as fields
+use Rattle.aper_proof_alive.specs.aper_defs.Bits.{part_units}
+use Rattle.aper_proof_alive.specs.aper_defs.Parts.{Content, of_bits, of_octets, of_characters, unit_fields, pad_limit, in_size, part_of_fields, all_part_fields, sized_fields, extension_fields, number_fields}
+use Rattle.aper_proof_alive.specs.aper_defs.Membership.{is_printable}
+use Rattle.aper_proof_alive.specs.aper_defs.Bounds.{IsSizeBounded}
+use Rattle.aper_proof_alive.specs.aper_defs.Questions.{Prog, done, ask, take, never, ask_units, ask_characters, ask_parts, ask_all_parts, turn_limit, ask_sized, ask_string, ask_string_by, ask_count, ask_count_by, ask_number}
+use Rattle.aper_proof_alive.proofs.aper_proof_answers.NumberFacts.{is_below, is_not_below}
+use Rattle.aper_proof_alive.proofs.aper_proof_places.Placed.{AreBelow}
+use Rattle.aper_proof_alive.proofs.aper_proof_places.PlacedStrings.{AreUnits}
+use Rattle.aper_proof_alive.proofs.aper_proof_values.FoundIndices.{extensible_is}
+use Rattle.aper_proof_alive.proofs.aper_proof_values.FoundStrings.{whole_parts, last_fields, further_fields, in_the_root, units_joined}
+use Rattle.aper_proof_alive.specs.aper_loose_defs.Forms.{string_form, HasStringForm, count_form, HasCountForm}
+use Rattle.aper_proof_alive.proofs.aper_proof_loose.Determined.{is_ask}
 use Rattle.aper_proof_alive.proofs.Allowed.{IsPart, few, full}
 use Rattle.aper_proof_alive.proofs.Steps.{Steps, Parted, parted_none, parted_as, parted_then, parted_by, joined_is, parted_ask, parted_take, parted_aligned}
 use Rattle.aper_proof_back.proofs.Back.{back_number, back_extension}

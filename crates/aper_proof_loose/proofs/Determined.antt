@@ -1,11 +1,11 @@
 -- What loose layouts that agree as far have next, and what the questions find there.
 use Rattle.std.proofs.Common.{◌≡◌, ℕ, ◌*◌, ◌≤◌, List, [], ◌∷◌, ◌++◌, length, None, Some, Option, Ok, Err, refl, sym, ap, subst, ◌∙◌, arith}
-use Rattle.aper_defs.specs.declared.reason.Reason.{Reason}
-use Rattle.aper_defs.specs.Fields.{Path, Ask, RunUnit, Field, flag, bit, asked, run as run_field}
-use Rattle.aper_defs.specs.Bits.{unit_width}
-use Rattle.aper_defs.specs.Questions.{Prog, done, ask, take, never}
-use Rattle.aper_defs.specs.Reading.{Cursor, bit_limit, passes, asked_width, answered_at, moved_by, after_field, goes_on, read, read_units, units_within, run}
-use Rattle.aper_proof_answers.proofs.Standing.{answered, taken}
+use Rattle.aper_proof_values.specs.aper_defs.declared.reason.Reason.{Reason}
+use Rattle.aper_proof_values.specs.aper_defs.Fields.{Path, Ask, RunUnit, Field, flag, bit, asked, run as run_field}
+use Rattle.aper_proof_values.specs.aper_defs.Bits.{unit_width}
+use Rattle.aper_proof_values.specs.aper_defs.Questions.{Prog, done, ask, take, never}
+use Rattle.aper_proof_values.specs.aper_defs.Reading.{Cursor, bit_limit, passes, asked_width, answered_at, moved_by, after_field, goes_on, read, read_units, units_within, run}
+use Rattle.aper_proof_values.proofs.aper_proof_answers.Standing.{answered, taken}
 use Rattle.aper_proof_values.proofs.Found.{Answered, answer_read, taken_limit}
 use Rattle.aper_proof_values.proofs.FoundBits.{written}
 use Rattle.aper_loose_defs.specs.Wrong.{Agrees, AllAgree, place_after, IsWrongFor, way_of, AreOfKind}

@@ -2,21 +2,21 @@
 use Rattle.std.proofs.Common.{◌≡◌, ℕ, zero, suc, ◌+◌, ◌-◌, ◌≤◌, Bool, true, false, cond, ◌==◌, nat_lt, List, [], ◌∷◌, ◌++◌, length, map, None, refl, sym, ap, ◌∙◌, arith}
 use Rattle.bits_core.specs.Bits.{bit_value, bits_of, number_of}
 use Rattle.bits_core.proofs.BitLemmas.{bits_of-number_of}
-use Rattle.aper_defs.specs.Trees.{Tree, Parts, Rows, Procedures, Outcome, Slot, slots, slots_left, mandatory_count, part_count}
-use Rattle.aper_defs.specs.Trees.{boolean, integer, enumerated, bit_string, octet_string, printable_string, sequence, choice, sequence_of, container, pdu, no_parts, part, no_rows, row, no_procedures, procedure, no_outcome, outcome}
-use Rattle.aper_defs.specs.Values.{Value, Values, Options, Ies, value_count, ie_count, presence, has_options}
-use Rattle.aper_defs.specs.Values.{truth, number, enumeral, bits, octets, text, components, chosen, list, elements, message, raw, no_values, value, no_options, absent, present, no_ies, ie}
-use Rattle.aper_defs.specs.Fields.{Path, Ask, Field, flag, constrained, small, extent, addition_bits, ie_id, pad, opening, closing, end, whole, octet, asked, run as run_field}
-use Rattle.aper_defs.specs.Fields as fields
-use Rattle.aper_defs.specs.Parts.{of_bits, of_octets, of_characters, extension_fields, index_fields}
-use Rattle.aper_defs.specs.Layouts.{raw_fields, flag_fields, mark_fields, message_head}
-use Rattle.aper_defs.specs.Membership.{Either}
-use Rattle.aper_defs.specs.Questions.{Prog, ask, ask_aligned, ask_extension, ask_index, ask_open, ask_raw, ask_flags, ask_members, ask_raw_additions, ask_ies}
-use Rattle.aper_defs.specs.Questions as questions
-use Rattle.aper_defs.specs.Asking.{ask_marks, asks, ask_components, ask_additions, ask_alternative, ask_added, ask_row, ask_body, ask_outcome}
-use Rattle.aper_defs.specs.Reading.{Cursor}
-use Rattle.aper_proof_answers.proofs.NumberFacts.{not_below}
-use Rattle.aper_proof_answers.proofs.Forth.{bit_again, bits_again, there, ask_message, not_extended}
+use Rattle.aper_proof_values.specs.aper_defs.Trees.{Tree, Parts, Rows, Procedures, Outcome, Slot, slots, slots_left, mandatory_count, part_count}
+use Rattle.aper_proof_values.specs.aper_defs.Trees.{boolean, integer, enumerated, bit_string, octet_string, printable_string, sequence, choice, sequence_of, container, pdu, no_parts, part, no_rows, row, no_procedures, procedure, no_outcome, outcome}
+use Rattle.aper_proof_values.specs.aper_defs.Values.{Value, Values, Options, Ies, value_count, ie_count, presence, has_options}
+use Rattle.aper_proof_values.specs.aper_defs.Values.{truth, number, enumeral, bits, octets, text, components, chosen, list, elements, message, raw, no_values, value, no_options, absent, present, no_ies, ie}
+use Rattle.aper_proof_values.specs.aper_defs.Fields.{Path, Ask, Field, flag, constrained, small, extent, addition_bits, ie_id, pad, opening, closing, end, whole, octet, asked, run as run_field}
+use Rattle.aper_proof_values.specs.aper_defs.Fields as fields
+use Rattle.aper_proof_values.specs.aper_defs.Parts.{of_bits, of_octets, of_characters, extension_fields, index_fields}
+use Rattle.aper_proof_values.specs.aper_defs.Layouts.{raw_fields, flag_fields, mark_fields, message_head}
+use Rattle.aper_proof_values.specs.aper_defs.Membership.{Either}
+use Rattle.aper_proof_values.specs.aper_defs.Questions.{Prog, ask, ask_aligned, ask_extension, ask_index, ask_open, ask_raw, ask_flags, ask_members, ask_raw_additions, ask_ies}
+use Rattle.aper_proof_values.specs.aper_defs.Questions as questions
+use Rattle.aper_proof_values.specs.aper_defs.Asking.{ask_marks, asks, ask_components, ask_additions, ask_alternative, ask_added, ask_row, ask_body, ask_outcome}
+use Rattle.aper_proof_values.specs.aper_defs.Reading.{Cursor}
+use Rattle.aper_proof_values.proofs.aper_proof_answers.NumberFacts.{not_below}
+use Rattle.aper_proof_values.proofs.aper_proof_answers.Forth.{bit_again, bits_again, there, ask_message, not_extended}
 use Rattle.aper_loose_defs.specs.Forms.{count_form}
 use Rattle.aper_loose_defs.specs.Loose.{After, Joined, closed_by, LooseOpen, LooseRaw, LooseRawAdditions, LooseEach, LooseElements, Loose, LooseComponents, LooseAdditions, LooseAlternative, LooseAdded, LooseRow, LooseBody, LooseOutcome}
 use Rattle.aper_loose_defs.specs.Wrong.{place_after}

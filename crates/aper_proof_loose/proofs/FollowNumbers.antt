@@ -2,15 +2,15 @@
 use Rattle.std.proofs.Common.{◌≡◌, ℕ, ◌+◌, ◌-◌, ◌≤◌, Bool, true, false, cond, ◌==◌, nat_lt, List, [], ◌∷◌, ◌++◌, None, refl, sym, ap, arith}
 use Rattle.std.specs.Prelude.{ℤ, pos, ◌+ℤ◌, nat_le}
 use Rattle.std.proofs.lemmas.Bool.Decides.{nat_tests}
-use Rattle.aper_defs.specs.Numbers.{bits_for, octets_for, signed_octets_for, twos_complement, signed_number, is_signed, above}
-use Rattle.aper_defs.specs.Fields.{Path, Role, Ask, Field, flag, constrained, digits, signed, small, extent, pad, whole, asked}
-use Rattle.aper_defs.specs.Fields as fields
-use Rattle.aper_defs.specs.Parts.{large_fields, number_fields, extension_fields, index_fields}
-use Rattle.aper_defs.specs.Membership.{is_index_of}
-use Rattle.aper_defs.specs.Questions.{Prog, ask, ask_aligned, ask_large, ask_number, ask_extension, ask_integer, ask_integer_by, ask_index, ask_index_by}
-use Rattle.aper_defs.specs.Reading.{Cursor}
-use Rattle.aper_proof_answers.proofs.NumberFacts.{by_cases, below, not_below, same, octets_positive, above_again, above_at_most, in_range_low, signed_again, signed_part_fits, signed_octets_positive}
-use Rattle.aper_proof_answers.proofs.ForthStrings.{past_size}
+use Rattle.aper_proof_values.specs.aper_defs.Numbers.{bits_for, octets_for, signed_octets_for, twos_complement, signed_number, is_signed, above}
+use Rattle.aper_proof_values.specs.aper_defs.Fields.{Path, Role, Ask, Field, flag, constrained, digits, signed, small, extent, pad, whole, asked}
+use Rattle.aper_proof_values.specs.aper_defs.Fields as fields
+use Rattle.aper_proof_values.specs.aper_defs.Parts.{large_fields, number_fields, extension_fields, index_fields}
+use Rattle.aper_proof_values.specs.aper_defs.Membership.{is_index_of}
+use Rattle.aper_proof_values.specs.aper_defs.Questions.{Prog, ask, ask_aligned, ask_large, ask_number, ask_extension, ask_integer, ask_integer_by, ask_index, ask_index_by}
+use Rattle.aper_proof_values.specs.aper_defs.Reading.{Cursor}
+use Rattle.aper_proof_values.proofs.aper_proof_answers.NumberFacts.{by_cases, below, not_below, same, octets_positive, above_again, above_at_most, in_range_low, signed_again, signed_part_fits, signed_octets_positive}
+use Rattle.aper_proof_values.proofs.aper_proof_answers.ForthStrings.{past_size}
 use Rattle.aper_loose_defs.specs.Forms.{integer_form, HasIntegerForm}
 use Rattle.aper_loose_defs.specs.Wrong.{place_after}
 use Rattle.aper_proof_loose.proofs.Following.{Follow, both, nothing, asked_so, asks_on, one, then_on, by_test}

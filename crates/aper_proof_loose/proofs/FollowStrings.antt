@@ -2,14 +2,14 @@
 use Rattle.std.proofs.Common.{◌≡◌, ℕ, zero, suc, ◌+◌, ◌-◌, ◌*◌, ◌/◌, ◌<◌, ◌≤◌, Bool, true, false, cond, ◌==◌, nat_lt, List, [], ◌∷◌, ◌++◌, length, map, take, drop, None, Some, Option, refl, ap, ◌∙◌, arith}
 use Rattle.std.proofs.lemmas.List.{length-take, length-drop, take-append-drop}
 use Rattle.asn1_types.specs.declared.definition.Size.{Size}
-use Rattle.aper_defs.specs.Fields.{Path, Ask, Field, bit, octet, character, extent, pad, whole, part, asked}
-use Rattle.aper_defs.specs.Fields as fields
-use Rattle.aper_defs.specs.Bits.{part_units}
-use Rattle.aper_defs.specs.Parts.{Content, of_bits, of_octets, of_characters, unit_fields, pad_limit, in_size, part_of_fields, next_part, part_fields, all_part_fields, sized_fields, extension_fields, number_fields}
-use Rattle.aper_defs.specs.Questions.{Prog, ask, ask_units, ask_characters, ask_parts, ask_all_parts, turn_limit, ask_sized, ask_string, ask_string_by, ask_count, ask_count_by, ask_number}
-use Rattle.aper_defs.specs.Reading.{Cursor, bit_limit, answered_at}
-use Rattle.aper_proof_answers.proofs.NumberFacts.{by_cases, below, not_below, is_below, is_not_below}
-use Rattle.aper_proof_answers.proofs.ForthStrings.{next_some, fixed_size, from_low}
+use Rattle.aper_proof_values.specs.aper_defs.Fields.{Path, Ask, Field, bit, octet, character, extent, pad, whole, part, asked}
+use Rattle.aper_proof_values.specs.aper_defs.Fields as fields
+use Rattle.aper_proof_values.specs.aper_defs.Bits.{part_units}
+use Rattle.aper_proof_values.specs.aper_defs.Parts.{Content, of_bits, of_octets, of_characters, unit_fields, pad_limit, in_size, part_of_fields, next_part, part_fields, all_part_fields, sized_fields, extension_fields, number_fields}
+use Rattle.aper_proof_values.specs.aper_defs.Questions.{Prog, ask, ask_units, ask_characters, ask_parts, ask_all_parts, turn_limit, ask_sized, ask_string, ask_string_by, ask_count, ask_count_by, ask_number}
+use Rattle.aper_proof_values.specs.aper_defs.Reading.{Cursor, bit_limit, answered_at}
+use Rattle.aper_proof_values.proofs.aper_proof_answers.NumberFacts.{by_cases, below, not_below, is_below, is_not_below}
+use Rattle.aper_proof_values.proofs.aper_proof_answers.ForthStrings.{next_some, fixed_size, from_low}
 use Rattle.aper_loose_defs.specs.Forms.{string_form, HasStringForm, count_form, HasCountForm}
 use Rattle.aper_loose_defs.specs.Wrong.{place_after}
 use Rattle.aper_proof_loose.proofs.Following.{Follow, both, nothing, asked_so, asks_on, then_on, taken, by_test}

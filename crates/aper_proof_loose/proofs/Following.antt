@@ -1,8 +1,8 @@
 -- Fields that answer what is asked, one after another, as far as they agree with the octets from a place on.
 use Rattle.std.proofs.Common.{◌≡◌, ℕ, ◌≤◌, cond, List, [], ◌∷◌, ◌++◌, length, Bool, true, false, refl, sym, subst}
-use Rattle.aper_defs.specs.Fields.{Path, Ask, RunUnit, Field, asked, run as run_field}
-use Rattle.aper_defs.specs.Questions.{Prog, ask, take}
-use Rattle.aper_defs.specs.Reading.{Cursor, bit_limit, after_field}
+use Rattle.aper_proof_values.specs.aper_defs.Fields.{Path, Ask, RunUnit, Field, asked, run as run_field}
+use Rattle.aper_proof_values.specs.aper_defs.Questions.{Prog, ask, take}
+use Rattle.aper_proof_values.specs.aper_defs.Reading.{Cursor, bit_limit, after_field}
 use Rattle.aper_loose_defs.specs.Wrong.{Agrees, AllAgree, place_after}
 
 -- this field is an answer to what is asked first, and this is so of what is asked then

@@ -6,17 +6,17 @@ use Rattle.asn1_types.specs.declared.definition.TypeId.{TypeId}
 use Rattle.asn1_types.specs.declared.definition.Component.{Component}
 use Rattle.asn1_assignments.specs.declared.assignment.IeRow.{IeRow}
 use Rattle.asn1_assignments.specs.declared.assignment.ProcedureRow.{ProcedureRow}
-use Rattle.aper_defs.specs.Trees.{Tree, Procedures, choice, pdu}
-use Rattle.aper_defs.specs.Values.{Value, chosen, message}
-use Rattle.aper_defs.specs.Fields.{Path, Field, asked, flag, small}
-use Rattle.aper_defs.specs.Fields as fields
-use Rattle.aper_defs.specs.Bits.{open_fields}
-use Rattle.aper_defs.specs.Parts.{index_fields}
-use Rattle.aper_defs.specs.Layouts.{layout, raw_fields, alternative_fields, added_fields, row_fields, body_fields, outcome_fields, message_head}
-use Rattle.aper_defs.specs.Membership.{Has, HasAlternative, HasAdded, HasRow, HasBody, HasOutcome, FitsOpen, IsRaw, Either, is_index_of}
-use Rattle.aper_proof_answers.proofs.NumberFacts.{by_cases, is_below, is_not_below}
+use Rattle.aper_measuring.specs.aper_defs.Trees.{Tree, Procedures, choice, pdu}
+use Rattle.aper_measuring.specs.aper_defs.Values.{Value, chosen, message}
+use Rattle.aper_measuring.specs.aper_defs.Fields.{Path, Field, asked, flag, small}
+use Rattle.aper_measuring.specs.aper_defs.Fields as fields
+use Rattle.aper_measuring.specs.aper_defs.Bits.{open_fields}
+use Rattle.aper_measuring.specs.aper_defs.Parts.{index_fields}
+use Rattle.aper_measuring.specs.aper_defs.Layouts.{layout, raw_fields, alternative_fields, added_fields, row_fields, body_fields, outcome_fields, message_head}
+use Rattle.aper_measuring.specs.aper_defs.Membership.{Has, HasAlternative, HasAdded, HasRow, HasBody, HasOutcome, FitsOpen, IsRaw, Either, is_index_of}
+use Rattle.aper_measuring.proofs.aper_proof_answers.NumberFacts.{by_cases, is_below, is_not_below}
 use Rattle.aper_measuring.specs.aper_types.Types.{parts_of, rows_of, outcome_of, procedures_of}
-use Rattle.aper_widths.specs.Ends.{passed, Ends}
+use Rattle.aper_measuring.specs.aper_widths.Ends.{passed, Ends}
 use Rattle.aper_measuring.specs.aper_members.Rows.{row_type, outcome_type, message_type}
 use Rattle.aper_measuring.proofs.aper_members.ChoiceLemmas.{parts_count}
 use Rattle.aper_measuring.specs.Measured.{Measured, ValueMeasured, RawMeasured, InsideMeasured}

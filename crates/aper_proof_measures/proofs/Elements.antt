@@ -2,19 +2,19 @@
 use Rattle.std.proofs.Common.{◌≡◌, ℕ, ◌<◌, ◌≤◌, nat_lt, true, List, [], ◌∷◌, ◌++◌, Option, Some, None, refl, sym, subst, arith}
 use Rattle.bits_core.specs.Bits.{pad_of}
 use Rattle.asn1_assignments.specs.declared.assignment.IeRow.{IeRow}
-use Rattle.aper_defs.specs.Trees.{Tree, Slot, slots, slots_left, mandatory_count, container}
-use Rattle.aper_defs.specs.Values.{Ies, elements, ie_count}
-use Rattle.aper_defs.specs.Fields.{Path, Field, asked, pad, ie_id, constrained}
-use Rattle.aper_defs.specs.Fields as fields
-use Rattle.aper_defs.specs.Layouts.{layout, row_fields, ie_fields}
-use Rattle.aper_defs.specs.Membership.{Has, HasRow, AreElements, IsInOrder}
-use Rattle.aper_proof_answers.proofs.NumberFacts.{below}
+use Rattle.aper_measuring.specs.aper_defs.Trees.{Tree, Slot, slots, slots_left, mandatory_count, container}
+use Rattle.aper_measuring.specs.aper_defs.Values.{Ies, elements, ie_count}
+use Rattle.aper_measuring.specs.aper_defs.Fields.{Path, Field, asked, pad, ie_id, constrained}
+use Rattle.aper_measuring.specs.aper_defs.Fields as fields
+use Rattle.aper_measuring.specs.aper_defs.Layouts.{layout, row_fields, ie_fields}
+use Rattle.aper_measuring.specs.aper_defs.Membership.{Has, HasRow, AreElements, IsInOrder}
+use Rattle.aper_measuring.proofs.aper_proof_answers.NumberFacts.{below}
 use Rattle.aper_measuring.specs.aper_types.Types.{rows_of}
-use Rattle.aper_values.specs.declared.value.Value.{Value}
-use Rattle.aper_values.specs.declared.value.Element.{Element}
-use Rattle.aper_values.specs.Views.{view, ies_view}
-use Rattle.aper_widths.specs.Ends.{passed, end_of, Ends}
-use Rattle.aper_widths.proofs.EndLemmas.{ends_both}
+use Rattle.aper_measuring.specs.aper_values.declared.value.Value.{Value}
+use Rattle.aper_measuring.specs.aper_values.declared.value.Element.{Element}
+use Rattle.aper_measuring.specs.aper_values.Views.{view, ies_view}
+use Rattle.aper_measuring.specs.aper_widths.Ends.{passed, end_of, Ends}
+use Rattle.aper_measuring.proofs.aper_widths.EndLemmas.{ends_both}
 use Rattle.aper_measuring.specs.aper_members.Rows.{row_type}
 use Rattle.aper_measuring.specs.Measured.{Measured, ValueMeasured, InsideMeasured, ElementsMeasured}
 use Rattle.aper_measuring.specs.Order.{LeavesRows}

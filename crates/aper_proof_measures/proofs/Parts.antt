@@ -2,17 +2,17 @@
 use Rattle.std.proofs.Common.{◌≡◌, ℕ, zero, suc, ◌+◌, ◌-◌, ◌<◌, ◌≤◌, Bool, true, false, List, [], ◌∷◌, length, drop, get_or, Option, Some, None, sym, subst, arith}
 use Rattle.std.proofs.lemmas.List.{drop_all}
 use Rattle.asn1_types.specs.declared.definition.Component.{Component}
-use Rattle.aper_defs.specs.Trees.{Tree, choice}
-use Rattle.aper_defs.specs.Values.{Value, chosen}
-use Rattle.aper_defs.specs.Fields.{Path}
-use Rattle.aper_defs.specs.Fields as fields
-use Rattle.aper_defs.specs.Parts.{index_fields}
-use Rattle.aper_defs.specs.Layouts.{added_fields}
-use Rattle.aper_defs.specs.Membership.{HasAdded, is_index_of}
+use Rattle.aper_measuring.specs.aper_defs.Trees.{Tree, choice}
+use Rattle.aper_measuring.specs.aper_defs.Values.{Value, chosen}
+use Rattle.aper_measuring.specs.aper_defs.Fields.{Path}
+use Rattle.aper_measuring.specs.aper_defs.Fields as fields
+use Rattle.aper_measuring.specs.aper_defs.Parts.{index_fields}
+use Rattle.aper_measuring.specs.aper_defs.Layouts.{added_fields}
+use Rattle.aper_measuring.specs.aper_defs.Membership.{HasAdded, is_index_of}
 use Rattle.aper_measuring.specs.aper_types.Types.{parts_of}
-use Rattle.aper_values.specs.declared.value.Value.{Value as CodeValue}
-use Rattle.aper_values.specs.Views.{view}
-use Rattle.aper_widths.specs.Ends.{Ends}
+use Rattle.aper_measuring.specs.aper_values.declared.value.Value.{Value as CodeValue}
+use Rattle.aper_measuring.specs.aper_values.Views.{view}
+use Rattle.aper_measuring.specs.aper_widths.Ends.{Ends}
 use Rattle.aper_measuring.proofs.aper_members.Turns.{item_at}
 use Rattle.aper_measuring.specs.Measured.{Measured, ValueMeasured, InsideMeasured, ComponentsMeasured, AdditionsMeasured}
 use Rattle.aper_proof_measures.proofs.Turns.{open_at, raw_at, component_absent, component_missing, component_present, component_wrong, components_none, components_count, addition_present, addition_wrong, unknown_present, unknown_wrong, addition_absent, unknown_absent, additions_none}

@@ -2,19 +2,19 @@
 use Rattle.std.proofs.Common.{◌≡◌, ℕ, suc, Bool, true, false, List, [], ◌∷◌, ◌++◌, length, Option, Some, None, refl, ap}
 use Rattle.asn1_types.specs.declared.definition.Size.{Size}
 use Rattle.asn1_types.specs.declared.definition.Component.{Component}
-use Rattle.aper_defs.specs.Trees.{Tree, sequence, sequence_of}
-use Rattle.aper_defs.specs.Values.{Value, components, list, value_count, each_from, has_options}
-use Rattle.aper_defs.specs.Fields.{Path, Field}
-use Rattle.aper_defs.specs.Fields as fields
-use Rattle.aper_defs.specs.Bits.{open_fields}
-use Rattle.aper_defs.specs.Parts.{extension_fields, count_fields}
-use Rattle.aper_defs.specs.Layouts.{layout, raw_fields, raw_additions, flag_fields, mark_fields, component_fields, addition_fields}
-use Rattle.aper_defs.specs.Membership.{Has, HasComponents, HasAdditions, AreAdditions, FitsOpen, IsRaw, AreRaw, EachFrom, is_count_of}
+use Rattle.aper_measuring.specs.aper_defs.Trees.{Tree, sequence, sequence_of}
+use Rattle.aper_measuring.specs.aper_defs.Values.{Value, components, list, value_count, each_from, has_options}
+use Rattle.aper_measuring.specs.aper_defs.Fields.{Path, Field}
+use Rattle.aper_measuring.specs.aper_defs.Fields as fields
+use Rattle.aper_measuring.specs.aper_defs.Bits.{open_fields}
+use Rattle.aper_measuring.specs.aper_defs.Parts.{extension_fields, count_fields}
+use Rattle.aper_measuring.specs.aper_defs.Layouts.{layout, raw_fields, raw_additions, flag_fields, mark_fields, component_fields, addition_fields}
+use Rattle.aper_measuring.specs.aper_defs.Membership.{Has, HasComponents, HasAdditions, AreAdditions, FitsOpen, IsRaw, AreRaw, EachFrom, is_count_of}
 use Rattle.aper_measuring.specs.aper_types.Types.{parts_of}
-use Rattle.aper_values.specs.declared.value.Value.{Value as CodeValue}
-use Rattle.aper_values.specs.Views.{view, values_view, options_view}
-use Rattle.aper_widths.specs.Ends.{end_of, passed, Ends}
-use Rattle.aper_widths.proofs.EndLemmas.{ends_both, ends_at}
+use Rattle.aper_measuring.specs.aper_values.declared.value.Value.{Value as CodeValue}
+use Rattle.aper_measuring.specs.aper_values.Views.{view, values_view, options_view}
+use Rattle.aper_measuring.specs.aper_widths.Ends.{end_of, passed, Ends}
+use Rattle.aper_measuring.proofs.aper_widths.EndLemmas.{ends_both, ends_at}
 use Rattle.aper_measuring.specs.Heads.{optional_count}
 use Rattle.aper_measuring.specs.Measured.{Measured, ValueMeasured, Fitted, OpenMeasured, RawMeasured, ComponentsMeasured, AdditionsMeasured, MembersMeasured}
 use Rattle.aper_measuring.proofs.HeadLemmas.{flags_end}

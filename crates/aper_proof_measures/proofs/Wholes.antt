@@ -5,20 +5,20 @@ use Rattle.asn1_types.specs.declared.definition.TypeId.{TypeId}
 use Rattle.asn1_types.specs.declared.definition.Size.{Size}
 use Rattle.asn1_assignments.specs.declared.assignment.IeRow.{IeRow}
 use Rattle.asn1_assignments.specs.declared.assignment.ProcedureRow.{ProcedureRow}
-use Rattle.aper_defs.specs.Trees.{Tree, sequence_of, container, pdu}
-use Rattle.aper_defs.specs.Values.{Value, list, elements, message, value_count}
-use Rattle.aper_defs.specs.Fields.{Path, Field}
-use Rattle.aper_defs.specs.Bits.{closed, octet_count}
-use Rattle.aper_defs.specs.Parts.{count_fields}
-use Rattle.aper_defs.specs.Layouts.{layout}
-use Rattle.aper_defs.specs.Membership.{is_count_of}
-use Rattle.aper_defs.specs.Spelling.{whole_layout}
+use Rattle.aper_measuring.specs.aper_defs.Trees.{Tree, sequence_of, container, pdu}
+use Rattle.aper_measuring.specs.aper_defs.Values.{Value, list, elements, message, value_count}
+use Rattle.aper_measuring.specs.aper_defs.Fields.{Path, Field}
+use Rattle.aper_measuring.specs.aper_defs.Bits.{closed, octet_count}
+use Rattle.aper_measuring.specs.aper_defs.Parts.{count_fields}
+use Rattle.aper_measuring.specs.aper_defs.Layouts.{layout}
+use Rattle.aper_measuring.specs.aper_defs.Membership.{is_count_of}
+use Rattle.aper_measuring.specs.aper_defs.Spelling.{whole_layout}
 use Rattle.aper_measuring.specs.aper_types.Types.{rows_of, procedures_of}
-use Rattle.aper_values.specs.declared.value.Value.{Value as CodeValue}
-use Rattle.aper_values.specs.declared.value.Element.{Element}
-use Rattle.aper_values.specs.Views.{values_view, ies_view}
-use Rattle.aper_widths.specs.Ends.{passed, end_of, Ends}
-use Rattle.aper_widths.proofs.EndLemmas.{ends_at}
+use Rattle.aper_measuring.specs.aper_values.declared.value.Value.{Value as CodeValue}
+use Rattle.aper_measuring.specs.aper_values.declared.value.Element.{Element}
+use Rattle.aper_measuring.specs.aper_values.Views.{values_view, ies_view}
+use Rattle.aper_measuring.specs.aper_widths.Ends.{passed, end_of, Ends}
+use Rattle.aper_measuring.proofs.aper_widths.EndLemmas.{ends_at}
 use Rattle.aper_measuring.specs.aper_members.Rows.{message_type}
 use Rattle.aper_measuring.specs.Measured.{ValueMeasured, RawMeasured, InsideMeasured, MembersMeasured, ElementsMeasured}
 use Rattle.aper_proof_measures.proofs.Turns.{list_measured, list_wrong}

@@ -11,7 +11,7 @@ use Rattle.aper_octet_defs.specs.aper_defs.Membership.{Has}
 use Rattle.aper_octet_defs.specs.aper_defs.Bounds.{IsBounded}
 use Rattle.aper_octet_defs.specs.aper_defs.Spelling.{Spells, spelling_limit, whole_layout}
 use Rattle.aper_octet_defs.specs.aper_defs.Reading.{Fault, decoded}
-use Rattle.aper_proof_places.proofs.Opened.{closing_is, octets_are}
+use Rattle.aper_proof_values.proofs.aper_proof_places.Opened.{closing_is, octets_are}
 use Rattle.aper_proof_values.proofs.FoundWhole.{decoded_spells}
 use Rattle.aper_proof_spelled.proofs.Spelled.{whole_size, spelled_decoded}
 use Rattle.aper_octet_defs.specs.SameValues.{same_value}

@@ -12,8 +12,8 @@ use Rattle.aper_defs.specs.Bits.{unit_width}
 use Rattle.aper_defs.specs.Questions.{Prog, done, ask, never}
 use Rattle.aper_defs.specs.Questions as questions
 use Rattle.aper_defs.specs.Reading.{Cursor, Fault, bits_at, is_within, bit_limit, passes, told_width, asked_width, judged, answered, answer_of, read, read_within, read_units, units_within, answered_at, moved_by, goes_on, run}
-use Rattle.aper_proof_answers.proofs.NumberFacts.{by_cases, below, not_below, is_below}
-use Rattle.aper_proof_places.proofs.Placed.{Room, room_passes, within_less}
+use Rattle.aper_proof_values.proofs.aper_proof_answers.NumberFacts.{by_cases, below, not_below, is_below}
+use Rattle.aper_proof_values.proofs.aper_proof_places.Placed.{Room, room_passes, within_less}
 use Rattle.aper_proof_values.proofs.Found.{taken_size, taken_limit}
 use Rattle.aper_proof_pieces.specs.Onto.{onto, StillRefused}
 

@@ -2,8 +2,8 @@
 use Rattle.std.proofs.Common.{◌≡◌, ℕ, ◌+◌, ◌*◌, ◌%◌, ◌/◌, ◌==◌, cond, Bool, List, [], ◌∷◌, ◌++◌, length, refl, sym, ap, ◌∙◌, arith, append_assoc, append-nil}
 use Rattle.std.specs.List.{flat_map}
 use Rattle.std.proofs.lemmas.List.{length-append}
-use Rattle.bits_core.specs.Bits.{bits_of, pad_of}
-use Rattle.bits_core.proofs.BitLemmas.{length-bits_of}
+use Rattle.aper_proof_answers.specs.bits_core.Bits.{bits_of, pad_of}
+use Rattle.aper_proof_answers.proofs.bits_core.BitLemmas.{length-bits_of}
 use Rattle.aper_proof_answers.specs.aper_defs.Fields.{Ask, Field, flag, constrained, digits, signed, small, extent, addition_bits, character, ie_count, ie_id, pad, opening, closing, end, asked, run as run_field}
 use Rattle.aper_proof_answers.specs.aper_defs.Bits.{width_at, spelled, unit_width, field_bits, put, put_all}
 

@@ -3,7 +3,7 @@ use Rattle.std.proofs.Common.{◌≡◌, ℕ, ◌+◌, ◌-◌, ◌*◌, ◌%◌
 use Rattle.std.specs.Prelude.{nat_le}
 use Rattle.std.proofs.lemmas.Bool.Decides.{nat_tests}
 use Rattle.aper_proof_answers.specs.asn1_types.declared.definition.Size.{Size}
-use Rattle.bits_core.specs.Bits.{bits_of}
+use Rattle.aper_proof_answers.specs.bits_core.Bits.{bits_of}
 use Rattle.aper_proof_answers.specs.aper_defs.declared.reason.Reason.{Reason}
 use Rattle.aper_proof_answers.specs.aper_defs.declared.reason.Reason.TheVariants as reasons
 use Rattle.aper_proof_answers.specs.aper_defs.Fields.{extent, opening, whole, part}

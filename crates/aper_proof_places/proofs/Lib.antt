@@ -6,3 +6,4 @@ pub mod PlacedNumbers
 pub mod PlacedStrings
 pub mod PlacedAll
 pub use Rattle.aper_proof_answers.proofs as aper_proof_answers
+pub use Rattle.aper_proof_answers.proofs.bits_core as bits_core

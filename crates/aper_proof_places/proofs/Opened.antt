@@ -2,8 +2,8 @@
 use Rattle.std.proofs.Common.{◌≡◌, ℕ, ◌+◌, ◌*◌, ◌%◌, ◌≤◌, ◌==◌, nat_lt, cond, ◌&&◌, Bool, true, false, List, [], ◌∷◌, ◌++◌, length, Ok, refl, sym, ap, subst, ◌∙◌, arith, append_assoc}
 use Rattle.std.proofs.lemmas.Bool.Decides.{nat_tests}
 use Rattle.std.proofs.lemmas.Nat.{pow_pos}
-use Rattle.bits_core.specs.Bits.{bits_of, pad_of}
-use Rattle.bits_core.proofs.BitLemmas.{length-bits_of}
+use Rattle.aper_proof_answers.specs.bits_core.Bits.{bits_of, pad_of}
+use Rattle.aper_proof_answers.proofs.bits_core.BitLemmas.{length-bits_of}
 use Rattle.aper_proof_answers.specs.aper_defs.declared.reason.Reason.TheVariants as reasons
 use Rattle.aper_proof_answers.specs.aper_defs.Fields.{Path, Field, pad, opening, closing, end, asked}
 use Rattle.aper_proof_answers.specs.aper_defs.Bits.{width_at, spelled, put_all, extent_width, closed, octet_count, open_fields}

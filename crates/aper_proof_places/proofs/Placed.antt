@@ -3,8 +3,8 @@ use Rattle.std.proofs.Common.{◌≡◌, ℕ, ◌+◌, ◌*◌, ◌^◌, ◌<◌
 use Rattle.std.specs.Prelude.{nat_le}
 use Rattle.std.specs.List.{flat_map}
 use Rattle.std.proofs.lemmas.List.{take_at, drop_at, drop-drop}
-use Rattle.bits_core.specs.Bits.{bits_of, number_of, numbers_at, octet_bits}
-use Rattle.bits_core.proofs.BitLemmas.{length-bits_of, number_is}
+use Rattle.aper_proof_answers.specs.bits_core.Bits.{bits_of, number_of, numbers_at, octet_bits}
+use Rattle.aper_proof_answers.proofs.bits_core.BitLemmas.{length-bits_of, number_is}
 use Rattle.aper_proof_answers.specs.aper_defs.declared.reason.Reason.TheVariants as reasons
 use Rattle.aper_proof_answers.specs.aper_defs.Fields.{Path, Ask, RunUnit, Field, asked, run as run_field}
 use Rattle.aper_proof_answers.specs.aper_defs.Bits.{width_at, spelled, unit_width, field_bits}

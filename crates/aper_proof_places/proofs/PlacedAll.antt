@@ -2,8 +2,8 @@
 use Rattle.std.proofs.Common.{◌≡◌, ℕ, zero, suc, ◌+◌, ◌-◌, ◌^◌, ◌<◌, ◌≤◌, ◌==◌, nat_lt, cond, ◌&&◌, Bool, true, false, List, [], ◌∷◌, ◌++◌, length, map, None, Some, refl, ap, ◌∙◌, arith}
 use Rattle.std.specs.Prelude.{nat_le}
 use Rattle.std.proofs.lemmas.Nat.{pow_pos}
-use Rattle.bits_core.specs.Bits.{bit_value, number_of}
-use Rattle.bits_core.proofs.BitLemmas.{number_small}
+use Rattle.aper_proof_answers.specs.bits_core.Bits.{bit_value, number_of}
+use Rattle.aper_proof_answers.proofs.bits_core.BitLemmas.{number_small}
 use Rattle.aper_proof_answers.specs.aper_defs.declared.reason.Reason.TheVariants as reasons
 use Rattle.aper_proof_answers.specs.aper_defs.Trees.{Tree, Parts, Rows, Procedures, Outcome, Slot, slots, slots_left, slots_before, slots_after, has_slot, mandatory_count, part_count}
 use Rattle.aper_proof_answers.specs.aper_defs.Trees.{boolean, integer, enumerated, bit_string, octet_string, printable_string, sequence, choice, sequence_of, container, pdu, no_parts, part, no_rows, row, no_procedures, procedure, no_outcome, outcome}

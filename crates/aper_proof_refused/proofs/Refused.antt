@@ -1,33 +1,33 @@
 -- Where the questions are refused, octets go wrong by loose layouts.
 use Rattle.std.proofs.Common.{◌≡◌, ℕ, ◌+◌, ◌*◌, ◌≤◌, ◌==◌, cond, Bool, true, false, List, [], ◌∷◌, ◌++◌, length, None, Result, Ok, Err, refl, sym, ap, subst, ◌∙◌, arith, append_assoc}
-use Rattle.aper_defs.specs.declared.reason.Reason.{Reason}
-use Rattle.aper_defs.specs.declared.reason.Reason.TheVariants as reasons
-use Rattle.aper_defs.specs.Trees.{Tree}
-use Rattle.aper_defs.specs.Values.{Value}
-use Rattle.aper_defs.specs.Fields.{Path, RunUnit, Field, closing, end, asked, run as run_field}
-use Rattle.aper_defs.specs.Bits.{unit_width, width_at}
-use Rattle.aper_defs.specs.Layouts.{layout}
-use Rattle.aper_defs.specs.Bounds.{IsBounded}
-use Rattle.aper_defs.specs.Spelling.{Spells}
-use Rattle.aper_defs.specs.Questions.{Prog, done, ask, take, never}
-use Rattle.aper_defs.specs.Asking.{asks_whole}
-use Rattle.aper_defs.specs.Reading.{Opened, Cursor, Fault, at_first, bit_limit, passes, ends_at, unless, answered, read, read_within, read_units, goes_on, answered_at, moved_by, after_field, run, only, decoded}
-use Rattle.aper_proof_places.proofs.Bits.{total}
-use Rattle.aper_proof_places.proofs.Placed.{Placed}
-use Rattle.aper_proof_places.proofs.PlacedAll.{placed}
-use Rattle.aper_proof_values.proofs.Found.{Ends, found_ask}
-use Rattle.aper_proof_values.proofs.FoundBits.{units_are}
-use Rattle.aper_proof_values.proofs.FoundValues.{found}
+use Rattle.aper_proof_spelled.specs.aper_defs.declared.reason.Reason.{Reason}
+use Rattle.aper_proof_spelled.specs.aper_defs.declared.reason.Reason.TheVariants as reasons
+use Rattle.aper_proof_spelled.specs.aper_defs.Trees.{Tree}
+use Rattle.aper_proof_spelled.specs.aper_defs.Values.{Value}
+use Rattle.aper_proof_spelled.specs.aper_defs.Fields.{Path, RunUnit, Field, closing, end, asked, run as run_field}
+use Rattle.aper_proof_spelled.specs.aper_defs.Bits.{unit_width, width_at}
+use Rattle.aper_proof_spelled.specs.aper_defs.Layouts.{layout}
+use Rattle.aper_proof_spelled.specs.aper_defs.Bounds.{IsBounded}
+use Rattle.aper_proof_spelled.specs.aper_defs.Spelling.{Spells}
+use Rattle.aper_proof_spelled.specs.aper_defs.Questions.{Prog, done, ask, take, never}
+use Rattle.aper_proof_spelled.specs.aper_defs.Asking.{asks_whole}
+use Rattle.aper_proof_spelled.specs.aper_defs.Reading.{Opened, Cursor, Fault, at_first, bit_limit, passes, ends_at, unless, answered, read, read_within, read_units, goes_on, answered_at, moved_by, after_field, run, only, decoded}
+use Rattle.aper_proof_spelled.proofs.aper_proof_places.Bits.{total}
+use Rattle.aper_proof_spelled.proofs.aper_proof_places.Placed.{Placed}
+use Rattle.aper_proof_spelled.proofs.aper_proof_places.PlacedAll.{placed}
+use Rattle.aper_proof_back.proofs.aper_proof_values.Found.{Ends, found_ask}
+use Rattle.aper_proof_back.proofs.aper_proof_values.FoundBits.{units_are}
+use Rattle.aper_proof_back.proofs.aper_proof_values.FoundValues.{found}
 use Rattle.aper_proof_spelled.proofs.Spelled.{spelled_decoded}
-use Rattle.aper_loose_defs.specs.Loose.{LooseWhole}
-use Rattle.aper_loose_defs.specs.Wrong.{AllAgree, place_after, IsWrongFor, way_of, WrongAt}
-use Rattle.aper_loose_defs.specs.Sets.{HasSets}
-use Rattle.aper_proof_loose.proofs.Determined.{is_ask, limit_after}
+use Rattle.aper_proof_back.specs.aper_loose_defs.Loose.{LooseWhole}
+use Rattle.aper_proof_back.specs.aper_loose_defs.Wrong.{AllAgree, place_after, IsWrongFor, way_of, WrongAt}
+use Rattle.aper_proof_back.specs.aper_loose_defs.Sets.{HasSets}
+use Rattle.aper_proof_back.proofs.aper_proof_loose.Determined.{is_ask, limit_after}
 use Rattle.aper_proof_refused.proofs.WrongPlaces.{none_further, closed_room}
-use Rattle.aper_proof_alive.proofs.Allowed.{allowed}
-use Rattle.aper_proof_alive.proofs.Steps.{Steps, joined_is, parted_ask, parted_take}
-use Rattle.aper_proof_alive.proofs.Alive.{Live}
-use Rattle.aper_proof_alive.proofs.AliveForms.{always_whole}
+use Rattle.aper_proof_back.proofs.aper_proof_alive.Allowed.{allowed}
+use Rattle.aper_proof_back.proofs.aper_proof_alive.Steps.{Steps, joined_is, parted_ask, parted_take}
+use Rattle.aper_proof_back.proofs.aper_proof_alive.Alive.{Live}
+use Rattle.aper_proof_back.proofs.aper_proof_alive.AliveForms.{always_whole}
 use Rattle.aper_proof_back.proofs.BackForms.{back}
 
 -- ---- the field at which what is asked is refused, after those that agree and before some that would do

@@ -1,23 +1,23 @@
 -- The first wrong field by loose layouts is the one that the questions find.
 use Rattle.std.proofs.Common.{◌≡◌, ℕ, ◌+◌, ◌*◌, ◌≤◌, ◌==◌, nat_lt, cond, Bool, true, false, List, [], ◌∷◌, ◌++◌, length, None, Some, Result, Ok, Err, refl, sym, ap, subst, ◌∙◌, arith, append_assoc, append-nil}
-use Rattle.aper_defs.specs.declared.reason.Reason.{Reason}
-use Rattle.aper_defs.specs.declared.reason.Reason.TheVariants as reasons
-use Rattle.aper_defs.specs.Trees.{Tree}
-use Rattle.aper_defs.specs.Values.{Value}
-use Rattle.aper_defs.specs.Fields.{Path, Field, asked, closing, end}
-use Rattle.aper_defs.specs.Bounds.{IsBounded}
-use Rattle.aper_defs.specs.Questions.{Prog, ask, done}
-use Rattle.aper_defs.specs.Asking.{asks, asks_whole}
-use Rattle.aper_defs.specs.Reading.{Cursor, Fault, at_first, bit_limit, is_within, passes, ends_at, answered, unless, answered_at, moved_by, read, read_within, run, only, decoded}
-use Rattle.aper_proof_answers.proofs.NumberFacts.{by_cases}
-use Rattle.aper_proof_values.proofs.Found.{Answered, answer_read}
-use Rattle.aper_proof_values.proofs.FoundBits.{written}
-use Rattle.aper_proof_values.proofs.FoundWhole.{decoded_spells}
-use Rattle.aper_loose_defs.specs.Loose.{closed_by, LooseWhole}
-use Rattle.aper_loose_defs.specs.Wrong.{AllAgree, place_after, IsWrongFor, AreOfKind, way_of, WrongAt}
-use Rattle.aper_proof_loose.proofs.Following.{Follow, both, fields_so, one, then_on, agree-append, place_after-append}
-use Rattle.aper_proof_loose.proofs.FollowForms.{follow}
-use Rattle.aper_proof_loose.proofs.Determined.{Together, next_is, no_further, reached, refused}
+use Rattle.aper_proof_spelled.specs.aper_defs.declared.reason.Reason.{Reason}
+use Rattle.aper_proof_spelled.specs.aper_defs.declared.reason.Reason.TheVariants as reasons
+use Rattle.aper_proof_spelled.specs.aper_defs.Trees.{Tree}
+use Rattle.aper_proof_spelled.specs.aper_defs.Values.{Value}
+use Rattle.aper_proof_spelled.specs.aper_defs.Fields.{Path, Field, asked, closing, end}
+use Rattle.aper_proof_spelled.specs.aper_defs.Bounds.{IsBounded}
+use Rattle.aper_proof_spelled.specs.aper_defs.Questions.{Prog, ask, done}
+use Rattle.aper_proof_spelled.specs.aper_defs.Asking.{asks, asks_whole}
+use Rattle.aper_proof_spelled.specs.aper_defs.Reading.{Cursor, Fault, at_first, bit_limit, is_within, passes, ends_at, answered, unless, answered_at, moved_by, read, read_within, run, only, decoded}
+use Rattle.aper_proof_spelled.proofs.aper_proof_answers.NumberFacts.{by_cases}
+use Rattle.aper_proof_back.proofs.aper_proof_values.Found.{Answered, answer_read}
+use Rattle.aper_proof_back.proofs.aper_proof_values.FoundBits.{written}
+use Rattle.aper_proof_back.proofs.aper_proof_values.FoundWhole.{decoded_spells}
+use Rattle.aper_proof_back.specs.aper_loose_defs.Loose.{closed_by, LooseWhole}
+use Rattle.aper_proof_back.specs.aper_loose_defs.Wrong.{AllAgree, place_after, IsWrongFor, AreOfKind, way_of, WrongAt}
+use Rattle.aper_proof_back.proofs.aper_proof_loose.Following.{Follow, both, fields_so, one, then_on, agree-append, place_after-append}
+use Rattle.aper_proof_back.proofs.aper_proof_loose.FollowForms.{follow}
+use Rattle.aper_proof_back.proofs.aper_proof_loose.Determined.{Together, next_is, no_further, reached, refused}
 
 -- ---- a loose layout of a whole value
 -- what is asked for a whole value and its end

@@ -4,23 +4,23 @@ use Rattle.std.proofs.lemmas.List.{length-append}
 use Rattle.std.proofs.lemmas.Grind.{flat_map-append}
 use Rattle.bits_core.specs.Bits.{bits_of, octet_bits}
 use Rattle.bits_core.proofs.BitLemmas.{length-octet_bits}
-use Rattle.aper_defs.specs.declared.reason.Reason.TheVariants as reasons
-use Rattle.aper_defs.specs.Trees.{Tree}
-use Rattle.aper_defs.specs.Values.{Value}
-use Rattle.aper_defs.specs.Fields.{Field, closing, asked}
-use Rattle.aper_defs.specs.Bits.{width_at, put_all, closed}
-use Rattle.aper_defs.specs.Layouts.{layout}
-use Rattle.aper_defs.specs.Bounds.{IsBounded}
-use Rattle.aper_defs.specs.Spelling.{Spells}
-use Rattle.aper_defs.specs.Questions.{ask, done}
-use Rattle.aper_defs.specs.Asking.{asks_whole}
-use Rattle.aper_defs.specs.Reading.{at_first, bits_at, moved_by, read, run, only, decoded}
-use Rattle.aper_proof_answers.proofs.Standing.{after_all, answered}
-use Rattle.aper_proof_answers.proofs.NumberFacts.{is_same}
+use Rattle.aper_proof_places.specs.aper_defs.declared.reason.Reason.TheVariants as reasons
+use Rattle.aper_proof_places.specs.aper_defs.Trees.{Tree}
+use Rattle.aper_proof_places.specs.aper_defs.Values.{Value}
+use Rattle.aper_proof_places.specs.aper_defs.Fields.{Field, closing, asked}
+use Rattle.aper_proof_places.specs.aper_defs.Bits.{width_at, put_all, closed}
+use Rattle.aper_proof_places.specs.aper_defs.Layouts.{layout}
+use Rattle.aper_proof_places.specs.aper_defs.Bounds.{IsBounded}
+use Rattle.aper_proof_places.specs.aper_defs.Spelling.{Spells}
+use Rattle.aper_proof_places.specs.aper_defs.Questions.{ask, done}
+use Rattle.aper_proof_places.specs.aper_defs.Asking.{asks_whole}
+use Rattle.aper_proof_places.specs.aper_defs.Reading.{at_first, bits_at, moved_by, read, run, only, decoded}
+use Rattle.aper_proof_places.proofs.aper_proof_answers.Standing.{after_all, answered}
+use Rattle.aper_proof_places.proofs.aper_proof_answers.NumberFacts.{is_same}
 use Rattle.aper_proof_places.proofs.Bits.{all_bits, total, length-all_bits, total-append, all_bits-append, put_all-nil}
 use Rattle.aper_proof_places.proofs.Placed.{Room, room_less, room_after, bits_after, Placed}
 use Rattle.aper_proof_places.proofs.Opened.{empty_mark, size_is, reads_closing}
-use Rattle.aper_proof_answers.proofs.Forth.{forth}
+use Rattle.aper_proof_places.proofs.aper_proof_answers.Forth.{forth}
 use Rattle.aper_proof_places.proofs.PlacedAll.{placed}
 
 -- the bits of a complete encoding, and how many they are

@@ -2,8 +2,8 @@
 use Rattle.std.proofs.Common.{◌≡◌, ℕ, ◌+◌, ◌*◌, ◌^◌, ◌<◌, ◌≤◌, nat_lt, cond, Bool, true, false, List, [], ◌∷◌, ◌++◌, length, take as first, None, Some, Option, Result, Ok, Err, refl, ap, subst, ◌∙◌, arith}
 use Rattle.std.proofs.lemmas.List.{length-take, length-drop}
 use Rattle.std.proofs.Math.Nat.{pow-le-pow_right}
-use Rattle.bits_core.specs.Bits.{number_of, octet_bits}
-use Rattle.bits_core.proofs.BitLemmas.{number_small, length-octet_bits}
+use Rattle.aper_proof_places.specs.bits_core.Bits.{number_of, octet_bits}
+use Rattle.aper_proof_places.proofs.bits_core.BitLemmas.{number_small, length-octet_bits}
 use Rattle.aper_proof_places.specs.aper_defs.declared.reason.Reason.{Reason}
 use Rattle.aper_proof_places.specs.aper_defs.declared.reason.Reason.TheVariants as reasons
 use Rattle.aper_proof_places.specs.aper_defs.Values.{Value}

@@ -2,8 +2,8 @@
 use Rattle.std.proofs.Common.{◌≡◌, ℕ, zero, suc, ◌+◌, ◌*◌, ◌^◌, ◌<◌, ◌≤◌, ◌==◌, cond, Bool, true, false, List, [], ◌∷◌, ◌++◌, length, take as first, drop, replicate, None, Some, Option, Ok, refl, sym, ap, subst, ◌∙◌, arith, append_assoc}
 use Rattle.std.specs.List.{flat_map}
 use Rattle.std.proofs.lemmas.List.{length-take, length-drop, take-append-drop, drop-drop}
-use Rattle.bits_core.specs.Bits.{bits_of, number_of, numbers_at, octet_bits, pad_of}
-use Rattle.bits_core.proofs.BitLemmas.{bits_of-number_of, number_small}
+use Rattle.aper_proof_places.specs.bits_core.Bits.{bits_of, number_of, numbers_at, octet_bits, pad_of}
+use Rattle.aper_proof_places.proofs.bits_core.BitLemmas.{bits_of-number_of, number_small}
 use Rattle.aper_proof_places.specs.aper_defs.declared.reason.Reason.{Reason}
 use Rattle.aper_proof_places.specs.aper_defs.declared.reason.Reason.TheVariants as reasons
 use Rattle.aper_proof_places.specs.aper_defs.Fields.{Ask, Extent, RunUnit, Field, flag, constrained, digits, signed, small, extent, addition_bits, character, ie_count, ie_id, pad, opening, closing, end, whole, asked, run as run_field}

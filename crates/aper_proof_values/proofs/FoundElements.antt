@@ -1,8 +1,8 @@
 -- What is read as marks of components, as lists, information elements and messages is such.
 use Rattle.std.proofs.Common.{◌≡◌, ℕ, zero, suc, ◌+◌, ◌-◌, ◌^◌, ◌<◌, ◌≤◌, ◌==◌, nat_lt, cond, ◌&&◌, Bool, true, false, List, [], ◌∷◌, ◌++◌, length, None, Some, Ok, refl, sym, ap, subst, ◌∙◌, arith}
 use Rattle.std.specs.Prelude.{nat_le}
-use Rattle.bits_core.specs.Bits.{bits_of, number_of}
-use Rattle.bits_core.proofs.BitLemmas.{length-bits_of, number_is}
+use Rattle.aper_proof_places.specs.bits_core.Bits.{bits_of, number_of}
+use Rattle.aper_proof_places.proofs.bits_core.BitLemmas.{length-bits_of, number_is}
 use Rattle.aper_proof_places.specs.aper_defs.declared.reason.Reason.TheVariants as reasons
 use Rattle.aper_proof_places.specs.aper_defs.Trees.{Parts, Slot, slots_left, slots_before, has_slot, mandatory_count, no_parts, part}
 use Rattle.aper_proof_places.specs.aper_defs.Values.{Value, Values, Options, Ies, value_count, ie_count, presence, has_options, each_from, message, no_values, value, no_options, absent, present, no_ies, ie}

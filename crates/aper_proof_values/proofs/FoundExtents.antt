@@ -2,9 +2,9 @@
 use Rattle.std.proofs.Common.{◌≡◌, ℕ, suc, ◌+◌, ◌-◌, ◌*◌, ◌/◌, ◌^◌, ◌<◌, ◌≤◌, nat_lt, cond, ◌&&◌, Bool, true, false, List, [], ◌∷◌, length, take as first, None, Option, Ok, refl, sym, ap, subst, ◌∙◌, arith}
 use Rattle.std.specs.Prelude.{nat_le}
 use Rattle.std.proofs.lemmas.List.{length-take}
-use Rattle.bits_core.specs.Bits.{bit_value, number_of}
-use Rattle.bits_core.proofs.BitLemmas.{number_small}
-use Rattle.asn1_types.specs.declared.definition.Size.{Size}
+use Rattle.aper_proof_places.specs.bits_core.Bits.{bit_value, number_of}
+use Rattle.aper_proof_places.proofs.bits_core.BitLemmas.{number_small}
+use Rattle.aper_proof_places.specs.asn1_types.declared.definition.Size.{Size}
 use Rattle.aper_proof_places.specs.aper_defs.declared.reason.Reason.TheVariants as reasons
 use Rattle.aper_proof_places.specs.aper_defs.Fields.{Extent, extent, opening, whole, part}
 use Rattle.aper_proof_places.specs.aper_defs.Bits.{part_units, extent_width, extent_number}

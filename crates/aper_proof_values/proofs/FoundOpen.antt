@@ -1,7 +1,7 @@
 -- What is read as an open type is one: its contents end where its length says.
 use Rattle.std.proofs.Common.{◌≡◌, ℕ, ◌+◌, ◌*◌, ◌%◌, ◌≤◌, ◌==◌, nat_lt, cond, ◌&&◌, true, List, [], ◌∷◌, ◌++◌, length, None, Ok, refl, sym, ap, subst, ◌∙◌, arith, append_assoc}
 use Rattle.std.proofs.lemmas.Bool.Decides.{nat_tests}
-use Rattle.bits_core.specs.Bits.{pad_of}
+use Rattle.aper_proof_places.specs.bits_core.Bits.{pad_of}
 use Rattle.aper_proof_places.specs.aper_defs.declared.reason.Reason.TheVariants as reasons
 use Rattle.aper_proof_places.specs.aper_defs.Values.{Value, raw}
 use Rattle.aper_proof_places.specs.aper_defs.Fields.{Path, Ask, Field, extent, pad, opening, closing, end, whole, octet, asked, run as run_field}

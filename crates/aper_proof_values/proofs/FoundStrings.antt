@@ -3,7 +3,7 @@ use Rattle.std.proofs.Common.{◌≡◌, ℕ, zero, suc, ◌+◌, ◌-◌, ◌*�
 use Rattle.std.specs.Prelude.{nat_le}
 use Rattle.std.specs.List.{list_all}
 use Rattle.std.proofs.lemmas.List.{length-append, length-drop, take_at, drop_at}
-use Rattle.asn1_types.specs.declared.definition.Size.{Size}
+use Rattle.aper_proof_places.specs.asn1_types.declared.definition.Size.{Size}
 use Rattle.aper_proof_places.specs.aper_defs.declared.reason.Reason.{Reason}
 use Rattle.aper_proof_places.specs.aper_defs.declared.reason.Reason.TheVariants as reasons
 use Rattle.aper_proof_places.specs.aper_defs.Values.{Value}

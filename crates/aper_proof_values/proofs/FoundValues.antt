@@ -1,6 +1,6 @@
 -- What answers the questions of a type is the layout of a value of it.
 use Rattle.std.proofs.Common.{◌≡◌, ℕ, zero, suc, ◌-◌, ◌<◌, ◌==◌, nat_lt, cond, Bool, true, false, List, [], ◌∷◌, ◌++◌, length, map, None, Some, Ok, refl, sym, ap, subst, ◌∙◌, arith, append_assoc}
-use Rattle.bits_core.specs.Bits.{bit_value}
+use Rattle.aper_proof_places.specs.bits_core.Bits.{bit_value}
 use Rattle.aper_proof_places.specs.aper_defs.Trees.{Tree, Parts, Rows, Procedures, Outcome, slots, mandatory_count, part_count}
 use Rattle.aper_proof_places.specs.aper_defs.Trees.{boolean, integer, enumerated, bit_string, octet_string, printable_string, sequence, choice, sequence_of, container, pdu, no_parts, part, no_rows, row, no_procedures, procedure, no_outcome, outcome}
 use Rattle.aper_proof_places.specs.aper_defs.Values.{Value, Values, Options, Ies, value_count, ie_count, presence, has_options, each_from}

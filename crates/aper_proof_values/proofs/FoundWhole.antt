@@ -1,8 +1,8 @@
 -- Octets that are read as a value spell it.
 use Rattle.std.proofs.Common.{◌≡◌, ℕ, ◌+◌, ◌*◌, ◌≤◌, ◌==◌, cond, Bool, true, false, List, [], ◌∷◌, ◌++◌, length, drop, Result, Ok, Err, refl, sym, ap, subst, ◌∙◌, arith, append-nil}
 use Rattle.std.proofs.lemmas.List.{length-drop}
-use Rattle.bits_core.specs.Bits.{octet_bits}
-use Rattle.bits_core.proofs.BitLemmas.{length-octet_bits}
+use Rattle.aper_proof_places.specs.bits_core.Bits.{octet_bits}
+use Rattle.aper_proof_places.proofs.bits_core.BitLemmas.{length-octet_bits}
 use Rattle.aper_proof_places.specs.aper_defs.declared.reason.Reason.TheVariants as reasons
 use Rattle.aper_proof_places.specs.aper_defs.Trees.{Tree}
 use Rattle.aper_proof_places.specs.aper_defs.Values.{Value}

@@ -2,10 +2,10 @@
 use Rattle.std.proofs.Common.{ℕ, arith}
 use Rattle.aper_defs.specs.Trees.{Tree}
 use Rattle.aper_defs.specs.Bounds.{IsBounded}
-use Rattle.aper_types.specs.declared.form.Form.{Form}
-use Rattle.aper_types.specs.declared.form.Form.TheVariants as forms
-use Rattle.aper_types.specs.Forms.{form_tree}
-use Rattle.aper_types.proofs.Members.{part_count_is}
+use Rattle.aper_elements.specs.aper_types.declared.form.Form.{Form}
+use Rattle.aper_elements.specs.aper_types.declared.form.Form.TheVariants as forms
+use Rattle.aper_elements.specs.aper_types.Forms.{form_tree}
+use Rattle.aper_elements.proofs.aper_types.Members.{part_count_is}
 use Rattle.aper_reading.specs.Forms.{IsFormBounded}
 
 pub form_bounded : (of : ℕ → Tree) (form : Form) → IsBounded (form_tree of form) → IsFormBounded form

@@ -17,9 +17,9 @@ use Rattle.aper_defs.specs.Questions.{Prog, done, ask, never}
 use Rattle.aper_defs.specs.Questions as questions
 use Rattle.aper_defs.specs.Asking.{asks_whole}
 use Rattle.aper_defs.specs.Reading.{Opened, Cursor, Fault, at_first, bits_at, told_width, asked_width, bit_limit, is_within, passes, judged, answer_of, answered, read, read_within, read_units, units_within, opens_after, answered_at, moved_by, goes_on, run, only, decoded}
-use Rattle.aper_proof_answers.proofs.NumberFacts.{not_below, is_not_below}
-use Rattle.aper_proof_values.proofs.Found.{Answered, answer_read, taken_size, taken_limit}
-use Rattle.aper_proof_values.proofs.FoundBits.{written}
+use Rattle.aper_cursor.proofs.aper_proof_answers.NumberFacts.{not_below, is_not_below}
+use Rattle.aper_cursor.proofs.aper_proof_values.Found.{Answered, answer_read, taken_size, taken_limit}
+use Rattle.aper_cursor.proofs.aper_proof_values.FoundBits.{written}
 use Rattle.aper_values.specs.declared.value.Value.{Value}
 use Rattle.aper_reading.specs.declared.error.DecodeError.{DecodeError}
 use Rattle.aper_reading.specs.declared.error.DecodeError.TheVariants as errors

@@ -7,14 +7,14 @@ use Rattle.asn1_types.specs.Members.{additions_of}
 use Rattle.asn1_assignments.specs.declared.assignment.IeRow.{IeRow}
 use Rattle.asn1_assignments.specs.declared.assignment.ProcedureRow.{ProcedureRow}
 use Rattle.asn1_assignments.specs.declared.assignment.Syntax.{Syntax}
-use Rattle.asn1_module.specs.asn1_defs.Links.{AreBelow, OptionBelow, IesBelow, ProceduresBelow}
+use Rattle.aper_elements.specs.asn1_defs.Links.{AreBelow, OptionBelow, IesBelow, ProceduresBelow}
 use Rattle.aper_defs.specs.Trees.{Tree}
-use Rattle.aper_proof_answers.proofs.NumberFacts.{below, is_below}
-use Rattle.aper_types.specs.declared.form.Form.{Form}
-use Rattle.aper_types.specs.declared.form.Form.TheVariants as forms
-use Rattle.aper_types.specs.Types.{parts_of, rows_of, outcome_of, procedures_of, tree}
-use Rattle.aper_types.specs.Forms.{form_tree, IsFormInside}
-use Rattle.aper_frames.specs.Weights.{parts_weight, rows_weight, outcome_weight, procedures_weight}
+use Rattle.aper_cursor.proofs.aper_proof_answers.NumberFacts.{below, is_below}
+use Rattle.aper_elements.specs.aper_types.declared.form.Form.{Form}
+use Rattle.aper_elements.specs.aper_types.declared.form.Form.TheVariants as forms
+use Rattle.aper_elements.specs.aper_types.Types.{parts_of, rows_of, outcome_of, procedures_of, tree}
+use Rattle.aper_elements.specs.aper_types.Forms.{form_tree, IsFormInside}
+use Rattle.aper_elements.specs.aper_frames.Weights.{parts_weight, rows_weight, outcome_weight, procedures_weight}
 use Rattle.aper_reading.specs.Forms.{form_weight}
 use Rattle.aper_reading.specs.Heavy.{heavy, parts_heavy, rows_heavy, procedures_heavy, outcome_heavy, weighed}
 

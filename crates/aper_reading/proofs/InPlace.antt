@@ -1,34 +1,35 @@
 -- Simple values read in place: steps by the types of one module.
-use Rattle.std.proofs.Common.{◌≡◌, ℕ, suc, ◌+◌, ◌*◌, ◌-◌, ◌<◌, ◌≤◌, List, [], ◌∷◌, ◌++◌, length, Option, Some, Result, Ok, Err, sym, ap, ◌∙◌, arith}
-use Rattle.std.proofs.Math.Nat.{suc-mul}
-use Rattle.std.specs.Prelude.{option_copied}
+use Rattle.std.proofs.Common.{◌≡◌, ℕ, suc, ◌+◌, ◌*◌, ◌<◌, ◌≤◌, List, [], ◌∷◌, ◌++◌, length, Option, Some, Result, Ok, Err, refl, sym, ap, subst, ◌∙◌, arith}
+use Rattle.std.proofs.Math.Nat.{suc-mul, mul-le-mul_right}
 use Rattle.asn1_types.specs.declared.definition.Component.{Component}
+use Rattle.asn1_types.specs.declared.definition.Size.{Size}
 use Rattle.asn1_types.specs.declared.definition.TypeId.{TypeId}
 use Rattle.asn1_assignments.specs.declared.assignment.Syntax.{Syntax}
-use Rattle.aper_defs.specs.Trees.{Tree}
+use Rattle.aper_defs.specs.declared.reason.Reason.{Reason}
+use Rattle.aper_defs.specs.Trees.{Tree, sequence_of}
 use Rattle.aper_defs.specs.Values as seen
 use Rattle.aper_defs.specs.Fields.{Path}
 use Rattle.aper_defs.specs.Fields as fields
-use Rattle.aper_defs.specs.Questions.{Prog, ask_members}
+use Rattle.aper_defs.specs.Questions.{Prog, ask_count, ask_members}
 use Rattle.aper_defs.specs.Asking.{asks, ask_components}
 use Rattle.aper_defs.specs.Reading.{Cursor, run}
 use Rattle.aper_cursor.specs.declared.error.Unanswered.{Unanswered}
 use Rattle.aper_cursor.specs.declared.error.Unanswered.TheVariants.{Wrong, Memory}
-use Rattle.aper_asking.specs.Going.{fault_at}
-use Rattle.aper_types.specs.Types.{parts_of}
+use Rattle.aper_asking.specs.Going.{GoesOn, fault_at}
+use Rattle.aper_elements.specs.aper_types.Types.{parts_of}
 use Rattle.aper_values.specs.declared.value.Value.{Value}
-use Rattle.aper_values.specs.Views.{view}
 use Rattle.aper_simple.specs.Reads.{Reads}
-use Rattle.aper_frames.specs.declared.frame.Components.{Components}
-use Rattle.aper_frames.specs.declared.frame.Members.{Members}
-use Rattle.aper_frames.specs.declared.frame.Frame.{Frame}
-use Rattle.aper_frames.specs.declared.frame.Turn.{Turn}
-use Rattle.aper_frames.specs.declared.frame.Turn.TheVariants as turns
-use Rattle.aper_frames.specs.Frames.{options_before, values_before, after_components, components_left, component_after, components_next, ask_member, members_left, member_after, path_of, next_of}
-use Rattle.aper_frames.specs.Steps.{Steps, left}
-use Rattle.aper_frames.specs.Weights.{list_weight, members_weight}
+use Rattle.aper_elements.specs.aper_frames.declared.frame.Components.{Components}
+use Rattle.aper_elements.specs.aper_frames.declared.frame.Members.{Members}
+use Rattle.aper_elements.specs.aper_frames.declared.frame.Frame.{Frame}
+use Rattle.aper_elements.specs.aper_frames.declared.frame.Frame.TheVariants as frames
+use Rattle.aper_elements.specs.aper_frames.declared.frame.Turn.{Turn}
+use Rattle.aper_elements.specs.aper_frames.declared.frame.Turn.TheVariants as turns
+use Rattle.aper_elements.specs.aper_frames.Frames.{options_before, values_before, after_components, component_after, components_next, ask_member, members_left, path_of, next_of}
+use Rattle.aper_elements.specs.aper_frames.Steps.{Steps, left}
+use Rattle.aper_elements.specs.aper_frames.Weights.{list_weight, members_weight}
 use Rattle.aper_reading.specs.Heavy.{weighed}
-use Rattle.aper_reading.specs.InModule.{StepsIn, IsOfModule, ReadsSimple, IsAround}
+use Rattle.aper_reading.specs.InModule.{StepsIn, IsOfModule, IsAround, among}
 use Rattle.aper_reading.proofs.HeavyLemmas.{is_inside}
 use Rattle.aper_reading.proofs.ListLemmas.{member_put}
 use Rattle.aper_reading.proofs.SequenceSteps.{option_put}
@@ -57,7 +58,7 @@ module_less m more weight h less = record { most = h.most; bounded = λ other. o
 -- ---- components
 module _ (of : ℕ → Tree) (p : Path) (K : seen.Value → Prog) (c : Components) (part : Component) (mid new : Cursor) where
   -- one that is read
-  pub component_read : (v : Value) (made : List (Option Value)) → ReadsSimple (of part.definition.number) mid new (Ok (Some v))
+  pub component_read : (v : Value) (made : List (Option Value)) → Reads (λ p. asks p (of part.definition.number)) mid new (Ok v)
       → made ≡ c.made.items ++ Some v ∷ []
       → run (components_next of c p K (Some part)) mid
       ≡ run (ask_components p (parts_of of c.left.now) c.there (options_before made (after_components of c p K))) new
@@ -74,13 +75,38 @@ module _ (of : ℕ → Tree) (c : Components) (part : Component) (old more : Lis
 
   pub component_wrong : (error : Unanswered) (first : Prog) (start mid new : Cursor)
       → run first start ≡ run (components_next of c (path_of old) (next_of of old) (Some part)) mid
-      → ReadsSimple (of part.definition.number) mid new (Err error) → StepsIn of first start new more (Err error)
+      → Reads (λ p. asks p (of part.definition.number)) mid new (Err error) → StepsIn of first start new more (Err error)
   component_wrong (Wrong reason) first start mid new e reads =
       e ∙ reads (fields.component part.name ∷ path_of old) (component_after of c (path_of old) (next_of of old))
       ∙ ap (λ (q : Path). Err (fault_at new reason q)) (sym around.path)
   component_wrong Memory first start mid new e reads = tt
 
 -- ---- members
+module _ (of : ℕ → Tree) (p : Path) (K : seen.Value → Prog) (element : TypeId) where
+  -- what is asked after the count
+  abbrev pub list_asked : ℕ → Prog
+  list_asked n = ask_members (λ i. asks (fields.member i ∷ p) (of element.number)) 0 n (λ vs. K (seen.list vs))
+
+  list_as : (size : Option Size) → asks p (sequence_of size (of element.number)) K ≡ ask_count p size list_asked
+  unfolding asks
+  list_as size = refl
+
+  pub list_wrong : (size : Option Size) (reason : Reason) (old new : Cursor) → GoesOn (λ p. ask_count p size) old new (Err reason)
+      → run (asks p (sequence_of size (of element.number)) K) old ≡ Err (fault_at new reason p)
+  list_wrong size reason old new wrong = ap (λ P. run P old) (list_as size) ∙ wrong p list_asked
+
+  pub list_begun : (size : Option Size) (m : Members) (old new : Cursor) → m.element ≡ element → m.made.items ≡ []
+      → GoesOn (λ p. ask_count p size) old new (Ok m.left)
+      → run (asks p (sequence_of size (of element.number)) K) old ≡ run (members_left of m p K) new
+  list_begun size m old new same made asked =
+      ap (λ P. run P old) (list_as size) ∙ asked p list_asked
+      ∙ ap (λ (t : TypeId). run (ask_members (λ i. asks (fields.member i ∷ p) (of t.number)) 0 m.left (λ vs. K (seen.list vs))) new) (sym same)
+      ∙ ap (λ (vs : List Value). run (ask_members (ask_member of m p) (length vs) m.left (values_before vs (λ vs. K (seen.list vs)))) new) (sym made)
+
+-- so many members are no more than the most that there may be
+pub list_less : (w : ℕ → ℕ) (element : TypeId) (n : ℕ) → n < 65536 → list_weight w n element ≤ list_weight w 65535 element
+list_less w element n most = omega (arith, mul-le-mul_right {m = n} {n = 65535} (2 + w element.number) (omega (arith, most)))
+
 module _ (of : ℕ → Tree) (p : Path) (K : seen.Value → Prog) (m : Members) (k : ℕ) (count : m.left ≡ suc k) where
   abbrev member_rest : seen.Value → Prog
   member_rest v = ask_members (ask_member of m p) (suc (length m.made.items)) k
@@ -91,7 +117,7 @@ module _ (of : ℕ → Tree) (p : Path) (K : seen.Value → Prog) (m : Members) 
       ap (λ (n : ℕ). ask_members (ask_member of m p) (length m.made.items) n (values_before m.made.items (λ vs. K (seen.list vs)))) count
 
   -- one that is read
-  pub member_read : (v : Value) (made : List Value) (mid new : Cursor) → ReadsSimple (of m.element.number) mid new (Ok (Some v))
+  pub member_read : (v : Value) (made : List Value) (mid new : Cursor) → Reads (λ p. asks p (of m.element.number)) mid new (Ok v)
       → made ≡ m.made.items ++ v ∷ []
       → run (members_left of m p K) mid
       ≡ run (ask_members (ask_member of m p) (length made) k (values_before made (λ vs. K (seen.list vs)))) new
@@ -102,11 +128,18 @@ module _ (of : ℕ → Tree) (p : Path) (K : seen.Value → Prog) (m : Members) 
   -- one that is refused
   pub member_wrong : (error : Unanswered) (first : Prog) (start mid new : Cursor) (more : List Frame)
       → path_of more ≡ fields.member (length m.made.items) ∷ p → run first start ≡ run (members_left of m p K) mid
-      → ReadsSimple (of m.element.number) mid new (Err error) → StepsIn of first start new more (Err error)
+      → Reads (λ p. asks p (of m.element.number)) mid new (Err error) → StepsIn of first start new more (Err error)
   member_wrong (Wrong reason) first start mid new more path e reads =
       e ∙ ap (λ P. run P mid) member_next ∙ reads (fields.member (length m.made.items) ∷ p) member_rest
       ∙ ap (λ (q : Path). Err (fault_at new reason q)) (sym path)
   member_wrong Memory first start mid new more path e reads = tt
+
+-- one that is to be read inside its frame
+pub member_begun : (of : ℕ → Tree) (m : Members) (k : ℕ) → m.left ≡ suc k → (fs : List Frame)
+    → members_left of m (path_of fs) (next_of of fs) ≡ left of (turns.Read m.element) (among m fs)
+member_begun of m k count fs =
+    member_next of (path_of fs) (next_of of fs) m k count
+    ∙ ap (λ (n : ℕ). left of (turns.Read m.element) (frames.Member (record m { left = n }) ∷ fs)) (omega (arith, count))
 
 -- how much members weigh, and one less
 pub members_step : (w : ℕ → ℕ) (m : Members) (k : ℕ) → m.left ≡ suc k
@@ -114,11 +147,12 @@ pub members_step : (w : ℕ → ℕ) (m : Members) (k : ℕ) → m.left ≡ suc 
 members_step w m k count =
     omega (arith, ap (λ (n : ℕ). n * (2 + w m.element.number)) count, suc-mul k (2 + w m.element.number))
 
--- ---- a simple value of a tree that is another's
-module _ (t u : Tree) (is : t ≡ u) (old new : Cursor) where
-  pub simple_made : (v : Value) → Reads (λ p. asks p u) old new (Ok v) → ReadsSimple t old new (Ok (Some v))
-  simple_made v reads = λ p K. ap (λ (x : Tree). run (asks p x K) old) is ∙ reads p K
+-- ---- a value of a tree that is another's
+pub reads_as : (r : Result Value Unanswered) (t u : Tree) (old new : Cursor) → t ≡ u → Reads (λ p. asks p u) old new r → Reads (λ p. asks p t) old new r
+reads_as r t u old new is reads = subst (λ (x : Tree). Reads (λ p. asks p x) old new r) (sym is) reads
 
-  pub simple_refused : (e : Unanswered) → Reads (λ p. asks p u) old new (Err e) → ReadsSimple t old new (Err e)
-  simple_refused (Wrong reason) reads = λ p K. ap (λ (x : Tree). run (asks p x K) old) is ∙ reads p K
-  simple_refused Memory reads = tt
+-- one that is refused, as a step
+pub read_refused : (e : Unanswered) (of : ℕ → Tree) (t : Tree) (fs : List Frame) (old new : Cursor) → Reads (λ p. asks p t) old new (Err e)
+    → StepsIn of (asks (path_of fs) t (next_of of fs)) old new fs (Err e)
+read_refused (Wrong reason) of t fs old new reads = reads (path_of fs) (next_of of fs)
+read_refused Memory of t fs old new reads = tt

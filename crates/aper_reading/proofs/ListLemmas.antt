@@ -5,12 +5,12 @@ use Rattle.aper_defs.specs.Values as seen
 use Rattle.aper_defs.specs.Questions.{Prog, ask_members}
 use Rattle.aper_values.specs.declared.value.Value.{Value}
 use Rattle.aper_values.specs.Views.{view, values_view}
-use Rattle.aper_frames.specs.declared.frame.Members.{Members}
-use Rattle.aper_frames.specs.declared.frame.Frame.{Frame}
-use Rattle.aper_frames.specs.declared.frame.Turn.TheVariants as turns
-use Rattle.aper_frames.specs.Frames.{values_before, ask_member, members_left, path_of, next_of}
-use Rattle.aper_frames.specs.Steps.{left}
-use Rattle.aper_frames.proofs.Before.{values_more, values_end}
+use Rattle.aper_elements.specs.aper_frames.declared.frame.Members.{Members}
+use Rattle.aper_elements.specs.aper_frames.declared.frame.Frame.{Frame}
+use Rattle.aper_elements.specs.aper_frames.declared.frame.Turn.TheVariants as turns
+use Rattle.aper_elements.specs.aper_frames.Frames.{values_before, ask_member, members_left, path_of, next_of}
+use Rattle.aper_elements.specs.aper_frames.Steps.{left}
+use Rattle.aper_elements.proofs.aper_frames.Before.{values_more, values_end}
 
 -- a member more
 pub member_put : (one : ℕ → (seen.Value → Prog) → Prog) (n : ℕ) (made more : List Value) (v : Value) (K : seen.Values → Prog)

@@ -11,19 +11,19 @@ use Rattle.aper_defs.specs.Reading.{Cursor, run}
 use Rattle.aper_cursor.specs.declared.error.Unanswered.{Unanswered}
 use Rattle.aper_cursor.specs.declared.error.Unanswered.TheVariants.{Wrong, Memory}
 use Rattle.aper_asking.specs.Going.{GoesOn, GoesOnOrMemory}
-use Rattle.aper_types.specs.Types.{parts_of}
+use Rattle.aper_elements.specs.aper_types.Types.{parts_of}
 use Rattle.aper_values.specs.declared.value.Value.{Value}
 use Rattle.aper_values.specs.Views.{view, options_view}
-use Rattle.aper_frames.specs.declared.frame.Components.{Components}
-use Rattle.aper_frames.specs.declared.frame.Additions.{Additions}
-use Rattle.aper_frames.specs.declared.frame.Frame.{Frame}
-use Rattle.aper_frames.specs.declared.frame.Turn.{Turn}
-use Rattle.aper_frames.specs.declared.parts.Addition.{Addition}
-use Rattle.aper_frames.specs.declared.parts.Addition.TheVariants as additions
-use Rattle.aper_frames.specs.Frames.{options_before, after_components, components_left, after_additions, additions_left, additions_next, path_of, next_of}
-use Rattle.aper_frames.specs.Steps.{Steps}
-use Rattle.aper_frames.proofs.Before.{options_end, options_present}
-use Rattle.aper_frames.proofs.Onward.{steps_after, first_wrong}
+use Rattle.aper_elements.specs.aper_frames.declared.frame.Components.{Components}
+use Rattle.aper_elements.specs.aper_frames.declared.frame.Additions.{Additions}
+use Rattle.aper_elements.specs.aper_frames.declared.frame.Frame.{Frame}
+use Rattle.aper_elements.specs.aper_frames.declared.frame.Turn.{Turn}
+use Rattle.aper_elements.specs.aper_frames.declared.parts.Addition.{Addition}
+use Rattle.aper_elements.specs.aper_frames.declared.parts.Addition.TheVariants as additions
+use Rattle.aper_elements.specs.aper_frames.Frames.{options_before, after_components, components_left, after_additions, additions_left, additions_next, path_of, next_of}
+use Rattle.aper_elements.specs.aper_frames.Steps.{Steps}
+use Rattle.aper_elements.proofs.aper_frames.Before.{options_end, options_present}
+use Rattle.aper_elements.proofs.aper_frames.Onward.{steps_after, first_wrong}
 
 -- what is asked after others is refused
 refused_after : {A : Type 0} (P : (ℕ → Tree) → Prog) (inner : (ℕ → Tree) → Path → (A → Prog) → Prog) (rest : (ℕ → Tree) → A → Prog)
@@ -69,17 +69,15 @@ module _ (e : Bool) (root adds : List Component) (fs : List Frame) (old mid : Cu
         refused_after asked_sequence (λ of p. ask_flags p (parts_of of root)) (λ of. after_flags of root adds (path_of fs) (next_of of fs) x)
         old mid late fs error extended h
 
-    pub sequence_begun : (there : List Bool) (c : Components) (new : Cursor) (gs : List Frame) (r : Result Turn Unanswered)
+    pub sequence_begun : (of : ℕ → Tree) (there : List Bool) (c : Components)
         → c.left.now ≡ root → c.additions.now ≡ adds → c.extended ≡ x → c.there ≡ there → c.made.items ≡ []
-        → ((of : ℕ → Tree) (p : Path) (J : List Bool → Prog) → run (ask_flags p (parts_of of root) J) mid ≡ run (J there) late)
-        → Steps (λ of. components_left of c (path_of fs) (next_of of fs)) late new gs r → Steps asked_sequence old new gs r
-    sequence_begun there c new gs r left added ext marks made flags h =
-        steps_after r asked_sequence (λ of. components_left of c (path_of fs) (next_of of fs)) old late new gs (λ of.
-        extended of ∙ flags of (path_of fs) (after_flags of root adds (path_of fs) (next_of of fs) x) ∙ ap (λ P. run P late) (same of)) h
+        → ((p : Path) (J : List Bool → Prog) → run (ask_flags p (parts_of of root) J) mid ≡ run (J there) late)
+        → run (asked_sequence of) old ≡ run (components_left of c (path_of fs) (next_of of fs)) late
+    sequence_begun of there c left added ext marks made flags =
+        extended of ∙ flags (path_of fs) (after_flags of root adds (path_of fs) (next_of of fs) x) ∙ ap (λ P. run P late) same
       where
-        same : (of : ℕ → Tree)
-            → after_flags of root adds (path_of fs) (next_of of fs) x there ≡ components_left of c (path_of fs) (next_of of fs)
-        same of =
+        same : after_flags of root adds (path_of fs) (next_of of fs) x there ≡ components_left of c (path_of fs) (next_of of fs)
+        same =
             ap (λ cs. after_flags of cs adds (path_of fs) (next_of of fs) x there) (sym left)
             ∙ ap (λ cs. after_flags of c.left.now cs (path_of fs) (next_of of fs) x there) (sym added)
             ∙ ap (λ b. after_flags of c.left.now c.additions.now (path_of fs) (next_of of fs) b there) (sym ext)

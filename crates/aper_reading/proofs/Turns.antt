@@ -9,20 +9,20 @@ use Rattle.aper_defs.specs.Fields.{closing}
 use Rattle.aper_defs.specs.Questions.{ask, done}
 use Rattle.aper_defs.specs.Asking.{asks_whole}
 use Rattle.aper_defs.specs.Reading.{Cursor, run, read, goes_on, answered_at, only}
-use Rattle.aper_proof_answers.proofs.Standing.{answered}
+use Rattle.aper_cursor.proofs.aper_proof_answers.Standing.{answered}
 use Rattle.aper_cursor.specs.declared.error.Unanswered.{Unanswered}
 use Rattle.aper_cursor.specs.declared.error.Unanswered.TheVariants.{Wrong, Memory}
 use Rattle.aper_asking.specs.Going.{fault_at}
 use Rattle.aper_values.specs.declared.value.Value.{Value}
 use Rattle.aper_values.specs.Views.{view}
-use Rattle.aper_types.specs.declared.form.Form.{Form}
-use Rattle.aper_types.specs.Types.{tree}
-use Rattle.aper_types.specs.Forms.{form_tree, IsFormInside}
-use Rattle.aper_frames.specs.declared.frame.Frame.{Frame}
-use Rattle.aper_frames.specs.declared.frame.Turn.{Turn}
-use Rattle.aper_frames.specs.declared.frame.Turn.TheVariants as turns
-use Rattle.aper_frames.specs.Steps.{left}
-use Rattle.aper_frames.specs.Weights.{frames_weight, turn_weight}
+use Rattle.aper_elements.specs.aper_types.declared.form.Form.{Form}
+use Rattle.aper_elements.specs.aper_types.Types.{tree}
+use Rattle.aper_elements.specs.aper_types.Forms.{form_tree, IsFormInside}
+use Rattle.aper_elements.specs.aper_frames.declared.frame.Frame.{Frame}
+use Rattle.aper_elements.specs.aper_frames.declared.frame.Turn.{Turn}
+use Rattle.aper_elements.specs.aper_frames.declared.frame.Turn.TheVariants as turns
+use Rattle.aper_elements.specs.aper_frames.Steps.{left}
+use Rattle.aper_elements.specs.aper_frames.Weights.{frames_weight, turn_weight}
 use Rattle.aper_reading.specs.Forms.{form_weight}
 use Rattle.aper_reading.specs.Heavy.{heavy, weighed}
 use Rattle.aper_reading.specs.InModule.{IsOfModule}
@@ -37,6 +37,14 @@ module _ (m : Syntax) (id : TypeId) (form : Form) (is : tree m id.number ≡ for
       < turn_weight (weighed m other) (turns.Read id) + frames_weight (weighed m other) before
   begun_lighter turn before fs within inside lighter other =
       omega (arith, lighter (weighed m other), form_weighed m other id.number form within is inside)
+
+-- what a form of a type of a module holds is of the module
+pub form_of_module : (m : Syntax) (id : ℕ) (form : Form) → id < length m.nodes → tree m id ≡ form_tree (tree m) form
+    → IsFormInside (length m.nodes) form → IsOfModule m (λ w. form_weight w form)
+form_of_module m id form within is inside = record {
+  most = heavy (tree m id);
+  bounded = λ other. omega (arith, form_weighed m other id form within is inside, weighed_inside m other id within);
+}
 
 -- What the loop keeps: the whole is asked as it was, and no more is left than there was at first, whatever types outside weigh.
 pub record IsTurn (m : Syntax) (whole : ℕ) (first : Cursor) (turn : Turn) (fs : List Frame) (c : Cursor) : Type 0 where

@@ -4,7 +4,7 @@ use Rattle.aper_defs.specs.Trees.{Tree}
 use Rattle.aper_defs.specs.Reading.{decoded}
 use Rattle.aper_values.specs.declared.value.Value.{Value}
 use Rattle.aper_values.specs.Views.{view}
-use Rattle.aper_frames.specs.Paths.{path_view}
+use Rattle.aper_elements.specs.aper_frames.Paths.{path_view}
 use Rattle.aper_reading.specs.declared.error.DecodeError.{DecodeError}
 use Rattle.aper_reading.specs.declared.error.DecodeError.TheVariants as errors
 

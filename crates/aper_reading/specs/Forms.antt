@@ -1,12 +1,12 @@
 -- Internal: forms of types: within the bounds of the profile, as far as an encoding depends on them, and how much a value of one has to be read.
-use Rattle.std.specs.Prelude.{◌≡◌, ℕ, true, ◌^◌, ◌<◌, ◌≤◌, length}
+use Rattle.std.specs.Prelude.{◌≡◌, ℕ, Bool, true, false, ◌^◌, ◌<◌, ◌≤◌, length}
 use Rattle.std.specs.Int.Signed.{le_z}
 use Rattle.asn1_types.specs.Members.{additions_of}
 use Rattle.aper_defs.specs.Numbers.{above}
 use Rattle.aper_defs.specs.Bounds.{IsSizeBounded}
-use Rattle.aper_types.specs.declared.form.Form.{Form}
-use Rattle.aper_types.specs.declared.form.Form.TheVariants as forms
-use Rattle.aper_frames.specs.Weights.{sequence_weight, choice_weight, list_weight, container_weight, message_weight}
+use Rattle.aper_elements.specs.aper_types.declared.form.Form.{Form}
+use Rattle.aper_elements.specs.aper_types.declared.form.Form.TheVariants as forms
+use Rattle.aper_elements.specs.aper_frames.Weights.{sequence_weight, choice_weight, list_weight, container_weight, message_weight}
 
 abbrev pub IsFormBounded : Form → Type 0
 IsFormBounded forms.Boolean = Unit {0}
@@ -20,6 +20,20 @@ IsFormBounded (forms.Choice members) = (1 ≤ length members.now.root) × (lengt
 IsFormBounded (forms.SequenceOf size element) = IsSizeBounded size
 IsFormBounded (forms.Container rows) = Unit {0}
 IsFormBounded (forms.Pdu rows) = Unit {0}
+
+-- none of its values holds others
+abbrev pub is_simple : Form → Bool
+is_simple forms.Boolean = true
+is_simple (forms.Integer low high extensible) = true
+is_simple (forms.Enumerated names extensible) = true
+is_simple (forms.BitString size) = true
+is_simple (forms.OctetString size) = true
+is_simple (forms.PrintableString size) = true
+is_simple (forms.Sequence members) = false
+is_simple (forms.Choice members) = false
+is_simple (forms.SequenceOf size element) = false
+is_simple (forms.Container rows) = false
+is_simple (forms.Pdu rows) = false
 
 -- as its weight is in `Weights` of aper_frames
 abbrev pub form_weight : (ℕ → ℕ) → Form → ℕ

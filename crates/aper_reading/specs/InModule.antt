@@ -1,25 +1,23 @@
 -- Internal: steps by the types of one module, of which simple values are read in place.
-use Rattle.std.specs.Prelude.{◌≡◌, ℕ, ◌+◌, ◌≤◌, List, ◌∷◌, Option, Some, None, Result, Ok, Err}
+use Rattle.std.specs.Prelude.{◌≡◌, ℕ, ◌+◌, ◌-◌, ◌≤◌, List, ◌∷◌, Result, Ok, Err}
 use Rattle.asn1_assignments.specs.declared.assignment.Syntax.{Syntax}
 use Rattle.asn1_types.specs.declared.definition.Component.{Component}
 use Rattle.aper_defs.specs.Trees.{Tree}
-use Rattle.aper_defs.specs.Values as seen
 use Rattle.aper_defs.specs.Fields.{Path}
 use Rattle.aper_defs.specs.Fields as fields
 use Rattle.aper_defs.specs.Questions.{Prog}
-use Rattle.aper_defs.specs.Asking.{asks}
 use Rattle.aper_defs.specs.Reading.{Cursor, run}
 use Rattle.aper_cursor.specs.declared.error.Unanswered.{Unanswered}
 use Rattle.aper_cursor.specs.declared.error.Unanswered.TheVariants.{Wrong, Memory}
 use Rattle.aper_asking.specs.Going.{fault_at}
-use Rattle.aper_values.specs.declared.value.Value.{Value}
-use Rattle.aper_values.specs.Views.{view}
-use Rattle.aper_frames.specs.declared.frame.Components.{Components}
-use Rattle.aper_frames.specs.declared.frame.Frame.{Frame}
-use Rattle.aper_frames.specs.declared.frame.Turn.{Turn}
-use Rattle.aper_frames.specs.Frames.{component_after, path_of, next_of}
-use Rattle.aper_frames.specs.Steps.{left}
-use Rattle.aper_frames.specs.Weights.{components_weight, frames_weight}
+use Rattle.aper_elements.specs.aper_frames.declared.frame.Components.{Components}
+use Rattle.aper_elements.specs.aper_frames.declared.frame.Members.{Members}
+use Rattle.aper_elements.specs.aper_frames.declared.frame.Frame.{Frame}
+use Rattle.aper_elements.specs.aper_frames.declared.frame.Frame.TheVariants as frames
+use Rattle.aper_elements.specs.aper_frames.declared.frame.Turn.{Turn}
+use Rattle.aper_elements.specs.aper_frames.Frames.{component_after, path_of, next_of}
+use Rattle.aper_elements.specs.aper_frames.Steps.{left}
+use Rattle.aper_elements.specs.aper_frames.Weights.{components_weight, frames_weight}
 use Rattle.aper_reading.specs.Heavy.{weighed}
 
 -- `Steps` by these types alone.
@@ -33,12 +31,9 @@ pub record IsOfModule (m : Syntax) (weight : (ℕ → ℕ) → ℕ) : Type 0 whe
   pub most : ℕ
   pub bounded : (other : ℕ) → weight (weighed m other) ≤ most
 
--- The value that is asked is read at once, or refused at the place that is reached; or nothing is read where one may hold others.
-abbrev pub ReadsSimple : Tree → Cursor → Cursor → Result (Option Value) Unanswered → Type 0
-ReadsSimple t old new (Ok (Some v)) = (p : Path) (K : seen.Value → Prog) → run (asks p t K) old ≡ run (K (view v)) new
-ReadsSimple t old new (Ok None) = new ≡ old
-ReadsSimple t old new (Err (Wrong reason)) = (p : Path) (K : seen.Value → Prog) → run (asks p t K) old ≡ Err (fault_at new reason p)
-ReadsSimple t old new (Err Memory) = Unit {0}
+-- A member is read, and the others after it.
+abbrev pub among : Members → List Frame → List Frame
+among m fs = frames.Member (record m { left = m.left - 1 }) ∷ fs
 
 -- A component is read, and others after it.
 pub record IsAround (part : Component) (others : Components) (old new : List Frame) : Type 0 where

@@ -13,13 +13,13 @@ use Rattle.aper_cursor.specs.declared.error.Unanswered.TheVariants as unanswered
 use Rattle.aper_asking.specs.Going.{fault_at}
 use Rattle.aper_values.specs.declared.value.Value.{Value}
 use Rattle.aper_values.specs.Views.{view}
-use Rattle.aper_frames.specs.declared.frame.Frame.{Frame}
-use Rattle.aper_frames.specs.declared.frame.Turn.{Turn}
-use Rattle.aper_frames.specs.declared.frame.Turn.TheVariants as turns
-use Rattle.aper_frames.specs.Frames.{path_of}
-use Rattle.aper_frames.specs.Steps.{left}
-use Rattle.aper_frames.specs.Weights.{turn_weight, frames_weight}
-use Rattle.aper_frames.specs.Paths.{path_view}
+use Rattle.aper_elements.specs.aper_frames.declared.frame.Frame.{Frame}
+use Rattle.aper_elements.specs.aper_frames.declared.frame.Turn.{Turn}
+use Rattle.aper_elements.specs.aper_frames.declared.frame.Turn.TheVariants as turns
+use Rattle.aper_elements.specs.aper_frames.Frames.{path_of}
+use Rattle.aper_elements.specs.aper_frames.Steps.{left}
+use Rattle.aper_elements.specs.aper_frames.Weights.{turn_weight, frames_weight}
+use Rattle.aper_elements.specs.aper_frames.Paths.{path_view}
 use Rattle.aper_reading.specs.Heavy.{weighed}
 use Rattle.aper_reading.specs.declared.decoder.Progress.{Progress}
 use Rattle.aper_reading.specs.declared.decoder.Progress.TheVariants.{Next, Whole}

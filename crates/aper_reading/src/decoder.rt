@@ -3,10 +3,10 @@
 ghost use Rattle.std.specs.Prelude.{◌≡◌, ◌<◌, ◌≤◌, [], length};
 ghost use Rattle.aper_defs.specs.Trees.{Tree};
 ghost use Rattle.aper_defs.specs.Reading.{run, decoded};
-ghost use Rattle.aper_types.specs.Types.{tree};
-ghost use Rattle.aper_frames.specs.Frames.{path_of};
-ghost use Rattle.aper_frames.specs.Steps.{left};
-ghost use Rattle.aper_frames.specs.Weights.{frames_weight};
+ghost use Rattle.aper_elements.specs.aper_types.Types.{tree};
+ghost use Rattle.aper_elements.specs.aper_frames.Frames.{path_of};
+ghost use Rattle.aper_elements.specs.aper_frames.Steps.{left};
+ghost use Rattle.aper_elements.specs.aper_frames.Weights.{frames_weight};
 ghost use Rattle.aper_reading.specs.Decoding.{Decodes};
 ghost use Rattle.aper_reading.specs.InModule.{IsOfModule};
 ghost use Rattle.aper_reading.specs.Turns.{ReadsWhole, ReadsValue, IsRefusal, IsTurnInside, TakesTurn, Lessens};
@@ -16,10 +16,10 @@ use crate::error::DecodeError;
 use crate::goes_on::go_on;
 use aper_cursor::{Cursor, Unanswered};
 use aper_defs::Reason;
-use aper_frames::{Stack, Turn, path_of};
-use aper_types::form_of;
+use aper_elements::from_aper_frames::{Stack, Turn, path_of};
+use aper_elements::from_aper_types::form_of;
+use aper_elements::from_asn1_module::{Module, TypeId};
 use aper_values::value::Value;
-use asn1_module::{Module, TypeId};
 use std::alloc::Global;
 
 /// What a turn leads to: another one, or the whole value.
@@ -142,7 +142,7 @@ fn take_turn<'m>(
     ensures lighter { Lessens m.now turn frames.old frames.new result }
 {
     match turn {
-        Turn::Read(id) => Ok(Progress::Next(begin(alloc, cursor, frames, form_of(m, id))?)),
+        Turn::Read(id) => Ok(Progress::Next(begin(alloc, m, cursor, frames, form_of(m, id))?)),
         Turn::Made(value) => match frames.pop() {
             None => Ok(Progress::Whole(value)),
             Some(frame) => Ok(Progress::Next(go_on(alloc, m, cursor, frames, frame, value)?)),

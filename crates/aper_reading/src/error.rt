@@ -1,7 +1,7 @@
 //! Why octets aren't decoded.
 
 use aper_defs::Reason;
-use aper_frames::Step;
+use aper_elements::from_aper_frames::Step;
 
 /// Why octets aren't decoded.
 #[derive(Debug, Drop)]

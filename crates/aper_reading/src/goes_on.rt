@@ -2,9 +2,9 @@
 
 ghost use Rattle.std.specs.Prelude.{◌+◌};
 ghost use Rattle.aper_values.specs.Views.{view};
-ghost use Rattle.aper_frames.specs.Frames.{path_of, next_of, after};
-ghost use Rattle.aper_frames.specs.Weights.{frame_weight, frames_weight, Lighter};
-ghost use Rattle.aper_types.specs.Types.{tree};
+ghost use Rattle.aper_elements.specs.aper_frames.Frames.{path_of, next_of, after};
+ghost use Rattle.aper_elements.specs.aper_frames.Weights.{frame_weight, frames_weight, Lighter};
+ghost use Rattle.aper_elements.specs.aper_types.Types.{tree};
 ghost use Rattle.aper_reading.specs.InModule.{IsOfModule, StepsIn};
 
 use crate::list::after_member;
@@ -12,10 +12,10 @@ use crate::sequence::{after_addition, after_component};
 use aper_asking::ask_closing;
 use aper_cursor::{Cursor, Unanswered};
 use aper_elements::after_element;
-use aper_frames::{Frame, Stack, Turn};
+use aper_elements::from_aper_frames::{Frame, Stack, Turn};
+use aper_elements::from_asn1_module::Module;
 use aper_values::make::{chosen, message};
 use aper_values::value::Value;
-use asn1_module::Module;
 use std::alloc::Global;
 
 /// Goes on after a value inside this frame.

@@ -11,3 +11,20 @@ mod simple;
 
 pub use decoder::{decode, refused};
 pub use error::DecodeError;
+
+/// Of `asn1_module`, for crates above.
+pub mod from_asn1_module {
+    pub use aper_elements::from_asn1_module::{Module, TypeId};
+}
+
+/// Of `aper_frames`, for crates above.
+pub mod from_aper_frames {
+    pub use aper_elements::from_aper_frames::Step;
+}
+
+/// Of `aper_members`, for crates above.
+pub mod from_aper_members {
+    pub mod rows {
+        pub use aper_elements::from_aper_members::rows::{message_type, named, row_type};
+    }
+}

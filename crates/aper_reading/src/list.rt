@@ -1,46 +1,53 @@
 //! SEQUENCE OF.
 
-ghost use Rattle.std.specs.Prelude.{ℕ, ◌≡◌, ◌+◌, ◌<◌, IfOk};
+ghost use Rattle.std.specs.Prelude.{◌≡◌, ◌+◌, ◌<◌, OnOk};
 ghost use Rattle.aper_defs.specs.Bounds.{IsSizeBounded};
-ghost use Rattle.aper_defs.specs.Trees.{Tree, sequence_of};
 ghost use Rattle.aper_defs.specs.Asking.{asks};
 ghost use Rattle.aper_values.specs.Views.{view};
-ghost use Rattle.aper_frames.specs.Frames.{members_left, member_after, path_of, next_of};
-ghost use Rattle.aper_frames.specs.Steps.{Steps, left};
-ghost use Rattle.aper_types.specs.Types.{tree};
-ghost use Rattle.aper_reading.specs.InModule.{IsOfModule, StepsIn};
-ghost use Rattle.aper_frames.specs.Weights.{list_weight, members_weight, frames_weight, turn_weight, Lighter};
+ghost use Rattle.aper_elements.specs.aper_frames.Frames.{members_left, member_after, path_of, next_of};
+ghost use Rattle.aper_elements.specs.aper_types.Types.{tree};
+ghost use Rattle.aper_defs.specs.Trees.{sequence_of};
+ghost use Rattle.aper_reading.specs.InModule.{IsOfModule, StepsIn, among};
+ghost use Rattle.aper_elements.specs.aper_frames.Weights.{list_weight, members_weight, frames_weight, Lighter};
 
-use crate::simple::read_simple;
+use crate::simple::{is_simple, read_form};
 use aper_asking::ask_count;
 use aper_cursor::{Cursor, Unanswered};
-use aper_frames::{Frame, Members, Stack, Turn};
+use aper_elements::from_aper_frames::{Frame, Members, Stack, Turn};
+use aper_elements::from_aper_types::form_of;
+use aper_elements::from_asn1_module::Module;
 use aper_values::make::listed;
 use aper_values::value::Value;
-use asn1_module::Module;
 use asn1_types::{Size, TypeId};
 use gnb_types::items::Memory;
 use std::alloc::Global;
 
-#[tactic(auto, unfolding(aper_defs::specs::Asking::asks))]
+/// Room for so many members is made at first: where octets say that more come, they may not hold them.
+const MEMBERS_AT_FIRST: u64 = 64;
+
+/// The members of a list, as far as they hold no other values.
 pub fn begin_list<'m>(
     alloc: Global,
+    m: &'m Module,
     cursor: &mut Cursor,
     frames: &mut Stack<'m>,
     size: Option<Size>,
     element: TypeId,
 ) -> Result<Turn, Unanswered>
-    requires { IsSizeBounded size }
-    ensures asked { Steps (λ of. asks (path_of frames.old) (sequence_of size (of element.number)) (next_of of frames.old)) cursor.old cursor.new frames.new result }
+    requires size { IsSizeBounded size }
+    requires inside { IsOfModule m.now (λ w. list_weight w 65535 element) }
+    ensures asked { StepsIn (tree m.now) (asks (path_of frames.old) (sequence_of size (tree m.now element.number)) (next_of (tree m.now) frames.old))
+        cursor.old cursor.new frames.new result }
     ensures lighter { Lighter (λ w. list_weight w 65535 element + frames_weight w frames.old) frames.new result }
 {
     let left = ask_count(cursor, size)?;
+    let made = Vec::with_capacity(alloc, left.min(MEMBERS_AT_FIRST) as usize)?;
     let members = Members {
         element,
         left,
-        made: Vec::new(alloc),
+        made,
     };
-    Ok(next_member(frames, members)?)
+    read_members(alloc, m, cursor, frames, members)
 }
 
 /// After a member: those that hold no other values are read at once.
@@ -75,17 +82,24 @@ fn read_members<'m>(
         cursor.old cursor.new frames.new result }
     ensures lighter { Lighter (λ w. members_weight w members + frames_weight w frames.old) frames.new result }
 {
+    if members.left == 0 {
+        return Ok(Turn::Made(listed(members.made)));
+    }
+    let element = members.element;
+    let form = form_of(m, element);
+    if !is_simple(form) {
+        push_member(frames, members)?;
+        return Ok(Turn::Read(element));
+    }
     let mut others = members;
     while others.left > 0 {
-        match read_simple(alloc, m, cursor, others.element) {
-            Ok(None) => return Ok(next_member(frames, others)?),
-            Ok(Some(value)) => {
+        match read_form(alloc, cursor, form) {
+            Ok(value) => {
                 others.left -= 1;
                 others.made.push(value)?;
             }
             Err(error) => {
-                others.left -= 1;
-                frames.push(Frame::Member(others))?;
+                push_member(frames, others)?;
                 return Err(error);
             }
         }
@@ -93,17 +107,13 @@ fn read_members<'m>(
     Ok(Turn::Made(listed(others.made)))
 }
 
-/// The next member, or the list where none is left.
-fn next_member<'m>(frames: &mut Stack<'m>, members: Members) -> Result<Turn, Memory>
-    ensures asked { IfOk result (λ turn. (of : ℕ → Tree) → members_left of members (path_of frames.old) (next_of of frames.old) ≡ left of turn frames.new) }
-    ensures lighter { IfOk result (λ turn. (w : ℕ → ℕ) → turn_weight w turn + frames_weight w frames.new < members_weight w members + frames_weight w frames.old) }
+/// The next member is read, and the others after it.
+fn push_member<'m>(frames: &mut Stack<'m>, members: Members) -> Result<(), Memory>
+    requires { 0 < members.left }
+    ensures { OnOk result (frames.new ≡ among members frames.old) }
 {
-    if members.left == 0 {
-        return Ok(Turn::Made(listed(members.made)));
-    }
-    let mut members = members;
-    members.left -= 1;
-    let element = members.element;
-    frames.push(Frame::Member(members))?;
-    Ok(Turn::Read(element))
+    let mut others = members;
+    others.left -= 1;
+    frames.push(Frame::Member(others))?;
+    Ok(())
 }

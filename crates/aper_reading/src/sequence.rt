@@ -4,43 +4,49 @@ ghost use Rattle.std.specs.Prelude.{◌+◌, OnOk};
 ghost use Rattle.asn1_types.specs.Members.{additions_of};
 ghost use Rattle.aper_defs.specs.Asking.{asks};
 ghost use Rattle.aper_defs.specs.Trees.{sequence};
-ghost use Rattle.aper_types.specs.Types.{sequence_tree, parts_of, tree};
+ghost use Rattle.aper_elements.specs.aper_types.Types.{sequence_tree, parts_of, tree};
 ghost use Rattle.aper_values.specs.Views.{view};
-ghost use Rattle.aper_frames.specs.Frames.{components_left, component_after, additions_left, addition_after, path_of, next_of, after_components, options_before};
-ghost use Rattle.aper_frames.specs.Steps.{Steps};
-ghost use Rattle.aper_frames.specs.Weights.{sequence_weight, components_weight, additions_weight, frames_weight, Lighter};
+ghost use Rattle.aper_elements.specs.aper_frames.Frames.{components_left, component_after, additions_left, addition_after, path_of, next_of, after_components, options_before};
+ghost use Rattle.aper_elements.specs.aper_frames.Steps.{Steps};
+ghost use Rattle.aper_elements.specs.aper_frames.Weights.{sequence_weight, components_weight, additions_weight, frames_weight, Lighter};
 ghost use Rattle.aper_reading.specs.InModule.{IsOfModule, StepsIn, IsAround};
 ghost use Rattle.aper_defs.specs.Values as seen;
 
-use crate::simple::read_simple;
+use crate::simple::{is_simple, read_form};
 use aper_asking::ask_extension;
 use aper_cursor::{Cursor, Unanswered};
-use aper_frames::{
+use aper_elements::from_aper_frames::{
     Addition, AdditionFrame, Additions, ComponentFrame, Components, Flags, Frame, Stack, Turn,
     ask_inside, ask_unknown,
 };
-use aper_heads::{ask_flags, ask_marks};
-use aper_members::rows::named;
+use aper_elements::from_aper_heads::{ask_flags, ask_marks};
+use aper_elements::from_aper_members::rows::named;
+use aper_elements::from_aper_types::form_of;
+use aper_elements::from_asn1_module::Module;
 use aper_values::make::components;
 use aper_values::value::Value;
-use asn1_module::Module;
 use asn1_types::{Component, Extensible};
 use gnb_types::items::Memory;
 use std::alloc::Global;
 
+/// The components of a SEQUENCE, as far as they hold no other values.
 pub fn begin_sequence<'m>(
     alloc: Global,
+    m: &'m Module,
     cursor: &mut Cursor,
     frames: &mut Stack<'m>,
     members: &'m Extensible<Component>,
 ) -> Result<Turn, Unanswered>
-    ensures asked { Steps (λ of. asks (path_of frames.old) (sequence_tree of members.now) (next_of of frames.old)) cursor.old cursor.new frames.new result }
+    requires { IsOfModule m.now (λ w. sequence_weight w members.now.root (additions_of members.now.additions)) }
+    ensures asked { StepsIn (tree m.now) (asks (path_of frames.old) (sequence_tree (tree m.now) members.now) (next_of (tree m.now) frames.old))
+        cursor.old cursor.new frames.new result }
     ensures lighter { Lighter (λ w. sequence_weight w members.now.root (additions_of members.now.additions) + frames_weight w frames.old) frames.new result }
 {
     let extensible = members.additions.is_some();
     let additions = named(&members.additions);
     begin_components(
         alloc,
+        m,
         cursor,
         frames,
         extensible,
@@ -50,29 +56,31 @@ pub fn begin_sequence<'m>(
 }
 
 /// A SEQUENCE of these components and additions.
-#[tactic(auto, unfolding(aper_defs::specs::Asking::asks))]
 fn begin_components<'m>(
     alloc: Global,
+    m: &'m Module,
     cursor: &mut Cursor,
     frames: &mut Stack<'m>,
     extensible: bool,
     root: &'m [Component],
     additions: &'m [Component],
 ) -> Result<Turn, Unanswered>
-    ensures asked { Steps (λ of. asks (path_of frames.old) (sequence extensible (parts_of of root.now) (parts_of of additions.now)) (next_of of frames.old))
-        cursor.old cursor.new frames.new result }
+    requires { IsOfModule m.now (λ w. sequence_weight w root.now additions.now) }
+    ensures asked { StepsIn (tree m.now) (asks (path_of frames.old) (sequence extensible (parts_of (tree m.now) root.now) (parts_of (tree m.now) additions.now))
+        (next_of (tree m.now) frames.old)) cursor.old cursor.new frames.new result }
     ensures lighter { Lighter (λ w. sequence_weight w root.now additions.now + frames_weight w frames.old) frames.new result }
 {
     let extended = ask_extension(cursor, extensible)?;
     let there = ask_flags(alloc, cursor, root)?;
+    let made = Vec::with_capacity(alloc, root.len())?;
     let components = Components {
         left: root,
         there: Flags::new(there),
-        made: Vec::new(alloc),
+        made,
         additions,
         extended,
     };
-    next_component(alloc, cursor, frames, components)
+    read_components(alloc, m, cursor, frames, components)
 }
 
 /// After a component: those that hold no other values are read at once.
@@ -109,12 +117,13 @@ fn read_components<'m>(
 {
     let mut others = components;
     while let Some(component) = others.next()? {
-        match read_simple(alloc, m, cursor, component.definition) {
-            Ok(Some(value)) => others.made.push(Some(value))?,
-            Ok(None) => {
-                push_component(frames, component, others)?;
-                return Ok(Turn::Read(component.definition));
-            }
+        let form = form_of(m, component.definition);
+        if !is_simple(form) {
+            push_component(frames, component, others)?;
+            return Ok(Turn::Read(component.definition));
+        }
+        match read_form(alloc, cursor, form) {
+            Ok(value) => others.made.push(Some(value))?,
             Err(error) => {
                 push_component(frames, component, others)?;
                 return Err(error);
@@ -135,26 +144,6 @@ fn push_component<'m>(
     let name = component.name.as_slice();
     frames.push(Frame::Component(ComponentFrame { name, others }))?;
     Ok(())
-}
-
-/// The next component, or what comes after the last one.
-fn next_component<'m>(
-    alloc: Global,
-    cursor: &mut Cursor,
-    frames: &mut Stack<'m>,
-    components: Components<'m>,
-) -> Result<Turn, Unanswered>
-    ensures asked { Steps (λ of. components_left of components.entry (path_of frames.old) (next_of of frames.old)) cursor.old cursor.new frames.new result }
-    ensures lighter { Lighter (λ w. components_weight w components.entry + frames_weight w frames.old) frames.new result }
-{
-    let mut others = components;
-    match others.next()? {
-        None => begin_additions(alloc, cursor, frames, others),
-        Some(component) => {
-            push_component(frames, component, others)?;
-            Ok(Turn::Read(component.definition))
-        }
-    }
 }
 
 /// The additions after all components.

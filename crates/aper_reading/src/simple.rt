@@ -1,57 +1,62 @@
 //! Values that hold no others, read in place.
 
-ghost use Rattle.std.specs.Prelude.{ℕ, ◌<◌, length};
+ghost use Rattle.std.specs.Prelude.{ℕ, ◌≡◌, true};
+ghost use Rattle.aper_defs.specs.Asking.{asks};
 ghost use Rattle.aper_defs.specs.Trees.{Tree};
-ghost use Rattle.aper_types.specs.Types.{tree};
-ghost use Rattle.aper_types.specs.Forms.{form_tree};
-ghost use Rattle.aper_reading.specs.Forms.{IsFormBounded};
-ghost use Rattle.aper_reading.specs.InModule.{ReadsSimple};
+ghost use Rattle.aper_elements.specs.aper_types.Forms.{form_tree};
+ghost use Rattle.aper_simple.specs.Reads.{Reads};
+ghost use Rattle.aper_reading.specs.Forms.{IsFormBounded, is_simple};
 
 use aper_cursor::{Cursor, Range, Unanswered};
+use aper_elements::from_aper_types::Form;
 use aper_simple::{
     read_bit_string, read_boolean, read_enumerated, read_integer, read_octet_string,
     read_printable_string,
 };
-use aper_types::{Form, form_of};
 use aper_values::value::Value;
-use asn1_module::{Module, TypeId};
 use std::alloc::Global;
 
-/// The value of a type of a module, where it can't hold others.
-pub fn read_simple(
-    alloc: Global,
-    m: &Module,
-    cursor: &mut Cursor,
-    id: TypeId,
-) -> Result<Option<Value>, Unanswered>
-    requires { id.number < length m.now.nodes }
-    ensures { ReadsSimple (tree m.now id.number) cursor.old cursor.new result }
-{
-    read_form(alloc, cursor, form_of(m, id))
-}
-
-/// The value of a type of this form, where it can't hold others.
-fn read_form(alloc: Global, cursor: &mut Cursor, form: Form) -> Result<Option<Value>, Unanswered>
-    requires { IsFormBounded form }
-    ensures { (of : ℕ → Tree) → ReadsSimple (form_tree of form.entry) cursor.old cursor.new result }
+/// Whether no value of a type of this form holds others.
+pub fn is_simple(form: Form) -> bool
+    ensures { result ≡ is_simple form.entry }
 {
     match form {
-        Form::Boolean => Ok(Some(read_boolean(cursor)?)),
+        Form::Boolean => true,
+        Form::Integer { .. } => true,
+        Form::Enumerated { .. } => true,
+        Form::BitString(_) => true,
+        Form::OctetString(_) => true,
+        Form::PrintableString(_) => true,
+        Form::Sequence(_) => false,
+        Form::Choice(_) => false,
+        Form::SequenceOf { .. } => false,
+        Form::Container(_) => false,
+        Form::Pdu(_) => false,
+    }
+}
+
+/// The value of a type of this form.
+#[inline(always)]
+pub fn read_form(alloc: Global, cursor: &mut Cursor, form: Form) -> Result<Value, Unanswered>
+    requires bounded { IsFormBounded form }
+    requires simple { is_simple form ≡ true }
+    ensures { (of : ℕ → Tree) → Reads (λ p. asks p (form_tree of form.entry)) cursor.old cursor.new result }
+{
+    match form {
+        Form::Boolean => read_boolean(cursor),
         Form::Integer {
             low,
             high,
             extensible,
-        } => Ok(Some(read_integer(cursor, &Range { low, high }, extensible)?)),
-        Form::Enumerated { names, extensible } => Ok(Some(read_enumerated(
-            cursor, names, extensible,
-        )?)),
-        Form::BitString(size) => Ok(Some(read_bit_string(alloc, cursor, size)?)),
-        Form::OctetString(size) => Ok(Some(read_octet_string(alloc, cursor, size)?)),
-        Form::PrintableString(size) => Ok(Some(read_printable_string(alloc, cursor, size)?)),
-        Form::Sequence(_)
-        | Form::Choice(_)
-        | Form::SequenceOf { .. }
-        | Form::Container(_)
-        | Form::Pdu(_) => Ok(None),
+        } => read_integer(cursor, &Range { low, high }, extensible),
+        Form::Enumerated { names, extensible } => read_enumerated(cursor, names, extensible),
+        Form::BitString(size) => read_bit_string(alloc, cursor, size),
+        Form::OctetString(size) => read_octet_string(alloc, cursor, size),
+        Form::PrintableString(size) => read_printable_string(alloc, cursor, size),
+        Form::Sequence(_) => unreachable!(),
+        Form::Choice(_) => unreachable!(),
+        Form::SequenceOf { .. } => unreachable!(),
+        Form::Container(_) => unreachable!(),
+        Form::Pdu(_) => unreachable!(),
     }
 }

@@ -17,7 +17,7 @@ use Rattle.aper_values.specs.declared.value.Element.{Element}
 use Rattle.aper_frames.specs.declared.frame.Elements.{Elements}
 use Rattle.aper_frames.specs.declared.frame.Frame.{Frame}
 use Rattle.aper_frames.specs.Frames.{ies_before, elements_by, elements_left, path_of, next_of}
-use Rattle.aper_elements.proofs.ContainerLemmas.{container_as}
+use Rattle.aper_reading.proofs.aper_elements.ContainerLemmas.{container_as}
 use Rattle.aper_resuming.specs.declared.pending.Pending.{Pending}
 use Rattle.aper_resuming.specs.Turns.{IsLeft, Resumes}
 use Rattle.aper_resuming.proofs.Leading.{answered_on}

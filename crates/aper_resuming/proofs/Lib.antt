@@ -6,3 +6,4 @@ pub mod Containers
 pub mod Simple
 pub mod Endings
 pub mod Beginnings
+pub use Rattle.aper_reading.proofs as aper_reading

@@ -9,7 +9,7 @@ ghost use Rattle.aper_defs.specs.Fields as fields;
 ghost use Rattle.aper_types.specs.Types.{choice_tree, parts_of};
 ghost use Rattle.aper_frames.specs.Frames.{path_of, next_of};
 ghost use Rattle.aper_frames.specs.Weights.{part_weight, choice_weight, frames_weight};
-ghost use Rattle.aper_elements.specs.Added.{asked_added};
+ghost use Rattle.aper_reading.specs.aper_elements.Added.{asked_added};
 ghost use Rattle.aper_resuming.specs.Turns.{left, IsLeft, Resumes, Keeps};
 ghost use Rattle.aper_resuming.specs.Weights.{weight_left, pending_weight, Lightens};
 
@@ -17,7 +17,7 @@ use crate::pending::Pending;
 use aper_asking::ask_index;
 use aper_cursor::{Cursor, Unanswered};
 use aper_frames::{AlternativeFrame, Frame, Stack};
-use aper_members::rows::named;
+use aper_reading::from_aper_members::rows::named;
 use asn1_types::{Component, Extensible};
 use gnb_types::items::Memory;
 

@@ -16,7 +16,7 @@ use crate::pending::{Pending, Stopped};
 use aper_cursor::{Cursor, Unanswered};
 use aper_frames::{ElementFrame, Elements, Frame, Stack};
 use aper_heads::{ask_element_count, ask_element_head, rows_left};
-use aper_members::rows::row_type;
+use aper_reading::from_aper_members::rows::row_type;
 use aper_values::make;
 use aper_values::value::{Ie, Value};
 use asn1_assignments::IeRow;

@@ -14,3 +14,13 @@ mod turn;
 
 pub use pending::{Pending, Stopped};
 pub use turn::{Progress, take_turn};
+
+/// Of `aper_frames`, for crates above.
+pub mod from_aper_frames {
+    pub use aper_frames::Stack;
+}
+
+/// Of `aper_reading`, for crates above.
+pub mod from_aper_reading {
+    pub use aper_reading::DecodeError;
+}

@@ -15,7 +15,7 @@ use crate::pending::Pending;
 use aper_cursor::{Cursor, Unanswered};
 use aper_frames::{BodyFrame, Frame, Stack};
 use aper_heads::{MessageHead, ask_message_head};
-use aper_members::rows::message_type;
+use aper_reading::from_aper_members::rows::message_type;
 use asn1_assignments::ProcedureRow;
 
 /// Begins a PDU of these procedures. Its body comes next, in an open type.

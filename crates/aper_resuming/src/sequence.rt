@@ -19,7 +19,7 @@ use aper_frames::{
     Addition, AdditionFrame, Additions, ComponentFrame, Components, Flags, Frame, Stack,
 };
 use aper_heads::{ask_flags, ask_marks};
-use aper_members::rows::named;
+use aper_reading::from_aper_members::rows::named;
 use aper_values::make::components;
 use aper_values::value::Value;
 use asn1_types::{Component, Extensible};

@@ -17,6 +17,7 @@ use asn1_types::Size;
 use gnb_types::bits::Bits;
 use std::alloc::{AllocError, Global};
 
+#[inline(always)]
 #[tactic(auto, unfolding(aper_defs::specs::Asking::asks))]
 pub fn read_boolean(cursor: &mut Cursor) -> Result<Value, Unanswered>
     ensures { Reads (λ p. asks p trees.boolean) cursor.old cursor.new result }
@@ -25,6 +26,7 @@ pub fn read_boolean(cursor: &mut Cursor) -> Result<Value, Unanswered>
     Ok(make::truth(bit))
 }
 
+#[inline(always)]
 #[tactic(auto, unfolding(aper_defs::specs::Asking::asks))]
 pub fn read_integer(
     cursor: &mut Cursor,
@@ -39,6 +41,7 @@ pub fn read_integer(
     Ok(make::integer(number))
 }
 
+#[inline(always)]
 #[tactic(auto, unfolding(aper_defs::specs::Asking::asks))]
 pub fn read_enumerated(
     cursor: &mut Cursor,

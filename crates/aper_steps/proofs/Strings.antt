@@ -15,11 +15,11 @@ use Rattle.aper_types.specs.declared.form.Form.{Form}
 use Rattle.aper_types.specs.declared.form.Form.TheVariants as forms
 use Rattle.aper_types.specs.Forms.{form_tree}
 use Rattle.aper_types.specs.Types.{tree}
-use Rattle.aper_frames.specs.declared.frame.Frame.{Frame}
-use Rattle.aper_frames.specs.Frames.{path_of, next_of}
-use Rattle.aper_reading.specs.Forms.{IsFormBounded}
-use Rattle.aper_reading.specs.Heavy.{weighed}
-use Rattle.aper_reading.proofs.HeavyLemmas.{is_inside}
+use Rattle.aper_resuming.specs.aper_frames.declared.frame.Frame.{Frame}
+use Rattle.aper_resuming.specs.aper_frames.Frames.{path_of, next_of}
+use Rattle.aper_resuming.specs.aper_reading.Forms.{IsFormBounded}
+use Rattle.aper_resuming.specs.aper_reading.Heavy.{weighed}
+use Rattle.aper_resuming.proofs.aper_reading.HeavyLemmas.{is_inside}
 use Rattle.aper_resuming.specs.declared.pending.Pending.{Pending}
 use Rattle.aper_resuming.specs.declared.pending.Pending.TheVariants as pendings
 use Rattle.aper_resuming.specs.Turns.{left, IsPendingInside}

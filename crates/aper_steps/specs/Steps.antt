@@ -18,10 +18,10 @@ use Rattle.aper_types.specs.declared.form.Form.{Form}
 use Rattle.aper_types.specs.Forms.{form_tree}
 use Rattle.aper_types.specs.Types.{tree}
 use Rattle.aper_values.specs.Views.{view}
-use Rattle.aper_frames.specs.declared.frame.Frame.{Frame}
-use Rattle.aper_frames.specs.Frames.{path_of, next_of}
-use Rattle.aper_frames.specs.Weights.{frames_weight}
-use Rattle.aper_reading.specs.Heavy.{weighed}
+use Rattle.aper_resuming.specs.aper_frames.declared.frame.Frame.{Frame}
+use Rattle.aper_resuming.specs.aper_frames.Frames.{path_of, next_of}
+use Rattle.aper_resuming.specs.aper_frames.Weights.{frames_weight}
+use Rattle.aper_resuming.specs.aper_reading.Heavy.{weighed}
 use Rattle.aper_resuming.specs.declared.pending.Pending.{Pending}
 use Rattle.aper_resuming.specs.declared.pending.Stopped.{Stopped}
 use Rattle.aper_resuming.specs.declared.pending.Stopped.TheVariants as stops

@@ -5,3 +5,13 @@
 mod step;
 
 pub use step::{Halted, Next, Onward, begun, take_step};
+
+/// Of `aper_reading`, for crates above.
+pub mod from_aper_reading {
+    pub use aper_resuming::from_aper_reading::DecodeError;
+}
+
+/// Of `aper_resuming`, for crates above.
+pub mod from_aper_resuming {
+    pub use aper_resuming::Pending;
+}

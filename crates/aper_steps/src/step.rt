@@ -7,8 +7,8 @@ ghost use Rattle.aper_defs.specs.Reading.{Cursor as Place};
 ghost use Rattle.aper_strings.specs.Contents.{content_of};
 ghost use Rattle.aper_types.specs.Types.{tree};
 ghost use Rattle.aper_values.specs.Views.{view};
-ghost use Rattle.aper_frames.specs.declared.frame.Frame.{Frame};
-ghost use Rattle.aper_reading.specs.Forms.{IsFormBounded};
+ghost use Rattle.aper_resuming.specs.aper_frames.declared.frame.Frame.{Frame};
+ghost use Rattle.aper_resuming.specs.aper_reading.Forms.{IsFormBounded};
 ghost use Rattle.aper_resuming.specs.Turns.{left, IsPendingInside};
 ghost use Rattle.aper_string_turns.specs.declared.field.StringField.TheVariants as fields;
 ghost use Rattle.aper_steps.specs.declared.step.Next.TheVariants as comes;
@@ -16,7 +16,7 @@ ghost use Rattle.aper_steps.specs.Steps.{string_value, next_left, IsPendingLight
 
 use aper_cursor::{Cursor, Unanswered};
 use aper_defs::Reason;
-use aper_frames::Stack;
+use aper_resuming::from_aper_frames::Stack;
 use aper_resuming::{Pending, Progress, Stopped, take_turn};
 use aper_string_turns::{StringField, StringLeft};
 use aper_strings::Content;

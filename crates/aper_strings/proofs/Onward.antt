@@ -6,7 +6,7 @@ use Rattle.aper_defs.specs.Fields as fields
 use Rattle.aper_defs.specs.Parts.{Content, pad_limit}
 use Rattle.aper_defs.specs.Questions.{Prog, ask, ask_units, ask_number, ask_extension, ask_sized, ask_string, ask_string_by}
 use Rattle.aper_defs.specs.Reading.{Cursor, run}
-use Rattle.aper_proof_answers.proofs.NumberFacts.{is_below, is_same, by_cases, same}
+use Rattle.aper_cursor.proofs.aper_proof_answers.NumberFacts.{is_below, is_same, by_cases, same}
 use Rattle.aper_cursor.specs.declared.error.Unanswered.{Unanswered}
 use Rattle.aper_cursor.specs.declared.error.Unanswered.TheVariants.{Wrong, Memory}
 use Rattle.aper_asking.specs.Going.{GoesOnOrMemory, PutsOn}

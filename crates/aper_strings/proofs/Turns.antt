@@ -10,7 +10,7 @@ use Rattle.aper_defs.specs.Bits.{part_units}
 use Rattle.aper_defs.specs.Parts.{Content}
 use Rattle.aper_defs.specs.Questions.{Prog, ask, never, ask_aligned, ask_characters, ask_units, ask_parts}
 use Rattle.aper_defs.specs.Reading.{Cursor, Fault, read, run, goes_on, answered_at}
-use Rattle.aper_proof_answers.proofs.NumberFacts.{is_below, is_not_below}
+use Rattle.aper_cursor.proofs.aper_proof_answers.NumberFacts.{is_below, is_not_below}
 use Rattle.aper_asking.specs.Going.{fault_at}
 
 -- ---- characters

@@ -4,21 +4,21 @@ use Rattle.std.specs.Prelude.{Option, Some, None, slice_get, ℤ, pos, ◌+ℤ�
 use Rattle.std.specs.Int.Signed.{le_z}
 use Rattle.std.specs.Int.{int_min}
 use Rattle.std.proofs.lemmas.Int.{ints}
-use Rattle.asn1_types.specs.declared.definition.Size.{Size}
-use Rattle.asn1_types.specs.declared.definition.TypeId.{TypeId}
-use Rattle.asn1_types.specs.declared.definition.Component.{Component}
-use Rattle.asn1_types.specs.declared.definition.Definition.{Definition}
-use Rattle.asn1_types.specs.declared.definition.Definition.TheVariants as types
-use Rattle.asn1_types.specs.declared.definition.Node.{Node}
-use Rattle.asn1_types.specs.Members.{additions_of}
-use Rattle.asn1_types.specs.Sizes.{natural}
-use Rattle.asn1_module.specs.asn1_assignments.declared.assignment.IeRow.{IeRow}
-use Rattle.asn1_module.specs.asn1_assignments.declared.assignment.ProcedureRow.{ProcedureRow}
-use Rattle.asn1_module.specs.asn1_assignments.declared.assignment.Assignment.{Assignment}
-use Rattle.asn1_module.specs.asn1_assignments.declared.assignment.Syntax.{Syntax}
-use Rattle.asn1_module.proofs.asn1_proof_reading.Readings.{read_of}
-use Rattle.asn1_module.specs.asn1_defs.Targets.{find_type, ie_rows, procedure_rows, definition_of, definition_at, all_of}
-use Rattle.asn1_module.specs.asn1_defs.Modules.{IsModule}
+use Rattle.aper_defs.specs.asn1_types.declared.definition.Size.{Size}
+use Rattle.aper_defs.specs.asn1_types.declared.definition.TypeId.{TypeId}
+use Rattle.aper_defs.specs.asn1_types.declared.definition.Component.{Component}
+use Rattle.aper_defs.specs.asn1_types.declared.definition.Definition.{Definition}
+use Rattle.aper_defs.specs.asn1_types.declared.definition.Definition.TheVariants as types
+use Rattle.aper_defs.specs.asn1_types.declared.definition.Node.{Node}
+use Rattle.aper_defs.specs.asn1_types.Members.{additions_of}
+use Rattle.aper_defs.specs.asn1_types.Sizes.{natural}
+use Rattle.asn1_proof_module.specs.asn1_assignments.declared.assignment.IeRow.{IeRow}
+use Rattle.asn1_proof_module.specs.asn1_assignments.declared.assignment.ProcedureRow.{ProcedureRow}
+use Rattle.asn1_proof_module.specs.asn1_assignments.declared.assignment.Assignment.{Assignment}
+use Rattle.asn1_proof_module.specs.asn1_assignments.declared.assignment.Syntax.{Syntax}
+use Rattle.asn1_proof_module.proofs.asn1_proof_reading.Readings.{read_of}
+use Rattle.asn1_proof_module.specs.asn1_defs.Targets.{find_type, ie_rows, procedure_rows, definition_of, definition_at, all_of}
+use Rattle.asn1_proof_module.specs.asn1_defs.Modules.{IsModule}
 use Rattle.asn1_proof_module.specs.Proper.{Each, IsSize, IsTextSize, Maybe, IsRange, IsWithin}
 use Rattle.asn1_proof_module.proofs.ModuleBounds.{proper}
 use Rattle.aper_defs.specs.Trees.{Tree}

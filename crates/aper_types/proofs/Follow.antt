@@ -4,19 +4,19 @@ use Rattle.std.specs.Prelude.{Option, Some, None, IsSome, ℤ}
 use Rattle.std.proofs.lemmas.Int.{to_z-of_z}
 use mir.Syntax.{w128}
 use mir.Val.{to_z, of_z, SFits}
-use Rattle.asn1_types.specs.declared.definition.TypeId.{TypeId}
-use Rattle.asn1_types.specs.declared.definition.Component.{Component}
-use Rattle.asn1_types.specs.declared.definition.Extensible.{Extensible}
-use Rattle.asn1_types.specs.declared.definition.Definition.{Definition}
-use Rattle.asn1_types.specs.declared.definition.Definition.TheVariants as types
-use Rattle.asn1_types.specs.Members.{additions_of}
-use Rattle.asn1_module.specs.asn1_assignments.declared.assignment.IeRow.{IeRow}
-use Rattle.asn1_module.specs.asn1_assignments.declared.assignment.ProcedureRow.{ProcedureRow}
-use Rattle.asn1_module.specs.asn1_assignments.declared.assignment.Assignment.{Assignment}
-use Rattle.asn1_module.specs.asn1_assignments.declared.assignment.Syntax.{Syntax}
-use Rattle.asn1_module.specs.asn1_defs.Modules.{IsModule}
-use Rattle.asn1_module.specs.asn1_defs.Targets.{find_type, HasTarget, definition_at, referred, element_rows, message_rows}
-use Rattle.asn1_module.specs.asn1_defs.Links.{AreBelow, PartsBelow, IsInside}
+use Rattle.aper_defs.specs.asn1_types.declared.definition.TypeId.{TypeId}
+use Rattle.aper_defs.specs.asn1_types.declared.definition.Component.{Component}
+use Rattle.aper_defs.specs.asn1_types.declared.definition.Extensible.{Extensible}
+use Rattle.aper_defs.specs.asn1_types.declared.definition.Definition.{Definition}
+use Rattle.aper_defs.specs.asn1_types.declared.definition.Definition.TheVariants as types
+use Rattle.aper_defs.specs.asn1_types.Members.{additions_of}
+use Rattle.asn1_proof_module.specs.asn1_assignments.declared.assignment.IeRow.{IeRow}
+use Rattle.asn1_proof_module.specs.asn1_assignments.declared.assignment.ProcedureRow.{ProcedureRow}
+use Rattle.asn1_proof_module.specs.asn1_assignments.declared.assignment.Assignment.{Assignment}
+use Rattle.asn1_proof_module.specs.asn1_assignments.declared.assignment.Syntax.{Syntax}
+use Rattle.asn1_proof_module.specs.asn1_defs.Modules.{IsModule}
+use Rattle.asn1_proof_module.specs.asn1_defs.Targets.{find_type, HasTarget, definition_at, referred, element_rows, message_rows}
+use Rattle.asn1_proof_module.specs.asn1_defs.Links.{AreBelow, PartsBelow, IsInside}
 use Rattle.aper_defs.specs.Trees.{Tree, integer, enumerated, container, pdu}
 use Rattle.aper_types.specs.Types.{is_extensible, rows_of, procedures_of, named_tree, definition_tree, tree}
 use Rattle.asn1_proof_ranks.specs.Leading.{OfOption, EachOf, Lesser}

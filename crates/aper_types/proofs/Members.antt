@@ -1,9 +1,9 @@
 -- For users of forms: components, rows and procedures by their places.
 use Rattle.std.proofs.Common.{◌≡◌, ℕ, zero, suc, ◌<◌, List, [], ◌∷◌, length, get_or, drop, refl, ap, arith}
-use Rattle.asn1_types.specs.declared.definition.Component.{Component}
-use Rattle.asn1_module.specs.asn1_assignments.declared.assignment.IeRow.{IeRow}
-use Rattle.asn1_module.specs.asn1_assignments.declared.assignment.ProcedureRow.{ProcedureRow}
-use Rattle.asn1_module.specs.asn1_defs.Links.{AreBelow, OptionBelow, IesBelow, ProceduresBelow}
+use Rattle.aper_defs.specs.asn1_types.declared.definition.Component.{Component}
+use Rattle.asn1_proof_module.specs.asn1_assignments.declared.assignment.IeRow.{IeRow}
+use Rattle.asn1_proof_module.specs.asn1_assignments.declared.assignment.ProcedureRow.{ProcedureRow}
+use Rattle.asn1_proof_module.specs.asn1_defs.Links.{AreBelow, OptionBelow, IesBelow, ProceduresBelow}
 use Rattle.aper_defs.specs.Trees.{Tree, Slot, part, row, slots, part_count}
 use Rattle.aper_types.specs.Types.{parts_of, is_mandatory, rows_of}
 

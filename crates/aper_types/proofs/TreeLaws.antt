@@ -1,17 +1,17 @@
 -- The tree of a type is made of the trees of the types that it leads to.
 use Rattle.std.proofs.Common.{◌≡◌, ℕ, zero, suc, ◌+◌, ◌<◌, List, [], ◌∷◌, length, refl, ap, ◌∙◌, arith}
 use Rattle.std.specs.Prelude.{Option, Some, None}
-use Rattle.asn1_types.specs.declared.definition.TypeId.{TypeId}
-use Rattle.asn1_types.specs.declared.definition.Component.{Component}
-use Rattle.asn1_types.specs.declared.definition.Definition.{Definition}
-use Rattle.asn1_types.specs.declared.definition.Definition.TheVariants as types
-use Rattle.asn1_types.specs.Members.{additions_of}
-use Rattle.asn1_module.specs.asn1_assignments.declared.assignment.IeRow.{IeRow}
-use Rattle.asn1_module.specs.asn1_assignments.declared.assignment.ProcedureRow.{ProcedureRow}
-use Rattle.asn1_module.specs.asn1_assignments.declared.assignment.Assignment.{Assignment}
-use Rattle.asn1_module.specs.asn1_assignments.declared.assignment.Syntax.{Syntax}
-use Rattle.asn1_module.specs.asn1_defs.Targets.{find_type, ie_rows, procedure_rows, definition_at, all_of}
-use Rattle.asn1_module.specs.asn1_defs.Modules.{IsModule}
+use Rattle.aper_defs.specs.asn1_types.declared.definition.TypeId.{TypeId}
+use Rattle.aper_defs.specs.asn1_types.declared.definition.Component.{Component}
+use Rattle.aper_defs.specs.asn1_types.declared.definition.Definition.{Definition}
+use Rattle.aper_defs.specs.asn1_types.declared.definition.Definition.TheVariants as types
+use Rattle.aper_defs.specs.asn1_types.Members.{additions_of}
+use Rattle.asn1_proof_module.specs.asn1_assignments.declared.assignment.IeRow.{IeRow}
+use Rattle.asn1_proof_module.specs.asn1_assignments.declared.assignment.ProcedureRow.{ProcedureRow}
+use Rattle.asn1_proof_module.specs.asn1_assignments.declared.assignment.Assignment.{Assignment}
+use Rattle.asn1_proof_module.specs.asn1_assignments.declared.assignment.Syntax.{Syntax}
+use Rattle.asn1_proof_module.specs.asn1_defs.Targets.{find_type, ie_rows, procedure_rows, definition_at, all_of}
+use Rattle.asn1_proof_module.specs.asn1_defs.Modules.{IsModule}
 use Rattle.aper_defs.specs.Trees.{Tree, Parts, Rows, part, row, outcome}
 use Rattle.aper_types.specs.Types.{parts_of, is_mandatory, rows_of, outcome_of, procedures_of, named_tree, definition_tree, tree_by, tree}
 use Rattle.asn1_proof_ranks.specs.Leading.{EachPart, OfOption, EachIe, EachProcedure, EachOf, Lesser}

@@ -1,6 +1,6 @@
 -- The tree of a form of a type, and the numbers of types in it.
 use Rattle.std.specs.Prelude.{ℕ, ◌<◌}
-use Rattle.asn1_module.specs.asn1_defs.Links.{PartsBelow, IesBelow, ProceduresBelow}
+use Rattle.asn1_proof_module.specs.asn1_defs.Links.{PartsBelow, IesBelow, ProceduresBelow}
 use Rattle.aper_defs.specs.Trees.{Tree, boolean, integer, enumerated, bit_string, octet_string, printable_string, sequence_of, container, pdu}
 use Rattle.aper_types.specs.declared.form.Form.{Form}
 use Rattle.aper_types.specs.declared.form.Form.TheVariants as forms

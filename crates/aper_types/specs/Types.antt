@@ -1,19 +1,19 @@
 -- The tree of a type of a module: names are followed, and what a set holds stands in it (X.680, clause 17; X.681 and X.682 for the two
 -- parameterised types).
 use Rattle.std.specs.Prelude.{ℕ, zero, suc, ◌+◌, List, [], ◌∷◌, length, Bool, true, false, Option, Some, None, is_some}
-use Rattle.asn1_types.specs.declared.definition.TypeId.{TypeId}
-use Rattle.asn1_types.specs.declared.definition.Component.{Component}
-use Rattle.asn1_types.specs.declared.definition.Extensible.{Extensible}
-use Rattle.asn1_types.specs.declared.definition.Definition.{Definition}
-use Rattle.asn1_types.specs.declared.definition.Definition.TheVariants as types
-use Rattle.asn1_types.specs.Members.{additions_of}
-use Rattle.asn1_module.specs.asn1_assignments.declared.assignment.Presence.{Presence}
-use Rattle.asn1_module.specs.asn1_assignments.declared.assignment.Presence.TheVariants as presences
-use Rattle.asn1_module.specs.asn1_assignments.declared.assignment.IeRow.{IeRow}
-use Rattle.asn1_module.specs.asn1_assignments.declared.assignment.ProcedureRow.{ProcedureRow}
-use Rattle.asn1_module.specs.asn1_assignments.declared.assignment.Assignment.{Assignment}
-use Rattle.asn1_module.specs.asn1_assignments.declared.assignment.Syntax.{Syntax}
-use Rattle.asn1_module.specs.asn1_defs.Targets.{definition_at, referred, element_rows, message_rows}
+use Rattle.aper_defs.specs.asn1_types.declared.definition.TypeId.{TypeId}
+use Rattle.aper_defs.specs.asn1_types.declared.definition.Component.{Component}
+use Rattle.aper_defs.specs.asn1_types.declared.definition.Extensible.{Extensible}
+use Rattle.aper_defs.specs.asn1_types.declared.definition.Definition.{Definition}
+use Rattle.aper_defs.specs.asn1_types.declared.definition.Definition.TheVariants as types
+use Rattle.aper_defs.specs.asn1_types.Members.{additions_of}
+use Rattle.asn1_proof_module.specs.asn1_assignments.declared.assignment.Presence.{Presence}
+use Rattle.asn1_proof_module.specs.asn1_assignments.declared.assignment.Presence.TheVariants as presences
+use Rattle.asn1_proof_module.specs.asn1_assignments.declared.assignment.IeRow.{IeRow}
+use Rattle.asn1_proof_module.specs.asn1_assignments.declared.assignment.ProcedureRow.{ProcedureRow}
+use Rattle.asn1_proof_module.specs.asn1_assignments.declared.assignment.Assignment.{Assignment}
+use Rattle.asn1_proof_module.specs.asn1_assignments.declared.assignment.Syntax.{Syntax}
+use Rattle.asn1_proof_module.specs.asn1_defs.Targets.{definition_at, referred, element_rows, message_rows}
 use Rattle.aper_defs.specs.Trees.{Tree, Parts, Rows, Procedures, Outcome}
 use Rattle.aper_defs.specs.Trees.{boolean, integer, enumerated, bit_string, octet_string, printable_string, sequence, choice, sequence_of, container, pdu, no_parts, part, no_rows, row, no_procedures, procedure, no_outcome, outcome}
 

@@ -3,12 +3,14 @@
 ghost use Rattle.std.specs.Prelude.{◌≡◌, ℕ, ◌<◌, length, None};
 ghost use Rattle.aper_defs.specs.Trees.{Tree};
 ghost use Rattle.aper_defs.specs.Bounds.{IsBounded};
-ghost use Rattle.asn1_module.specs.asn1_defs.Modules.{IsModule};
-ghost use Rattle.asn1_module.specs.asn1_defs.Targets.{definition_at, referred};
+ghost use Rattle.asn1_proof_module.specs.asn1_defs.Modules.{IsModule};
+ghost use Rattle.asn1_proof_module.specs.asn1_defs.Targets.{definition_at, referred};
 ghost use Rattle.aper_types.specs.Types.{definition_tree, tree};
 ghost use Rattle.aper_types.specs.Forms.{form_tree, IsFormInside};
 
-use asn1_module::{Component, Definition, Extensible, IeRow, Module, ProcedureRow, Size, TypeId};
+use asn1_proof_module::from_asn1_module::{
+    Component, Definition, Extensible, IeRow, Module, ProcedureRow, Size, TypeId,
+};
 
 /// A type, without the name that it goes by: what an encoding of it depends on. Types inside it go by their numbers.
 #[derive(Clone, Copy)]
@@ -40,6 +42,7 @@ pub enum Form<'m> {
 }
 
 /// The type at the end of the names that a type refers by: a chain of them may be as long as a module has names.
+#[inline(always)]
 fn resolved(m: &Module, id: TypeId) -> TypeId
     requires { id.number < length m.now.nodes }
     ensures tree { tree m.now id.number ≡ tree m.now result.number }
@@ -55,6 +58,7 @@ fn resolved(m: &Module, id: TypeId) -> TypeId
 }
 
 /// The form of a type that isn't a name.
+#[inline(always)]
 fn own_form<'m>(m: &'m Module, id: TypeId) -> Form<'m>
     requires inside { id.number < length m.now.nodes }
     requires own { referred m.now.assignments (definition_at m.now id.number) ≡ None }
@@ -92,6 +96,7 @@ fn own_form<'m>(m: &'m Module, id: TypeId) -> Form<'m>
 }
 
 /// The form of a type of a module. The types in it are of the module too.
+#[inline(always)]
 pub fn form_of<'m>(m: &'m Module, id: TypeId) -> Form<'m>
     requires { id.number < length m.now.nodes }
     ensures tree { tree m.now id.number ≡ form_tree (tree m.now) result }

@@ -4,3 +4,13 @@
 mod form;
 
 pub use form::{Form, form_of};
+
+/// Of `asn1_assignments`, for crates above.
+pub mod from_asn1_assignments {
+    pub use asn1_proof_module::from_asn1_assignments::{IeRow, ProcedureRow};
+}
+
+/// Of `asn1_module`, for crates above.
+pub mod from_asn1_module {
+    pub use asn1_proof_module::from_asn1_module::{Module, TypeId};
+}

@@ -1,1 +1,1 @@
-pub use Rattle.aper_types.proofs as aper_types
+pub use Rattle.aper_proof_measures.proofs.aper_types as aper_types

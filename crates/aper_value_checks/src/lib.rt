@@ -7,15 +7,15 @@ ghost use Rattle.aper_defs.specs.Fields.{Path};
 ghost use Rattle.aper_defs.specs.Layouts.{layout};
 ghost use Rattle.aper_defs.specs.Membership.{FitsOpen, Has};
 ghost use Rattle.aper_defs.specs.Spelling.{whole_layout};
-ghost use Rattle.aper_types.specs.Types.{tree};
+ghost use Rattle.aper_proof_measures.specs.aper_types.Types.{tree};
 ghost use Rattle.aper_values.specs.Views.{view};
 
 mod values;
 
 use crate::values::value_end;
+use aper_proof_measures::from_asn1_module::Module;
 use aper_values::value::Value;
 use aper_widths::place::octet_count;
-use asn1_module::Module;
 use asn1_types::TypeId;
 
 /// The most octets that an open type holds.

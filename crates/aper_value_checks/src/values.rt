@@ -2,30 +2,30 @@
 
 ghost use Rattle.std.specs.Prelude.{◌≡◌, ◌<◌, length, Option};
 ghost use Rattle.asn1_types.specs.declared.definition.Size.{Size};
-ghost use Rattle.asn1_module.specs.asn1_defs.Links.{AreBelow, OptionBelow, PartsBelow, IesBelow, ProceduresBelow};
+ghost use Rattle.aper_proof_measures.specs.asn1_defs.Links.{AreBelow, OptionBelow, PartsBelow, IesBelow, ProceduresBelow};
 ghost use Rattle.aper_defs.specs.Bounds.{IsBounded, IsSizeBounded};
 ghost use Rattle.aper_defs.specs.Trees.{container, pdu, sequence_of};
-ghost use Rattle.aper_types.specs.Forms.{form_tree, IsFormInside};
-ghost use Rattle.aper_types.specs.Types.{tree, rows_of, procedures_of, sequence_tree, choice_tree};
+ghost use Rattle.aper_proof_measures.specs.aper_types.Forms.{form_tree, IsFormInside};
+ghost use Rattle.aper_proof_measures.specs.aper_types.Types.{tree, rows_of, procedures_of, sequence_tree, choice_tree};
 ghost use Rattle.aper_values.specs.Views.{view};
-ghost use Rattle.aper_measuring.specs.Measured.{ValueMeasured, InsideMeasured, ComponentsMeasured, AdditionsMeasured};
+ghost use Rattle.aper_proof_measures.specs.aper_measuring.Measured.{ValueMeasured, InsideMeasured, ComponentsMeasured, AdditionsMeasured};
 
-use aper_measuring::bounds::{is_index_of, is_member_count_of};
-use aper_measuring::contents::{opened_end, raw_end};
-use aper_measuring::heads::{after_marks, are_additions, optional_count};
-use aper_measuring::order::{has_mandatory, rows_left};
-use aper_measuring::simple::{
+use aper_proof_measures::from_aper_measuring::bounds::{is_index_of, is_member_count_of};
+use aper_proof_measures::from_aper_measuring::contents::{opened_end, raw_end};
+use aper_proof_measures::from_aper_measuring::heads::{after_marks, are_additions, optional_count};
+use aper_proof_measures::from_aper_measuring::order::{has_mandatory, rows_left};
+use aper_proof_measures::from_aper_measuring::simple::{
     bit_string_end, boolean_end, enumerated_end, integer_end, octet_string_end,
     printable_string_end,
 };
-use aper_members::rows::{message_type, named, part_type, row_type};
-use aper_types::{Form, form_of};
+use aper_proof_measures::from_aper_members::rows::{message_type, named, part_type, row_type};
+use aper_proof_measures::from_aper_types::{Form, form_of};
+use aper_proof_measures::from_asn1_module::Module;
 use aper_values::value::Value;
 use aper_widths::numbers::{after_extension, after_index};
 use aper_widths::place::{Place, padded, passed};
 use aper_widths::strings::after_count;
 use asn1_assignments::{IeRow, ProcedureRow};
-use asn1_module::Module;
 use asn1_types::{Component, Extensible, Size, TypeId};
 
 /// The place after a value's fields, where they are put from a place on; none where it isn't one of the type.

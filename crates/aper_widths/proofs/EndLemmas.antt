@@ -6,8 +6,8 @@ use Rattle.aper_defs.specs.Fields.{Path, Field, asked, pad, extent, whole, octet
 use Rattle.aper_defs.specs.Fields as fields
 use Rattle.aper_defs.specs.Bits.{closed, octet_count, open_fields, extent_width}
 use Rattle.aper_proof_answers.proofs.NumberFacts.{by_cases, below, not_below, same}
-use Rattle.aper_proof_places.proofs.Bits.{field_width, total, total-append, total-aligned}
-use Rattle.aper_proof_places.proofs.Opened.{closing_is, octets_are, closing_width, empty_mark}
+use Rattle.aper_fields.proofs.aper_proof_places.Bits.{field_width, total, total-append, total-aligned}
+use Rattle.aper_fields.proofs.aper_proof_places.Opened.{closing_is, octets_are, closing_width, empty_mark}
 use Rattle.aper_widths.specs.Ends.{place_limit, passed, after, end_of, Ends}
 
 pub ends_both : (old mid new : ℕ) (F G : Path → List Field) → Ends old mid F → Ends mid new G → Ends old new (λ p. F p ++ G p)

@@ -7,7 +7,7 @@ use Rattle.aper_defs.specs.Fields.{Path, asked, character}
 use Rattle.aper_defs.specs.Bits.{part_units, extent_width}
 use Rattle.aper_defs.specs.Parts.{Content, of_bits, of_octets, of_characters, unit_fields, next_part, part_of_fields, part_fields, all_part_fields}
 use Rattle.aper_proof_answers.proofs.NumberFacts.{by_cases, below, not_below, is_not_below}
-use Rattle.aper_proof_places.proofs.Bits.{total, total-append}
+use Rattle.aper_fields.proofs.aper_proof_places.Bits.{total, total-append}
 use Rattle.aper_widths.specs.Ends.{passed, Ends}
 use Rattle.aper_widths.specs.Widths.{units_width, lengths_width}
 use Rattle.aper_widths.proofs.EndLemmas.{ends_wide, passed_twice}

@@ -8,7 +8,7 @@ use Rattle.aper_defs.specs.Fields.{Path, Field}
 use Rattle.aper_defs.specs.Bits.{put_all}
 use Rattle.aper_defs.specs.Parts.{integer_fields}
 use Rattle.aper_defs.specs.Layouts.{layout}
-use Rattle.aper_fields.specs.Following.{Follows}
+use Rattle.aper_members.specs.aper_fields.Following.{Follows}
 use Rattle.aper_members.specs.Followed.{ValueFollows}
 
 integer_layout : (p : Path) (low high : ℤ) (e : Bool) (z : ℤ) → layout p (integer low high e) (number z) ≡ integer_fields p low high e z

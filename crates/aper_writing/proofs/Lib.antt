@@ -1,1 +1,2 @@
 pub mod IntegerLayouts
+pub use Rattle.aper_members.proofs as aper_members

@@ -8,9 +8,9 @@ ghost use Rattle.aper_values.specs.Views.{view};
 ghost use Rattle.aper_members.specs.Membership.{IsValue};
 ghost use Rattle.aper_members.specs.Followed.{ValueFollows};
 
-use aper_fields::fields::put_flag;
-use aper_fields::numbers::{put_index, put_integer};
-use aper_fields::strings::{Units, put_string};
+use aper_members::from_aper_fields::fields::put_flag;
+use aper_members::from_aper_fields::numbers::{put_index, put_integer};
+use aper_members::from_aper_fields::strings::{Units, put_string};
 use aper_values::value::Value;
 use asn1_types::Size;
 use bits_core::writer::BitWriter;

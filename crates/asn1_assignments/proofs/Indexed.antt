@@ -16,14 +16,16 @@ use Rattle.std.proofs.lemmas.Iterator.Adapters.{position_from-zero}
 use Rattle.std.proofs.lemmas.Map.Text.{is_eq-slice_cmp}
 use Rattle.std.specs.Global.{Vec}
 use Rattle.std.proofs.lemmas.Bool.{cond-true, cond-false}
-use Rattle.gnb_types.proofs.Choices.{by_test}
-use Rattle.asn1_tokens.specs.Words.{is_text}
+use Rattle.asn1_types.proofs.gnb_types.Choices.{by_test}
+use Rattle.asn1_types.specs.asn1_tokens.Words.{is_text}
 use Rattle.asn1_assignments.specs.declared.assignment.Assignment.{Assignment}
 use Rattle.asn1_assignments.specs.declared.assignment.IeRow.{IeRow}
-use Rattle.asn1_assignments.specs.Rows.{has_id}
+use Rattle.asn1_assignments.specs.inside.Rows.{has_id}
 use Rattle.asn1_assignments.specs.declared.index.NameIndex.{NameIndex}
-use Rattle.asn1_assignments.specs.Module.{is_assigned, is_type}
-use Rattle.asn1_assignments.specs.Index.{number_of, numbered, noted, Indexes}
+use Rattle.asn1_assignments.specs.Module.{is_type}
+use Rattle.asn1_assignments.specs.inside.Module.{is_assigned}
+use Rattle.asn1_assignments.specs.Index.{number_of, numbered, Indexes}
+use Rattle.asn1_assignments.specs.inside.Index.{noted}
 
 -- ---- the first place of a list that grows at its end
 

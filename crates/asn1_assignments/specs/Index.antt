@@ -1,9 +1,9 @@
 -- The numbers of assignments by their names. A module's assignments are numbered in the text's order, from 0.
-use Rattle.std.specs.Prelude.{◌≡◌, ℕ, List, Option, Some, None, if◌then◌else◌, position}
+use Rattle.std.specs.Prelude.{◌≡◌, ℕ, List, Option, position}
 use Rattle.std.specs.Ordering.{nat_cmp}
 use Rattle.std.specs.Cmp.Lexicographic.{slice_cmp}
 use Rattle.std.specs.BTreeMap.{get_by}
-use Rattle.asn1_tokens.specs.Words.{is_text}
+use Rattle.asn1_types.specs.asn1_tokens.Words.{is_text}
 use Rattle.asn1_assignments.specs.declared.assignment.Assignment.{Assignment}
 use Rattle.asn1_assignments.specs.declared.index.NameIndex.{NameIndex}
 
@@ -14,11 +14,6 @@ number_of name assignments = position (λ other. is_text other.name name) assign
 -- the number under which an index has a name
 abbrev pub numbered : NameIndex → List ℕ → Option ℕ
 numbered index name = get_by (λ k. slice_cmp nat_cmp name k.items) index.numbers
-
--- what a name's number is once this name is noted with this one
-abbrev pub noted : List ℕ → ℕ → List ℕ → Option ℕ → Option ℕ
-noted name number other (Some old) = Some old
-noted name number other None = if is_text name other then Some number else None
 
 -- an index of these assignments
 abbrev pub Indexes : NameIndex → List Assignment → Type 0

@@ -1,12 +1,12 @@
 //! The assignments that were read so far.
 
 ghost use Rattle.std.specs.Prelude.{◌≡◌, [], ◌∷◌, ◌++◌, OnOk, IfOk};
-ghost use Rattle.asn1_assignments.specs.Module.{has_all_types, is_assigned};
+ghost use Rattle.asn1_assignments.specs.inside.Module.{has_all_types, is_assigned};
 
 use crate::assignment::Assignment;
 use crate::index::NameIndex;
 use asn1_types::Items;
-use gnb_types::octets::Memory;
+use asn1_types::from_gnb_types::octets::Memory;
 use std::alloc::Global;
 use std::marker::Model;
 use std::mem;

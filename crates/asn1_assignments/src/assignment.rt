@@ -1,7 +1,7 @@
 //! What the names of a module stand for.
 
+use asn1_types::from_gnb_types::octets::Octets;
 use asn1_types::{Items, Node, TypeId};
-use gnb_types::octets::Octets;
 
 /// What a receiver does that doesn't know an information element or a procedure.
 #[derive(Clone, Copy, PartialEq, Eq)]

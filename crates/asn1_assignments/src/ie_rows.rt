@@ -1,11 +1,11 @@
 //! The rows of a set of information elements that were read so far.
 
 ghost use Rattle.std.specs.Prelude.{◌≡◌, [], ◌∷◌, ◌++◌, OnOk, IfOk};
-ghost use Rattle.asn1_assignments.specs.Rows.{has_id};
+ghost use Rattle.asn1_assignments.specs.inside.Rows.{has_id};
 
 use crate::assignment::IeRow;
 use asn1_types::Items;
-use gnb_types::octets::Memory;
+use asn1_types::from_gnb_types::octets::Memory;
 use std::alloc::Global;
 use std::collections::BTreeSet;
 use std::marker::Model;
@@ -23,7 +23,7 @@ impl Model for IeRows {
     ghost use Rattle.std.specs.Ordering.{nat_cmp};
     ghost use Rattle.std.specs.BTreeSet.{contains};
     ghost use Rattle.asn1_assignments.specs.declared.assignment.IeRow.{IeRow};
-    ghost use Rattle.asn1_assignments.specs.Rows.{has_id};
+    ghost use Rattle.asn1_assignments.specs.inside.Rows.{has_id};
 
     ghost Value = { List IeRow };
 

@@ -1,10 +1,11 @@
 //! Assignments by their names.
 
 ghost use Rattle.std.specs.Prelude.{◌≡◌, ℕ, List, None, OnOk, IfOk};
-ghost use Rattle.asn1_assignments.specs.Index.{numbered, noted, Indexes};
+ghost use Rattle.asn1_assignments.specs.Index.{numbered, Indexes};
+ghost use Rattle.asn1_assignments.specs.inside.Index.{noted};
 
 use crate::assignment::Assignment;
-use gnb_types::octets::Memory;
+use asn1_types::from_gnb_types::octets::Memory;
 use std::alloc::Global;
 use std::collections::BTreeMap;
 

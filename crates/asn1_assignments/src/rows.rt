@@ -2,12 +2,13 @@
 
 ghost use Rattle.std.specs.Prelude.{◌≡◌, ◌==◌, ◌≤◌, ◌<◌, ◌^◌, IfOk, Some, None};
 ghost use Rattle.std.specs.List.{list_any};
-ghost use Rattle.asn1_types.specs.Reading.{Gives};
-ghost use Rattle.asn1_assignments.specs.Rows.{new_number_at, criticality_of, criticality_at, presence_of, presence_at, has_id, has_code, ie_row_at, outcome_at, messages_at, procedure_row_at};
+ghost use Rattle.asn1_types.specs.inside.Reading.{Gives};
+ghost use Rattle.asn1_assignments.specs.Rows.{criticality_of, presence_of};
+ghost use Rattle.asn1_assignments.specs.inside.Rows.{new_number_at, criticality_at, presence_at, has_id, has_code, ie_row_at, outcome_at, messages_at, procedure_row_at};
 
 use crate::assignment::{Criticality, IeRow, Presence, ProcedureRow};
 use crate::ie_rows::IeRows;
-use asn1_tokens::{Sign, Word, is_text};
+use asn1_types::from_asn1_tokens::{Sign, Word, is_text};
 use asn1_types::{Items, ModuleReason, Node, ReadError, Reader, TypeId};
 
 const ID_GREATEST: u32 = 65535;
@@ -38,7 +39,7 @@ fn criticality_of(name: &[u8]) -> Option<Criticality>
 }
 
 /// Takes a criticality.
-#[tactic(auto, unfolding(crate::specs::Rows::criticality_at))]
+#[tactic(auto, unfolding(crate::specs::inside::Rows::criticality_at))]
 fn criticality(reader: &mut Reader) -> Result<Criticality, ReadError>
     ensures { Gives (λ found. (found, reader.new)) result (criticality_at reader.old) }
 {
@@ -65,7 +66,7 @@ fn presence_of(name: &[u8]) -> Option<Presence>
 }
 
 /// Takes a presence.
-#[tactic(auto, unfolding(crate::specs::Rows::presence_at))]
+#[tactic(auto, unfolding(crate::specs::inside::Rows::presence_at))]
 fn presence(reader: &mut Reader) -> Result<Presence, ReadError>
     ensures { Gives (λ found. (found, reader.new)) result (presence_at reader.old) }
 {
@@ -78,7 +79,7 @@ fn presence(reader: &mut Reader) -> Result<Presence, ReadError>
 }
 
 /// Takes an id that none of these rows has.
-#[tactic(auto, unfolding(crate::specs::Rows::new_number_at))]
+#[tactic(auto, unfolding(crate::specs::inside::Rows::new_number_at))]
 fn new_id(reader: &mut Reader, rows: &IeRows) -> Result<u16, ReadError>
     ensures { Gives (λ id. (id, reader.new)) result (new_number_at (λ id. has_id id rows.now) 65535 reader.old) }
 {
@@ -91,7 +92,7 @@ fn new_id(reader: &mut Reader, rows: &IeRows) -> Result<u16, ReadError>
 }
 
 /// Takes a code that none of these rows has.
-#[tactic(auto, unfolding(crate::specs::Rows::new_number_at))]
+#[tactic(auto, unfolding(crate::specs::inside::Rows::new_number_at))]
 fn new_code(reader: &mut Reader, rows: &[ProcedureRow]) -> Result<u8, ReadError>
     ensures { Gives (λ code. (code, reader.new)) result (new_number_at (λ code. has_code code rows.now) 255 reader.old) }
 {
@@ -104,7 +105,7 @@ fn new_code(reader: &mut Reader, rows: &[ProcedureRow]) -> Result<u8, ReadError>
 }
 
 /// Takes a row of a set of information elements.
-#[tactic(auto, unfolding(crate::specs::Rows::ie_row_at))]
+#[tactic(auto, unfolding(crate::specs::inside::Rows::ie_row_at))]
 pub fn ie_row(
     reader: &mut Reader,
     turns: u64,
@@ -132,7 +133,7 @@ pub fn ie_row(
 }
 
 /// Takes an outcome of a procedure, where its word stands.
-#[tactic(auto, unfolding(crate::specs::Rows::outcome_at))]
+#[tactic(auto, unfolding(crate::specs::inside::Rows::outcome_at))]
 fn outcome(
     reader: &mut Reader,
     turns: u64,
@@ -157,7 +158,7 @@ struct MessageTypes {
     unsuccessful: Option<TypeId>,
 }
 
-#[tactic(auto, unfolding(crate::specs::Rows::messages_at))]
+#[tactic(auto, unfolding(crate::specs::inside::Rows::messages_at))]
 fn messages(
     reader: &mut Reader,
     turns: u64,
@@ -178,7 +179,7 @@ fn messages(
 }
 
 /// Takes a row of a set of procedures.
-#[tactic(auto, unfolding(crate::specs::Rows::procedure_row_at))]
+#[tactic(auto, unfolding(crate::specs::inside::Rows::procedure_row_at))]
 pub fn procedure_row(
     reader: &mut Reader,
     turns: u64,

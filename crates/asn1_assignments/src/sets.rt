@@ -1,18 +1,18 @@
 //! Information object sets.
 
 ghost use Rattle.std.specs.Prelude.{◌≡◌, []};
-ghost use Rattle.asn1_types.specs.Reading.{Gives};
-ghost use Rattle.asn1_assignments.specs.Sets.{set_goes_on_at, rows_with, ie_turn_at, procedure_turn_at, set_start_at, ie_set_at, procedure_set_at};
+ghost use Rattle.asn1_types.specs.inside.Reading.{Gives};
+ghost use Rattle.asn1_assignments.specs.inside.Sets.{set_goes_on_at, rows_with, ie_turn_at, procedure_turn_at, set_start_at, ie_set_at, procedure_set_at};
 
 use crate::assignment::{IeRow, ProcedureRow};
 use crate::ie_rows::IeRows;
 use crate::rows::{ie_row, procedure_row};
-use asn1_tokens::Sign;
+use asn1_types::from_asn1_tokens::Sign;
 use asn1_types::{Items, Node, ReadError, Reader};
 use std::alloc::Global;
 
 /// Takes what follows a row, and answers whether another one does.
-#[tactic(auto, unfolding(crate::specs::Sets::set_goes_on_at))]
+#[tactic(auto, unfolding(crate::specs::inside::Sets::set_goes_on_at))]
 fn set_goes_on(reader: &mut Reader) -> Result<bool, ReadError>
     ensures { Gives (λ more. (more, reader.new)) result (set_goes_on_at reader.old) }
 {
@@ -26,7 +26,7 @@ fn set_goes_on(reader: &mut Reader) -> Result<bool, ReadError>
     Ok(false)
 }
 
-#[tactic(auto, unfolding(crate::specs::Sets::set_start_at))]
+#[tactic(auto, unfolding(crate::specs::inside::Sets::set_start_at))]
 fn set_start(reader: &mut Reader) -> Result<(), ReadError>
     ensures { Gives (λ _. reader.new) result (set_start_at reader.old) }
 {
@@ -35,7 +35,7 @@ fn set_start(reader: &mut Reader) -> Result<(), ReadError>
 }
 
 /// Takes a row, and answers whether another one follows.
-#[tactic(auto, unfolding(crate::specs::Sets::ie_turn_at))]
+#[tactic(auto, unfolding(crate::specs::inside::Sets::ie_turn_at))]
 fn ie_turn(
     reader: &mut Reader,
     alloc: Global,
@@ -51,7 +51,7 @@ fn ie_turn(
     Ok(more)
 }
 
-#[tactic(auto, unfolding(crate::specs::Sets::procedure_turn_at))]
+#[tactic(auto, unfolding(crate::specs::inside::Sets::procedure_turn_at))]
 fn procedure_turn(
     reader: &mut Reader,
     turns: u64,
@@ -67,7 +67,7 @@ fn procedure_turn(
 }
 
 /// Takes what follows the word of a set of information elements, in at most so many turns.
-#[tactic(auto, using(asn1_types::proofs::Loops::repeat_turn, asn1_types::proofs::Loops::repeat_end), unfolding(crate::specs::Sets::ie_set_at))]
+#[tactic(auto, using(asn1_types::proofs::Loops::repeat_turn, asn1_types::proofs::Loops::repeat_end), unfolding(crate::specs::inside::Sets::ie_set_at))]
 pub fn ie_set(
     reader: &mut Reader,
     alloc: Global,
@@ -87,7 +87,7 @@ pub fn ie_set(
 }
 
 /// Takes what follows the word of a set of procedures, in at most so many turns.
-#[tactic(auto, using(asn1_types::proofs::Loops::repeat_turn, asn1_types::proofs::Loops::repeat_end), unfolding(crate::specs::Sets::procedure_set_at))]
+#[tactic(auto, using(asn1_types::proofs::Loops::repeat_turn, asn1_types::proofs::Loops::repeat_end), unfolding(crate::specs::inside::Sets::procedure_set_at))]
 pub fn procedure_set(
     reader: &mut Reader,
     alloc: Global,

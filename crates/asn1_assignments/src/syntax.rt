@@ -1,15 +1,16 @@
 //! Modules.
 
 ghost use Rattle.std.specs.Prelude.{◌≡◌, length};
-ghost use Rattle.asn1_types.specs.Reading.{Gives};
-ghost use Rattle.asn1_assignments.specs.Module.{Parts, is_type, has_all_types, is_assigned, new_assignment_at, ie_body_at, procedure_body_at, type_body_at, body_at, assignment_at, module_turn_at, assignments_at, header_at, syntax_at, syntax_of};
+ghost use Rattle.asn1_types.specs.inside.Reading.{Gives};
+ghost use Rattle.asn1_assignments.specs.Module.{is_type};
+ghost use Rattle.asn1_assignments.specs.inside.Module.{Parts, has_all_types, is_assigned, new_assignment_at, ie_body_at, procedure_body_at, type_body_at, body_at, assignment_at, module_turn_at, assignments_at, header_at, syntax_at, syntax_of};
 
 use crate::assigned::Assigned;
 use crate::assignment::{Assignment, Body, Syntax};
 use crate::sets::{ie_set, procedure_set};
-use asn1_tokens::{Sign, Word};
+use asn1_types::from_asn1_tokens::{Sign, Word};
+use asn1_types::from_gnb_types::octets::Octets;
 use asn1_types::{Items, ModuleReason, Node, ReadError, Reader};
-use gnb_types::octets::Octets;
 use std::alloc::Global;
 
 impl Assignment {
@@ -26,7 +27,7 @@ impl Assignment {
 
 /// Takes a name that none of these has. The name of a type is outside the bounds where these have all types, whether one of
 /// them has it or not.
-#[tactic(auto, unfolding(crate::specs::Module::new_assignment_at))]
+#[tactic(auto, unfolding(crate::specs::inside::Module::new_assignment_at))]
 fn new_assignment(reader: &mut Reader, assignments: &Assigned) -> Result<Octets, ReadError>
     ensures { Gives (λ name. (name, reader.new)) result (new_assignment_at assignments.now reader.old) }
 {
@@ -42,7 +43,7 @@ fn new_assignment(reader: &mut Reader, assignments: &Assigned) -> Result<Octets,
     Ok(name)
 }
 
-#[tactic(auto, unfolding(crate::specs::Module::ie_body_at))]
+#[tactic(auto, unfolding(crate::specs::inside::Module::ie_body_at))]
 fn ie_body(
     reader: &mut Reader,
     alloc: Global,
@@ -55,7 +56,7 @@ fn ie_body(
     Ok(Body::IeSet(ie_set(reader, alloc, turns, nodes)?))
 }
 
-#[tactic(auto, unfolding(crate::specs::Module::procedure_body_at))]
+#[tactic(auto, unfolding(crate::specs::inside::Module::procedure_body_at))]
 fn procedure_body(
     reader: &mut Reader,
     alloc: Global,
@@ -68,7 +69,7 @@ fn procedure_body(
     Ok(Body::ProcedureSet(procedure_set(reader, alloc, turns, nodes)?))
 }
 
-#[tactic(auto, unfolding(crate::specs::Module::type_body_at))]
+#[tactic(auto, unfolding(crate::specs::inside::Module::type_body_at))]
 fn type_body(reader: &mut Reader, turns: u64, nodes: &mut Items<Node>) -> Result<Body, ReadError>
     ensures { Gives (λ body. (body, nodes.new, reader.new)) result (type_body_at turns nodes.old reader.old) }
 {
@@ -77,7 +78,7 @@ fn type_body(reader: &mut Reader, turns: u64, nodes: &mut Items<Node>) -> Result
 }
 
 /// Takes what a name stands for.
-#[tactic(auto, unfolding(crate::specs::Module::body_at))]
+#[tactic(auto, unfolding(crate::specs::inside::Module::body_at))]
 fn body(
     reader: &mut Reader,
     alloc: Global,
@@ -96,7 +97,7 @@ fn body(
 }
 
 /// Takes one more assignment.
-#[tactic(auto, unfolding(crate::specs::Module::assignment_at))]
+#[tactic(auto, unfolding(crate::specs::inside::Module::assignment_at))]
 fn assignment(
     reader: &mut Reader,
     alloc: Global,
@@ -121,7 +122,7 @@ fn assignment(
 }
 
 /// Takes one more assignment, and answers whether there was one before the module's end.
-#[tactic(auto, unfolding(crate::specs::Module::module_turn_at))]
+#[tactic(auto, unfolding(crate::specs::inside::Module::module_turn_at))]
 fn module_turn(
     reader: &mut Reader,
     alloc: Global,
@@ -139,7 +140,7 @@ fn module_turn(
 }
 
 /// Takes what stands before the assignments, and answers the module's name.
-#[tactic(auto, unfolding(crate::specs::Module::header_at))]
+#[tactic(auto, unfolding(crate::specs::inside::Module::header_at))]
 fn header(reader: &mut Reader) -> Result<Octets, ReadError>
     ensures { Gives (λ name. (name, reader.new)) result (header_at reader.old) }
 {
@@ -153,7 +154,7 @@ fn header(reader: &mut Reader) -> Result<Octets, ReadError>
 }
 
 /// Takes the assignments of a module, up to its last word, in at most so many turns.
-#[tactic(auto, using(asn1_types::proofs::Loops::repeat_turn, asn1_types::proofs::Loops::repeat_end), unfolding(crate::specs::Module::assignments_at))]
+#[tactic(auto, using(asn1_types::proofs::Loops::repeat_turn, asn1_types::proofs::Loops::repeat_end), unfolding(crate::specs::inside::Module::assignments_at))]
 fn assignments(
     reader: &mut Reader,
     alloc: Global,
@@ -172,7 +173,7 @@ fn assignments(
 }
 
 /// Takes a module, up to its last word, in at most so many turns.
-#[tactic(auto, unfolding(crate::specs::Module::syntax_at))]
+#[tactic(auto, unfolding(crate::specs::inside::Module::syntax_at))]
 fn syntax(reader: &mut Reader, alloc: Global, turns: u64) -> Result<Syntax, ReadError>
     ensures { Gives (λ syntax. syntax) result (syntax_at turns reader.old) }
 {

@@ -1,9 +1,9 @@
 -- What modules and their assignments mean (X.680, clauses 13 and 16).
 use Rattle.std.specs.Prelude.{ℕ, List, [], ◌∷◌, length}
-use Rattle.asn1_tokens.specs.declared.token.Word.TheVariants as words
-use Rattle.asn1_tokens.specs.declared.token.Sign.TheVariants as signs
-use Rattle.asn1_tokens.specs.declared.token.Token.TheVariants as tokens
-use Rattle.asn1_tokens.specs.Stream.{first_place}
+use Rattle.asn1_assignments.specs.asn1_tokens.declared.token.Word.TheVariants as words
+use Rattle.asn1_assignments.specs.asn1_tokens.declared.token.Sign.TheVariants as signs
+use Rattle.asn1_assignments.specs.asn1_tokens.declared.token.Token.TheVariants as tokens
+use Rattle.asn1_assignments.specs.asn1_tokens.Stream.{first_place}
 use Rattle.asn1_assignments.specs.asn1_types.declared.definition.TypeId.{TypeId}
 use Rattle.asn1_assignments.specs.asn1_types.declared.definition.Node.{Node}
 use Rattle.asn1_assignments.specs.asn1_types.Reading.{Left}

@@ -1,6 +1,6 @@
 -- What the names in types refer to.
 use Rattle.std.specs.Prelude.{ℕ, List, [], ◌∷◌, Bool, true, false, Option, Some, None, if◌then◌else◌, ◌==◌}
-use Rattle.asn1_tokens.specs.Words.{is_text}
+use Rattle.asn1_assignments.specs.asn1_tokens.Words.{is_text}
 use Rattle.asn1_assignments.specs.asn1_types.declared.definition.Definition.{Definition}
 use Rattle.asn1_assignments.specs.asn1_types.declared.definition.Definition.TheVariants as types
 use Rattle.asn1_assignments.specs.asn1_types.declared.definition.Node.{Node}

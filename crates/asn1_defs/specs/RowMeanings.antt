@@ -1,9 +1,9 @@
 -- What the rows of information object sets mean.
 use Rattle.std.specs.Prelude.{◌≡◌, ℕ, List, [], ◌∷◌, false, Option, Some, None, pos}
-use Rattle.asn1_tokens.specs.declared.token.Word.{Word}
-use Rattle.asn1_tokens.specs.declared.token.Word.TheVariants as words
-use Rattle.asn1_tokens.specs.declared.token.Sign.TheVariants as signs
-use Rattle.asn1_tokens.specs.declared.token.Token.TheVariants as tokens
+use Rattle.asn1_assignments.specs.asn1_tokens.declared.token.Word.{Word}
+use Rattle.asn1_assignments.specs.asn1_tokens.declared.token.Word.TheVariants as words
+use Rattle.asn1_assignments.specs.asn1_tokens.declared.token.Sign.TheVariants as signs
+use Rattle.asn1_assignments.specs.asn1_tokens.declared.token.Token.TheVariants as tokens
 use Rattle.asn1_assignments.specs.asn1_types.declared.definition.TypeId.{TypeId}
 use Rattle.asn1_assignments.specs.asn1_types.declared.definition.Node.{Node}
 use Rattle.asn1_assignments.specs.asn1_types.Reading.{Left, begins_with}

@@ -1,6 +1,6 @@
 -- What names refer to, once they are known: the type of a name, and the rows of the set of a name.
 use Rattle.std.specs.Prelude.{ℕ, IsSome, List, [], ◌∷◌, Bool, false, ◌==◌, Option, Some, None, if◌then◌else◌, slice_get}
-use Rattle.asn1_tokens.specs.Words.{is_text}
+use Rattle.asn1_assignments.specs.asn1_tokens.Words.{is_text}
 use Rattle.asn1_assignments.specs.asn1_types.declared.definition.TypeId.{TypeId}
 use Rattle.asn1_assignments.specs.asn1_types.declared.definition.Definition.{Definition}
 use Rattle.asn1_assignments.specs.asn1_types.declared.definition.Definition.TheVariants as types

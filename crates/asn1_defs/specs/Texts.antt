@@ -1,7 +1,7 @@
 -- Which texts are modules, but for what their names refer to, and what the first wrong item of the others is.
 use Rattle.std.specs.Prelude.{◌≡◌, ℕ, List, [], ◌∷◌, ◌++◌, length, reverse, true, false}
-use Rattle.asn1_tokens.specs.declared.token.Token.{Token}
-use Rattle.asn1_tokens.specs.Stream.{Placed}
+use Rattle.asn1_assignments.specs.asn1_tokens.declared.token.Token.{Token}
+use Rattle.asn1_assignments.specs.asn1_tokens.Stream.{Placed}
 use Rattle.asn1_defs.specs.Items.{AreItems}
 use Rattle.asn1_assignments.specs.asn1_types.declared.fault.ModuleReason.{ModuleReason}
 use Rattle.asn1_assignments.specs.asn1_types.declared.fault.ModuleReason.TheVariants.{Bounds, Twice}

@@ -1,8 +1,8 @@
 -- The steps from types and from an assignment, one after another.
 use Rattle.std.proofs.Common.{◌≡◌, ℕ, suc, ◌+◌, ◌-◌, ◌<◌, ◌≤◌, List, [], ◌∷◌, ◌++◌, length, drop, get_or, sym, ◌∙◌, ap, append_assoc, append-nil, drop-cons, arith}
 use Rattle.std.specs.Prelude.{Option}
-use Rattle.asn1_types.specs.declared.definition.Node.{Node}
-use Rattle.asn1_assignments.specs.declared.assignment.Assignment.{Assignment}
+use Rattle.asn1_defs.specs.asn1_types.declared.definition.Node.{Node}
+use Rattle.asn1_defs.specs.asn1_assignments.declared.assignment.Assignment.{Assignment}
 use Rattle.asn1_defs.specs.declared.graph.Edge.{Edge}
 use Rattle.asn1_defs.specs.Numbers.{number_in}
 use Rattle.asn1_defs.specs.Graph.{edge, definition_edges, node_edges, nodes_edges, range_edges}

@@ -4,7 +4,7 @@ use Rattle.std.specs.Prelude.{◌⊎◌, Some}
 use Rattle.std.proofs.lemmas.List.{get_or-replicate}
 use Rattle.std.proofs.Math.Seq.{take-append_seam}
 use Rattle.std.proofs.lemmas.Bool.{cases_lt}
-use Rattle.gnb_types.proofs.Choices.{by_test, by_choice, clash}
+use Rattle.asn1_defs.proofs.gnb_types.Choices.{by_test, by_choice, clash}
 use Rattle.asn1_defs.specs.declared.graph.Edge.{Edge}
 use Rattle.asn1_defs.specs.Graph.{edge}
 use Rattle.asn1_defs.specs.Paths.{IsStep, Leads, first, further, IsFirst}

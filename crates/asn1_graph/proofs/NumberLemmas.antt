@@ -3,13 +3,13 @@ use Rattle.std.proofs.Common.{◌≡◌, ℕ, zero, suc, ◌+◌, ◌<◌, List,
 use Rattle.std.specs.Prelude.{Option, Some, None, IfSome, position}
 use Rattle.std.specs.List.{position_or_len}
 use Rattle.std.proofs.lemmas.Bool.{ltb-true}
-use Rattle.gnb_types.proofs.Choices.{by_choice}
-use Rattle.asn1_tokens.specs.Words.{is_text}
-use Rattle.asn1_types.specs.declared.definition.Node.{Node}
-use Rattle.asn1_types.specs.declared.definition.Definition.{Definition}
-use Rattle.asn1_assignments.specs.declared.assignment.Assignment.{Assignment}
-use Rattle.asn1_assignments.specs.declared.index.NameIndex.{NameIndex}
-use Rattle.asn1_assignments.specs.Index.{number_of, numbered, Indexes}
+use Rattle.asn1_defs.proofs.gnb_types.Choices.{by_choice}
+use Rattle.asn1_defs.specs.asn1_tokens.Words.{is_text}
+use Rattle.asn1_defs.specs.asn1_types.declared.definition.Node.{Node}
+use Rattle.asn1_defs.specs.asn1_types.declared.definition.Definition.{Definition}
+use Rattle.asn1_defs.specs.asn1_assignments.declared.assignment.Assignment.{Assignment}
+use Rattle.asn1_defs.specs.asn1_assignments.declared.index.NameIndex.{NameIndex}
+use Rattle.asn1_defs.specs.asn1_assignments.Index.{number_of, numbered, Indexes}
 use Rattle.asn1_defs.specs.Numbers.{name_in, number_by, number_in, all_numbers}
 
 pub length-all_numbers : (assignments : List Assignment) (nodes : List Node) → length (all_numbers assignments nodes) ≡ length nodes

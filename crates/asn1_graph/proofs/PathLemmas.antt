@@ -4,7 +4,7 @@ use Rattle.std.specs.Prelude.{◌⊎◌, sum_by}
 use Rattle.std.proofs.lemmas.List.{length-set, length-replicate, get_or-replicate, get_or_past}
 use Rattle.std.proofs.lemmas.List.Sums.{sum_by-set}
 use Rattle.std.proofs.lemmas.Bool.{ltb-true, ltb-false, lt-ltb, eqb-true, cases_lt}
-use Rattle.gnb_types.proofs.Choices.{by_choice, by_test}
+use Rattle.asn1_defs.proofs.gnb_types.Choices.{by_choice, by_test}
 use Rattle.asn1_defs.specs.declared.graph.Edge.{Edge}
 use Rattle.asn1_defs.specs.Graph.{edge}
 use Rattle.asn1_defs.specs.Paths.{IsAmong, Leads, first, further, Nests, alone, around}

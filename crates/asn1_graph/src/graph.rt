@@ -4,10 +4,10 @@ ghost use Rattle.std.specs.Prelude.{◌≡◌, ◌+◌, ◌-◌, ◌^◌, ◌<�
 ghost use Rattle.asn1_defs.specs.Numbers.{all_numbers, numbers_in};
 ghost use Rattle.asn1_defs.specs.Graph.{member_edges, all_member_edges, numbered_edges, definition_edges, nodes_edges, range_edges, parts_edges, edges_of, vertex_count};
 
-use asn1_assignments::{Assignment, Syntax};
 use asn1_defs::Edge;
-use asn1_types::{Component, Definition, Extensible, Items, Node};
-use gnb_types::octets::Memory;
+use asn1_defs::from_asn1_assignments::{Assignment, Syntax};
+use asn1_defs::from_asn1_types::{Component, Definition, Extensible, Items, Node};
+use asn1_defs::from_gnb_types::octets::Memory;
 use std::alloc::Global;
 
 /// How many vertices a module has.

@@ -1,12 +1,12 @@
 //! The numbers of the assignments that the names in types refer to.
 
 ghost use Rattle.std.specs.Prelude.{◌≡◌, IfOk};
-ghost use Rattle.asn1_assignments.specs.Index.{numbered};
+ghost use Rattle.asn1_defs.specs.asn1_assignments.Index.{numbered};
 ghost use Rattle.asn1_defs.specs.Numbers.{name_in, number_by, numbers_in as numbers_of_syntax};
 
-use asn1_assignments::{NameIndex, Syntax, index_of};
-use asn1_types::Definition;
-use gnb_types::octets::Memory;
+use asn1_defs::from_asn1_assignments::{NameIndex, Syntax, index_of};
+use asn1_defs::from_asn1_types::Definition;
+use asn1_defs::from_gnb_types::octets::Memory;
 use std::alloc::Global;
 
 /// The number of the assignment that the name in a type refers to.

@@ -8,7 +8,7 @@ ghost use Rattle.asn1_graph.specs.Tables.{MarksWell, Falls, MarksLevel, level_st
 use crate::search::{entry, searched};
 use crate::steps::Steps;
 use asn1_defs::Edge;
-use gnb_types::octets::Memory;
+use asn1_defs::from_gnb_types::octets::Memory;
 use std::alloc::Global;
 
 const DEPTH_CAP: u8 = 61;

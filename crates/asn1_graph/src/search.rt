@@ -7,7 +7,7 @@ ghost use Rattle.std.specs.Prelude.{◌≡◌, slice_index};
 
 use crate::steps::Steps;
 use asn1_defs::Edge;
-use gnb_types::octets::Memory;
+use asn1_defs::from_gnb_types::octets::Memory;
 use std::alloc::Global;
 
 /// What a search finds.

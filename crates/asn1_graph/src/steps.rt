@@ -4,7 +4,7 @@ ghost use Rattle.std.specs.Prelude.{◌≡◌, IfOk};
 ghost use Rattle.asn1_graph.specs.Walks.{AreAmong};
 
 use asn1_defs::Edge;
-use gnb_types::octets::Memory;
+use asn1_defs::from_gnb_types::octets::Memory;
 use std::alloc::Global;
 
 /// The steps of a graph, which stand in the order of the vertices that they begin at, and where those of each begin.

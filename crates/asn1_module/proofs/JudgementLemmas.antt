@@ -3,8 +3,8 @@ use Rattle.std.proofs.Common.{◌≡◌, ℕ, suc, ◌+◌, ◌-◌, ◌<◌, �
 use Rattle.std.specs.Prelude.{Option, Result, IfOk}
 use Rattle.std.proofs.lemmas.List.{length-replicate, take_all}
 use Rattle.std.proofs.lemmas.Bool.{cases_lt}
-use Rattle.asn1_types.specs.declared.definition.Node.{Node}
-use Rattle.asn1_assignments.specs.declared.assignment.Syntax.{Syntax}
+use Rattle.asn1_defs.specs.asn1_types.declared.definition.Node.{Node}
+use Rattle.asn1_defs.specs.asn1_assignments.declared.assignment.Syntax.{Syntax}
 use Rattle.asn1_defs.specs.declared.graph.Edge.{Edge}
 use Rattle.asn1_defs.specs.Graph.{vertex_count, edges_of}
 use Rattle.asn1_graph.specs.Walks.{IsDepth}

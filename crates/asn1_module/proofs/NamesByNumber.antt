@@ -3,17 +3,17 @@ use Rattle.std.proofs.Common.{◌≡◌, ℕ, zero, suc, ◌+◌, ◌<◌, List,
 use Rattle.std.specs.Prelude.{Option, Some, None, IfSome, slice_get, option_map}
 use Rattle.std.specs.List.{position_from}
 use Rattle.std.proofs.lemmas.Iterator.Adapters.{position_from-zero}
-use Rattle.asn1_tokens.specs.Words.{is_text}
-use Rattle.asn1_types.specs.declared.definition.TypeId.{TypeId}
-use Rattle.asn1_types.specs.declared.definition.Definition.{Definition}
-use Rattle.asn1_types.specs.declared.definition.Definition.TheVariants as types
-use Rattle.asn1_types.specs.declared.definition.Node.{Node}
-use Rattle.asn1_assignments.specs.declared.assignment.Body.{Body}
-use Rattle.asn1_assignments.specs.declared.assignment.IeRow.{IeRow}
-use Rattle.asn1_assignments.specs.declared.assignment.ProcedureRow.{ProcedureRow}
-use Rattle.asn1_assignments.specs.declared.assignment.Assignment.{Assignment}
-use Rattle.asn1_assignments.specs.Index.{number_of}
-use Rattle.asn1_assignments.specs.declared.assignment.Syntax.{Syntax}
+use Rattle.asn1_defs.specs.asn1_tokens.Words.{is_text}
+use Rattle.asn1_defs.specs.asn1_types.declared.definition.TypeId.{TypeId}
+use Rattle.asn1_defs.specs.asn1_types.declared.definition.Definition.{Definition}
+use Rattle.asn1_defs.specs.asn1_types.declared.definition.Definition.TheVariants as types
+use Rattle.asn1_defs.specs.asn1_types.declared.definition.Node.{Node}
+use Rattle.asn1_defs.specs.asn1_assignments.declared.assignment.Body.{Body}
+use Rattle.asn1_defs.specs.asn1_assignments.declared.assignment.IeRow.{IeRow}
+use Rattle.asn1_defs.specs.asn1_assignments.declared.assignment.ProcedureRow.{ProcedureRow}
+use Rattle.asn1_defs.specs.asn1_assignments.declared.assignment.Assignment.{Assignment}
+use Rattle.asn1_defs.specs.asn1_assignments.Index.{number_of}
+use Rattle.asn1_defs.specs.asn1_assignments.declared.assignment.Syntax.{Syntax}
 use Rattle.asn1_defs.specs.Links.{IesBelow, ProceduresBelow}
 use Rattle.asn1_defs.specs.Targets.{type_of, find_type, ie_rows_of, ie_rows, procedure_rows_of, procedure_rows, definition_of, definition_at, all_of, referred, element_rows, message_rows}
 use Rattle.asn1_defs.specs.Modules.{IsModule}

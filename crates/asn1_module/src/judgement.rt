@@ -8,11 +8,11 @@ ghost use Rattle.asn1_graph.specs.Walks.{IsDepth};
 ghost use Rattle.asn1_defs.specs.Judgement.{weight_of, node_weights, weights_of, IsFirstRecursive, IsFirstDeep, Judged, IsAt};
 
 use crate::names::first_unknown;
-use asn1_assignments::Syntax;
 use asn1_defs::Edge;
+use asn1_defs::from_asn1_assignments::Syntax;
+use asn1_defs::from_asn1_types::{Definition, Fault, ModuleReason, Node};
+use asn1_defs::from_gnb_types::octets::Memory;
 use asn1_graph::{depths, edges_of, first_looping, value_at, vertex_count};
-use asn1_types::{Definition, Fault, ModuleReason, Node};
-use gnb_types::octets::Memory;
 use std::alloc::Global;
 
 /// As deep types may stand one inside another.

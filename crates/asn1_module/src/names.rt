@@ -5,9 +5,9 @@ ghost use Rattle.asn1_defs.specs.Numbers.{number_in, all_numbers};
 ghost use Rattle.asn1_defs.specs.Names.{kind_of_body, is_such, is_known, first_unknown};
 ghost use Rattle.asn1_module.specs.Numbers.{body_at};
 
-use asn1_assignments::{Assignment, Body};
 use asn1_defs::Kind;
-use asn1_types::{Definition, Node};
+use asn1_defs::from_asn1_assignments::{Assignment, Body};
+use asn1_defs::from_asn1_types::{Definition, Node};
 
 fn kind_of_body(body: &Body) -> Kind
     ensures { result ≡ kind_of_body body.now }

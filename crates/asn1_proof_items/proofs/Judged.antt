@@ -9,9 +9,10 @@ use Rattle.asn1_proof_syntax.specs.asn1_tokens.declared.token.Token.{Token}
 use Rattle.asn1_proof_syntax.specs.asn1_tokens.declared.token.Token.TheVariants as tokens
 use Rattle.asn1_proof_syntax.specs.asn1_tokens.Stream.{Placed, items_of, first_token, first_place, others}
 use Rattle.asn1_proof_syntax.specs.asn1_types.declared.fault.Fault.{Fault}
-use Rattle.asn1_proof_syntax.specs.asn1_types.Reading.{◌>>=◌, Left, begins_with}
+use Rattle.asn1_proof_syntax.specs.asn1_types.Reading.{Left, begins_with}
+use Rattle.asn1_proof_syntax.specs.asn1_types.inside.Reading.{◌>>=◌}
 use Rattle.asn1_proof_syntax.specs.asn1_assignments.declared.assignment.Syntax.{Syntax}
-use Rattle.asn1_proof_syntax.specs.asn1_assignments.Module.{Parts, header_at, assignments_at, syntax_at, syntax_of}
+use Rattle.asn1_proof_syntax.specs.asn1_assignments.inside.Module.{Parts, header_at, assignments_at, syntax_at, syntax_of}
 use Rattle.asn1_proof_syntax.specs.asn1_defs.Spelling.{tokens_of}
 use Rattle.asn1_proof_syntax.proofs.Streams.{IsStream, items-stream, first_of_stream}
 use Rattle.asn1_proof_syntax.proofs.Streams as streams

@@ -19,7 +19,8 @@ use Rattle.asn1_proof_syntax.specs.asn1_types.declared.members.Frame.TheVariants
 use Rattle.asn1_proof_syntax.specs.asn1_types.declared.members.Head.{Head}
 use Rattle.asn1_proof_syntax.specs.asn1_types.declared.members.Head.TheVariants as heads
 use Rattle.asn1_proof_syntax.specs.asn1_types.Reading.{Left, begins_with, begins_with_sign}
-use Rattle.asn1_proof_syntax.specs.asn1_types.Members.{no_parts, put_part, with_part, extended, can_extend, additions_of, all_parts, is_full, is_filled, has_name, has_component, new_name_at, list_goes_on_at, name_entry_at, names_turn_at, names_at, least_members, named_at, entry_at, optional_at, component, member_end_at, close_at}
+use Rattle.asn1_proof_syntax.specs.asn1_types.Members.{no_parts, put_part, with_part, extended, additions_of, all_parts, is_full, is_filled, has_name, component}
+use Rattle.asn1_proof_syntax.specs.asn1_types.inside.Members.{can_extend, has_component, new_name_at, list_goes_on_at, name_entry_at, names_turn_at, names_at, least_members, named_at, entry_at, optional_at, member_end_at, close_at}
 use Rattle.asn1_proof_syntax.specs.asn1_defs.Bounds.{is_wide, is_one_size}
 use Rattle.asn1_proof_syntax.specs.asn1_defs.Repetitions.{begins_entry, listed, numbers_behind, begins_assignment, assigned, types_assigned}
 use Rattle.asn1_proof_syntax.specs.asn1_defs.ItemFaults.{passes_bound, is_repeated}

@@ -10,12 +10,14 @@ use Rattle.asn1_proof_syntax.specs.asn1_tokens.declared.token.Token.TheVariants 
 use Rattle.asn1_proof_syntax.specs.asn1_tokens.Words.{is_text}
 use Rattle.asn1_proof_syntax.specs.asn1_types.declared.fault.Fault.{Fault}
 use Rattle.asn1_proof_syntax.specs.asn1_types.declared.definition.Node.{Node}
-use Rattle.asn1_proof_syntax.specs.asn1_types.Reading.{◌>>=◌, Left, is_sign_token, begins_with, begins_with_sign, upper_at, repeat_at}
+use Rattle.asn1_proof_syntax.specs.asn1_types.Reading.{Left, is_sign_token, begins_with, begins_with_sign}
+use Rattle.asn1_proof_syntax.specs.asn1_types.inside.Reading.{◌>>=◌, upper_at, repeat_at}
 use Rattle.asn1_proof_syntax.specs.asn1_types.Members.{has_name}
 use Rattle.asn1_proof_syntax.specs.asn1_assignments.declared.assignment.Body.{Body}
 use Rattle.asn1_proof_syntax.specs.asn1_assignments.declared.assignment.Body.TheVariants as bodies
 use Rattle.asn1_proof_syntax.specs.asn1_assignments.declared.assignment.Assignment.{Assignment}
-use Rattle.asn1_proof_syntax.specs.asn1_assignments.Module.{Parts, is_type_body, is_type, has_all_types, is_assigned, new_assignment_at, ie_body_at, procedure_body_at, type_body_at, body_at, assignment_at, module_turn_at, header_at, no_assignments, assignments_at}
+use Rattle.asn1_proof_syntax.specs.asn1_assignments.Module.{is_type_body, is_type}
+use Rattle.asn1_proof_syntax.specs.asn1_assignments.inside.Module.{Parts, has_all_types, is_assigned, new_assignment_at, ie_body_at, procedure_body_at, type_body_at, body_at, assignment_at, module_turn_at, header_at, no_assignments, assignments_at}
 use Rattle.asn1_proof_syntax.specs.asn1_defs.Spelling.{tokens_of}
 use Rattle.asn1_proof_syntax.specs.asn1_defs.Repetitions.{begins_assignment, assigned, types_assigned}
 use Rattle.asn1_proof_syntax.specs.asn1_defs.ItemFaults.{defines_type, passes_bound, is_repeated}

@@ -12,14 +12,17 @@ use Rattle.asn1_proof_syntax.specs.asn1_tokens.Words.{is_word}
 use Rattle.asn1_proof_syntax.specs.asn1_types.declared.fault.Fault.{Fault}
 use Rattle.asn1_proof_syntax.specs.asn1_types.declared.definition.TypeId.{TypeId}
 use Rattle.asn1_proof_syntax.specs.asn1_types.declared.definition.Node.{Node}
-use Rattle.asn1_proof_syntax.specs.asn1_types.Reading.{◌>>=◌, Left, begins_with, begins_with_sign, sign_at, lower_at}
-use Rattle.asn1_proof_syntax.specs.asn1_types.Sizes.{natural, natural_at}
+use Rattle.asn1_proof_syntax.specs.asn1_types.Reading.{Left, begins_with, begins_with_sign}
+use Rattle.asn1_proof_syntax.specs.asn1_types.inside.Reading.{◌>>=◌, sign_at, lower_at}
+use Rattle.asn1_proof_syntax.specs.asn1_types.Sizes.{natural}
+use Rattle.asn1_proof_syntax.specs.asn1_types.inside.Sizes.{natural_at}
 use Rattle.asn1_proof_syntax.specs.asn1_assignments.declared.assignment.Criticality.{Criticality}
 use Rattle.asn1_proof_syntax.specs.asn1_assignments.declared.assignment.Presence.{Presence}
 use Rattle.asn1_proof_syntax.specs.asn1_assignments.declared.assignment.IeRow.{IeRow}
 use Rattle.asn1_proof_syntax.specs.asn1_assignments.declared.assignment.ProcedureRow.{ProcedureRow}
-use Rattle.asn1_proof_syntax.specs.asn1_assignments.Rows.{new_number_at, found_or, criticality_of, criticality_at, presence_of, presence_at, has_id, ie_row_at, outcome_at, has_code, messages_at, procedure_row_at}
-use Rattle.asn1_proof_syntax.specs.asn1_assignments.Sets.{set_goes_on_at, Rows, rows_with, ie_turn_at, procedure_turn_at, set_start_at, ie_set_at, procedure_set_at}
+use Rattle.asn1_proof_syntax.specs.asn1_assignments.Rows.{criticality_of, presence_of}
+use Rattle.asn1_proof_syntax.specs.asn1_assignments.inside.Rows.{new_number_at, found_or, criticality_at, presence_at, has_id, ie_row_at, outcome_at, has_code, messages_at, procedure_row_at}
+use Rattle.asn1_proof_syntax.specs.asn1_assignments.inside.Sets.{set_goes_on_at, Rows, rows_with, ie_turn_at, procedure_turn_at, set_start_at, ie_set_at, procedure_set_at}
 use Rattle.asn1_proof_syntax.specs.asn1_defs.Bounds.{from_to, range_behind}
 use Rattle.asn1_proof_syntax.specs.asn1_defs.Repetitions.{begins_entry, numbers_behind, ids, codes_given, is_among, is_given, begins_assignment, assigned, types_assigned}
 use Rattle.asn1_proof_syntax.specs.asn1_defs.ItemFaults.{sign_passes, passes_bound, is_repeated}

@@ -10,8 +10,10 @@ use Rattle.asn1_proof_syntax.specs.asn1_tokens.declared.token.Token.TheVariants 
 use Rattle.asn1_proof_syntax.specs.asn1_tokens.Stream.{Placed, is_last, first_token, first_place, others}
 use Rattle.asn1_proof_syntax.specs.asn1_types.declared.fault.ModuleReason.TheVariants as reasons
 use Rattle.asn1_proof_syntax.specs.asn1_types.declared.fault.Fault.{Fault}
-use Rattle.asn1_proof_syntax.specs.asn1_types.Reading.{◌>>=◌, Left, fault_at, unexpected, begins_with, begins_with_sign, word_at, sign_at, upper_of, upper_at, lower_of, lower_at, number_of, number_at, repeat_at}
-use Rattle.asn1_proof_syntax.specs.asn1_types.Sizes.{bounded_at, natural, natural_at}
+use Rattle.asn1_proof_syntax.specs.asn1_types.Reading.{Left, begins_with, begins_with_sign}
+use Rattle.asn1_proof_syntax.specs.asn1_types.inside.Reading.{◌>>=◌, fault_at, unexpected, word_at, sign_at, upper_of, upper_at, lower_of, lower_at, number_of, number_at, repeat_at}
+use Rattle.asn1_proof_syntax.specs.asn1_types.Sizes.{natural}
+use Rattle.asn1_proof_syntax.specs.asn1_types.inside.Sizes.{bounded_at, natural_at}
 use Rattle.asn1_proof_syntax.specs.asn1_defs.Spelling.{tokens_of}
 use Rattle.asn1_proof_syntax.proofs.Exact.{a_word, a_sign}
 use Rattle.asn1_proof_syntax.specs.asn1_defs.Bounds.{from_to, range_behind, is_outside}

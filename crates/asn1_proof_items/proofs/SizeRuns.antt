@@ -10,8 +10,10 @@ use Rattle.asn1_proof_syntax.specs.asn1_tokens.declared.token.Token.TheVariants 
 use Rattle.asn1_proof_syntax.specs.asn1_types.declared.fault.ModuleReason.TheVariants as reasons
 use Rattle.asn1_proof_syntax.specs.asn1_types.declared.definition.Size.{Size}
 use Rattle.asn1_proof_syntax.specs.asn1_types.declared.definition.Definition.TheVariants as types
-use Rattle.asn1_proof_syntax.specs.asn1_types.Reading.{Left, fault_at, begins_with_sign}
-use Rattle.asn1_proof_syntax.specs.asn1_types.Sizes.{natural, ellipsis_at, size_end_at, least_high, size_rest_at, size_at, optional_size_at, integer_ellipsis_at, integer_least, integer_greatest, greatest_beside, integer_at}
+use Rattle.asn1_proof_syntax.specs.asn1_types.Reading.{Left, begins_with_sign}
+use Rattle.asn1_proof_syntax.specs.asn1_types.inside.Reading.{fault_at}
+use Rattle.asn1_proof_syntax.specs.asn1_types.Sizes.{natural, least_high, integer_least, integer_greatest, greatest_beside}
+use Rattle.asn1_proof_syntax.specs.asn1_types.inside.Sizes.{ellipsis_at, size_end_at, size_rest_at, size_at, optional_size_at, integer_ellipsis_at, integer_at}
 use Rattle.asn1_proof_syntax.specs.asn1_defs.Bounds.{from_to, range_behind, sizes_text, is_wide, is_one_size}
 use Rattle.asn1_proof_syntax.specs.asn1_defs.Repetitions.{listed, numbers_behind, begins_assignment, assigned, types_assigned}
 use Rattle.asn1_proof_syntax.specs.asn1_defs.ItemFaults.{passes_bound, is_repeated}

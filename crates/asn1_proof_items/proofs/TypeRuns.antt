@@ -20,12 +20,14 @@ use Rattle.asn1_proof_syntax.specs.asn1_types.declared.members.Frame.{Frame}
 use Rattle.asn1_proof_syntax.specs.asn1_types.declared.members.Frame.TheVariants as frames
 use Rattle.asn1_proof_syntax.specs.asn1_types.declared.members.Head.{Head}
 use Rattle.asn1_proof_syntax.specs.asn1_types.declared.members.Head.TheVariants as heads
-use Rattle.asn1_proof_syntax.specs.asn1_types.Reading.{Left, first_word, begins_with_sign}
-use Rattle.asn1_proof_syntax.specs.asn1_types.Shapes.{Shape, Alone, BoundsFollow, NamesFollow, StringFollows, TextSizeFollows, shape_of, is_there, sizes_characters, ends_alone}
-use Rattle.asn1_proof_syntax.specs.asn1_types.Sizes.{integer_at}
-use Rattle.asn1_proof_syntax.specs.asn1_types.Members.{no_parts, node}
+use Rattle.asn1_proof_syntax.specs.asn1_types.Reading.{Left, begins_with_sign}
+use Rattle.asn1_proof_syntax.specs.asn1_types.inside.Reading.{first_word}
+use Rattle.asn1_proof_syntax.specs.asn1_types.Shapes.{Shape, Alone, BoundsFollow, NamesFollow, StringFollows, TextSizeFollows, shape_of, sizes_characters, ends_alone}
+use Rattle.asn1_proof_syntax.specs.asn1_types.inside.Types.{is_there, enumerated_at, string_at, rest_at, rest_by, simple_rest_at, is_simple, simple_at, list_head_at, components_head_at, sequence_head_at, choice_head_at, set_name_at, container_at, pdu_at, reference_at, head_by, head_at, Risen, risen, rise_at, type_turn_at, type_goes_on, type_within_at, type_at}
+use Rattle.asn1_proof_syntax.specs.asn1_types.inside.Sizes.{integer_at}
+use Rattle.asn1_proof_syntax.specs.asn1_types.Members.{no_parts}
+use Rattle.asn1_proof_syntax.specs.asn1_types.Types.{node}
 use Rattle.asn1_proof_syntax.proofs.asn1_types.ShapeLemmas.{bounds_word}
-use Rattle.asn1_proof_syntax.specs.asn1_types.Types.{enumerated_at, string_at, rest_at, rest_by, simple_rest_at, is_simple, simple_at, list_head_at, components_head_at, sequence_head_at, choice_head_at, set_name_at, container_at, pdu_at, reference_at, head_by, head_at, Risen, risen, rise_at, type_turn_at, type_goes_on, type_within_at, type_at}
 use Rattle.asn1_proof_syntax.specs.asn1_defs.Repetitions.{listed, numbers_behind, ends_with_word, begins_assignment, assigned, types_assigned}
 use Rattle.asn1_proof_items.proofs.Runs.{Run, goes, fails, and_then, done, refused, word_then, sign_then, upper_then}
 use Rattle.asn1_proof_items.proofs.Views.{Same}

@@ -4,7 +4,7 @@
 ghost use Rattle.std.specs.Prelude.{◌≡◌, ℕ, List, Ok, Err};
 ghost use Rattle.asn1_proof_syntax.specs.asn1_types.declared.fault.Fault.{Fault};
 ghost use Rattle.asn1_proof_syntax.specs.asn1_assignments.declared.assignment.Syntax.{Syntax};
-ghost use Rattle.asn1_proof_syntax.specs.asn1_assignments.Module.{syntax_of};
+ghost use Rattle.asn1_proof_syntax.specs.asn1_assignments.inside.Module.{syntax_of};
 ghost use Rattle.asn1_proof_items.specs.JudgedItems.{AreAllowedTo, IsJudged};
 
 /// The items of a module that is read pass no bound and give nothing again, and neither do those before a fault.

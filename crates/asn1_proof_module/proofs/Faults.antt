@@ -4,7 +4,7 @@ use Rattle.std.specs.Prelude.{◌⊎◌, Option, Some, None, Result, Ok, Err}
 use Rattle.asn1_module.specs.asn1_types.declared.fault.Fault.{Fault}
 use Rattle.asn1_module.specs.asn1_types.declared.fault.ModuleReason.{ModuleReason}
 use Rattle.asn1_module.specs.asn1_assignments.declared.assignment.Syntax.{Syntax}
-use Rattle.asn1_module.specs.asn1_assignments.Module.{syntax_of}
+use Rattle.asn1_module.specs.asn1_assignments.inside.Module.{syntax_of}
 use Rattle.asn1_module.specs.asn1_defs.Positions.{line_after, column_after}
 use Rattle.asn1_module.specs.asn1_defs.Judgement.{Judged}
 use Rattle.asn1_module.specs.asn1_defs.Readings.{Reads, HasFault, in_text, in_module, WrongText}

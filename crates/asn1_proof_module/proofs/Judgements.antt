@@ -3,7 +3,7 @@ use Rattle.std.proofs.Common.{◌≡◌, ℕ, zero, suc, ◌+◌, ◌<◌, ◌�
 use Rattle.std.specs.Prelude.{◌⊎◌, Option, Some, None, slice_get}
 use Rattle.std.proofs.lemmas.Bool.{cases_lt}
 use Rattle.std.proofs.lemmas.Option.{slice_get-get_or}
-use Rattle.gnb_types.proofs.Choices.{by_test}
+use Rattle.asn1_module.proofs.gnb_types.Choices.{by_test}
 use Rattle.asn1_module.specs.asn1_types.declared.fault.Fault.{Fault}
 use Rattle.asn1_module.specs.asn1_types.declared.fault.ModuleReason.{ModuleReason}
 use Rattle.asn1_module.specs.asn1_types.declared.fault.ModuleReason.TheVariants as reasons

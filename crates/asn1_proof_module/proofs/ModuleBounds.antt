@@ -2,7 +2,7 @@
 use Rattle.std.proofs.lemmas.List.{map-append}
 use Rattle.std.proofs.Common.{◌≡◌, ℕ, ◌+◌, ◌≤◌, ◌<◌, List, [], ◌∷◌, ◌++◌, length, map, Bool, false, ◌&&◌, sym, subst, arith, Option}
 use Rattle.std.specs.Prelude.{Ok, ◌==◌}
-use Rattle.gnb_types.proofs.Choices.{by_choice}
+use Rattle.asn1_module.proofs.gnb_types.Choices.{by_choice}
 use Rattle.asn1_module.specs.asn1_tokens.declared.token.Word.{Word}
 use Rattle.asn1_module.specs.asn1_tokens.declared.token.Word.TheVariants as words
 use Rattle.asn1_module.specs.asn1_tokens.declared.token.Sign.TheVariants as signs
@@ -10,15 +10,16 @@ use Rattle.asn1_module.specs.asn1_tokens.Words.{is_text}
 use Rattle.asn1_module.specs.asn1_tokens.Stream.{items_of, first_place}
 use Rattle.asn1_module.specs.asn1_types.declared.definition.TypeId.{TypeId}
 use Rattle.asn1_module.specs.asn1_types.declared.definition.Node.{Node}
-use Rattle.asn1_module.specs.asn1_types.Reading.{Left, begins_with, begins_with_sign, word_at, sign_at, upper_at}
+use Rattle.asn1_module.specs.asn1_types.Reading.{Left, begins_with, begins_with_sign}
+use Rattle.asn1_module.specs.asn1_types.inside.Reading.{word_at, sign_at, upper_at}
 use Rattle.asn1_module.specs.asn1_assignments.declared.assignment.IeRow.{IeRow}
 use Rattle.asn1_module.specs.asn1_assignments.declared.assignment.ProcedureRow.{ProcedureRow}
 use Rattle.asn1_module.specs.asn1_assignments.declared.assignment.Body.{Body}
 use Rattle.asn1_module.specs.asn1_assignments.declared.assignment.Assignment.{Assignment}
 use Rattle.asn1_module.specs.asn1_assignments.declared.assignment.Syntax.{Syntax}
-use Rattle.asn1_module.specs.asn1_assignments.Rows.{new_number_at, criticality_at, presence_at, has_id, ie_row_at, outcome_at, has_code, messages_at, procedure_row_at}
-use Rattle.asn1_module.specs.asn1_assignments.Sets.{set_goes_on_at, Rows, rows_with, ie_turn_at, procedure_turn_at, set_start_at, ie_set_at, procedure_set_at}
-use Rattle.asn1_module.specs.asn1_assignments.Module.{Parts, has_all_types, is_assigned, new_assignment_at, ie_body_at, procedure_body_at, type_body_at, body_at, assignment_at, module_turn_at, header_at, no_assignments, assignments_at, syntax_at, syntax_of}
+use Rattle.asn1_module.specs.asn1_assignments.inside.Rows.{new_number_at, criticality_at, presence_at, has_id, ie_row_at, outcome_at, has_code, messages_at, procedure_row_at}
+use Rattle.asn1_module.specs.asn1_assignments.inside.Sets.{set_goes_on_at, Rows, rows_with, ie_turn_at, procedure_turn_at, set_start_at, ie_set_at, procedure_set_at}
+use Rattle.asn1_module.specs.asn1_assignments.inside.Module.{Parts, has_all_types, is_assigned, new_assignment_at, ie_body_at, procedure_body_at, type_body_at, body_at, assignment_at, module_turn_at, header_at, no_assignments, assignments_at, syntax_at, syntax_of}
 use Rattle.asn1_module.proofs.asn1_proof_syntax.Gives.{Gives, ok, no_value, and_gives, Next, repeat_gives}
 use Rattle.asn1_proof_module.specs.Proper.{IsNew, AreOnce, Each, ie_id, procedure_code, IsBodyWithin, name_of, IsProper}
 use Rattle.asn1_proof_module.proofs.Parts.{once_put, each_put, new_of, text_differs, number_differs}

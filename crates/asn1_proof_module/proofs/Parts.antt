@@ -8,7 +8,8 @@ use Rattle.std.specs.List.{list_any}
 use Rattle.std.specs.Cmp.Lexicographic.{pointwise}
 use Rattle.asn1_module.specs.asn1_tokens.Words.{is_text}
 use Rattle.asn1_module.specs.asn1_types.declared.definition.Extensible.{Extensible}
-use Rattle.asn1_module.specs.asn1_types.Members.{no_parts, put_part, with_part, extended, can_extend, all_parts, additions_of, is_filled, is_full}
+use Rattle.asn1_module.specs.asn1_types.Members.{no_parts, put_part, with_part, extended, all_parts, additions_of, is_filled, is_full}
+use Rattle.asn1_module.specs.asn1_types.inside.Members.{can_extend}
 use Rattle.asn1_proof_module.specs.Proper.{IsNew, AreOnce, Each, AreParts}
 
 pub le_of : (a b : ℕ) → nat_le a b ≡ true → a ≤ b

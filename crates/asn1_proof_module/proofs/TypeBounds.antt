@@ -2,7 +2,7 @@
 use Rattle.std.proofs.Common.{◌≡◌, ℕ, ◌-◌, ◌^◌, ◌≤◌, List, [], ◌∷◌, ◌++◌, zero, suc, length, map, Bool, true, false, cond, ◌||◌, ◌&&◌, refl, sym, ap, subst, arith, Option, Some, None}
 use Rattle.std.specs.Prelude.{Result, Ok, Err, ℤ, pos, negsuc}
 use Rattle.std.specs.Int.Signed.{le_z}
-use Rattle.gnb_types.proofs.Choices.{by_choice}
+use Rattle.asn1_module.proofs.gnb_types.Choices.{by_choice}
 use Rattle.asn1_module.specs.asn1_tokens.declared.token.Word.{Word}
 use Rattle.asn1_module.specs.asn1_tokens.declared.token.Word.TheVariants as words
 use Rattle.asn1_module.specs.asn1_tokens.declared.token.Sign.TheVariants as signs
@@ -22,12 +22,16 @@ use Rattle.asn1_module.specs.asn1_types.declared.members.Frame.{Frame}
 use Rattle.asn1_module.specs.asn1_types.declared.members.Frame.TheVariants as frames
 use Rattle.asn1_module.specs.asn1_types.declared.members.Head.{Head}
 use Rattle.asn1_module.specs.asn1_types.declared.members.Head.TheVariants as heads
-use Rattle.asn1_module.specs.asn1_types.Reading.{◌>>=◌, Left, fault_at, unexpected, first_word, begins_with_sign, word_at, sign_at, lower_at, upper_at, number_at}
-use Rattle.asn1_module.specs.asn1_types.Sizes.{natural, bounded_at, natural_at, ellipsis_at, size_end_at, least_high, size_rest_at, size_at, optional_size_at, integer_ellipsis_at, integer_least, integer_greatest, greatest_beside, integer_at}
+use Rattle.asn1_module.specs.asn1_types.Reading.{Left, begins_with_sign}
+use Rattle.asn1_module.specs.asn1_types.inside.Reading.{◌>>=◌, fault_at, unexpected, first_word, word_at, sign_at, lower_at, upper_at, number_at}
+use Rattle.asn1_module.specs.asn1_types.Sizes.{natural, least_high, integer_least, integer_greatest, greatest_beside}
+use Rattle.asn1_module.specs.asn1_types.inside.Sizes.{bounded_at, natural_at, ellipsis_at, size_end_at, size_rest_at, size_at, optional_size_at, integer_ellipsis_at, integer_at}
 use Rattle.asn1_module.specs.asn1_types.Shapes.{Shape, Alone, BoundsFollow, NamesFollow, StringFollows, TextSizeFollows, shape_of}
 use Rattle.asn1_module.proofs.asn1_types.ShapeLemmas.{alone_parts, string_parts, text_parts}
-use Rattle.asn1_module.specs.asn1_types.Members.{no_parts, with_part, extended, can_extend, all_parts, is_full, has_name, has_component, new_name_at, list_goes_on_at, name_entry_at, names_turn_at, names_at, least_members, composed, node, named_at, entry_at, optional_at, component, member_end_at, close_at}
-use Rattle.asn1_module.specs.asn1_types.Types.{enumerated_at, string_at, rest_at, rest_by, simple_rest_at, is_simple, simple_at, list_head_at, components_head_at, sequence_head_at, choice_head_at, set_name_at, container_at, pdu_at, reference_at, head_by, next_id, Risen, risen, rise_at, type_turn_at, type_goes_on, type_within_at, type_at}
+use Rattle.asn1_module.specs.asn1_types.Members.{no_parts, with_part, extended, all_parts, is_full, has_name, component}
+use Rattle.asn1_module.specs.asn1_types.Types.{node, next_id}
+use Rattle.asn1_module.specs.asn1_types.inside.Members.{can_extend, has_component, new_name_at, list_goes_on_at, name_entry_at, names_turn_at, names_at, least_members, composed, named_at, entry_at, optional_at, member_end_at, close_at}
+use Rattle.asn1_module.specs.asn1_types.inside.Types.{enumerated_at, string_at, rest_at, rest_by, simple_rest_at, is_simple, simple_at, list_head_at, components_head_at, sequence_head_at, choice_head_at, set_name_at, container_at, pdu_at, reference_at, head_by, Risen, risen, rise_at, type_turn_at, type_goes_on, type_within_at, type_at}
 use Rattle.asn1_module.proofs.asn1_proof_syntax.Gives.{Gives, ok, no_value, and_gives, gives_so, and_parts, Next, repeat_gives}
 use Rattle.asn1_proof_module.specs.Proper.{IsNew, Each, IsSize, IsTextSize, Maybe, AreParts, component_name, own_name, ArePartsWithin, IsWithin}
 use Rattle.asn1_proof_module.proofs.Parts.{le_of, or_parts, each_put, new_of, text_differs, Growing, none_yet, whole, put_grows, extended_grows}

@@ -7,6 +7,18 @@ ghost use Rattle.asn1_module.specs.asn1_assignments.declared.assignment.Syntax.{
 ghost use Rattle.asn1_module.specs.asn1_defs.Readings.{Reads, WrongText};
 ghost use Rattle.asn1_proof_module.specs.Proper.{IsProper};
 
+/// Of `asn1_assignments`, for crates above.
+pub mod from_asn1_assignments {
+    pub use asn1_module::from_asn1_assignments::{IeRow, ProcedureRow};
+}
+
+/// Of `asn1_module`, for crates above.
+pub mod from_asn1_module {
+    pub use asn1_module::{
+        Component, Definition, Extensible, IeRow, Module, ProcedureRow, Size, TypeId,
+    };
+}
+
 /// A text has at most one reading, or at most one fault, and never both.
 pub fn one_answer()
     ensures reading { (text : List ℕ) (m n : Syntax) (a b : ℕ) → Reads text a m → Reads text b n → (m ≡ n) × (a ≡ b) }

@@ -1,7 +1,7 @@
 -- The rank of a type or name of a module: how many types and names it leads to. It falls along each step, where none leads to itself.
 use Rattle.std.proofs.Common.{◌≡◌, ℕ, zero, suc, ◌+◌, ◌<◌, ◌≤◌, List, get_or, replicate, Bool, false, cond, refl, subst, inl, inr, ◌⊎◌, arith}
 use Rattle.std.proofs.lemmas.Bool.{cases_lt}
-use Rattle.gnb_types.proofs.Choices.{by_test, by_choice}
+use Rattle.asn1_module.proofs.gnb_types.Choices.{by_test, by_choice}
 use Rattle.asn1_module.specs.asn1_assignments.declared.assignment.Syntax.{Syntax}
 use Rattle.asn1_module.specs.asn1_defs.declared.graph.Edge.{Edge}
 use Rattle.asn1_module.specs.asn1_defs.Graph.{vertex_count, edges_of}

@@ -4,7 +4,7 @@ use Rattle.std.specs.Prelude.{Result, Ok, Err}
 use Rattle.asn1_proof_values.specs.asn1_tokens.Stream.{Placed}
 use Rattle.asn1_proof_values.specs.asn1_types.declared.fault.Fault.{Fault}
 use Rattle.asn1_proof_values.specs.asn1_assignments.declared.assignment.Syntax.{Syntax}
-use Rattle.asn1_proof_values.specs.asn1_assignments.Module.{syntax_of}
+use Rattle.asn1_proof_values.specs.asn1_assignments.inside.Module.{syntax_of}
 use Rattle.asn1_proof_values.proofs.asn1_proof_syntax.Readings.{module_front, wrong_item}
 use Rattle.asn1_proof_items.proofs.Judged.{allowed_to, judged}
 use Rattle.asn1_proof_values.specs.asn1_defs.ModuleMeanings.{MeansModule}

@@ -4,7 +4,7 @@
 ghost use Rattle.std.specs.Prelude.{◌≡◌, ℕ, List, Ok, Err};
 ghost use Rattle.asn1_proof_values.specs.asn1_types.declared.fault.Fault.{Fault};
 ghost use Rattle.asn1_proof_values.specs.asn1_assignments.declared.assignment.Syntax.{Syntax};
-ghost use Rattle.asn1_proof_values.specs.asn1_assignments.Module.{syntax_of};
+ghost use Rattle.asn1_proof_values.specs.asn1_assignments.inside.Module.{syntax_of};
 ghost use Rattle.asn1_proof_values.specs.asn1_defs.Texts.{IsTextOf, IsFirstWrong};
 
 /// A text is read as a module exactly where it is that module's, and a fault is told exactly of its first wrong item.

@@ -3,7 +3,8 @@ use Rattle.std.proofs.Common.{◌≡◌, ℕ, zero, suc, Bool, true, false, ◌&
 use Rattle.std.specs.Prelude.{Result, Ok, Err}
 use Rattle.asn1_proof_grammar.proofs.gnb_types.Choices.{by_choice}
 use Rattle.asn1_proof_grammar.specs.asn1_types.declared.fault.Fault.{Fault}
-use Rattle.asn1_proof_grammar.specs.asn1_types.Reading.{◌>>=◌, Left, repeat_at}
+use Rattle.asn1_proof_grammar.specs.asn1_types.Reading.{Left}
+use Rattle.asn1_proof_grammar.specs.asn1_types.inside.Reading.{◌>>=◌, repeat_at}
 
 pub data Gives {A : Type 0} (P : A → Type 0) : Result A Fault → Type 0 where
   ok : {a : A} → P a → Gives P (Ok a)

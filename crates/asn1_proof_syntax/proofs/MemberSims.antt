@@ -17,8 +17,11 @@ use Rattle.asn1_proof_grammar.specs.asn1_types.declared.members.Frame.{Frame}
 use Rattle.asn1_proof_grammar.specs.asn1_types.declared.members.Frame.TheVariants as frames
 use Rattle.asn1_proof_grammar.specs.asn1_types.declared.members.Head.{Head}
 use Rattle.asn1_proof_grammar.specs.asn1_types.declared.members.Head.TheVariants as heads
-use Rattle.asn1_proof_grammar.specs.asn1_types.Reading.{◌>>=◌, Left, fault_at, begins_with, begins_with_sign, sign_at}
-use Rattle.asn1_proof_grammar.specs.asn1_types.Members.{no_parts, put_part, with_part, extended, can_extend, all_parts, is_full, has_name, has_component, new_name_at, list_goes_on_at, name_entry_at, names_turn_at, names_at, least_members, composed, node, named_at, entry_at, optional_at, component, member_end_at, close_at}
+use Rattle.asn1_proof_grammar.specs.asn1_types.Reading.{Left, begins_with, begins_with_sign}
+use Rattle.asn1_proof_grammar.specs.asn1_types.inside.Reading.{◌>>=◌, fault_at, sign_at}
+use Rattle.asn1_proof_grammar.specs.asn1_types.Members.{no_parts, put_part, with_part, extended, all_parts, is_full, has_name, component}
+use Rattle.asn1_proof_grammar.specs.asn1_types.Types.{node}
+use Rattle.asn1_proof_grammar.specs.asn1_types.inside.Members.{can_extend, has_component, new_name_at, list_goes_on_at, name_entry_at, names_turn_at, names_at, least_members, composed, named_at, entry_at, optional_at, member_end_at, close_at}
 use Rattle.asn1_proof_grammar.specs.asn1_defs.Grammar.{ALower, TheSign, fits, Part, AType, NextComponent, AfterComponent, AfterAddition, OptionalWord, NextAlternative, AfterAlternative, AfterAlternativeAddition, NextName, AfterName, AfterNameAddition, Symbol, Item, Whole, word, comma, ellipsis, close_brace, productions}
 use Rattle.asn1_proof_grammar.proofs.Predict.{chosen}
 use Rattle.asn1_proof_syntax.proofs.Sim.{Sim, goes, and_then, and_so, first, next, maybe, fits_sign, fits_word, chosen_one, chosen_other, word_sim, sign_sim, lower_sim, weaker, done, expands, misused, part_of, repeat_sim, by_flag}

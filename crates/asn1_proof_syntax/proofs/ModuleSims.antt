@@ -9,11 +9,12 @@ use Rattle.asn1_proof_grammar.specs.asn1_tokens.Stream.{Placed, first_token}
 use Rattle.asn1_proof_grammar.specs.asn1_types.declared.fault.ModuleReason.TheVariants as reasons
 use Rattle.asn1_proof_grammar.specs.asn1_types.declared.fault.Fault.{Fault}
 use Rattle.asn1_proof_grammar.specs.asn1_types.declared.definition.Node.{Node}
-use Rattle.asn1_proof_grammar.specs.asn1_types.Reading.{◌>>=◌, Left, fault_at, begins_with, begins_with_sign}
+use Rattle.asn1_proof_grammar.specs.asn1_types.Reading.{Left, begins_with, begins_with_sign}
+use Rattle.asn1_proof_grammar.specs.asn1_types.inside.Reading.{◌>>=◌, fault_at}
 use Rattle.asn1_proof_grammar.specs.asn1_assignments.declared.assignment.Body.{Body}
 use Rattle.asn1_proof_grammar.specs.asn1_assignments.declared.assignment.Body.TheVariants as bodies
 use Rattle.asn1_proof_grammar.specs.asn1_assignments.declared.assignment.Assignment.{Assignment}
-use Rattle.asn1_proof_grammar.specs.asn1_assignments.Module.{Parts, has_all_types, is_assigned, new_assignment_at, ie_body_at, procedure_body_at, type_body_at, body_at, assignment_at, module_turn_at, header_at, no_assignments, assignments_at}
+use Rattle.asn1_proof_grammar.specs.asn1_assignments.inside.Module.{Parts, has_all_types, is_assigned, new_assignment_at, ie_body_at, procedure_body_at, type_body_at, body_at, assignment_at, module_turn_at, header_at, no_assignments, assignments_at}
 use Rattle.asn1_proof_grammar.specs.asn1_defs.Grammar.{AnUpper, TheWord, TheSign, fits, Assignments, Meaning, IeRows, ProcedureRows, AType, Symbol, Item, Whole, word, sign, open_brace, productions}
 use Rattle.asn1_proof_grammar.proofs.Predict.{chosen}
 use Rattle.asn1_proof_syntax.proofs.Sim.{Sim, goes, and_so, first, next, fits_word, chosen_one, chosen_other, word_sim, sign_sim, upper_sim, done, expands, misused, part_of, repeat_sim, Turns}

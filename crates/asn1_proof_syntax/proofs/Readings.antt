@@ -8,9 +8,10 @@ use Rattle.asn1_proof_grammar.specs.asn1_tokens.declared.token.Token.{Token}
 use Rattle.asn1_proof_grammar.specs.asn1_tokens.Stream.{Placed, items_of, first_token, first_place}
 use Rattle.asn1_proof_grammar.specs.asn1_types.declared.fault.ModuleReason.{ModuleReason}
 use Rattle.asn1_proof_grammar.specs.asn1_types.declared.fault.Fault.{Fault}
-use Rattle.asn1_proof_grammar.specs.asn1_types.Reading.{◌>>=◌, Left, reason_of, begins_with, repeat_at}
+use Rattle.asn1_proof_grammar.specs.asn1_types.Reading.{Left, reason_of, begins_with}
+use Rattle.asn1_proof_grammar.specs.asn1_types.inside.Reading.{◌>>=◌, repeat_at}
 use Rattle.asn1_proof_grammar.specs.asn1_assignments.declared.assignment.Syntax.{Syntax}
-use Rattle.asn1_proof_grammar.specs.asn1_assignments.Module.{Parts, assignment_at, module_turn_at, header_at, no_assignments, assignments_at, syntax_at, syntax_of}
+use Rattle.asn1_proof_grammar.specs.asn1_assignments.inside.Module.{Parts, assignment_at, module_turn_at, header_at, no_assignments, assignments_at, syntax_at, syntax_of}
 use Rattle.asn1_proof_grammar.specs.asn1_defs.Grammar.{AnUpper, TheWord, fits, Module, Assignments, Symbol, Item, Whole, word, sign, productions}
 use Rattle.asn1_proof_grammar.specs.asn1_defs.Spelling.{tokens_of, Spells, nothing, item, part, IsModuleText, IsOpen, GoesOn}
 use Rattle.asn1_proof_grammar.proofs.Predict.{chosen, pick, is_begun, empty_of, predictable}

@@ -11,13 +11,15 @@ use Rattle.asn1_proof_grammar.specs.asn1_tokens.Words.{is_text}
 use Rattle.asn1_proof_grammar.specs.asn1_tokens.Stream.{Placed, first_token, others}
 use Rattle.asn1_proof_grammar.specs.asn1_types.declared.fault.ModuleReason.TheVariants as reasons
 use Rattle.asn1_proof_grammar.specs.asn1_types.declared.definition.Node.{Node}
-use Rattle.asn1_proof_grammar.specs.asn1_types.Reading.{◌>>=◌, Left, fault_at, begins_with, begins_with_sign, lower_of, lower_at}
+use Rattle.asn1_proof_grammar.specs.asn1_types.Reading.{Left, begins_with, begins_with_sign}
+use Rattle.asn1_proof_grammar.specs.asn1_types.inside.Reading.{◌>>=◌, fault_at, lower_of, lower_at}
 use Rattle.asn1_proof_grammar.specs.asn1_assignments.declared.assignment.Criticality.TheVariants as criticalities
 use Rattle.asn1_proof_grammar.specs.asn1_assignments.declared.assignment.Presence.TheVariants as presences
 use Rattle.asn1_proof_grammar.specs.asn1_assignments.declared.assignment.IeRow.{IeRow}
 use Rattle.asn1_proof_grammar.specs.asn1_assignments.declared.assignment.ProcedureRow.{ProcedureRow}
-use Rattle.asn1_proof_grammar.specs.asn1_assignments.Rows.{new_number_at, found_or, criticality_of, criticality_at, presence_of, presence_at, has_id, ie_row_at, outcome_at, has_code, messages_at, procedure_row_at}
-use Rattle.asn1_proof_grammar.specs.asn1_assignments.Sets.{set_goes_on_at, Rows, rows_with, ie_turn_at, procedure_turn_at, set_start_at, ie_set_at, procedure_set_at}
+use Rattle.asn1_proof_grammar.specs.asn1_assignments.Rows.{criticality_of, presence_of}
+use Rattle.asn1_proof_grammar.specs.asn1_assignments.inside.Rows.{new_number_at, found_or, criticality_at, presence_at, has_id, ie_row_at, outcome_at, has_code, messages_at, procedure_row_at}
+use Rattle.asn1_proof_grammar.specs.asn1_assignments.inside.Sets.{set_goes_on_at, Rows, rows_with, ie_turn_at, procedure_turn_at, set_start_at, ie_set_at, procedure_set_at}
 use Rattle.asn1_proof_grammar.specs.asn1_defs.Grammar.{Terminal, ANumber, ACriticality, APresence, TheWord, TheSign, fits, Part, AType, IeRows, MoreIeRows, ProcedureRows, MoreProcedureRows, SuccessfulOutcome, UnsuccessfulOutcome, Symbol, Item, Whole, word, sign, set_end, ellipsis, open_brace, close_brace, productions}
 use Rattle.asn1_proof_grammar.proofs.Predict.{chosen}
 use Rattle.asn1_proof_grammar.proofs.Steps.{at_item}

@@ -10,7 +10,8 @@ use Rattle.asn1_proof_grammar.specs.asn1_tokens.Stream.{Placed, first_token, fir
 use Rattle.asn1_proof_grammar.specs.asn1_types.declared.fault.ModuleReason.{ModuleReason}
 use Rattle.asn1_proof_grammar.specs.asn1_types.declared.fault.ModuleReason.TheVariants as reasons
 use Rattle.asn1_proof_grammar.specs.asn1_types.declared.fault.Fault.{Fault}
-use Rattle.asn1_proof_grammar.specs.asn1_types.Reading.{◌>>=◌, Left, reason_of, unexpected, is_word_token, is_sign_token, begins_with, begins_with_sign, word_at, sign_at, upper_of, upper_at, lower_of, lower_at, number_of, number_at, repeat_at}
+use Rattle.asn1_proof_grammar.specs.asn1_types.Reading.{Left, reason_of, is_word_token, is_sign_token, begins_with, begins_with_sign}
+use Rattle.asn1_proof_grammar.specs.asn1_types.inside.Reading.{◌>>=◌, unexpected, word_at, sign_at, upper_of, upper_at, lower_of, lower_at, number_of, number_at, repeat_at}
 use Rattle.asn1_proof_grammar.specs.asn1_defs.Grammar.{Terminal, AnUpper, ALower, ANumber, TheWord, TheSign, fits, Part, Symbol, Item, Whole, word, sign}
 use Rattle.asn1_proof_grammar.proofs.Predict.{chosen}
 use Rattle.asn1_proof_grammar.proofs.Steps.{Steps, here, shift, expand, then, IsStuck, at_item, at_part}

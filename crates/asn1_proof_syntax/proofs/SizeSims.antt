@@ -7,8 +7,10 @@ use Rattle.asn1_proof_grammar.specs.asn1_tokens.declared.token.Word.TheVariants 
 use Rattle.asn1_proof_grammar.specs.asn1_tokens.declared.token.Sign.TheVariants as signs
 use Rattle.asn1_proof_grammar.specs.asn1_tokens.Stream.{Placed, first_token}
 use Rattle.asn1_proof_grammar.specs.asn1_types.declared.fault.ModuleReason.TheVariants as reasons
-use Rattle.asn1_proof_grammar.specs.asn1_types.Reading.{fault_at, begins_with_sign}
-use Rattle.asn1_proof_grammar.specs.asn1_types.Sizes.{bounded_at, natural, natural_at, ellipsis_at, size_end_at, least_high, size_rest_at, size_at, optional_size_at, integer_ellipsis_at, integer_least, integer_greatest, greatest_beside, integer_at}
+use Rattle.asn1_proof_grammar.specs.asn1_types.Reading.{begins_with_sign}
+use Rattle.asn1_proof_grammar.specs.asn1_types.inside.Reading.{fault_at}
+use Rattle.asn1_proof_grammar.specs.asn1_types.Sizes.{natural, least_high, integer_least, integer_greatest, greatest_beside}
+use Rattle.asn1_proof_grammar.specs.asn1_types.inside.Sizes.{bounded_at, natural_at, ellipsis_at, size_end_at, size_rest_at, size_at, optional_size_at, integer_ellipsis_at, integer_at}
 use Rattle.asn1_proof_grammar.specs.asn1_defs.Grammar.{ANumber, Mark, OptionalSize, HighSize, Symbol, Item, Whole, sign, size, comma, ellipsis, open_bracket, close_bracket, productions}
 use Rattle.asn1_proof_grammar.proofs.Predict.{chosen}
 use Rattle.asn1_proof_grammar.proofs.Steps.{here}

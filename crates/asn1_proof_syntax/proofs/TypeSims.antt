@@ -19,10 +19,12 @@ use Rattle.asn1_proof_grammar.specs.asn1_types.declared.members.Frame.{Frame}
 use Rattle.asn1_proof_grammar.specs.asn1_types.declared.members.Frame.TheVariants as frames
 use Rattle.asn1_proof_grammar.specs.asn1_types.declared.members.Head.{Head}
 use Rattle.asn1_proof_grammar.specs.asn1_types.declared.members.Head.TheVariants as heads
-use Rattle.asn1_proof_grammar.specs.asn1_types.Reading.{Left, word_in, begins_with_sign}
-use Rattle.asn1_proof_grammar.specs.asn1_types.Shapes.{Shape, Alone, BoundsFollow, NamesFollow, StringFollows, TextSizeFollows, shape_of, is_there}
-use Rattle.asn1_proof_grammar.specs.asn1_types.Members.{no_parts, node}
-use Rattle.asn1_proof_grammar.specs.asn1_types.Types.{enumerated_at, string_at, rest_at, rest_by, simple_rest_at, is_simple, simple_at, list_head_at, components_head_at, sequence_head_at, choice_head_at, set_name_at, container_at, pdu_at, reference_at, head_by, head_at, Risen, risen, rise_at, type_turn_at, type_goes_on, type_within_at, type_at}
+use Rattle.asn1_proof_grammar.specs.asn1_types.Reading.{Left, begins_with_sign}
+use Rattle.asn1_proof_grammar.specs.asn1_types.inside.Reading.{word_in}
+use Rattle.asn1_proof_grammar.specs.asn1_types.Shapes.{Shape, Alone, BoundsFollow, NamesFollow, StringFollows, TextSizeFollows, shape_of}
+use Rattle.asn1_proof_grammar.specs.asn1_types.inside.Types.{is_there, enumerated_at, string_at, rest_at, rest_by, simple_rest_at, is_simple, simple_at, list_head_at, components_head_at, sequence_head_at, choice_head_at, set_name_at, container_at, pdu_at, reference_at, head_by, head_at, Risen, risen, rise_at, type_turn_at, type_goes_on, type_within_at, type_at}
+use Rattle.asn1_proof_grammar.specs.asn1_types.Members.{no_parts}
+use Rattle.asn1_proof_grammar.specs.asn1_types.Types.{node}
 use Rattle.asn1_proof_grammar.specs.asn1_defs.Grammar.{behind_word, AnUpper, ALower, TheWord, fits, AType, FirstComponent, AfterAddition, OptionalSize, SequenceRest, AfterName, AfterAlternative, Symbol, Item, Whole, word, size, set_name, ellipsis, open_brace, close_brace, productions}
 use Rattle.asn1_proof_grammar.proofs.Predict.{chosen}
 use Rattle.asn1_proof_grammar.proofs.Steps.{at_part}

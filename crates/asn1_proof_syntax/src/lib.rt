@@ -4,7 +4,7 @@
 ghost use Rattle.std.specs.Prelude.{◌≡◌, ℕ, List, Ok, Err};
 ghost use Rattle.asn1_proof_grammar.specs.asn1_types.declared.fault.Fault.{Fault};
 ghost use Rattle.asn1_proof_grammar.specs.asn1_assignments.declared.assignment.Syntax.{Syntax};
-ghost use Rattle.asn1_proof_grammar.specs.asn1_assignments.Module.{syntax_of};
+ghost use Rattle.asn1_proof_grammar.specs.asn1_assignments.inside.Module.{syntax_of};
 ghost use Rattle.asn1_proof_syntax.specs.Grammatical.{IsModuleFront, IsWrongItem};
 
 /// What is read as a module is a module's text, and the fault of another text is at its first wrong item.

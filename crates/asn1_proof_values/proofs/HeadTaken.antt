@@ -12,11 +12,14 @@ use Rattle.asn1_proof_syntax.specs.asn1_types.declared.definition.Node.{Node}
 use Rattle.asn1_proof_syntax.specs.asn1_types.declared.members.Group.TheVariants as groups
 use Rattle.asn1_proof_syntax.specs.asn1_types.declared.members.Frame.TheVariants as frames
 use Rattle.asn1_proof_syntax.specs.asn1_types.declared.members.Head.TheVariants as heads
-use Rattle.asn1_proof_syntax.specs.asn1_types.Reading.{◌>>=◌, Left, first_word, begins_with_sign, sign_at}
-use Rattle.asn1_proof_syntax.specs.asn1_types.Sizes.{integer_least, integer_greatest, greatest_beside, integer_at}
+use Rattle.asn1_proof_syntax.specs.asn1_types.Reading.{Left, begins_with_sign}
+use Rattle.asn1_proof_syntax.specs.asn1_types.inside.Reading.{◌>>=◌, first_word, sign_at}
+use Rattle.asn1_proof_syntax.specs.asn1_types.Sizes.{integer_least, integer_greatest, greatest_beside}
+use Rattle.asn1_proof_syntax.specs.asn1_types.inside.Sizes.{integer_at}
 use Rattle.asn1_proof_syntax.specs.asn1_types.Shapes.{Shape, Alone, BoundsFollow, NamesFollow, StringFollows, TextSizeFollows, shape_of}
-use Rattle.asn1_proof_syntax.specs.asn1_types.Members.{no_parts, node}
-use Rattle.asn1_proof_syntax.specs.asn1_types.Types.{enumerated_at, string_at, rest_at, rest_by, simple_rest_at, is_simple, simple_at, list_head_at, components_head_at, sequence_head_at, choice_head_at, container_at, pdu_at, reference_at, head_by, head_at}
+use Rattle.asn1_proof_syntax.specs.asn1_types.Members.{no_parts}
+use Rattle.asn1_proof_syntax.specs.asn1_types.Types.{node}
+use Rattle.asn1_proof_syntax.specs.asn1_types.inside.Types.{enumerated_at, string_at, rest_at, rest_by, simple_rest_at, is_simple, simple_at, list_head_at, components_head_at, sequence_head_at, choice_head_at, container_at, pdu_at, reference_at, head_by, head_at}
 use Rattle.asn1_proof_syntax.proofs.Gives.{Gives, ok, no_value, and_gives, gives_so}
 use Rattle.asn1_proof_syntax.specs.asn1_defs.ItemMeanings.{The, start_of, OptionalSize, sized, unsized}
 use Rattle.asn1_proof_syntax.specs.asn1_defs.TypeMeanings.{Follows, alone, bounds, names, string, text_size, Plain, simple, ie_container, pdu, AType, Behind, Means, reference, worded, plain, sequence_of, empty_sequence, sequence, choice}

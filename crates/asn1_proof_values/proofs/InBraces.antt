@@ -6,7 +6,8 @@ use Rattle.asn1_proof_syntax.specs.asn1_tokens.declared.token.Token.TheVariants 
 use Rattle.asn1_proof_syntax.specs.asn1_types.declared.definition.Extensible.{Extensible}
 use Rattle.asn1_proof_syntax.specs.asn1_types.declared.definition.Node.{Node}
 use Rattle.asn1_proof_syntax.specs.asn1_types.Reading.{Left}
-use Rattle.asn1_proof_syntax.specs.asn1_types.Members.{no_parts, put_part, with_part, extended, can_extend}
+use Rattle.asn1_proof_syntax.specs.asn1_types.Members.{no_parts, put_part, with_part, extended}
+use Rattle.asn1_proof_syntax.specs.asn1_types.inside.Members.{can_extend}
 use Rattle.asn1_proof_syntax.specs.asn1_defs.ItemMeanings.{The}
 
 -- what items mean, from some types to more

@@ -19,8 +19,9 @@ use Rattle.asn1_proof_syntax.specs.asn1_types.declared.members.Frame.TheVariants
 use Rattle.asn1_proof_syntax.specs.asn1_types.declared.members.Head.{Head}
 use Rattle.asn1_proof_syntax.specs.asn1_types.declared.members.Head.TheVariants as heads
 use Rattle.asn1_proof_syntax.specs.asn1_types.Reading.{Left, begins_with, begins_with_sign}
-use Rattle.asn1_proof_syntax.specs.asn1_types.Members.{no_parts, with_part, extended, can_extend, all_parts, is_full, has_component, least_members, composed, node, named_at, entry_at, optional_at, component, member_end_at, close_at}
-use Rattle.asn1_proof_syntax.specs.asn1_types.Types.{next_id}
+use Rattle.asn1_proof_syntax.specs.asn1_types.Members.{no_parts, with_part, extended, all_parts, is_full, component}
+use Rattle.asn1_proof_syntax.specs.asn1_types.Types.{node, next_id}
+use Rattle.asn1_proof_syntax.specs.asn1_types.inside.Members.{can_extend, has_component, least_members, composed, named_at, entry_at, optional_at, member_end_at, close_at}
 use Rattle.asn1_proof_syntax.proofs.Gives.{Gives, ok, and_gives, gives_so, and_parts}
 use Rattle.asn1_proof_syntax.specs.asn1_defs.ItemMeanings.{The}
 use Rattle.asn1_proof_syntax.specs.asn1_defs.TypeMeanings.{MayBeOptional, optional, required, alternative, AType, AMember, Members, Added, with_type, Means, member, mark, last, more, no_more, one_more}

@@ -17,8 +17,8 @@ use Rattle.asn1_proof_syntax.specs.asn1_assignments.declared.assignment.Body.{Bo
 use Rattle.asn1_proof_syntax.specs.asn1_assignments.declared.assignment.Body.TheVariants as bodies
 use Rattle.asn1_proof_syntax.specs.asn1_assignments.declared.assignment.Assignment.{Assignment}
 use Rattle.asn1_proof_syntax.specs.asn1_assignments.declared.assignment.Syntax.{Syntax}
-use Rattle.asn1_proof_syntax.specs.asn1_assignments.Sets.{Rows as SoFar}
-use Rattle.asn1_proof_syntax.specs.asn1_assignments.Module.{Parts, has_all_types, is_assigned, new_assignment_at, ie_body_at, procedure_body_at, type_body_at, body_at, assignment_at, module_turn_at, header_at, no_assignments, assignments_at, syntax_at, syntax_of}
+use Rattle.asn1_proof_syntax.specs.asn1_assignments.inside.Sets.{Rows as SoFar}
+use Rattle.asn1_proof_syntax.specs.asn1_assignments.inside.Module.{Parts, has_all_types, is_assigned, new_assignment_at, ie_body_at, procedure_body_at, type_body_at, body_at, assignment_at, module_turn_at, header_at, no_assignments, assignments_at, syntax_at, syntax_of}
 use Rattle.asn1_proof_syntax.proofs.Gives.{Gives, ok, no_value, and_gives}
 use Rattle.asn1_proof_syntax.proofs.Exact.{a_word}
 use Rattle.asn1_proof_syntax.specs.asn1_defs.ItemMeanings.{The, is, start_of}

@@ -6,9 +6,11 @@ use Rattle.asn1_proof_syntax.specs.asn1_tokens.declared.token.Sign.TheVariants a
 use Rattle.asn1_proof_syntax.specs.asn1_tokens.declared.token.Token.TheVariants as tokens
 use Rattle.asn1_proof_syntax.specs.asn1_types.declared.fault.Fault.{Fault}
 use Rattle.asn1_proof_syntax.specs.asn1_types.declared.definition.Extensible.{Extensible}
-use Rattle.asn1_proof_syntax.specs.asn1_types.Reading.{Left, begins_with_sign, repeat_at}
-use Rattle.asn1_proof_syntax.specs.asn1_types.Members.{no_parts, can_extend, all_parts, is_full, has_name, new_name_at, list_goes_on_at, name_entry_at, names_turn_at, names_at}
-use Rattle.asn1_proof_syntax.specs.asn1_types.Types.{set_name_at}
+use Rattle.asn1_proof_syntax.specs.asn1_types.Reading.{Left, begins_with_sign}
+use Rattle.asn1_proof_syntax.specs.asn1_types.inside.Reading.{repeat_at}
+use Rattle.asn1_proof_syntax.specs.asn1_types.Members.{no_parts, all_parts, is_full, has_name}
+use Rattle.asn1_proof_syntax.specs.asn1_types.inside.Members.{can_extend, new_name_at, list_goes_on_at, name_entry_at, names_turn_at, names_at}
+use Rattle.asn1_proof_syntax.specs.asn1_types.inside.Types.{set_name_at}
 use Rattle.asn1_proof_syntax.proofs.Gives.{Gives, ok, no_value, and_gives, gives_so, and_parts}
 use Rattle.asn1_proof_syntax.specs.asn1_defs.ItemMeanings.{The, SetName, set_name, AddedNames, none, one, Names, mark, last, more}
 use Rattle.asn1_proof_values.proofs.InBraces.{Told, Lists, FromEntry, BehindEntry, part_from, mark_from, comma_behind, brace_behind, whole_from}

@@ -15,9 +15,9 @@ use Rattle.asn1_proof_syntax.specs.asn1_types.declared.definition.Definition.The
 use Rattle.asn1_proof_syntax.specs.asn1_types.declared.definition.Node.{Node}
 use Rattle.asn1_proof_syntax.specs.asn1_types.declared.members.Group.{Group}
 use Rattle.asn1_proof_syntax.specs.asn1_types.Reading.{Left}
-use Rattle.asn1_proof_syntax.specs.asn1_types.Members.{component, node}
+use Rattle.asn1_proof_syntax.specs.asn1_types.Members.{component}
+use Rattle.asn1_proof_syntax.specs.asn1_types.Types.{node, next_id}
 use Rattle.asn1_proof_syntax.specs.asn1_types.Shapes.{Shape, shape_of}
-use Rattle.asn1_proof_syntax.specs.asn1_types.Types.{next_id}
 use Rattle.asn1_proof_syntax.specs.asn1_defs.ItemMeanings.{The, start_of, Extends, OptionalSize, sized, unsized, SetName}
 use Rattle.asn1_proof_syntax.specs.asn1_defs.TypeMeanings.{Follows, alone, bounds, names, string, text_size, Plain, simple, ie_container, pdu, MayBeOptional, optional, required, alternative, Piece, Behind, AMember, Members, Value, with_type, Means, reference, worded, plain, sequence_of, empty_sequence, sequence, choice, member, mark, last, more, no_more, one_more}
 use Rattle.asn1_proof_values.proofs.OneItem.{One, the_same, rest_one, word_clash, value_one, word_one, upper_one, lower_one, extends_one, opens_with, size_one, set_one, names_one, lower_sign, comma_brace}

@@ -8,12 +8,14 @@ use Rattle.asn1_proof_syntax.specs.asn1_tokens.declared.token.Sign.TheVariants a
 use Rattle.asn1_proof_syntax.specs.asn1_tokens.declared.token.Token.TheVariants as tokens
 use Rattle.asn1_proof_syntax.specs.asn1_types.declared.definition.TypeId.{TypeId}
 use Rattle.asn1_proof_syntax.specs.asn1_types.declared.definition.Node.{Node}
-use Rattle.asn1_proof_syntax.specs.asn1_types.Reading.{◌>>=◌, Left, begins_with, word_at, sign_at}
+use Rattle.asn1_proof_syntax.specs.asn1_types.Reading.{Left, begins_with}
+use Rattle.asn1_proof_syntax.specs.asn1_types.inside.Reading.{◌>>=◌, word_at, sign_at}
 use Rattle.asn1_proof_syntax.specs.asn1_assignments.declared.assignment.Criticality.{Criticality}
 use Rattle.asn1_proof_syntax.specs.asn1_assignments.declared.assignment.Presence.{Presence}
 use Rattle.asn1_proof_syntax.specs.asn1_assignments.declared.assignment.IeRow.{IeRow}
 use Rattle.asn1_proof_syntax.specs.asn1_assignments.declared.assignment.ProcedureRow.{ProcedureRow}
-use Rattle.asn1_proof_syntax.specs.asn1_assignments.Rows.{new_number_at, found_or, criticality_of, criticality_at, presence_of, presence_at, has_id, ie_row_at, outcome_at, has_code, messages_at, procedure_row_at}
+use Rattle.asn1_proof_syntax.specs.asn1_assignments.Rows.{criticality_of, presence_of}
+use Rattle.asn1_proof_syntax.specs.asn1_assignments.inside.Rows.{new_number_at, found_or, criticality_at, presence_at, has_id, ie_row_at, outcome_at, has_code, messages_at, procedure_row_at}
 use Rattle.asn1_proof_syntax.proofs.Gives.{Gives, ok, no_value, and_gives}
 use Rattle.asn1_proof_syntax.specs.asn1_defs.ItemMeanings.{The}
 use Rattle.asn1_proof_syntax.specs.asn1_defs.TypeMeanings.{AType, Means}

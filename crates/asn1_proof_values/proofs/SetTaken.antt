@@ -7,10 +7,11 @@ use Rattle.asn1_proof_syntax.specs.asn1_tokens.declared.token.Sign.TheVariants a
 use Rattle.asn1_proof_syntax.specs.asn1_tokens.declared.token.Token.TheVariants as tokens
 use Rattle.asn1_proof_syntax.specs.asn1_types.declared.fault.Fault.{Fault}
 use Rattle.asn1_proof_syntax.specs.asn1_types.declared.definition.Node.{Node}
-use Rattle.asn1_proof_syntax.specs.asn1_types.Reading.{Left, begins_with_sign, repeat_at}
+use Rattle.asn1_proof_syntax.specs.asn1_types.Reading.{Left, begins_with_sign}
+use Rattle.asn1_proof_syntax.specs.asn1_types.inside.Reading.{repeat_at}
 use Rattle.asn1_proof_syntax.specs.asn1_assignments.declared.assignment.IeRow.{IeRow}
 use Rattle.asn1_proof_syntax.specs.asn1_assignments.declared.assignment.ProcedureRow.{ProcedureRow}
-use Rattle.asn1_proof_syntax.specs.asn1_assignments.Sets.{set_goes_on_at, Rows as SoFar, rows_with, ie_turn_at, procedure_turn_at, set_start_at, ie_set_at, procedure_set_at}
+use Rattle.asn1_proof_syntax.specs.asn1_assignments.inside.Sets.{set_goes_on_at, Rows as SoFar, rows_with, ie_turn_at, procedure_turn_at, set_start_at, ie_set_at, procedure_set_at}
 use Rattle.asn1_proof_syntax.proofs.Gives.{Gives, ok, and_gives, gives_so}
 use Rattle.asn1_proof_syntax.specs.asn1_defs.ItemMeanings.{The}
 use Rattle.asn1_proof_syntax.specs.asn1_defs.RowMeanings.{AnIe, AProcedure, Rows, last, more}

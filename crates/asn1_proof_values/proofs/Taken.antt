@@ -12,8 +12,10 @@ use Rattle.asn1_proof_syntax.specs.asn1_tokens.declared.token.Token.TheVariants 
 use Rattle.asn1_proof_syntax.specs.asn1_tokens.Stream.{first_token, others}
 use Rattle.asn1_proof_syntax.specs.asn1_types.declared.definition.Size.{Size}
 use Rattle.asn1_proof_syntax.specs.asn1_types.declared.fault.ModuleReason.TheVariants as reasons
-use Rattle.asn1_proof_syntax.specs.asn1_types.Reading.{Left, fault_at, unexpected, begins_with, begins_with_sign, word_at, sign_at, upper_of, upper_at, lower_of, lower_at, number_of, number_at}
-use Rattle.asn1_proof_syntax.specs.asn1_types.Sizes.{natural, bounded_at, natural_at, ellipsis_at, size_end_at, least_high, size_rest_at, size_at, optional_size_at, integer_ellipsis_at}
+use Rattle.asn1_proof_syntax.specs.asn1_types.Reading.{Left, begins_with, begins_with_sign}
+use Rattle.asn1_proof_syntax.specs.asn1_types.inside.Reading.{fault_at, unexpected, word_at, sign_at, upper_of, upper_at, lower_of, lower_at, number_of, number_at}
+use Rattle.asn1_proof_syntax.specs.asn1_types.Sizes.{natural, least_high}
+use Rattle.asn1_proof_syntax.specs.asn1_types.inside.Sizes.{bounded_at, natural_at, ellipsis_at, size_end_at, size_rest_at, size_at, optional_size_at, integer_ellipsis_at}
 use Rattle.asn1_proof_syntax.proofs.Gives.{Gives, ok, no_value, and_gives, gives_so, and_parts}
 use Rattle.asn1_proof_syntax.proofs.Exact.{a_word, a_sign}
 use Rattle.asn1_proof_syntax.specs.asn1_defs.ItemMeanings.{The, is, Extends, extends, doesn't, HighBound, given, same, ASize, size, OptionalSize, sized, unsized}

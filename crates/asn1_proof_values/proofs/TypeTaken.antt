@@ -6,7 +6,8 @@ use Rattle.asn1_proof_syntax.specs.asn1_types.declared.members.Frame.{Frame}
 use Rattle.asn1_proof_syntax.specs.asn1_types.declared.members.Head.{Head}
 use Rattle.asn1_proof_syntax.specs.asn1_types.declared.members.Head.TheVariants as heads
 use Rattle.asn1_proof_syntax.specs.asn1_types.Reading.{Left}
-use Rattle.asn1_proof_syntax.specs.asn1_types.Types.{next_id, Risen, risen, rise_at, type_turn_at, type_goes_on, type_within_at, type_at}
+use Rattle.asn1_proof_syntax.specs.asn1_types.Types.{next_id}
+use Rattle.asn1_proof_syntax.specs.asn1_types.inside.Types.{Risen, risen, rise_at, type_turn_at, type_goes_on, type_within_at, type_at}
 use Rattle.asn1_proof_syntax.proofs.Gives.{Gives, ok, no_value, and_gives, gives_so}
 use Rattle.asn1_proof_syntax.specs.asn1_defs.TypeMeanings.{AType, with_type, Means}
 use Rattle.asn1_proof_values.proofs.MemberTaken.{Meaning, FrameEnds, HeadSo, leaf, opens, close_gives}

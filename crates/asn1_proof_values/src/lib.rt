@@ -4,7 +4,7 @@
 ghost use Rattle.std.specs.Prelude.{◌≡◌, ℕ, List, Ok};
 ghost use Rattle.asn1_proof_syntax.specs.asn1_tokens.Stream.{Placed, items_of};
 ghost use Rattle.asn1_proof_syntax.specs.asn1_assignments.declared.assignment.Syntax.{Syntax};
-ghost use Rattle.asn1_proof_syntax.specs.asn1_assignments.Module.{syntax_of};
+ghost use Rattle.asn1_proof_syntax.specs.asn1_assignments.inside.Module.{syntax_of};
 ghost use Rattle.asn1_proof_syntax.specs.asn1_defs.ModuleMeanings.{MeansModule};
 
 /// A module that is read is what the text's items mean, and no items mean two modules.

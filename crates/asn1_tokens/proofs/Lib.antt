@@ -1,1 +1,2 @@
 pub mod StreamLemmas
+pub use Rattle.gnb_types.proofs as gnb_types

@@ -2,10 +2,11 @@
 use Rattle.std.proofs.Common.{◌≡◌, ℕ, suc, List, ◌+◌, ◌-◌, ◌<◌, ◌≤◌, Bool, cond, ap, arith}
 use Rattle.std.specs.Prelude.{Result, Ok, Err}
 use Rattle.asn1_types.specs.declared.fault.Fault.{Fault}
-use Rattle.asn1_types.specs.Reading.{◌>>=◌, Left, unexpected, repeat_at}
+use Rattle.asn1_types.specs.Reading.{Left}
+use Rattle.asn1_types.specs.inside.Reading.{◌>>=◌, unexpected, repeat_at}
 use Rattle.asn1_types.specs.declared.definition.Node.{Node}
 use Rattle.asn1_types.specs.declared.members.Frame.{Frame}
-use Rattle.asn1_types.specs.Types.{type_turn_at, type_goes_on, type_within_at}
+use Rattle.asn1_types.specs.inside.Types.{type_turn_at, type_goes_on, type_within_at}
 
 pub repeat_turn : {S : Type 0} (turn : S → Left → Result (Bool × S × Left) Fault) (turns counter : ℕ) (state : S) (ts : Left) → counter < turns → repeat_at turn (turns - counter) state ts ≡ (turn state ts >>= λ t. cond t.0 (repeat_at turn (turns - (counter + 1)) t.1 t.2) (Ok (t.1, t.2)))
 unfolding repeat_at

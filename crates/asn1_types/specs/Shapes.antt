@@ -31,10 +31,6 @@ shape_of words.Octet = Some (StringFollows (λ size. types.OctetString size))
 shape_of words.PrintableString = Some (TextSizeFollows (λ size. types.PrintableString size))
 shape_of _ = None
 
-abbrev pub is_there : Option Shape → Bool
-is_there None = false
-is_there (Some shape) = true
-
 -- the size that stands there is one that varies
 abbrev pub sizes_characters : Option Shape → Bool
 sizes_characters (Some (TextSizeFollows kind)) = true

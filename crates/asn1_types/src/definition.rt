@@ -1,7 +1,7 @@
 //! The types of a module.
 
 use crate::items::Items;
-use gnb_types::octets::Octets;
+use asn1_tokens::from_gnb_types::octets::Octets;
 
 /// A type, by its number in the module's list of types: those that stand inside another one have numbers too.
 #[derive(Clone, Copy, PartialEq, Eq)]

@@ -3,7 +3,7 @@
 ghost use Rattle.std.specs.Prelude.{◌≡◌};
 ghost use Rattle.asn1_types.specs.declared.fault.ReadError.TheVariants.{Memory};
 
-use gnb_types::octets::Memory;
+use asn1_tokens::from_gnb_types::octets::Memory;
 
 /// What is wrong at a place of a text.
 #[derive(Clone, Copy, Debug, PartialEq, Eq)]

@@ -2,7 +2,7 @@
 
 ghost use Rattle.std.specs.Prelude.{◌≡◌, List, [], ◌∷◌, ◌++◌, length, OnOk, OnErr, slice_get, Some};
 
-use gnb_types::octets::Memory;
+use asn1_tokens::from_gnb_types::octets::Memory;
 use std::alloc::Global;
 use std::marker::Model;
 

@@ -16,3 +16,19 @@ pub use fault::{Fault, ModuleReason, ReadError};
 pub use items::Items;
 pub use names::has_name;
 pub use reader::Reader;
+
+/// Of `gnb_types`, for crates above.
+pub mod from_gnb_types {
+    pub mod items {
+        pub use asn1_tokens::from_gnb_types::items::Memory;
+    }
+
+    pub mod octets {
+        pub use asn1_tokens::from_gnb_types::octets::{Memory, Octets};
+    }
+}
+
+/// Of `asn1_tokens`, for crates above.
+pub mod from_asn1_tokens {
+    pub use asn1_tokens::{Sign, Word, is_text};
+}

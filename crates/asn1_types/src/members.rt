@@ -1,14 +1,16 @@
 //! Lists of members.
 
 ghost use Rattle.std.specs.Prelude.{◌≡◌, ◌++◌};
-ghost use Rattle.asn1_types.specs.Reading.{Gives};
-ghost use Rattle.asn1_types.specs.Members.{all_parts, has_component, least_members, composed, node, new_name_at, named_at, is_full, entry_at, optional_at, member_end_at, close_at};
+ghost use Rattle.asn1_types.specs.inside.Reading.{Gives};
+ghost use Rattle.asn1_types.specs.Members.{all_parts, is_full};
+ghost use Rattle.asn1_types.specs.Types.{node};
+ghost use Rattle.asn1_types.specs.inside.Members.{has_component, least_members, composed, new_name_at, named_at, entry_at, optional_at, member_end_at, close_at};
 
 use crate::definition::{Component, Definition, Extensible, Node, Size, TypeId};
 use crate::fault::{ModuleReason, ReadError};
 use crate::reader::Reader;
+use asn1_tokens::from_gnb_types::octets::Octets;
 use asn1_tokens::{Sign, Word, is_text};
-use gnb_types::octets::Octets;
 use results::beside;
 
 /// What a list of members belongs to.
@@ -92,7 +94,7 @@ impl Group {
 
 impl<'a> Reader<'a> {
     /// Takes the name of a member that follows these.
-    #[tactic(auto, unfolding(crate::specs::Members::new_name_at))]
+    #[tactic(auto, unfolding(crate::specs::inside::Members::new_name_at))]
     fn new_name(&mut self, members: &Extensible<Component>) -> Result<Octets, ReadError>
         ensures { Gives (λ name. (name, self.new)) result
             (new_name_at (λ name. has_component name (all_parts members.now)) (is_full members.now) self.old) }
@@ -110,7 +112,7 @@ impl<'a> Reader<'a> {
     }
 
     /// Takes the name of a member; its type follows.
-    #[tactic(auto, unfolding(crate::specs::Members::named_at))]
+    #[tactic(auto, unfolding(crate::specs::inside::Members::named_at))]
     fn named(
         &mut self,
         group: Group,
@@ -129,7 +131,7 @@ impl<'a> Reader<'a> {
     }
 
     /// Takes what follows the brace or comma before a member, up to the member's type.
-    #[tactic(auto, unfolding(crate::specs::Members::entry_at))]
+    #[tactic(auto, unfolding(crate::specs::inside::Members::entry_at))]
     pub fn entry(
         &mut self,
         group: Group,
@@ -152,7 +154,7 @@ impl<'a> Reader<'a> {
     }
 
     /// Takes the word OPTIONAL where it stands behind a component, and answers whether it does.
-    #[tactic(auto, unfolding(crate::specs::Members::optional_at))]
+    #[tactic(auto, unfolding(crate::specs::inside::Members::optional_at))]
     fn optional(&mut self, group: Group) -> Result<bool, ReadError>
         ensures { Gives (λ found. (found, self.new)) result (optional_at group self.old) }
     {
@@ -167,7 +169,7 @@ impl<'a> Reader<'a> {
     }
 
     /// Takes what follows the type of a member, up to the next member's type.
-    #[tactic(auto, unfolding(crate::specs::Members::member_end_at))]
+    #[tactic(auto, unfolding(crate::specs::inside::Members::member_end_at))]
     fn member_end(
         &mut self,
         group: Group,

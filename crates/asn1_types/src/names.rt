@@ -1,15 +1,16 @@
 //! The names of a list: each stands once.
 
 ghost use Rattle.std.specs.Prelude.{◌≡◌, ◌++◌, length, map, OnOk};
-ghost use Rattle.asn1_types.specs.Reading.{Gives};
-ghost use Rattle.asn1_types.specs.Members.{no_parts, all_parts, with_part, extended, can_extend, is_full, has_name, new_name_at, list_goes_on_at, name_entry_at, names_turn_at, names_at};
+ghost use Rattle.asn1_types.specs.inside.Reading.{Gives};
+ghost use Rattle.asn1_types.specs.Members.{no_parts, all_parts, with_part, extended, is_full, has_name};
+ghost use Rattle.asn1_types.specs.inside.Members.{can_extend, new_name_at, list_goes_on_at, name_entry_at, names_turn_at, names_at};
 
 use crate::definition::Extensible;
 use crate::fault::{ModuleReason, ReadError};
 use crate::items::Items;
 use crate::reader::Reader;
+use asn1_tokens::from_gnb_types::octets::{Memory, Octets};
 use asn1_tokens::{Sign, is_text};
-use gnb_types::octets::{Memory, Octets};
 use std::alloc::Global;
 
 const ROOT_PARTS: usize = 256;
@@ -87,7 +88,7 @@ impl Extensible<Octets> {
 
 impl<'a> Reader<'a> {
     /// Takes the sign behind a list's entry, and answers whether the list goes on.
-    #[tactic(auto, unfolding(crate::specs::Members::list_goes_on_at))]
+    #[tactic(auto, unfolding(crate::specs::inside::Members::list_goes_on_at))]
     pub fn list_goes_on(&mut self) -> Result<bool, ReadError>
         ensures { Gives (λ more. (more, self.new)) result (list_goes_on_at self.old) }
     {
@@ -100,7 +101,7 @@ impl<'a> Reader<'a> {
     }
 
     /// Takes a name of an ENUMERATED, or its `...`.
-    #[tactic(auto, unfolding(crate::specs::Members::name_entry_at, crate::specs::Members::new_name_at))]
+    #[tactic(auto, unfolding(crate::specs::inside::Members::name_entry_at, crate::specs::inside::Members::new_name_at))]
     fn name_entry(&mut self, names: &mut Extensible<Octets>) -> Result<(), ReadError>
         ensures { Gives (λ _. (names.new, self.new)) result (name_entry_at names.old self.old) }
     {
@@ -123,7 +124,7 @@ impl<'a> Reader<'a> {
     }
 
     /// Takes an entry of an ENUMERATED, and answers whether another one follows.
-    #[tactic(auto, unfolding(crate::specs::Members::names_turn_at))]
+    #[tactic(auto, unfolding(crate::specs::inside::Members::names_turn_at))]
     fn names_turn(&mut self, names: &mut Extensible<Octets>) -> Result<bool, ReadError>
         ensures { Gives (λ more. (more, names.new, self.new)) result (names_turn_at names.old self.old) }
     {
@@ -132,7 +133,7 @@ impl<'a> Reader<'a> {
     }
 
     /// Takes the names of an ENUMERATED, up to its brace, in at most so many turns.
-    #[tactic(auto, using(crate::proofs::Loops::repeat_turn, crate::proofs::Loops::repeat_end), unfolding(crate::specs::Members::names_at))]
+    #[tactic(auto, using(crate::proofs::Loops::repeat_turn, crate::proofs::Loops::repeat_end), unfolding(crate::specs::inside::Members::names_at))]
     pub fn names(&mut self, turns: u64) -> Result<Extensible<Octets>, ReadError>
         ensures { Gives (λ names. (names, self.new)) result (names_at turns self.old) }
     {

@@ -2,11 +2,12 @@
 
 ghost use Rattle.std.specs.Prelude.{◌≡◌, List};
 ghost use Rattle.asn1_tokens.specs.Stream.{items_of, first_token, first_place, others, is_last};
-ghost use Rattle.asn1_types.specs.Reading.{Gives, first_word, unexpected, begins_with, begins_with_sign, word_at, sign_at, upper_at, lower_at, number_at, fault_at};
+ghost use Rattle.asn1_types.specs.Reading.{begins_with, begins_with_sign};
+ghost use Rattle.asn1_types.specs.inside.Reading.{Gives, first_word, unexpected, word_at, sign_at, upper_at, lower_at, number_at, fault_at};
 
 use crate::fault::{Fault, ModuleReason, ReadError};
+use asn1_tokens::from_gnb_types::octets::Octets;
 use asn1_tokens::{Sign, Token, Tokens, Word};
-use gnb_types::octets::Octets;
 use std::alloc::Global;
 use std::marker::Model;
 
@@ -65,7 +66,7 @@ impl<'a> Reader<'a> {
     }
 
     /// The fault that the first item can't stand where it stands.
-    #[tactic(auto, unfolding(crate::specs::Reading::unexpected))]
+    #[tactic(auto, unfolding(crate::specs::inside::Reading::unexpected))]
     pub fn unexpected(&self) -> ReadError
         ensures { result ≡ ReadError.Fault (unexpected self.now) }
     {
@@ -107,7 +108,7 @@ impl<'a> Reader<'a> {
     }
 
     /// Takes this word.
-    #[tactic(auto, unfolding(crate::specs::Reading::word_at))]
+    #[tactic(auto, unfolding(crate::specs::inside::Reading::word_at))]
     pub fn word(&mut self, word: Word) -> Result<(), ReadError>
         ensures { Gives (λ _. self.new) result (word_at word self.old) }
     {
@@ -119,7 +120,7 @@ impl<'a> Reader<'a> {
     }
 
     /// Takes this sign.
-    #[tactic(auto, unfolding(crate::specs::Reading::sign_at))]
+    #[tactic(auto, unfolding(crate::specs::inside::Reading::sign_at))]
     pub fn sign(&mut self, sign: Sign) -> Result<(), ReadError>
         ensures { Gives (λ _. self.new) result (sign_at sign self.old) }
     {
@@ -131,7 +132,7 @@ impl<'a> Reader<'a> {
     }
 
     /// Takes a name of upper form.
-    #[tactic(auto, unfolding(crate::specs::Reading::upper_at))]
+    #[tactic(auto, unfolding(crate::specs::inside::Reading::upper_at))]
     pub fn upper(&mut self) -> Result<Octets, ReadError>
         ensures { Gives (λ name. (name, self.new)) result (upper_at self.old) }
     {
@@ -145,7 +146,7 @@ impl<'a> Reader<'a> {
     }
 
     /// Takes a name of lower form.
-    #[tactic(auto, unfolding(crate::specs::Reading::lower_at))]
+    #[tactic(auto, unfolding(crate::specs::inside::Reading::lower_at))]
     pub fn lower(&mut self) -> Result<Octets, ReadError>
         ensures { Gives (λ name. (name, self.new)) result (lower_at self.old) }
     {
@@ -159,7 +160,7 @@ impl<'a> Reader<'a> {
     }
 
     /// Takes a number.
-    #[tactic(auto, unfolding(crate::specs::Reading::number_at))]
+    #[tactic(auto, unfolding(crate::specs::inside::Reading::number_at))]
     pub fn number(&mut self) -> Result<i128, ReadError>
         ensures { Gives (λ value. (value, self.new)) result (number_at self.old) }
     {

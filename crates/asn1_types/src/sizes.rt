@@ -1,8 +1,9 @@
 //! Numbers within bounds, sizes and the type INTEGER.
 
 ghost use Rattle.std.specs.Prelude.{◌≡◌, ◌≤◌, ◌<◌, ◌≤ℤ◌, pos, ◌^◌, IfOk};
-ghost use Rattle.asn1_types.specs.Reading.{Gives};
-ghost use Rattle.asn1_types.specs.Sizes.{bounded_at, natural_at, ellipsis_at, size_end_at, size_rest_at, size_at, optional_size_at, integer_ellipsis_at, integer_least, integer_greatest, integer_at};
+ghost use Rattle.asn1_types.specs.inside.Reading.{Gives};
+ghost use Rattle.asn1_types.specs.Sizes.{integer_least, integer_greatest};
+ghost use Rattle.asn1_types.specs.inside.Sizes.{bounded_at, natural_at, ellipsis_at, size_end_at, size_rest_at, size_at, optional_size_at, integer_ellipsis_at, integer_at};
 
 use crate::definition::{Definition, Size};
 use crate::fault::{ModuleReason, ReadError};
@@ -19,7 +20,7 @@ const SIZE_GREATEST: u32 = 65535;
 
 impl<'a> Reader<'a> {
     /// Takes a number from `low` to `high`.
-    #[tactic(auto, unfolding(crate::specs::Sizes::bounded_at))]
+    #[tactic(auto, unfolding(crate::specs::inside::Sizes::bounded_at))]
     pub fn bounded(&mut self, low: i128, high: i128) -> Result<i128, ReadError>
         ensures value { Gives (λ value. (value, self.new)) result (bounded_at low high self.old) }
         ensures low { IfOk result (λ value. low ≤ℤ value) }
@@ -34,7 +35,7 @@ impl<'a> Reader<'a> {
     }
 
     /// Takes a number from `low` to `high`.
-    #[tactic(auto, unfolding(crate::specs::Sizes::natural_at))]
+    #[tactic(auto, unfolding(crate::specs::inside::Sizes::natural_at))]
     pub fn natural(&mut self, low: u32, high: u32) -> Result<u32, ReadError>
         ensures value { Gives (λ value. (value, self.new)) result (natural_at low high self.old) }
         ensures high { IfOk result (λ value. value ≤ high) }
@@ -43,7 +44,7 @@ impl<'a> Reader<'a> {
     }
 
     /// Takes `, ...` where it stands, and answers whether it does.
-    #[tactic(auto, unfolding(crate::specs::Sizes::ellipsis_at))]
+    #[tactic(auto, unfolding(crate::specs::inside::Sizes::ellipsis_at))]
     fn ellipsis(&mut self) -> Result<bool, ReadError>
         ensures { Gives (λ found. (found, self.new)) result (ellipsis_at self.old) }
     {
@@ -55,7 +56,7 @@ impl<'a> Reader<'a> {
         Ok(true)
     }
 
-    #[tactic(auto, unfolding(crate::specs::Sizes::size_end_at))]
+    #[tactic(auto, unfolding(crate::specs::inside::Sizes::size_end_at))]
     fn size_end(&mut self, low: u32, high: u32) -> Result<Size, ReadError>
         ensures { Gives (λ size. (size, self.new)) result (size_end_at low high self.old) }
     {
@@ -70,7 +71,7 @@ impl<'a> Reader<'a> {
     }
 
     /// Takes what follows the first number of a size.
-    #[tactic(auto, unfolding(crate::specs::Sizes::size_rest_at))]
+    #[tactic(auto, unfolding(crate::specs::inside::Sizes::size_rest_at))]
     fn size_rest(&mut self, is_text: bool, low: u32) -> Result<Size, ReadError>
         requires { low < 2 ^ 16 }
         ensures { Gives (λ size. (size, self.new)) result (size_rest_at is_text low self.old) }
@@ -90,7 +91,7 @@ impl<'a> Reader<'a> {
     }
 
     /// Takes a size, `(SIZE (..))`; that of a PrintableString varies.
-    #[tactic(auto, unfolding(crate::specs::Sizes::size_at))]
+    #[tactic(auto, unfolding(crate::specs::inside::Sizes::size_at))]
     pub fn size(&mut self, is_text: bool) -> Result<Size, ReadError>
         ensures { Gives (λ size. (size, self.new)) result (size_at is_text self.old) }
     {
@@ -102,7 +103,7 @@ impl<'a> Reader<'a> {
     }
 
     /// Takes a size where one stands.
-    #[tactic(auto, unfolding(crate::specs::Sizes::optional_size_at))]
+    #[tactic(auto, unfolding(crate::specs::inside::Sizes::optional_size_at))]
     pub fn optional_size(&mut self, is_text: bool) -> Result<Option<Size>, ReadError>
         ensures { Gives (λ size. (size, self.new)) result (optional_size_at is_text self.old) }
     {
@@ -112,7 +113,7 @@ impl<'a> Reader<'a> {
         Ok(Some(self.size(is_text)?))
     }
 
-    #[tactic(auto, unfolding(crate::specs::Sizes::integer_ellipsis_at))]
+    #[tactic(auto, unfolding(crate::specs::inside::Sizes::integer_ellipsis_at))]
     fn integer_ellipsis(&mut self, high: i128) -> Result<bool, ReadError>
         ensures { Gives (λ found. (found, self.new)) result (integer_ellipsis_at high self.old) }
     {
@@ -129,7 +130,7 @@ impl<'a> Reader<'a> {
     }
 
     /// Takes what follows the word INTEGER.
-    #[tactic(auto, unfolding(crate::specs::Sizes::integer_at))]
+    #[tactic(auto, unfolding(crate::specs::inside::Sizes::integer_at))]
     pub fn integer(&mut self) -> Result<Definition, ReadError>
         ensures { Gives (λ definition. (definition, self.new)) result (integer_at self.old) }
     {

@@ -3,7 +3,7 @@
 ghost use Rattle.std.specs.Prelude.{◌≡◌, [], ◌∷◌, OnOk, MatchOption};
 
 use crate::members::Frame;
-use gnb_types::octets::Memory;
+use asn1_tokens::from_gnb_types::octets::Memory;
 use std::alloc::Global;
 use std::marker::Model;
 

@@ -1,9 +1,9 @@
 //! Types, with those inside them.
 
 ghost use Rattle.std.specs.Prelude.{◌≡◌, ◌++◌, [], ◌∷◌, IfOk, OnOk, OnErr};
-ghost use Rattle.asn1_types.specs.Reading.{Gives};
-ghost use Rattle.asn1_types.specs.Members.{node};
-ghost use Rattle.asn1_types.specs.Types.{enumerated_at, string_at, simple_rest_at, is_simple, simple_at, list_head_at, components_head_at, sequence_head_at, choice_head_at, set_name_at, container_at, pdu_at, reference_at, head_by, head_at, next_id, rise_at, risen, type_turn_at, type_within_at, type_at};
+ghost use Rattle.asn1_types.specs.inside.Reading.{Gives};
+ghost use Rattle.asn1_types.specs.Types.{node, next_id};
+ghost use Rattle.asn1_types.specs.inside.Types.{enumerated_at, string_at, simple_rest_at, is_simple, simple_at, list_head_at, components_head_at, sequence_head_at, choice_head_at, set_name_at, container_at, pdu_at, reference_at, head_by, head_at, rise_at, risen, type_turn_at, type_within_at, type_at};
 
 use crate::definition::{Definition, Extensible, Node, Size, TypeId};
 use crate::fault::ReadError;
@@ -11,8 +11,8 @@ use crate::items::Items;
 use crate::members::{Frame, Group, Head};
 use crate::reader::Reader;
 use crate::stack::Stack;
+use asn1_tokens::from_gnb_types::octets::Octets;
 use asn1_tokens::{Sign, Word};
-use gnb_types::octets::Octets;
 
 impl Items<Node> {
     /// One more type, and its number. After an error the state is unspecified.
@@ -43,7 +43,7 @@ fn is_simple(word: Word) -> bool
 }
 
 impl<'a> Reader<'a> {
-    #[tactic(auto, unfolding(crate::specs::Types::enumerated_at))]
+    #[tactic(auto, unfolding(crate::specs::inside::Types::enumerated_at))]
     fn enumerated(&mut self, turns: u64) -> Result<Definition, ReadError>
         ensures { Gives (λ definition. (definition, self.new)) result (enumerated_at turns self.old) }
     {
@@ -52,7 +52,7 @@ impl<'a> Reader<'a> {
     }
 
     /// Takes the word STRING, and a size where one stands.
-    #[tactic(auto, unfolding(crate::specs::Types::string_at))]
+    #[tactic(auto, unfolding(crate::specs::inside::Types::string_at))]
     fn string(&mut self) -> Result<Option<Size>, ReadError>
         ensures { Gives (λ size. (size, self.new)) result (string_at self.old) }
     {
@@ -61,7 +61,7 @@ impl<'a> Reader<'a> {
     }
 
     /// Takes the rest of a type that begins with this word, and has no other one inside.
-    #[tactic(auto, unfolding(crate::specs::Types::simple_rest_at, crate::specs::Types::rest_at))]
+    #[tactic(auto, unfolding(crate::specs::inside::Types::simple_rest_at, crate::specs::inside::Types::rest_at))]
     fn simple_rest(&mut self, turns: u64, word: Word) -> Result<Definition, ReadError>
         ensures { Gives (λ definition. (definition, self.new)) result (simple_rest_at turns word self.old) }
     {
@@ -77,7 +77,7 @@ impl<'a> Reader<'a> {
     }
 
     /// Takes a type that begins with this word, if it has no other one inside.
-    #[tactic(auto, unfolding(crate::specs::Types::simple_at))]
+    #[tactic(auto, unfolding(crate::specs::inside::Types::simple_at))]
     fn simple(&mut self, turns: u64, word: Word) -> Result<Head, ReadError>
         ensures { Gives (λ head. (head, self.new)) result (simple_at turns word self.old) }
     {
@@ -90,7 +90,7 @@ impl<'a> Reader<'a> {
         Ok(Head::Leaf(Node { definition, place }))
     }
 
-    #[tactic(auto, unfolding(crate::specs::Types::list_head_at))]
+    #[tactic(auto, unfolding(crate::specs::inside::Types::list_head_at))]
     fn list_head(&mut self, place: usize) -> Result<Head, ReadError>
         ensures { Gives (λ head. (head, self.new)) result (list_head_at place self.old) }
     {
@@ -103,7 +103,7 @@ impl<'a> Reader<'a> {
         Ok(Head::Opens(Frame::List { size, place }))
     }
 
-    #[tactic(auto, unfolding(crate::specs::Types::components_head_at))]
+    #[tactic(auto, unfolding(crate::specs::inside::Types::components_head_at))]
     fn components_head(&mut self, place: usize) -> Result<Head, ReadError>
         ensures { Gives (λ head. (head, self.new)) result (components_head_at place self.old) }
     {
@@ -115,7 +115,7 @@ impl<'a> Reader<'a> {
         Ok(Head::Leaf(Node { definition, place }))
     }
 
-    #[tactic(auto, unfolding(crate::specs::Types::sequence_head_at))]
+    #[tactic(auto, unfolding(crate::specs::inside::Types::sequence_head_at))]
     fn sequence_head(&mut self) -> Result<Head, ReadError>
         ensures { Gives (λ head. (head, self.new)) result (sequence_head_at self.old) }
     {
@@ -128,7 +128,7 @@ impl<'a> Reader<'a> {
         self.components_head(place)
     }
 
-    #[tactic(auto, unfolding(crate::specs::Types::choice_head_at))]
+    #[tactic(auto, unfolding(crate::specs::inside::Types::choice_head_at))]
     fn choice_head(&mut self) -> Result<Head, ReadError>
         ensures { Gives (λ head. (head, self.new)) result (choice_head_at self.old) }
     {
@@ -139,7 +139,7 @@ impl<'a> Reader<'a> {
     }
 
     /// Takes the name of a set in its braces, and answers it with its place.
-    #[tactic(auto, unfolding(crate::specs::Types::set_name_at))]
+    #[tactic(auto, unfolding(crate::specs::inside::Types::set_name_at))]
     fn set_name(&mut self) -> Result<(Octets, usize), ReadError>
         ensures { Gives (λ set. (set.0, set.1, self.new)) result (set_name_at self.old) }
     {
@@ -152,7 +152,7 @@ impl<'a> Reader<'a> {
         Ok((name, place))
     }
 
-    #[tactic(auto, unfolding(crate::specs::Types::container_at))]
+    #[tactic(auto, unfolding(crate::specs::inside::Types::container_at))]
     fn container(&mut self) -> Result<Head, ReadError>
         ensures { Gives (λ head. (head, self.new)) result (container_at self.old) }
     {
@@ -162,7 +162,7 @@ impl<'a> Reader<'a> {
         Ok(Head::Leaf(Node { definition, place }))
     }
 
-    #[tactic(auto, unfolding(crate::specs::Types::pdu_at))]
+    #[tactic(auto, unfolding(crate::specs::inside::Types::pdu_at))]
     fn pdu(&mut self) -> Result<Head, ReadError>
         ensures { Gives (λ head. (head, self.new)) result (pdu_at self.old) }
     {
@@ -172,7 +172,7 @@ impl<'a> Reader<'a> {
         Ok(Head::Leaf(Node { definition, place }))
     }
 
-    #[tactic(auto, unfolding(crate::specs::Types::reference_at))]
+    #[tactic(auto, unfolding(crate::specs::inside::Types::reference_at))]
     fn reference(&mut self) -> Result<Head, ReadError>
         ensures { Gives (λ head. (head, self.new)) result (reference_at self.old) }
     {
@@ -182,7 +182,7 @@ impl<'a> Reader<'a> {
     }
 
     /// Takes a type, up to another one inside it.
-    #[tactic(auto, unfolding(crate::specs::Types::head_by))]
+    #[tactic(auto, unfolding(crate::specs::inside::Types::head_by))]
     fn head(&mut self, turns: u64) -> Result<Head, ReadError>
         ensures { Gives (λ head. (head, self.new)) result (head_at turns self.old) }
     {
@@ -198,7 +198,7 @@ impl<'a> Reader<'a> {
 
     /// Puts a type into those around it, up to one that awaits its next part; answers the type that is whole then, if
     /// none does.
-    #[tactic(auto, unfolding(crate::specs::Types::rise_at))]
+    #[tactic(auto, unfolding(crate::specs::inside::Types::rise_at))]
     fn rise(
         &mut self,
         stack: &mut Stack,
@@ -221,7 +221,7 @@ impl<'a> Reader<'a> {
     }
 
     /// Takes one more beginning of a type.
-    #[tactic(auto, unfolding(crate::specs::Types::type_turn_at))]
+    #[tactic(auto, unfolding(crate::specs::inside::Types::type_turn_at))]
     fn type_turn(
         &mut self,
         turns: u64,
@@ -243,7 +243,7 @@ impl<'a> Reader<'a> {
     }
 
     /// Takes a type, in at most so many turns; it and those inside it are added to the module's types.
-    #[tactic(auto, using(crate::proofs::Loops::type_turn, crate::proofs::Loops::type_end), unfolding(crate::specs::Types::type_at))]
+    #[tactic(auto, using(crate::proofs::Loops::type_turn, crate::proofs::Loops::type_end), unfolding(crate::specs::inside::Types::type_at))]
     pub fn definition(&mut self, turns: u64, nodes: &mut Items<Node>) -> Result<TypeId, ReadError>
         ensures { Gives (λ definition. (definition, nodes.new, self.new)) result (type_at turns nodes.old self.old) }
     {

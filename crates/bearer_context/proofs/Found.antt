@@ -6,10 +6,10 @@ use Rattle.gnb_types.specs.declared.names.BearerId.{BearerId}
 use Rattle.gnb_types.specs.declared.names.SnBits.{SnBits}
 use Rattle.gnb_types.specs.Orders.{bearer_cmp}
 use Rattle.tables.specs.Tables.{find}
-use Rattle.unit_defs.specs.UpRecords.{UpBearer, UpContext}
-use Rattle.up_tunnels.specs.declared.at.Flags.{Flags}
-use Rattle.up_bearers.specs.Bearers.{kept}
-use Rattle.up_bearers.specs.declared.bearer.Bearer.{Bearer}
+use Rattle.up_orders.specs.unit_defs.UpRecords.{UpBearer, UpContext}
+use Rattle.up_orders.specs.up_tunnels.declared.at.Flags.{Flags}
+use Rattle.up_orders.specs.up_bearers.Bearers.{kept}
+use Rattle.up_orders.specs.up_bearers.declared.bearer.Bearer.{Bearer}
 use Rattle.bearer_context.specs.Bearers.{context_as, IsOutside}
 use Rattle.bearer_context.specs.Contexts.{with_one}
 use Rattle.bearer_context.proofs.Numbered.{find_numbered, none_outside, put_numbered}

@@ -3,10 +3,10 @@ use Rattle.std.proofs.Common.{◌≡◌, ℕ, ◌<◌, ◌≤◌, Bool, true, fa
 use Rattle.std.specs.Prelude.{Result, OnOk, is_err}
 use Rattle.std.proofs.Math.ListN.{set}
 use Rattle.gnb_types.specs.declared.names.SnBits.{SnBits}
-use Rattle.unit_steps.specs.declared.StepError.{StepError}
-use Rattle.up_tunnels.specs.declared.at.Flags.{Flags}
-use Rattle.up_bearers.specs.Bearers.{IsOf}
-use Rattle.up_bearers.specs.declared.bearer.Bearer.{Bearer}
+use Rattle.up_orders.specs.unit_steps.declared.StepError.{StepError}
+use Rattle.up_orders.specs.up_tunnels.declared.at.Flags.{Flags}
+use Rattle.up_orders.specs.up_bearers.Bearers.{IsOf}
+use Rattle.up_orders.specs.up_bearers.declared.bearer.Bearer.{Bearer}
 use Rattle.up_orders.specs.Orders.{IsEmpty}
 use Rattle.bearer_context.specs.Bearers.{shared, IsServed, AreServed, IsContext}
 use Rattle.bearer_context.proofs.Numbered.{each_at, each_set}

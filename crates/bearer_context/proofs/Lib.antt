@@ -9,3 +9,4 @@ pub mod Served
 pub mod Whole
 pub mod Found
 pub mod Opened
+pub use Rattle.up_orders.proofs.unit_steps as unit_steps

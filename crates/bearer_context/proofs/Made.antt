@@ -2,12 +2,12 @@
 use Rattle.std.proofs.Common.{◌≡◌, ℕ, zero, suc, ◌+◌, ◌-◌, ◌*◌, ◌^◌, ◌<◌, ◌≤◌, Bool, true, false, List, [], ◌∷◌, ◌++◌, length, sym, ap, ◌∙◌, arith}
 use Rattle.gnb_types.specs.declared.names.BearerId.{BearerId}
 use Rattle.gnb_types.specs.declared.names.SnBits.{SnBits}
-use Rattle.unit_defs.specs.UpRecords.{UpBearer}
-use Rattle.unit_defs.specs.UpBearers.{made, teids_of_bearer}
-use Rattle.unit_defs.specs.CuUp.{bearers_from, bearers_made}
-use Rattle.up_tunnels.specs.declared.at.Flags.{Flags}
-use Rattle.up_bearers.specs.Bearers.{kept, IsOf}
-use Rattle.up_bearers.specs.declared.bearer.Bearer.{Bearer}
+use Rattle.up_orders.specs.unit_defs.UpRecords.{UpBearer}
+use Rattle.up_orders.specs.unit_defs.UpBearers.{made, teids_of_bearer}
+use Rattle.up_orders.specs.unit_defs.CuUp.{bearers_from, bearers_made}
+use Rattle.up_orders.specs.up_tunnels.declared.at.Flags.{Flags}
+use Rattle.up_orders.specs.up_bearers.Bearers.{kept, IsOf}
+use Rattle.up_orders.specs.up_bearers.declared.bearer.Bearer.{Bearer}
 use Rattle.bearer_context.specs.Bearers.{numbered, shared, IsServed}
 use Rattle.bearer_context.proofs.Numbered.{numbered_push}
 

@@ -3,9 +3,9 @@ use Rattle.std.proofs.Common.{◌≡◌, ◌==◌, ◌&&◌, ℕ, zero, suc, ◌
 use Rattle.std.proofs.lemmas.Bool.Decides.{nat_tests}
 use Rattle.std.proofs.lemmas.List.{drop_all}
 use Rattle.gnb_types.specs.declared.names.BearerId.{BearerId}
-use Rattle.unit_defs.specs.Messages.{are_bearers}
-use Rattle.unit_defs.specs.CuUp.{bearers_from}
-use Rattle.up_bearers.specs.declared.bearer.Bearer.{Bearer}
+use Rattle.up_orders.specs.unit_defs.Messages.{are_bearers}
+use Rattle.up_orders.specs.unit_defs.CuUp.{bearers_from}
+use Rattle.up_orders.specs.up_bearers.declared.bearer.Bearer.{Bearer}
 use Rattle.bearer_context.specs.Bearers.{numbered}
 
 pub names_are : (n : ℕ) (bs : List Bearer) → map (λ e. e.0) (numbered n bs) ≡ bearers_from n (length bs)

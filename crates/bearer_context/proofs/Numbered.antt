@@ -14,9 +14,9 @@ use Rattle.std.specs.BTreeMap.{is_at, insert_entry}
 use Rattle.gnb_types.specs.declared.names.BearerId.{BearerId}
 use Rattle.gnb_types.specs.Orders.{bearer_cmp}
 use Rattle.tables.specs.Tables.{find, put}
-use Rattle.unit_defs.specs.UpRecords.{UpBearer}
-use Rattle.up_bearers.specs.Bearers.{kept}
-use Rattle.up_bearers.specs.declared.bearer.Bearer.{Bearer}
+use Rattle.up_orders.specs.unit_defs.UpRecords.{UpBearer}
+use Rattle.up_orders.specs.up_bearers.Bearers.{kept}
+use Rattle.up_orders.specs.up_bearers.declared.bearer.Bearer.{Bearer}
 use Rattle.bearer_context.specs.Bearers.{numbered, IsOutside}
 
 equal : (a b : ℕ) → a ≡ b → nat_cmp a b ≡ Equal

@@ -10,21 +10,21 @@ use Rattle.gnb_types.specs.declared.reasons.RefuseReason.{RefuseReason}
 use Rattle.gnb_types.specs.declared.reasons.RefuseReason.TheVariants.{Empty, NoRadio}
 use Rattle.gnb_types.specs.Orders.{bearer_cmp}
 use Rattle.tables.specs.Tables.{find}
-use Rattle.unit_defs.specs.Ways.{no, puts}
-use Rattle.unit_defs.specs.UpRecords.{UpBearer, UpContext}
-use Rattle.unit_defs.specs.UpBearers.{has_downlink, framed}
-use Rattle.unit_octet_defs.specs.Codec.{Codec, octet_way}
-use Rattle.unit_octet_defs.specs.Units.{OctetAnswer}
-use Rattle.unit_steps.specs.declared.StepError.{StepError}
-use Rattle.unit_steps.specs.declared.StepError.TheVariants as errors
-use Rattle.unit_steps.specs.Steps.{step_after, IsStep}
-use Rattle.ue_bearers.specs.Uplinks.{from_on, IsLeastFrom}
-use Rattle.up_tunnels.specs.declared.at.At.{At}
-use Rattle.up_tunnels.specs.declared.frames.Frames.{Frames}
-use Rattle.up_tunnels.specs.Tunnels.{at_as, with_frames}
-use Rattle.up_downlink.proofs.Resends.{all_from}
-use Rattle.up_bearers.specs.Bearers.{kept}
-use Rattle.up_bearers.specs.declared.bearer.Bearer.{Bearer}
+use Rattle.up_orders.specs.unit_defs.Ways.{no, puts}
+use Rattle.up_orders.specs.unit_defs.UpRecords.{UpBearer, UpContext}
+use Rattle.up_orders.specs.unit_defs.UpBearers.{has_downlink, framed}
+use Rattle.up_items.specs.unit_octet_defs.Codec.{Codec, octet_way}
+use Rattle.up_items.specs.unit_octet_defs.Units.{OctetAnswer}
+use Rattle.up_orders.specs.unit_steps.declared.StepError.{StepError}
+use Rattle.up_orders.specs.unit_steps.declared.StepError.TheVariants as errors
+use Rattle.up_orders.specs.unit_steps.Steps.{step_after, IsStep}
+use Rattle.up_orders.specs.ue_bearers.Uplinks.{from_on, IsLeastFrom}
+use Rattle.up_orders.specs.up_tunnels.declared.at.At.{At}
+use Rattle.up_orders.specs.up_tunnels.declared.frames.Frames.{Frames}
+use Rattle.up_orders.specs.up_tunnels.Tunnels.{at_as, with_frames}
+use Rattle.up_orders.proofs.up_downlink.Resends.{all_from}
+use Rattle.up_orders.specs.up_bearers.Bearers.{kept}
+use Rattle.up_orders.specs.up_bearers.declared.bearer.Bearer.{Bearer}
 use Rattle.bearer_context.specs.Bearers.{context_as}
 use Rattle.bearer_context.specs.Items.{polled}
 use Rattle.bearer_context.proofs.Found.{found, with_there, with_back}

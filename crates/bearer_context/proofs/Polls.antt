@@ -10,18 +10,18 @@ use Rattle.gnb_types.specs.declared.outputs.Output.TheVariants as outs
 use Rattle.gnb_types.specs.declared.outputs.Tag.TheVariants.{Absent}
 use Rattle.gnb_types.specs.declared.reasons.RefuseReason.{RefuseReason}
 use Rattle.gnb_types.specs.declared.reasons.RefuseReason.TheVariants.{Empty, NoRadio}
-use Rattle.unit_defs.specs.Ways.{no, ◌then◌, nothing, puts}
-use Rattle.unit_defs.specs.UpRecords.{UpBearer, UpContext, up_at}
-use Rattle.unit_defs.specs.UpBearers.{has_downlink, framed}
-use Rattle.unit_defs.specs.Accessors.{is_awaiting, up_bearer_rests}
-use Rattle.unit_octet_defs.specs.Codec.{Codec, octet_way}
-use Rattle.unit_octet_defs.specs.Units.{OctetAnswer}
-use Rattle.unit_steps.specs.declared.StepError.{StepError}
-use Rattle.unit_steps.specs.declared.StepError.TheVariants as errors
-use Rattle.unit_steps.specs.Steps.{stepped, step_after, IsStep}
-use Rattle.unit_steps.proofs.StepLaws.{step_then, step_stops}
-use Rattle.ue_bearers.specs.Uplinks.{from_on, IsLeastFrom}
-use Rattle.up_downlink.proofs.Resends.{all_from}
+use Rattle.up_orders.specs.unit_defs.Ways.{no, ◌then◌, nothing, puts}
+use Rattle.up_orders.specs.unit_defs.UpRecords.{UpBearer, UpContext, up_at}
+use Rattle.up_orders.specs.unit_defs.UpBearers.{has_downlink, framed}
+use Rattle.up_orders.specs.unit_defs.Accessors.{is_awaiting, up_bearer_rests}
+use Rattle.up_items.specs.unit_octet_defs.Codec.{Codec, octet_way}
+use Rattle.up_items.specs.unit_octet_defs.Units.{OctetAnswer}
+use Rattle.up_orders.specs.unit_steps.declared.StepError.{StepError}
+use Rattle.up_orders.specs.unit_steps.declared.StepError.TheVariants as errors
+use Rattle.up_orders.specs.unit_steps.Steps.{stepped, step_after, IsStep}
+use Rattle.up_orders.proofs.unit_steps.StepLaws.{step_then, step_stops}
+use Rattle.up_orders.specs.ue_bearers.Uplinks.{from_on, IsLeastFrom}
+use Rattle.up_orders.proofs.up_downlink.Resends.{all_from}
 use Rattle.up_items.specs.Coming.{Came, stays, takes, IsCame}
 use Rattle.bearer_context.specs.Contexts.{with_one, bearer_rests}
 use Rattle.bearer_context.specs.Items.{polled, IsCameIn}

@@ -1,11 +1,11 @@
 -- What is always so of a bearer rests on its entities alone.
 use Rattle.std.proofs.Common.{◌≡◌, false, [], sym, subst}
-use Rattle.up_tunnels.specs.declared.at.At.{At}
-use Rattle.ue_bearers.specs.Downlinks.{DownlinkState}
-use Rattle.up_downlink.specs.declared.down.DownSide.{DownSide}
-use Rattle.up_downlink.specs.Downlinks.{IsDown}
-use Rattle.up_bearers.specs.Bearers.{IsUp}
-use Rattle.up_bearers.specs.declared.bearer.Bearer.{Bearer}
+use Rattle.up_orders.specs.up_tunnels.declared.at.At.{At}
+use Rattle.up_orders.specs.ue_bearers.Downlinks.{DownlinkState}
+use Rattle.up_orders.specs.up_downlink.declared.down.DownSide.{DownSide}
+use Rattle.up_orders.specs.up_downlink.Downlinks.{IsDown}
+use Rattle.up_orders.specs.up_bearers.Bearers.{IsUp}
+use Rattle.up_orders.specs.up_bearers.declared.bearer.Bearer.{Bearer}
 use Rattle.bearer_context.specs.Bearers.{IsServed}
 
 abbrev Serves : At → DownSide → DownlinkState → Type 0

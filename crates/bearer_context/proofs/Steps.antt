@@ -5,16 +5,16 @@ use Rattle.std.specs.Result.{IsErrAnd}
 use Rattle.std.proofs.lemmas.Result.{err_from_is_err_and}
 use Rattle.gnb_types.specs.declared.names.BearerId.{BearerId}
 use Rattle.gnb_types.specs.declared.outputs.Output.{Output}
-use Rattle.unit_defs.specs.Ways.{gives, spent}
-use Rattle.unit_defs.specs.UpRecords.{UpBearer, UpContext}
-use Rattle.unit_defs.specs.CuUp.{UpStep, steps, stops, step_with}
-use Rattle.unit_octet_defs.specs.Codec.{Codec, octet_way}
-use Rattle.unit_octet_defs.specs.Units.{OctetAnswer}
-use Rattle.unit_octet_defs.specs.Writing.{outputs_of}
-use Rattle.unit_steps.specs.declared.StepError.{StepError}
-use Rattle.unit_steps.specs.declared.StepError.TheVariants as errors
-use Rattle.unit_steps.specs.Steps.{Step, stepped, stopped, step_after, IsStep}
-use Rattle.unit_steps.proofs.StepLaws.{OctetPut, outputs_append}
+use Rattle.up_orders.specs.unit_defs.Ways.{gives, spent}
+use Rattle.up_orders.specs.unit_defs.UpRecords.{UpBearer, UpContext}
+use Rattle.up_orders.specs.unit_defs.CuUp.{UpStep, steps, stops, step_with}
+use Rattle.up_items.specs.unit_octet_defs.Codec.{Codec, octet_way}
+use Rattle.up_items.specs.unit_octet_defs.Units.{OctetAnswer}
+use Rattle.up_items.specs.unit_octet_defs.Writing.{outputs_of}
+use Rattle.up_orders.specs.unit_steps.declared.StepError.{StepError}
+use Rattle.up_orders.specs.unit_steps.declared.StepError.TheVariants as errors
+use Rattle.up_orders.specs.unit_steps.Steps.{Step, stepped, stopped, step_after, IsStep}
+use Rattle.up_orders.proofs.unit_steps.StepLaws.{OctetPut, outputs_append}
 use Rattle.bearer_context.specs.Orders.{bearers_after, context_after}
 
 abbrev pub map_step : {R S : Type 0} → (R → S) → Step R → Step S

@@ -3,9 +3,9 @@ use Rattle.std.proofs.Common.{◌≡◌, ℕ, ◌≤◌, length, List, sym, ap, 
 use Rattle.std.specs.Global.{Vec}
 use Rattle.std.specs.Vec.{with_items}
 use Rattle.gnb_types.specs.declared.names.SnBits.{SnBits}
-use Rattle.unit_defs.specs.UpRecords.{UpContext}
-use Rattle.up_tunnels.specs.declared.at.Flags.{Flags}
-use Rattle.up_bearers.specs.declared.bearer.Bearer.{Bearer}
+use Rattle.up_orders.specs.unit_defs.UpRecords.{UpContext}
+use Rattle.up_orders.specs.up_tunnels.declared.at.Flags.{Flags}
+use Rattle.up_orders.specs.up_bearers.declared.bearer.Bearer.{Bearer}
 use Rattle.bearer_context.specs.Bearers.{shared, AreServed, IsContext, context_as}
 use Rattle.bearer_context.proofs.Numbered.{length-numbered, with_all}
 

@@ -3,10 +3,10 @@ use Rattle.std.specs.Prelude.{ℕ, List, Option}
 use Rattle.std.specs.List.{flat_map}
 use Rattle.gnb_types.specs.declared.names.UeId.{UeId}
 use Rattle.gnb_types.specs.declared.plans.Tunnel.{Tunnel}
-use Rattle.unit_defs.specs.Messages.{tunnel_of}
-use Rattle.unit_defs.specs.UpRecords.{UpBearer, UpContext, UpTunnel}
-use Rattle.unit_defs.specs.CuUp.{first_uplink}
-use Rattle.unit_octet_defs.specs.Codec.{Codec, octet_way}
+use Rattle.up_orders.specs.unit_defs.Messages.{tunnel_of}
+use Rattle.up_orders.specs.unit_defs.UpRecords.{UpBearer, UpContext, UpTunnel}
+use Rattle.up_orders.specs.unit_defs.CuUp.{first_uplink}
+use Rattle.up_items.specs.unit_octet_defs.Codec.{Codec, octet_way}
 use Rattle.up_items.specs.Items.{kind_as}
 use Rattle.up_items.specs.declared.items.Kind.{Kind}
 use Rattle.up_items.specs.declared.items.Kind.TheVariants.{N3, F1uUplink, ForwardingDown, ForwardingUp}

@@ -3,12 +3,12 @@ use Rattle.std.specs.Prelude.{◌≡◌, ◌⊎◌, ℕ, ◌+◌, ◌<◌, ◌�
 use Rattle.std.specs.List.{AllByRecursion}
 use Rattle.gnb_types.specs.declared.names.BearerId.{BearerId}
 use Rattle.gnb_types.specs.declared.names.SnBits.{SnBits}
-use Rattle.unit_defs.specs.UpRecords.{UpBearer, UpContext}
-use Rattle.up_tunnels.specs.declared.at.At.{At}
-use Rattle.up_tunnels.specs.declared.at.Flags.{Flags}
-use Rattle.up_tunnels.specs.Tunnels.{flags_as}
-use Rattle.up_bearers.specs.Bearers.{kept, IsOf}
-use Rattle.up_bearers.specs.declared.bearer.Bearer.{Bearer}
+use Rattle.up_orders.specs.unit_defs.UpRecords.{UpBearer, UpContext}
+use Rattle.up_orders.specs.up_tunnels.declared.at.At.{At}
+use Rattle.up_orders.specs.up_tunnels.declared.at.Flags.{Flags}
+use Rattle.up_orders.specs.up_tunnels.Tunnels.{flags_as}
+use Rattle.up_orders.specs.up_bearers.Bearers.{kept, IsOf}
+use Rattle.up_orders.specs.up_bearers.declared.bearer.Bearer.{Bearer}
 use Rattle.up_orders.specs.Orders.{IsEmpty, IsIdle}
 
 -- bearers by their numbers, from this one on

@@ -5,11 +5,11 @@ use Rattle.gnb_types.specs.declared.names.UeId.{UeId}
 use Rattle.gnb_types.specs.declared.names.BearerId.{BearerId}
 use Rattle.gnb_types.specs.Orders.{bearer_cmp}
 use Rattle.tables.specs.Tables.{put}
-use Rattle.unit_defs.specs.UpRecords.{UpBearer, UpContext, UpFlags}
-use Rattle.unit_defs.specs.UpBearers.{is_closed, no_uplink, hop_is_done, is_over, open_teids}
-use Rattle.unit_defs.specs.CuUp.{bearers_from, bearers_made, new_flags_of}
-use Rattle.up_tunnels.specs.declared.at.At.{At}
-use Rattle.up_tunnels.specs.declared.at.Flags.{Flags}
+use Rattle.up_orders.specs.unit_defs.UpRecords.{UpBearer, UpContext, UpFlags}
+use Rattle.up_orders.specs.unit_defs.UpBearers.{is_closed, no_uplink, hop_is_done, is_over, open_teids}
+use Rattle.up_orders.specs.unit_defs.CuUp.{bearers_from, bearers_made, new_flags_of}
+use Rattle.up_orders.specs.up_tunnels.declared.at.At.{At}
+use Rattle.up_orders.specs.up_tunnels.declared.at.Flags.{Flags}
 use Rattle.bearer_context.specs.declared.context.ContextSetup.{ContextSetup}
 
 -- the flags of a new one

@@ -7,14 +7,14 @@ use Rattle.gnb_types.specs.declared.outputs.Output.TheVariants as outs
 use Rattle.gnb_types.specs.declared.outputs.Tag.TheVariants.{Absent}
 use Rattle.gnb_types.specs.declared.reasons.DropReason.TheVariants.{NoContext}
 use Rattle.gnb_types.specs.declared.reasons.RefuseReason.TheVariants.{Empty, NoRadio}
-use Rattle.unit_defs.specs.Ways.{no, ◌then◌, nothing, puts}
-use Rattle.unit_defs.specs.UpRecords.{UpBearer, UpContext, up_at}
-use Rattle.unit_defs.specs.UpBearers.{has_downlink, framed}
-use Rattle.unit_octet_defs.specs.Codec.{Codec, octet_way}
-use Rattle.unit_octet_defs.specs.Units.{OctetAnswer}
-use Rattle.unit_steps.specs.Steps.{stepped, stopped, step_after}
-use Rattle.unit_steps.specs.declared.StepError.{StepError}
-use Rattle.unit_steps.specs.declared.StepError.TheVariants as errors
+use Rattle.up_orders.specs.unit_defs.Ways.{no, ◌then◌, nothing, puts}
+use Rattle.up_orders.specs.unit_defs.UpRecords.{UpBearer, UpContext, up_at}
+use Rattle.up_orders.specs.unit_defs.UpBearers.{has_downlink, framed}
+use Rattle.up_items.specs.unit_octet_defs.Codec.{Codec, octet_way}
+use Rattle.up_items.specs.unit_octet_defs.Units.{OctetAnswer}
+use Rattle.up_orders.specs.unit_steps.Steps.{stepped, stopped, step_after}
+use Rattle.up_orders.specs.unit_steps.declared.StepError.{StepError}
+use Rattle.up_orders.specs.unit_steps.declared.StepError.TheVariants as errors
 use Rattle.up_items.specs.Coming.{Came, stays, takes, came}
 use Rattle.up_items.specs.declared.items.Kind.{Kind}
 use Rattle.bearer_context.specs.Contexts.{with_one, at_in}

@@ -7,16 +7,16 @@ use Rattle.gnb_types.specs.declared.names.BearerId.{BearerId}
 use Rattle.gnb_types.specs.declared.plans.Tunnel.{Tunnel}
 use Rattle.gnb_types.specs.declared.plans.SnStatus.{SnStatus}
 use Rattle.gnb_types.specs.declared.outputs.Output.{Output}
-use Rattle.unit_defs.specs.UpRecords.{UpBearer, UpContext, UpAt, up_at}
-use Rattle.unit_defs.specs.UpBearers.{bits_in, switched, frozen_to, resumed}
-use Rattle.unit_defs.specs.Messages.{teid_of}
-use Rattle.unit_defs.specs.CuUp.{UpStep, steps, stops, each_bearer}
-use Rattle.unit_octet_defs.specs.Codec.{Codec, octet_way}
-use Rattle.unit_octet_defs.specs.Units.{OctetAnswer}
-use Rattle.unit_octet_defs.specs.Writing.{outputs_of}
-use Rattle.unit_steps.specs.Steps.{Step, stepped, stopped}
-use Rattle.up_tunnels.specs.declared.at.At.{At}
-use Rattle.up_tunnels.specs.Tunnels.{flags_as}
+use Rattle.up_orders.specs.unit_defs.UpRecords.{UpBearer, UpContext, UpAt, up_at}
+use Rattle.up_orders.specs.unit_defs.UpBearers.{bits_in, switched, frozen_to, resumed}
+use Rattle.up_orders.specs.unit_defs.Messages.{teid_of}
+use Rattle.up_orders.specs.unit_defs.CuUp.{UpStep, steps, stops, each_bearer}
+use Rattle.up_items.specs.unit_octet_defs.Codec.{Codec, octet_way}
+use Rattle.up_items.specs.unit_octet_defs.Units.{OctetAnswer}
+use Rattle.up_items.specs.unit_octet_defs.Writing.{outputs_of}
+use Rattle.up_orders.specs.unit_steps.Steps.{Step, stepped, stopped}
+use Rattle.up_orders.specs.up_tunnels.declared.at.At.{At}
+use Rattle.up_orders.specs.up_tunnels.Tunnels.{flags_as}
 use Rattle.bearer_context.specs.declared.orders.BearerOrder.{BearerOrder}
 use Rattle.bearer_context.specs.declared.orders.BearerOrder.TheVariants as order
 

@@ -3,10 +3,10 @@
 ghost use Rattle.std.specs.Prelude.{◌≡◌, ℕ, ◌+◌, ◌≤◌, ◌^◌, ◌++◌, length, map, IfOk, OnOk};
 ghost use Rattle.std.specs.List.{flat_map};
 ghost use Rattle.gnb_types.specs.declared.names.UeId.{UeId};
-ghost use Rattle.unit_defs.specs.CuUp.{names, statuses, teids_from, entries, entries_of};
-ghost use Rattle.unit_defs.specs.Messages.{tunnel_of, bearers_of, statuses_of, are_bearers};
-ghost use Rattle.unit_octet_defs.specs.Codec.{Codec, octet_way};
-ghost use Rattle.up_bearers.specs.Bearers.{kept};
+ghost use Rattle.up_orders.specs.unit_defs.CuUp.{names, statuses, teids_from, entries, entries_of};
+ghost use Rattle.up_orders.specs.unit_defs.Messages.{tunnel_of, bearers_of, statuses_of, are_bearers};
+ghost use Rattle.up_items.specs.unit_octet_defs.Codec.{Codec, octet_way};
+ghost use Rattle.up_orders.specs.up_bearers.Bearers.{kept};
 ghost use Rattle.up_items.specs.Items.{kind_as};
 ghost use Rattle.bearer_context.specs.Answers.{teid_of_kind, tunnels_of, entry_as};
 
@@ -15,9 +15,9 @@ use gnb_types::items::{Items, Memory};
 use gnb_types::names::BearerId;
 use gnb_types::plans::{SnStatus, StatusList, Tunnel, TunnelList};
 use std::alloc::Global;
-use up_bearers::Bearer;
 use up_items::Kind;
 use up_orders::freezing::status;
+use up_orders::from_up_bearers::Bearer;
 
 /// A tunnel that is opened for a bearer.
 #[derive(Clone, Copy)]

@@ -1,10 +1,10 @@
 //! A context: how it is made, and what it says of itself.
 
 ghost use Rattle.std.specs.Prelude.{◌≡◌, ◌+◌, ◌*◌, ◌<◌, ◌≤◌, ◌^◌, length, Some, IfOk, IfSome, IfNone};
-ghost use Rattle.unit_defs.specs.Accessors.{is_unconfirmed_of, up_context_rests};
-ghost use Rattle.unit_defs.specs.CuUp.{bearers_from, bearers_made};
-ghost use Rattle.unit_defs.specs.UpBearers.{teids_of_bearer};
-ghost use Rattle.up_tunnels.specs.Tunnels.{flags_as};
+ghost use Rattle.up_orders.specs.unit_defs.Accessors.{is_unconfirmed_of, up_context_rests};
+ghost use Rattle.up_orders.specs.unit_defs.CuUp.{bearers_from, bearers_made};
+ghost use Rattle.up_orders.specs.unit_defs.UpBearers.{teids_of_bearer};
+ghost use Rattle.up_orders.specs.up_tunnels.Tunnels.{flags_as};
 ghost use Rattle.bearer_context.specs.Bearers.{numbered, shared, AreServed, IsOutside};
 ghost use Rattle.bearer_context.specs.Contexts.{made_from, flags_at_first, at_in};
 
@@ -13,8 +13,8 @@ use gnb_types::items::Memory;
 use gnb_types::names::{BearerId, SnBits, UeId};
 use std::alloc::Global;
 use std::marker::Model;
-use up_bearers::Bearer;
-use up_tunnels::{At, Flags};
+use up_orders::from_up_bearers::Bearer;
+use up_orders::from_up_tunnels::{At, Flags};
 
 /// What a context is set up with.
 #[derive(Clone, Copy)]
@@ -40,7 +40,7 @@ pub struct Context {
 }
 
 impl Model for Context {
-    ghost use Rattle.unit_defs.specs.UpRecords.{UpContext};
+    ghost use Rattle.up_orders.specs.unit_defs.UpRecords.{UpContext};
     ghost use Rattle.bearer_context.specs.Bearers.{context_as, IsContext};
 
     ghost Value = { UpContext };

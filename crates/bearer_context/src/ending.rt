@@ -1,21 +1,21 @@
 //! The release and the end of a context (TS 37.483, 8.3.5).
 
 ghost use Rattle.std.specs.Prelude.{◌≡◌, ℕ, ◌++◌, ◌&&◌, length, map, IfOk, OnOk};
-ghost use Rattle.unit_defs.specs.CuUp.{as_released};
-ghost use Rattle.unit_defs.specs.UpBearers.{released, is_closed, no_uplink, hop_is_done, is_over, teid_in, open_teids};
-ghost use Rattle.unit_octet_defs.specs.Codec.{Codec, octet_way};
-ghost use Rattle.up_tunnels.specs.declared.at.At.{At as Place};
-ghost use Rattle.up_tunnels.specs.Tunnels.{flags_as};
-ghost use Rattle.up_bearers.specs.Bearers.{kept};
+ghost use Rattle.up_orders.specs.unit_defs.CuUp.{as_released};
+ghost use Rattle.up_orders.specs.unit_defs.UpBearers.{released, is_closed, no_uplink, hop_is_done, is_over, teid_in, open_teids};
+ghost use Rattle.up_items.specs.unit_octet_defs.Codec.{Codec, octet_way};
+ghost use Rattle.up_orders.specs.up_tunnels.declared.at.At.{At as Place};
+ghost use Rattle.up_orders.specs.up_tunnels.Tunnels.{flags_as};
+ghost use Rattle.up_orders.specs.up_bearers.Bearers.{kept};
 ghost use Rattle.bearer_context.specs.Bearers.{numbered, AreServed};
 ghost use Rattle.bearer_context.specs.Contexts.{is_all_over, all_open, awaits, bearer_rests};
 
 use crate::context::Context;
 use gnb_types::items::{Items, Memory};
 use std::alloc::Global;
-use up_bearers::Bearer;
 use up_orders::freezing::release;
-use up_tunnels::Flags;
+use up_orders::from_up_bearers::Bearer;
+use up_orders::from_up_tunnels::Flags;
 
 /// None of these bearers keeps a packet any more.
 fn release_each(bearers: &mut [Bearer], alloc: Global)

@@ -4,12 +4,12 @@ ghost use Rattle.std.specs.Prelude.{◌≡◌, not, ◌||◌, ◌∷◌, [], ◌
 ghost use Rattle.gnb_types.specs.declared.outputs.Output.TheVariants as outs;
 ghost use Rattle.gnb_types.specs.Orders.{bearer_cmp};
 ghost use Rattle.tables.specs.Tables.{find};
-ghost use Rattle.unit_defs.specs.UpBearers.{has_downlink};
-ghost use Rattle.up_bearers.specs.Bearers.{kept};
-ghost use Rattle.codec_defs.specs.Reading.{ReadsItems};
-ghost use Rattle.unit_octet_defs.specs.Codec.{Codec};
-ghost use Rattle.unit_steps.specs.Steps.{IsStep, step_after};
-ghost use Rattle.unit_steps.specs.declared.StepError.TheVariants as errors;
+ghost use Rattle.up_orders.specs.unit_defs.UpBearers.{has_downlink};
+ghost use Rattle.up_orders.specs.up_bearers.Bearers.{kept};
+ghost use Rattle.up_items.specs.codec_defs.Reading.{ReadsItems};
+ghost use Rattle.up_items.specs.unit_octet_defs.Codec.{Codec};
+ghost use Rattle.up_orders.specs.unit_steps.Steps.{IsStep, step_after};
+ghost use Rattle.up_orders.specs.unit_steps.declared.StepError.TheVariants as errors;
 ghost use Rattle.bearer_context.specs.Items.{came_in, polled, IsCameIn};
 
 use crate::context::{Context, index_of};
@@ -18,11 +18,11 @@ use gnb_types::names::{BearerId, UeId};
 use gnb_types::outputs::{Output, Outputs};
 use gnb_types::reasons::{DropReason, RefuseReason};
 use std::alloc::Global;
-use unit_steps::StepError;
-use up_bearers::Bearer;
 use up_items::Kind;
 use up_items::coming::come;
-use up_tunnels::{At, Flags};
+use up_orders::from_unit_steps::StepError;
+use up_orders::from_up_bearers::Bearer;
+use up_orders::from_up_tunnels::{At, Flags};
 
 /// A poll is refused.
 fn refuse(reason: RefuseReason, out: &mut Outputs) -> Result<(), StepError>

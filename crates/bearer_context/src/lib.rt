@@ -9,3 +9,17 @@ pub mod items;
 pub mod orders;
 
 pub use context::{Context, ContextSetup};
+
+/// Of `unit_steps`, for crates above.
+pub mod from_unit_steps {
+    pub use up_orders::from_unit_steps::StepError;
+}
+
+/// Of `up_items`, for crates above.
+pub mod from_up_items {
+    pub use up_items::Kind;
+
+    pub mod items {
+        pub use up_items::items::read_item;
+    }
+}

@@ -4,15 +4,15 @@ ghost use Rattle.std.specs.Prelude.{◌≡◌, ℕ, ◌+◌, ◌<◌, ◌≤◌,
 ghost use Rattle.gnb_types.specs.declared.names.BearerId.{BearerId as Id};
 ghost use Rattle.gnb_types.specs.declared.names.Gnb.{Gnb as GnbName};
 ghost use Rattle.gnb_types.specs.declared.names.NodeId.TheVariants.{Du};
-ghost use Rattle.unit_defs.specs.Messages.{teid_of};
-ghost use Rattle.unit_defs.specs.Static.{with_downlinks};
-ghost use Rattle.unit_defs.specs.UpRecords.{UpBearer, up_at};
-ghost use Rattle.unit_defs.specs.CuUp.{each_bearer, uplinks_from, status_each, as_switched, as_frozen, as_known, as_resumed};
-ghost use Rattle.unit_octet_defs.specs.Codec.{Codec, octet_way};
-ghost use Rattle.unit_steps.specs.Steps.{IsStep, step_after};
-ghost use Rattle.up_tunnels.specs.Tunnels.{at_as};
-ghost use Rattle.up_bearers.specs.Bearers.{kept};
-ghost use Rattle.up_tunnels.specs.declared.at.At.{At as Place};
+ghost use Rattle.up_orders.specs.unit_defs.Messages.{teid_of};
+ghost use Rattle.up_orders.specs.unit_defs.Static.{with_downlinks};
+ghost use Rattle.up_orders.specs.unit_defs.UpRecords.{UpBearer, up_at};
+ghost use Rattle.up_orders.specs.unit_defs.CuUp.{each_bearer, uplinks_from, status_each, as_switched, as_frozen, as_known, as_resumed};
+ghost use Rattle.up_items.specs.unit_octet_defs.Codec.{Codec, octet_way};
+ghost use Rattle.up_orders.specs.unit_steps.Steps.{IsStep, step_after};
+ghost use Rattle.up_orders.specs.up_tunnels.Tunnels.{at_as};
+ghost use Rattle.up_orders.specs.up_bearers.Bearers.{kept};
+ghost use Rattle.up_orders.specs.up_tunnels.declared.at.At.{At as Place};
 ghost use Rattle.bearer_context.specs.Bearers.{numbered, IsServed, AreServed, AreEmpty};
 ghost use Rattle.bearer_context.specs.Orders.{bearers_after, context_after, row_of, at_bearer, holder, switched_each, frozen_each, resumed_each, IsAllowed, AreShort};
 
@@ -21,12 +21,12 @@ use gnb_types::names::{BearerId, Gnb, NodeId, UeId};
 use gnb_types::outputs::Outputs;
 use gnb_types::plans::{SnStatus, Tunnel};
 use std::alloc::Global;
-use unit_steps::StepError;
-use up_bearers::Bearer;
 use up_orders::freezing::freeze;
+use up_orders::from_unit_steps::StepError;
+use up_orders::from_up_bearers::Bearer;
+use up_orders::from_up_tunnels::{At, Downlink, Hop};
 use up_orders::going_on::{resume, take_status};
 use up_orders::serving::{add_uplink, switch};
-use up_tunnels::{At, Downlink, Hop};
 
 /// An order that goes to each bearer.
 #[derive(Clone, Copy)]

@@ -1,7 +1,7 @@
 -- What each order asks for. `IsReady` is what the unit tests itself, and what stands where it takes from; `IsOwed` is what control
 -- owes, and what is known of the messages that confirm.
 use Rattle.std.specs.Prelude.{◌≡◌, ◌≢◌, ℕ, ◌<◌, ◌≤◌, true, false, List, [], ◌∷◌, None, is_some, ⊤}
-use Rattle.gnb_types.specs.declared.names.SnBits.{SnBits}
+use Rattle.unit_defs.specs.gnb_types.declared.names.SnBits.{SnBits}
 use Rattle.unit_defs.specs.pdcp_defs.Senders.{has_room, may_restore}
 use Rattle.unit_defs.specs.UpRecords.{TunnelKind, n3, forwarding_down}
 use Rattle.unit_defs.specs.UpItems.{first_held, held_as_target}

@@ -1,6 +1,6 @@
 -- What happens to the downlink of one bearer, in small orders: a row of a unit is a list of them.
 use Rattle.std.specs.Prelude.{◌==◌, ℕ, ◌+◌, Bool, true, false, ◌||◌, if◌then◌else◌, List, [], ◌∷◌, ◌++◌, map, Some, None}
-use Rattle.gnb_types.specs.declared.plans.SnStatus.{SnStatus}
+use Rattle.unit_defs.specs.gnb_types.declared.plans.SnStatus.{SnStatus}
 use Rattle.unit_defs.specs.pdcp_defs.Senders.{numbered as with_next, restored, confirmed_to, confirmed_by}
 use Rattle.unit_defs.specs.pdcp_defs.Receivers.{Delivery, is_duplicate, stored, deliver}
 use Rattle.unit_defs.specs.UpRecords.{Downlink, SourceHop, UpBearer}

@@ -1,1 +1,2 @@
 pub mod Reading
+pub use Rattle.unit_octet_defs.specs as unit_octet_defs

@@ -1,9 +1,9 @@
 -- Lawful codecs, as far as links go: what one reads in octets is what the layouts of links say there, and nothing where they say
 -- nothing.
 use Rattle.std.specs.Prelude.{◌≡◌, ℕ, List, Some, None}
-use Rattle.gnb_types.specs.declared.names.SnBits.{SnBits}
-use Rattle.pdcp.specs.Pdus.{Content}
-use Rattle.link_defs.specs.Decoding.{Link, Item, DecodesOn, CarriesPdu}
+use Rattle.unit_octet_defs.specs.gnb_types.declared.names.SnBits.{SnBits}
+use Rattle.unit_octet_defs.specs.pdcp.Pdus.{Content}
+use Rattle.unit_octet_defs.specs.link_defs.Decoding.{Link, Item, DecodesOn, CarriesPdu}
 use Rattle.unit_octet_defs.specs.Codec.{Codec}
 
 -- PDUs of a radio (TS 38.323, 6.2)

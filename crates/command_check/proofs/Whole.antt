@@ -18,10 +18,10 @@ use Rattle.asn1_assignments.specs.declared.assignment.Syntax.{Syntax}
 use Rattle.asn1_tokens.specs.Words.{is_text}
 use Rattle.asn1_module.specs.asn1_defs.Readings.{Reads}
 use Rattle.asn1_module.specs.asn1_defs.Targets.{type_ids}
-use Rattle.asn1_proof_module.proofs.Faults.{reading_once, never_both}
+use Rattle.profile_module.proofs.asn1_proof_module.Faults.{reading_once, never_both}
 use Rattle.profile.specs.declared.version.Version.{Version}
 use Rattle.profile.specs.declared.version.Version.TheVariants.{One, Two}
-use Rattle.profile_defs.specs.Profile.{module_name}
+use Rattle.profile_module.specs.profile_defs.Profile.{module_name}
 use Rattle.input_module.specs.declared.header.ModuleHeader.TheVariants as headers
 use Rattle.input_module.specs.declared.module.GivenModule.{GivenModule}
 use Rattle.input_module.specs.declared.module.GivenModule.TheVariants as given

@@ -7,7 +7,7 @@ use Rattle.input_defs.specs.declared.InputEnd.TheVariants as inputs
 use Rattle.asn1_assignments.specs.declared.assignment.Syntax.{Syntax}
 use Rattle.asn1_module.specs.asn1_defs.Targets.{type_ids}
 use Rattle.profile.specs.declared.version.Version.{Version}
-use Rattle.profile_defs.specs.Profile.{module_name}
+use Rattle.profile_module.specs.profile_defs.Profile.{module_name}
 use Rattle.input_module.specs.declared.stop.ModuleStop.{ModuleStop}
 use Rattle.input_module.specs.declared.stop.ModuleStop.TheVariants as stops
 use Rattle.input_module.specs.Header.{builtin_line}

@@ -7,9 +7,9 @@ use Rattle.run_defs.specs.States.{Stop, goes, stops}
 use Rattle.run_defs.specs.Runs.{happens}
 use Rattle.run_links.specs.Grounds.{OctetState, OctetWorld, OctetOutcome}
 use Rattle.run_links.specs.Told.{EndsAt}
-use Rattle.world_steps.specs.declared.cause.Cause.{Cause}
-use Rattle.world_steps.specs.declared.cause.Cause.TheVariants as causes
-use Rattle.world_steps.specs.Gives.{stop_by, EventStops}
+use Rattle.world.specs.world_steps.declared.cause.Cause.{Cause}
+use Rattle.world.specs.world_steps.declared.cause.Cause.TheVariants as causes
+use Rattle.world.specs.world_steps.Gives.{stop_by, EventStops}
 use Rattle.world.specs.declared.stop.Stop.{Stop as WorldStop}
 use Rattle.world.specs.Worlds.{WorldAt, IsUsable, stopped, AppliesTo, AppliesAt, Applies}
 use Rattle.command_generate.specs.inside.Passing.{Passage, passed, halted, passed_on, pass, run_at, RunAt, HaltsBy, Follows, cause_in}

@@ -7,8 +7,8 @@ use Rattle.run_defs.specs.States.{Stop, outstanding, spent_counter, new_state, g
 use Rattle.run_defs.specs.Runs.{Transcript, happens, run_on, run_from, run}
 use Rattle.run_defs.specs.UnitRuns.{Meaning, unit_world, UnitRun}
 use Rattle.run_links.specs.Grounds.{OctetState, OctetWorld, OctetOutcome}
-use Rattle.world_steps.specs.declared.cause.Cause.{Cause}
-use Rattle.world_steps.specs.declared.cause.Cause.TheVariants as causes
+use Rattle.world.specs.world_steps.declared.cause.Cause.{Cause}
+use Rattle.world.specs.world_steps.declared.cause.Cause.TheVariants as causes
 use Rattle.command_generate.specs.declared.end.GenerateEnd.{GenerateEnd}
 use Rattle.command_generate.specs.declared.end.GenerateEnd.TheVariants as ends
 use Rattle.command_generate.specs.Ends.{EndMeets}

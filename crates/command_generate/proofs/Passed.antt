@@ -5,8 +5,8 @@ use Rattle.scenario_text.specs.declared.event.Event.{Event}
 use Rattle.run_defs.specs.States.{Stop, goes, stops}
 use Rattle.run_defs.specs.Runs.{happens}
 use Rattle.run_links.specs.Grounds.{OctetState, OctetWorld, OctetOutcome}
-use Rattle.world_steps.specs.declared.cause.Cause.{Cause}
-use Rattle.world_steps.specs.Gives.{stop_by}
+use Rattle.world.specs.world_steps.declared.cause.Cause.{Cause}
+use Rattle.world.specs.world_steps.Gives.{stop_by}
 use Rattle.command_generate.specs.inside.Passing.{Passage, passed, halted, passed_on, pass, RunAt, HaltsBy, FollowsTo, Follows}
 
 abbrev pub then_pass : OctetWorld → List Event → Passage → Passage

@@ -5,7 +5,7 @@ use Rattle.std.proofs.Math.ListN.{drop_of_length-le}
 use Rattle.scenario_text.specs.declared.event.Event.{Event}
 use Rattle.scenario_text.specs.declared.event.Event.TheVariants.{Ask}
 use Rattle.run_links.specs.Grounds.{OctetWorld}
-use Rattle.world_steps.specs.declared.cause.Cause.{Cause}
+use Rattle.world.specs.world_steps.declared.cause.Cause.{Cause}
 use Rattle.command_generate.specs.declared.script.Moment.{Moment}
 use Rattle.command_generate.specs.declared.script.Moment.TheVariants.{Offer}
 use Rattle.command_generate.specs.declared.script.Place.{Place}

@@ -15,10 +15,10 @@ use gnb_types::items::Memory;
 use lawful_codecs::LawfulCodec;
 use scenario_text::event::Event;
 use std::alloc::Global;
+use world::from_world_steps::Units;
+use world::from_world_steps::cause::Cause;
 use world::stop::Stop;
 use world::world::World;
-use world_steps::Units;
-use world_steps::cause::Cause;
 
 /// How many packets there are from one return to the next.
 const PACKETS_TO_A_RETURN: u32 = 100;

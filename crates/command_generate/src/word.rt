@@ -12,7 +12,7 @@ use command_output::{common_status, write_all};
 use gnb_base::outside::{Sink, Source};
 use lawful_codecs::LawfulCodec;
 use std::alloc::Global;
-use world_steps::Units;
+use world::from_world_steps::Units;
 
 /// Runs a script of so many packets over these units, without its text, and writes one line. Nothing is read.
 pub fn run_generated<S: Source, K: Sink, U: Units<C> + Drop, C: LawfulCodec + Drop>(

@@ -28,9 +28,9 @@ use Rattle.run_defs.specs.UnitRuns.{unit_world}
 use Rattle.run_links.specs.declared.spans.Outstanding.{Outstanding as Span}
 use Rattle.run_links.specs.Grounds.{OctetState, OctetOutcome}
 use Rattle.run_links.specs.Told.{EndsAt}
-use Rattle.world_steps.specs.declared.cause.Cause.{Cause}
-use Rattle.world_steps.specs.declared.cause.Cause.TheVariants as causes
-use Rattle.world_steps.specs.Gives.{stop_by, EventStops}
+use Rattle.world.specs.world_steps.declared.cause.Cause.{Cause}
+use Rattle.world.specs.world_steps.declared.cause.Cause.TheVariants as causes
+use Rattle.world.specs.world_steps.Gives.{stop_by, EventStops}
 use Rattle.world.specs.declared.stop.Stop.{Stop as WorldStop}
 use Rattle.world.specs.declared.stop.Stop.TheVariants as world_stops
 use Rattle.world.specs.Worlds.{WorldAt, IsUsable, stopped, AppliesTo, AppliesAt, Applies as WorldApplies}

@@ -20,9 +20,9 @@ use Rattle.scenario_text.specs.Grammar.{is_skipped}
 use Rattle.run_defs.specs.States.{Stop, outstanding, spent_counter}
 use Rattle.run_defs.specs.Runs.{Happened}
 use Rattle.run_links.specs.Grounds.{OctetState}
-use Rattle.world_steps.specs.declared.cause.Cause.{Cause}
-use Rattle.world_steps.specs.declared.cause.Cause.TheVariants as causes
-use Rattle.world_steps.specs.Gives.{stop_by}
+use Rattle.world.specs.world_steps.declared.cause.Cause.{Cause}
+use Rattle.world.specs.world_steps.declared.cause.Cause.TheVariants as causes
+use Rattle.world.specs.world_steps.Gives.{stop_by}
 use Rattle.world.specs.Worlds.{WorldAt, IsNew}
 use Rattle.profile.specs.declared.version.Version.{Version}
 use Rattle.profile.specs.declared.version.Version.TheVariants.{One}

@@ -21,7 +21,7 @@ use run_links::spans::Outstanding;
 use scenario_text::event::TextReason;
 use scenario_text::line::OutLine;
 use std::alloc::Global;
-use world_steps::cause::Cause;
+use world::from_world_steps::cause::Cause;
 
 /// How a run ended.
 #[derive(Drop)]

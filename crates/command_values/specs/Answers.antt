@@ -9,12 +9,12 @@ use Rattle.aper_defs.specs.declared.reason.Reason.TheVariants as reasons
 use Rattle.aper_defs.specs.Values.{Value}
 use Rattle.aper_defs.specs.Bits.{octet_count}
 use Rattle.aper_defs.specs.Spelling.{Spells, spelling_limit, whole_layout}
-use Rattle.aper_types.specs.Types.{tree}
-use Rattle.aper.specs.Refusals.{IsRefused, IsFirstWrong}
+use Rattle.values_json.specs.aper_types.Types.{tree}
+use Rattle.values_json.specs.aper.Refusals.{IsRefused, IsFirstWrong}
 use Rattle.json_defs.specs.declared.fault.JsonFault.{JsonFault}
 use Rattle.json_defs.specs.declared.fault.JsonFault.TheVariants as faults
 use Rattle.json_shown_defs.specs.Printed.{shown_as}
-use Rattle.json_type_defs.specs.Types.{named}
+use Rattle.values_json.specs.json_type_defs.Types.{named}
 use Rattle.values_json.specs.Texts.{IsNoJson, IsReadAgain, IsTextOf, HasFault}
 use Rattle.command_values.specs.declared.way.Way.{Way}
 use Rattle.command_values.specs.declared.way.Way.TheVariants.{Encode, Decode}

@@ -4,10 +4,10 @@ use Rattle.gnb_types.specs.declared.plans.Tunnel.{Tunnel}
 use Rattle.unit_defs.specs.Ways.{Way}
 use Rattle.unit_defs.specs.CpRecords as cp
 use Rattle.unit_defs.specs.CuCp as rows
-use Rattle.unit_steps.specs.declared.StepError.{StepError}
-use Rattle.unit_steps.specs.declared.StepError.TheVariants as errors
-use Rattle.control_says.specs.declared.row.Row.{Row}
-use Rattle.control_says.specs.Rows.{row_as}
+use Rattle.control_targets.specs.unit_steps.declared.StepError.{StepError}
+use Rattle.control_targets.specs.unit_steps.declared.StepError.TheVariants as errors
+use Rattle.control_targets.specs.control_says.declared.row.Row.{Row}
+use Rattle.control_targets.specs.control_says.Rows.{row_as}
 use Rattle.control_answers.specs.declared.states.Answered.{Answered}
 use Rattle.control_answers.specs.declared.states.Answered.TheVariants as code
 

@@ -3,15 +3,15 @@
 ghost use Rattle.std.specs.Prelude.{◌≡◌, Some};
 ghost use Rattle.unit_defs.specs.Messages.{cause_name};
 ghost use Rattle.unit_defs.specs.CuCp.{only_closes};
-ghost use Rattle.unit_octet_defs.specs.Codec.{octet_way};
-ghost use Rattle.control_says.specs.Rows.{SomeRowGives};
+ghost use Rattle.control_targets.specs.unit_octet_defs.Codec.{octet_way};
+ghost use Rattle.control_targets.specs.control_says.Rows.{SomeRowGives};
 
-use control_contexts::{Attempt, Context, Terminal};
-use control_says::{At, Row};
+use control_targets::from_control_contexts::{Attempt, Context, Terminal};
+use control_targets::from_control_says::{At, Row};
+use control_targets::from_unit_messages::MessageCodec;
+use control_targets::from_unit_steps::StepError;
 use gnb_types::items::Items;
 use gnb_types::reasons::CauseName;
-use unit_messages::MessageCodec;
-use unit_steps::StepError;
 
 // The causes of the profile's enumeration.
 const QUOTA: u32 = 0;

@@ -4,7 +4,7 @@ ghost use Rattle.std.specs.Prelude.{◌≡◌, ◌&&◌, IfOk};
 ghost use Rattle.unit_defs.specs.CpRows.{name_bearers};
 ghost use Rattle.control_answers.specs.Answers.{CopiesNamed};
 
-use control_contexts::{Context, copy_tunnels};
+use control_targets::from_control_contexts::{Context, copy_tunnels};
 use control_targets::name_bearers;
 use gnb_types::items::Memory;
 use gnb_types::plans::TunnelList;

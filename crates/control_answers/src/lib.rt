@@ -12,3 +12,8 @@ mod states;
 mod switching;
 
 pub use states::{Answered, answer};
+
+/// Of `control_targets`, for crates above.
+pub mod from_control_targets {
+    pub use control_targets::{Offered, offer, offer_context, status, xn_cancelled};
+}

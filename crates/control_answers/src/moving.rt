@@ -2,19 +2,19 @@
 
 ghost use Rattle.unit_defs.specs.CpRows.{name_bearers, move_has_uplinks, move_is_placed};
 ghost use Rattle.unit_defs.specs.CuCp.{listed, in_moving};
-ghost use Rattle.unit_octet_defs.specs.Codec.{octet_way};
-ghost use Rattle.unit_messages.specs.Messages.{message_as};
-ghost use Rattle.control_says.specs.Rows.{SomeRowGives};
+ghost use Rattle.control_targets.specs.unit_octet_defs.Codec.{octet_way};
+ghost use Rattle.control_targets.specs.unit_messages.Messages.{message_as};
+ghost use Rattle.control_targets.specs.control_says.Rows.{SomeRowGives};
 
 use crate::closing::only_closes;
 use crate::copies::copy_named;
-use control_contexts::{Attempt, Context, Terminal};
 use control_rows::{move_has_uplinks, move_is_placed};
-use control_says::{At, Row};
+use control_targets::from_control_contexts::{Attempt, Context, Terminal};
+use control_targets::from_control_says::{At, Row};
+use control_targets::from_unit_messages::{Message, MessageCodec};
+use control_targets::from_unit_steps::StepError;
 use gnb_types::plans::TunnelList;
 use message_types::{E1Message, F1, F1Message};
-use unit_messages::{Message, MessageCodec};
-use unit_steps::StepError;
 
 /// The bearers have their further uplinks; or the target DU is ready.
 pub(crate) fn in_moving<C: MessageCodec>(

@@ -4,14 +4,16 @@ ghost use Rattle.std.specs.Prelude.{◌≡◌, ◌&&◌, IfOk};
 ghost use Rattle.unit_defs.specs.Messages.{cause_name};
 ghost use Rattle.unit_defs.specs.CpRows.{name_bearers, offer_has_tunnels, offer_is_declined, offer_is_placed};
 ghost use Rattle.unit_defs.specs.CuCp.{listed, caused, in_offered};
-ghost use Rattle.unit_octet_defs.specs.Codec.{octet_way};
-ghost use Rattle.unit_messages.specs.Messages.{message_as};
-ghost use Rattle.control_says.specs.Rows.{SomeRowGives};
+ghost use Rattle.control_targets.specs.unit_octet_defs.Codec.{octet_way};
+ghost use Rattle.control_targets.specs.unit_messages.Messages.{message_as};
+ghost use Rattle.control_targets.specs.control_says.Rows.{SomeRowGives};
 
 use crate::closing::{cause_name, only_closes};
 use crate::copies::{both_name_bearers, copy_both, copy_named};
-use control_contexts::{Attempt, Context, Terminal};
-use control_says::{At, Row};
+use control_targets::from_control_contexts::{Attempt, Context, Terminal};
+use control_targets::from_control_says::{At, Row};
+use control_targets::from_unit_messages::{Message, MessageCodec};
+use control_targets::from_unit_steps::StepError;
 use control_targets::{
     OfferTunnels, name_bearers, offer_has_tunnels, offer_is_declined, offer_is_placed,
 };
@@ -19,8 +21,6 @@ use gnb_types::items::Memory;
 use gnb_types::plans::TunnelList;
 use message_types::{E1Message, F1, F1Message};
 use std::alloc::Global;
-use unit_messages::{Message, MessageCodec};
-use unit_steps::StepError;
 
 /// The bearers have their tunnels, or are refused; or the DU is ready.
 pub(crate) fn in_offered<C: MessageCodec>(

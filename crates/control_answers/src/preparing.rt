@@ -5,23 +5,23 @@ ghost use Rattle.unit_defs.specs.Messages.{cause_name, are_bearers, statuses_of}
 ghost use Rattle.unit_defs.specs.CpRecords.{bearers_in};
 ghost use Rattle.unit_defs.specs.CpRows.{name_bearers, handover_is_acknowledged, handover_is_declined, handover_is_frozen, handover_is_not_frozen};
 ghost use Rattle.unit_defs.specs.CuCp.{listed, caused, in_preparing, in_prepared};
-ghost use Rattle.unit_octet_defs.specs.Codec.{octet_way};
-ghost use Rattle.unit_messages.specs.Messages.{message_as};
-ghost use Rattle.control_says.specs.Rows.{SomeRowGives};
+ghost use Rattle.control_targets.specs.unit_octet_defs.Codec.{octet_way};
+ghost use Rattle.control_targets.specs.unit_messages.Messages.{message_as};
+ghost use Rattle.control_targets.specs.control_says.Rows.{SomeRowGives};
 
 use crate::closing::{cause_name, only_closes};
 use crate::copies::{both_name_bearers, copy_both};
-use control_contexts::{Attempt, Context, Terminal};
 use control_rows::{
     handover_is_acknowledged, handover_is_declined, handover_is_frozen, handover_is_not_frozen,
 };
-use control_says::{At, Row};
+use control_targets::from_control_contexts::{Attempt, Context, Terminal};
+use control_targets::from_control_says::{At, Row};
+use control_targets::from_unit_messages::{Message, MessageCodec};
+use control_targets::from_unit_steps::StepError;
 use control_targets::statuses_name_bearers;
 use gnb_types::plans::{Peer, StatusList, TunnelList};
 use message_types::{E1Message, XnMessage};
 use status_copies::copy_statuses;
-use unit_messages::{Message, MessageCodec};
-use unit_steps::StepError;
 
 /// The target is ready, or isn't.
 pub(crate) fn in_preparing<C: MessageCodec>(

@@ -2,9 +2,9 @@
 
 ghost use Rattle.std.specs.Prelude.{◌≡◌, [], ◌∷◌, Some};
 ghost use Rattle.unit_defs.specs.CuCp.{in_releasing, in_state, answer_of, answer};
-ghost use Rattle.unit_octet_defs.specs.Codec.{octet_way};
-ghost use Rattle.unit_messages.specs.Messages.{message_as};
-ghost use Rattle.control_says.specs.Rows.{SomeRowGives};
+ghost use Rattle.control_targets.specs.unit_octet_defs.Codec.{octet_way};
+ghost use Rattle.control_targets.specs.unit_messages.Messages.{message_as};
+ghost use Rattle.control_targets.specs.control_says.Rows.{SomeRowGives};
 ghost use Rattle.control_answers.specs.Answers.{AnswerGives};
 
 use crate::attaching::in_attaching;
@@ -13,15 +13,15 @@ use crate::moving::in_moving;
 use crate::offered::in_offered;
 use crate::preparing::{in_prepared, in_preparing};
 use crate::switching::in_switching;
-use control_contexts::{Attempt, Context, Terminal};
 use control_rows::is_between_gnbs;
-use control_says::{At, Row};
+use control_targets::from_control_contexts::{Attempt, Context, Terminal};
+use control_targets::from_control_says::{At, Row};
+use control_targets::from_unit_messages::{Message, MessageCodec};
+use control_targets::from_unit_steps::StepError;
 use control_targets::is_between_dus;
 use gnb_types::items::Items;
 use gnb_types::names::NodeId;
 use unit_defs::StateName;
-use unit_messages::{Message, MessageCodec};
-use unit_steps::StepError;
 
 /// What an answer is to the attempt of a terminal.
 #[derive(Drop)]

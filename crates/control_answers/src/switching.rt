@@ -3,19 +3,19 @@
 ghost use Rattle.std.specs.Prelude.{Some};
 ghost use Rattle.unit_defs.specs.CpRows.{name_bearers, place_is_renewed, is_switched, path_is_switched};
 ghost use Rattle.unit_defs.specs.CuCp.{listed, in_switching};
-ghost use Rattle.unit_octet_defs.specs.Codec.{octet_way};
-ghost use Rattle.unit_messages.specs.Messages.{message_as};
-ghost use Rattle.control_says.specs.Rows.{SomeRowGives};
+ghost use Rattle.control_targets.specs.unit_octet_defs.Codec.{octet_way};
+ghost use Rattle.control_targets.specs.unit_messages.Messages.{message_as};
+ghost use Rattle.control_targets.specs.control_says.Rows.{SomeRowGives};
 
 use crate::closing::only_closes;
 use crate::copies::copy_named;
-use control_contexts::{Attempt, Context, Terminal};
-use control_says::{At, Row};
+use control_targets::from_control_contexts::{Attempt, Context, Terminal};
+use control_targets::from_control_says::{At, Row};
+use control_targets::from_unit_messages::{Message, MessageCodec};
+use control_targets::from_unit_steps::StepError;
 use control_targets::{is_switched, path_is_switched, place_is_renewed};
 use gnb_types::plans::TunnelList;
 use message_types::{CoreMessage, E1Message, F1, F1Message};
-use unit_messages::{Message, MessageCodec};
-use unit_steps::StepError;
 
 /// The DU has new downlinks, the bearers were switched, or the path was.
 pub(crate) fn in_switching<C: MessageCodec>(

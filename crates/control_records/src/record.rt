@@ -3,7 +3,7 @@
 ghost use Rattle.std.specs.Prelude.{◌≡◌, map, IfOk, OnOk, OnErr, option_copied};
 ghost use Rattle.unit_defs.specs.CpRecords.{new_cu_cp, terminal_of, with_terminal};
 ghost use Rattle.unit_defs.specs.CuCp.{with_unit};
-ghost use Rattle.unit_octet_defs.specs.Codec.{Codec, octet_way};
+ghost use Rattle.unit_requests.specs.unit_octet_defs.Codec.{Codec, octet_way};
 ghost use Rattle.unit_defs.specs.Static.{cp_placed, cp_set_up};
 ghost use Rattle.unit_defs.specs.Accessors.{state_of, taken_epoch, place_of, is_set_up, cp_rests};
 

@@ -1,15 +1,15 @@
 //! Modifications of the bearers at a CU-UP (TS 37.483, 8.3.2), by their modes.
 
 ghost use Rattle.std.specs.Prelude.{◌≡◌, true, false};
-ghost use Rattle.unit_defs.specs.Messages.{mode_uplinks, mode_switch, mode_freeze, mode_status, mode_resume};
+ghost use Rattle.control_says.specs.unit_defs.Messages.{mode_uplinks, mode_switch, mode_freeze, mode_status, mode_resume};
 
-use control_contexts::Context;
 use control_says::At;
+use control_says::from_control_contexts::Context;
+use control_says::from_unit_messages::Message;
 use control_says::says::{NO_INSTANCE, Say};
 use gnb_types::names::NodeId;
 use gnb_types::plans::{Peer, StatusList, TunnelList};
 use message_types::E1Message;
-use unit_messages::Message;
 
 // The modes of the profile's enumeration.
 const UPLINKS: u32 = 0;

@@ -1,13 +1,13 @@
 //! Releases at a DU (TS 38.473, 8.3.3), at a CU-UP (TS 37.483, 8.3.3) and at the other gNB (TS 38.423, 8.2.3, 8.2.7).
 
 ghost use Rattle.std.specs.Prelude.{◌≡◌, false};
-ghost use Rattle.unit_defs.specs.CpRows.{other_cp};
+ghost use Rattle.control_says.specs.unit_defs.CpRows.{other_cp};
 
+use control_says::from_unit_messages::Message;
 use control_says::says::{NO_INSTANCE, Say};
 use control_says::{At, other_cp};
 use gnb_types::names::NodeId;
 use message_types::{E1Message, F1, XnMessage};
-use unit_messages::Message;
 
 pub fn du_release<C>(at: &At<'_, C>, du: u8, awaited: bool) -> Say
     ensures { result ≡ Say.Ask (NodeId.Du at.now.gnb du)

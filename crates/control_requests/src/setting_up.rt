@@ -2,14 +2,14 @@
 
 ghost use Rattle.std.specs.Prelude.{◌≡◌, true, IfOk};
 
-use control_contexts::{Attempt, Context, copy_tunnels};
 use control_says::At;
+use control_says::from_control_contexts::{Attempt, Context, copy_tunnels};
+use control_says::from_unit_messages::Message;
 use control_says::says::{NO_INSTANCE, Say};
 use gnb_types::items::Memory;
 use gnb_types::names::NodeId;
 use gnb_types::plans::{Peer, TunnelList};
 use message_types::{CoreMessage, E1Message, F1};
-use unit_messages::Message;
 
 pub fn bearer_setup<C>(at: &At<'_, C>, context: &Context, forward: bool) -> Say
     ensures { result ≡ Say.Ask (NodeId.CuUp at.now.gnb context.now.up)

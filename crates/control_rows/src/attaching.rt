@@ -3,21 +3,21 @@
 ghost use Rattle.std.specs.Prelude.{◌≡◌, [], ◌∷◌, ◌&&◌, map, IfOk};
 ghost use Rattle.unit_defs.specs.CpRecords.{has_unit};
 ghost use Rattle.unit_defs.specs.CpRows.{own_up, own_du, say_command, attach_context as attach_context_of, attach, attach_begins, attach_has_tunnels, attach_is_placed, attach_fails};
-ghost use Rattle.unit_octet_defs.specs.Codec.{octet_way};
-ghost use Rattle.control_says.specs.Rows.{say_as, RowGives};
+ghost use Rattle.control_requests.specs.unit_octet_defs.Codec.{octet_way};
+ghost use Rattle.control_requests.specs.control_says.Rows.{say_as, RowGives};
 
-use control_contexts::{Attempt, Context, Terminal, has_node};
+use control_requests::from_control_contexts::{Attempt, Context, Terminal, has_node};
+use control_requests::from_control_says::says::{Say, Says};
+use control_requests::from_control_says::{At, Row, say_command};
+use control_requests::from_unit_messages::MessageCodec;
+use control_requests::from_unit_steps::StepError;
 use control_requests::{bearer_setup, du_setup};
-use control_says::says::{Say, Says};
-use control_says::{At, Row, say_command};
 use gnb_types::items::{Items, Memory};
 use gnb_types::names::NodeId;
 use gnb_types::plans::{Plan, TunnelList};
 use gnb_types::reasons::{CauseName, RefuseReason};
 use results::beside;
 use unit_defs::{AttemptKind, StateName};
-use unit_messages::MessageCodec;
-use unit_steps::StepError;
 
 /// The epoch of an attach.
 const FIRST: u32 = 1;

@@ -3,16 +3,18 @@
 ghost use Rattle.std.specs.Prelude.{◌≡◌, Some, None};
 ghost use Rattle.unit_defs.specs.CpRows.{epoch_of, handover_request, handover_begins, handover_on, handover, handover_is_acknowledged, handover_is_declined, handover_expires, handover_is_frozen, handover_is_not_frozen, command, cancel_attempt, cancel_of, cancel};
 ghost use Rattle.unit_defs.specs.Messages.{is_same_gnb};
-ghost use Rattle.unit_octet_defs.specs.Codec.{octet_way};
-ghost use Rattle.control_says.specs.Rows.{say_as, RowGives};
+ghost use Rattle.control_requests.specs.unit_octet_defs.Codec.{octet_way};
+ghost use Rattle.control_requests.specs.control_says.Rows.{say_as, RowGives};
 
 use crate::attaching::only_command;
 use crate::moving::move_begins;
 use crate::releasing::is_serving;
-use control_contexts::{Attempt, Context, Terminal};
+use control_requests::from_control_contexts::{Attempt, Context, Terminal};
+use control_requests::from_control_says::says::{EPOCHS, NO_INSTANCE, Say};
+use control_requests::from_control_says::{At, Row, other_cp, two};
+use control_requests::from_unit_messages::{Message, MessageCodec};
+use control_requests::from_unit_steps::StepError;
 use control_requests::{du_release, say_freeze, say_resume, xn_cancel};
-use control_says::says::{EPOCHS, NO_INSTANCE, Say};
-use control_says::{At, Row, other_cp, two};
 use gnb_types::items::Items;
 use gnb_types::names::Gnb;
 use gnb_types::plans::{Peer, Plan, StatusList, TunnelList};
@@ -20,8 +22,6 @@ use gnb_types::reasons::{CauseName, RefuseReason};
 use message_types::XnMessage;
 use results::beside;
 use unit_defs::{AttemptKind, StateName};
-use unit_messages::{Message, MessageCodec};
-use unit_steps::StepError;
 
 /// Ticks from the request of a handover until it is given up.
 const PREPARATION_TICKS: u16 = 8;

@@ -2,19 +2,19 @@
 
 ghost use Rattle.std.specs.Prelude.{◌≡◌};
 ghost use Rattle.unit_defs.specs.CpRows.{move_begins, move_has_uplinks, move_is_placed};
-ghost use Rattle.unit_octet_defs.specs.Codec.{octet_way};
-ghost use Rattle.control_says.specs.Rows.{RowGives};
+ghost use Rattle.control_requests.specs.unit_octet_defs.Codec.{octet_way};
+ghost use Rattle.control_requests.specs.control_says.Rows.{RowGives};
 
-use control_contexts::{Attempt, Context, Terminal};
+use control_requests::from_control_contexts::{Attempt, Context, Terminal};
+use control_requests::from_control_says::says::EPOCHS;
+use control_requests::from_control_says::{At, Row};
+use control_requests::from_unit_messages::MessageCodec;
+use control_requests::from_unit_steps::StepError;
 use control_requests::{du_setup, say_uplinks};
-use control_says::says::EPOCHS;
-use control_says::{At, Row};
 use gnb_types::items::Items;
 use gnb_types::plans::{Plan, TunnelList};
 use results::beside;
 use unit_defs::{AttemptKind, StateName};
-use unit_messages::MessageCodec;
-use unit_steps::StepError;
 
 /// It begins with further uplinks. The epoch is the one that was accepted last.
 #[tactic(auto, unfolding(unit_defs::specs::CpRows::move_begins))]

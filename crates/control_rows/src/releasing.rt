@@ -5,20 +5,20 @@ ghost use Rattle.unit_defs.specs.CpRows.{du_release, up_release, is_between_gnbs
 ghost use Rattle.message_types.specs.declared.xn.XnMessage.TheVariants as xns;
 ghost use Rattle.unit_defs.specs.CpRecords.{replies};
 ghost use Rattle.unit_defs.specs.Ways.{xn};
-ghost use Rattle.unit_octet_defs.specs.Codec.{octet_way};
-ghost use Rattle.control_says.specs.Rows.{say_as, RowGives};
+ghost use Rattle.control_requests.specs.unit_octet_defs.Codec.{octet_way};
+ghost use Rattle.control_requests.specs.control_says.Rows.{say_as, RowGives};
 
-use control_contexts::{Attempt, Context, Terminal};
+use control_requests::from_control_contexts::{Attempt, Context, Terminal};
+use control_requests::from_control_says::says::Says;
+use control_requests::from_control_says::{At, Row, two, with_first};
+use control_requests::from_unit_messages::MessageCodec;
+use control_requests::from_unit_steps::StepError;
 use control_requests::{du_release, transport_confirm, up_release};
-use control_says::says::Says;
-use control_says::{At, Row, two, with_first};
 use gnb_types::items::Memory;
 use gnb_types::names::NodeId;
 use gnb_types::reasons::{DropReason, RefuseReason};
 use results::beside;
 use unit_defs::{AttemptKind, StateName};
-use unit_messages::MessageCodec;
-use unit_steps::StepError;
 
 /// An order: a terminal that is served is released for good.
 #[tactic(auto, unfolding(unit_defs::specs::CpRows::release))]

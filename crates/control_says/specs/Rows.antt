@@ -1,6 +1,6 @@
 -- The rows of the code, as the definitions have them.
 use Rattle.std.specs.Prelude.{◌≡◌, ℕ, List, map, Option, Some, None, Result, Ok, Err}
-use Rattle.unit_defs.specs.CpRecords as cp
+use Rattle.unit_steps.specs.unit_defs.CpRecords as cp
 use Rattle.unit_messages.specs.Messages.{message_as}
 use Rattle.unit_steps.specs.declared.StepError.{StepError}
 use Rattle.unit_steps.specs.declared.StepError.TheVariants as errors

@@ -11,3 +11,18 @@ mod tokens;
 pub use lists::{two, with_first};
 pub use row::{At, Row};
 pub use tokens::{other_cp, say_accepted, say_command, told_epoch};
+
+/// Of `unit_steps`, for crates above.
+pub mod from_unit_steps {
+    pub use unit_steps::StepError;
+}
+
+/// Of `unit_messages`, for crates above.
+pub mod from_unit_messages {
+    pub use unit_messages::{Kind, Message, MessageCodec};
+}
+
+/// Of `control_contexts`, for crates above.
+pub mod from_control_contexts {
+    pub use control_contexts::{Attempt, Context, Terminal, copy_tunnels, has_node, same_node};
+}

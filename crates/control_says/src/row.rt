@@ -1,7 +1,7 @@
 //! A row, and where it acts.
 
 ghost use Rattle.std.specs.Prelude.{◌≡◌, [], ◌∷◌, map, Some, None, IfOk};
-ghost use Rattle.unit_defs.specs.CpRecords.{stays, keeps, gives_up, refuses, ignores};
+ghost use Rattle.unit_steps.specs.unit_defs.CpRecords.{stays, keeps, gives_up, refuses, ignores};
 ghost use Rattle.control_says.specs.Rows.{row_as, say_as, RowGives};
 
 use crate::lists::beside;
@@ -26,7 +26,7 @@ pub struct At<'a, C> {
 }
 
 impl<'a, C> Model for At<'a, C> {
-    ghost use Rattle.unit_defs.specs.CpRows.{CpAt};
+    ghost use Rattle.unit_steps.specs.unit_defs.CpRows.{CpAt};
 
     ghost Value = { CpAt };
 

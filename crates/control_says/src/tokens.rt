@@ -1,7 +1,7 @@
 //! Tokens for the terminal (TS 38.331, 5.3.5), by way of its serving DU.
 
 ghost use Rattle.std.specs.Prelude.{◌≡◌, IfOk};
-ghost use Rattle.unit_defs.specs.CpRows.{other_cp, target_gnb, say_command, say_accepted};
+ghost use Rattle.unit_steps.specs.unit_defs.CpRows.{other_cp, target_gnb, say_command, say_accepted};
 ghost use Rattle.unit_messages.specs.unit_octet_defs.Codec.{octet_way};
 ghost use Rattle.control_says.specs.Rows.{say_as};
 
@@ -11,9 +11,9 @@ use control_contexts::{Attempt, Context};
 use gnb_types::items::Memory;
 use gnb_types::names::{Gnb, NodeId};
 use gnb_types::octets::Octets;
-use message_types::{F1, Token};
-use unit_defs::AttemptKind;
+use unit_messages::from_message_types::{F1, Token};
 use unit_messages::{Message, MessageCodec, spelled};
+use unit_steps::from_unit_defs::AttemptKind;
 
 /// The other CU-CP.
 pub fn other_cp<C>(at: &At<'_, C>) -> NodeId

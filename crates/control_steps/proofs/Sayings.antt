@@ -4,12 +4,12 @@ use Rattle.std.specs.Prelude.{Err}
 use Rattle.gnb_types.specs.declared.names.UeId.{UeId}
 use Rattle.gnb_types.specs.declared.outputs.Output.{Output}
 use Rattle.unit_defs.specs.CpRecords.{CuCpRecord, Say, forgets, forgotten, with_transactions, say_one, say_all}
-use Rattle.unit_octet_defs.specs.Codec.{Codec, octet_way}
-use Rattle.unit_steps.specs.declared.StepError.{StepError}
-use Rattle.unit_steps.specs.Steps.{Step, stepped, step_after, IsStep}
-use Rattle.unit_steps.proofs.StepLaws.{step_then}
-use Rattle.unit_requests.specs.Requests.{Kept}
-use Rattle.unit_requests.proofs.Thens.{step_nothing, stops}
+use Rattle.control_says.specs.unit_octet_defs.Codec.{Codec, octet_way}
+use Rattle.control_says.specs.unit_steps.declared.StepError.{StepError}
+use Rattle.control_says.specs.unit_steps.Steps.{Step, stepped, step_after, IsStep}
+use Rattle.control_says.proofs.unit_steps.StepLaws.{step_then}
+use Rattle.waiting_requests.specs.unit_requests.Requests.{Kept}
+use Rattle.waiting_requests.proofs.unit_requests.Thens.{step_nothing, stops}
 
 abbrev pub OctetCp : Type 0
 OctetCp = CuCpRecord (List ℕ) (List ℕ)

@@ -1,16 +1,18 @@
 //! What a row says is carried out.
 
 ghost use Rattle.std.specs.Prelude.{◌≡◌, map, OnOk};
-ghost use Rattle.unit_octet_defs.specs.Codec.{octet_way};
+ghost use Rattle.control_says.specs.unit_octet_defs.Codec.{octet_way};
 ghost use Rattle.unit_defs.specs.CpRecords.{after_begun, noted, asks, cancels, replies, replies_late, sends, forgets, say_one, say_all, carry_out};
 ghost use Rattle.unit_defs.specs.CuCp.{put_next};
-ghost use Rattle.unit_messages.specs.Messages.{message_as};
-ghost use Rattle.unit_steps.specs.Steps.{step_after, IsStep};
+ghost use Rattle.control_says.specs.unit_messages.Messages.{message_as};
+ghost use Rattle.control_says.specs.unit_steps.Steps.{step_after, IsStep};
 ghost use Rattle.control_says.specs.Rows.{row_as, say_as};
 
 use crate::terminals::{note_awaiting, note_begun};
 use control_records::ControlRecord;
 use control_says::Row;
+use control_says::from_unit_messages::{Message, MessageCodec};
+use control_says::from_unit_steps::StepError;
 use control_says::says::{Say, Says};
 use gnb_types::items::Memory;
 use gnb_types::keys::Channel;
@@ -19,10 +21,8 @@ use gnb_types::outputs::{Output, Outputs};
 use results::beside;
 use std::alloc::Global;
 use std::collections::VecDeque;
-use unit_messages::{Message, MessageCodec};
-use unit_requests::{Waiting, put};
-use unit_steps::StepError;
 use waiting_requests::forget;
+use waiting_requests::from_unit_requests::{Waiting, put};
 
 /// The request on this channel was begun, if it was.
 fn begun<C: MessageCodec>(

@@ -3,8 +3,8 @@
 ghost use Rattle.std.specs.Prelude.{◌≡◌, OnOk, if◌then◌else◌};
 ghost use Rattle.unit_defs.specs.CpRecords.{awaiting, begun, on_attempt, on_context, with_attempt};
 
-use control_contexts::{Attempt, Context};
 use control_records::ControlRecord;
+use control_says::from_control_contexts::{Attempt, Context};
 use gnb_types::items::Memory;
 use gnb_types::names::{NodeId, UeId};
 use results::beside;

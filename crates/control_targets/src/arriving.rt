@@ -3,18 +3,18 @@
 ghost use Rattle.std.specs.Prelude.{◌≡◌, [], ◌∷◌, map, true, IfOk};
 ghost use Rattle.unit_defs.specs.CpRecords.{attempted};
 ghost use Rattle.unit_defs.specs.CpRows.{is_between_dus, greatest, took, du_modify, path_switch, say_switch, give_up_attempt, returns, arrives, arrives_again};
-ghost use Rattle.unit_octet_defs.specs.Codec.{octet_way};
-ghost use Rattle.control_says.specs.Rows.{row_as, say_as, RowGives};
+ghost use Rattle.control_requests.specs.unit_octet_defs.Codec.{octet_way};
+ghost use Rattle.control_requests.specs.control_says.Rows.{row_as, say_as, RowGives};
 
-use control_contexts::{Attempt, Context, Terminal, copy_tunnels};
+use control_requests::from_control_contexts::{Attempt, Context, Terminal, copy_tunnels};
+use control_requests::from_control_says::says::Says;
+use control_requests::from_control_says::{At, Row, two, with_first};
+use control_requests::from_unit_messages::MessageCodec;
+use control_requests::from_unit_steps::StepError;
 use control_requests::{du_modify, du_release, path_switch, say_switch, xn_cancel};
-use control_says::says::Says;
-use control_says::{At, Row, two, with_first};
 use gnb_types::items::{Items, Memory};
 use results::beside;
 use unit_defs::{AttemptKind, StateName};
-use unit_messages::MessageCodec;
-use unit_steps::StepError;
 
 /// The greatest epoch of a token that was taken.
 fn greatest<C: MessageCodec>(_at: &At<'_, C>, taken: Option<u32>, epoch: u32) -> Option<u32>

@@ -5,7 +5,7 @@ ghost use Rattle.unit_defs.specs.Messages.{are_bearers, statuses_of};
 ghost use Rattle.unit_defs.specs.CpRecords.{bearers_in};
 ghost use Rattle.unit_defs.specs.CpRows.{name_bearers};
 
-use control_contexts::Context;
+use control_requests::from_control_contexts::Context;
 use gnb_types::items::{Items, Memory};
 use gnb_types::names::BearerId;
 use gnb_types::plans::{StatusList, TunnelList};

@@ -3,20 +3,20 @@
 ghost use Rattle.std.specs.Prelude.{◌≡◌, ◌∷◌, map, Some, false, IfOk};
 ghost use Rattle.unit_defs.specs.CpRecords.{attempted};
 ghost use Rattle.unit_defs.specs.CpRows.{leave_old, leave_old_again, opens_path, say_switch, completes, completes_again};
-ghost use Rattle.unit_octet_defs.specs.Codec.{octet_way};
-ghost use Rattle.control_says.specs.Rows.{say_as, RowGives};
+ghost use Rattle.control_requests.specs.unit_octet_defs.Codec.{octet_way};
+ghost use Rattle.control_requests.specs.control_says.Rows.{say_as, RowGives};
 
 use crate::arriving::took;
-use control_contexts::{Attempt, Context, Terminal, copy_tunnels};
+use control_requests::from_control_contexts::{Attempt, Context, Terminal, copy_tunnels};
+use control_requests::from_control_says::says::{Say, Says};
+use control_requests::from_control_says::{At, Row, two, with_first};
+use control_requests::from_unit_messages::MessageCodec;
+use control_requests::from_unit_steps::StepError;
 use control_requests::{du_modify, du_release, path_switch, say_switch};
-use control_says::says::{Say, Says};
-use control_says::{At, Row, two, with_first};
 use gnb_types::items::{Items, Memory};
 use gnb_types::plans::TunnelList;
 use results::beside;
 use unit_defs::{AttemptKind, StateName};
-use unit_messages::MessageCodec;
-use unit_steps::StepError;
 
 /// Whether an attempt opens the path from the core.
 fn opens_path<C: MessageCodec>(_at: &At<'_, C>, kind: AttemptKind) -> bool

@@ -18,3 +18,30 @@ pub use offering::{
 };
 pub use source_says::{status, xn_cancelled};
 pub use switching::{is_switched, path_is_switched, place_is_renewed};
+
+/// Of `unit_defs`, for crates above.
+pub mod from_unit_defs {
+    pub use unit_defs::{AttemptKind, StateName};
+}
+
+/// Of `unit_steps`, for crates above.
+pub mod from_unit_steps {
+    pub use control_requests::from_unit_steps::StepError;
+}
+
+/// Of `unit_messages`, for crates above.
+pub mod from_unit_messages {
+    pub use control_requests::from_unit_messages::{Message, MessageCodec};
+}
+
+/// Of `control_contexts`, for crates above.
+pub mod from_control_contexts {
+    pub use control_requests::from_control_contexts::{
+        Attempt, Context, Terminal, copy_tunnels, same_node,
+    };
+}
+
+/// Of `control_says`, for crates above.
+pub mod from_control_says {
+    pub use control_requests::from_control_says::{At, Row, say_accepted};
+}

@@ -2,24 +2,24 @@
 
 ghost use Rattle.std.specs.Prelude.{◌≡◌, [], ◌∷◌, ◌&&◌, map, true, None, IfOk};
 ghost use Rattle.unit_defs.specs.CpRows.{offer_context as offer_context_of, own_peer, own_up, own_du, du_setup, offer, offer_on, offer_has_tunnels, offer_is_declined, offer_is_placed};
-ghost use Rattle.unit_octet_defs.specs.Codec.{octet_way};
+ghost use Rattle.control_requests.specs.unit_octet_defs.Codec.{octet_way};
 ghost use Rattle.unit_defs.specs.CpRecords.{has_unit, replies_late};
 ghost use Rattle.unit_defs.specs.CpRows.{other_cp};
 ghost use Rattle.unit_defs.specs.Ways.{xn};
-ghost use Rattle.control_says.specs.Rows.{say_as, RowGives};
+ghost use Rattle.control_requests.specs.control_says.Rows.{say_as, RowGives};
 
-use control_contexts::{Attempt, Context, Terminal, copy_tunnels, has_node};
+use control_requests::from_control_contexts::{Attempt, Context, Terminal, copy_tunnels, has_node};
+use control_requests::from_control_says::says::{Say, Says};
+use control_requests::from_control_says::{At, Row, other_cp, told_epoch};
+use control_requests::from_unit_messages::{Message, MessageCodec};
+use control_requests::from_unit_steps::StepError;
 use control_requests::{bearer_setup, du_setup};
-use control_says::says::{Say, Says};
-use control_says::{At, Row, other_cp, told_epoch};
 use gnb_types::items::{Items, Memory};
 use gnb_types::names::{NodeId, SnBits};
 use gnb_types::plans::{Peer, TunnelList};
-use message_types::XnMessage;
 use results::beside;
+use unit_defs::from_message_types::XnMessage;
 use unit_defs::{AttemptKind, StateName};
-use unit_messages::{Message, MessageCodec};
-use unit_steps::StepError;
 
 // The causes of the profile's enumeration.
 const BUSY: u32 = 1;

@@ -4,21 +4,21 @@ ghost use Rattle.std.specs.Prelude.{◌≡◌, ◌&&◌, ◌++◌, [], ◌∷◌
 ghost use Rattle.unit_defs.specs.CpRows.{takes_status, status, status_on, du_release_if, up_release as up_release_of, is_cancellable, offer_cancelled, xn_cancelled, xn_cancelled_of};
 ghost use Rattle.unit_defs.specs.CpRecords.{bearers_in};
 ghost use Rattle.unit_defs.specs.Messages.{are_bearers, statuses_of};
-ghost use Rattle.unit_octet_defs.specs.Codec.{octet_way};
-ghost use Rattle.control_says.specs.Rows.{say_as, RowGives};
+ghost use Rattle.control_requests.specs.unit_octet_defs.Codec.{octet_way};
+ghost use Rattle.control_requests.specs.control_says.Rows.{say_as, RowGives};
 
 use crate::bearers::statuses_name_bearers;
-use control_contexts::{Attempt, Context, Terminal};
+use control_requests::from_control_contexts::{Attempt, Context, Terminal};
+use control_requests::from_control_says::says::{Say, Says};
+use control_requests::from_control_says::{At, Row, two, with_first};
+use control_requests::from_unit_messages::MessageCodec;
+use control_requests::from_unit_steps::StepError;
 use control_requests::{du_release, say_status, transport_confirm, up_release};
-use control_says::says::{Say, Says};
-use control_says::{At, Row, two, with_first};
 use gnb_types::items::{Items, Memory};
 use gnb_types::names::NodeId;
 use gnb_types::plans::StatusList;
 use gnb_types::reasons::DropReason;
 use unit_defs::StateName;
-use unit_messages::MessageCodec;
-use unit_steps::StepError;
 
 // ---- the SN status
 

@@ -3,19 +3,19 @@
 ghost use Rattle.std.specs.Prelude.{◌≡◌, [], ◌∷◌, map, true, Some, IfOk, if◌then◌else◌};
 ghost use Rattle.unit_defs.specs.CpRecords.{attempted, serving};
 ghost use Rattle.unit_defs.specs.CpRows.{say_accepted, place_is_renewed, is_switched, let_source_go, path_is_switched};
-ghost use Rattle.unit_octet_defs.specs.Codec.{octet_way};
-ghost use Rattle.control_says.specs.Rows.{say_as, RowGives};
+ghost use Rattle.control_requests.specs.unit_octet_defs.Codec.{octet_way};
+ghost use Rattle.control_requests.specs.control_says.Rows.{say_as, RowGives};
 
-use control_contexts::{Attempt, Context, Terminal};
+use control_requests::from_control_contexts::{Attempt, Context, Terminal};
+use control_requests::from_control_says::says::Says;
+use control_requests::from_control_says::{At, Row, say_accepted, told_epoch};
+use control_requests::from_unit_messages::MessageCodec;
+use control_requests::from_unit_steps::StepError;
 use control_requests::{say_switch, source_release};
-use control_says::says::Says;
-use control_says::{At, Row, say_accepted, told_epoch};
 use gnb_types::items::{Items, Memory};
 use gnb_types::plans::TunnelList;
 use results::beside;
 use unit_defs::StateName;
-use unit_messages::MessageCodec;
-use unit_steps::StepError;
 
 /// The DU has new downlinks: the switch.
 #[tactic(auto, unfolding(unit_defs::specs::CpRows::place_is_renewed))]

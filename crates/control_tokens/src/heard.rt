@@ -1,13 +1,13 @@
 //! A token that was heard.
 
 ghost use Rattle.std.specs.Prelude.{◌≡◌};
-ghost use Rattle.unit_defs.specs.CuCp.{is_complete, is_reestablish, is_epoch};
-ghost use Rattle.unit_octet_defs.specs.Codec.{octet_way};
+ghost use Rattle.control_targets.specs.unit_defs.CuCp.{is_complete, is_reestablish, is_epoch};
+ghost use Rattle.control_targets.specs.unit_octet_defs.Codec.{octet_way};
 
-use control_says::At;
+use control_targets::from_control_says::At;
+use control_targets::from_unit_messages::MessageCodec;
 use gnb_types::names::NodeId;
 use message_types::Token;
-use unit_messages::MessageCodec;
 
 /// A token with an epoch, and who relayed it.
 #[derive(Clone, Copy)]

@@ -1,12 +1,12 @@
 //! In which states a token is taken.
 
 ghost use Rattle.std.specs.Prelude.{◌≡◌};
-ghost use Rattle.unit_defs.specs.CuCp.{is_own_command, may_return, is_too_early, is_ready};
-ghost use Rattle.unit_octet_defs.specs.Codec.{octet_way};
+ghost use Rattle.control_targets.specs.unit_defs.CuCp.{is_own_command, may_return, is_too_early, is_ready};
+ghost use Rattle.control_targets.specs.unit_octet_defs.Codec.{octet_way};
 
-use control_says::At;
-use unit_defs::{AttemptKind, StateName};
-use unit_messages::MessageCodec;
+use control_targets::from_control_says::At;
+use control_targets::from_unit_defs::{AttemptKind, StateName};
+use control_targets::from_unit_messages::MessageCodec;
 
 /// Whether a terminal was told to go to a DU of this gNB.
 pub(crate) fn is_own_command<C: MessageCodec>(

@@ -1,22 +1,22 @@
 //! The row of a token.
 
 ghost use Rattle.std.specs.Prelude.{◌≡◌, ◌==◌, ◌+◌, ◌&&◌};
-ghost use Rattle.unit_defs.specs.CpRecords.{same_node};
-ghost use Rattle.unit_defs.specs.CpRows.{own_du};
-ghost use Rattle.unit_defs.specs.CuCp.{is_reestablish, is_epoch, token_in_ready, token_of_return, token_of_attempt, token_while_serving, token_by_attempt, token_on, token_row, token_ue, container_row, no_context_first};
-ghost use Rattle.unit_octet_defs.specs.Codec.{octet_way};
-ghost use Rattle.control_says.specs.Rows.{RowGives};
+ghost use Rattle.control_targets.specs.unit_defs.CpRecords.{same_node};
+ghost use Rattle.control_targets.specs.unit_defs.CpRows.{own_du};
+ghost use Rattle.control_targets.specs.unit_defs.CuCp.{is_reestablish, is_epoch, token_in_ready, token_of_return, token_of_attempt, token_while_serving, token_by_attempt, token_on, token_row, token_ue, container_row, no_context_first};
+ghost use Rattle.control_targets.specs.unit_octet_defs.Codec.{octet_way};
+ghost use Rattle.control_targets.specs.control_says.Rows.{RowGives};
 
 use crate::heard::{Heard, is_complete, is_epoch, is_reestablish};
 use crate::states::{is_own_command, is_ready, is_too_early, may_return};
-use control_contexts::{Attempt, Context, Terminal, same_node};
-use control_says::{At, Row, say_accepted};
+use control_targets::from_control_contexts::{Attempt, Context, Terminal, same_node};
+use control_targets::from_control_says::{At, Row, say_accepted};
+use control_targets::from_unit_messages::MessageCodec;
+use control_targets::from_unit_steps::StepError;
 use control_targets::{arrives, arrives_again, completes, completes_again, returns};
 use gnb_types::names::{NodeId, UeId};
 use gnb_types::reasons::DropReason;
 use message_types::Token;
-use unit_messages::MessageCodec;
-use unit_steps::StepError;
 
 /// Whether an epoch is the one after another.
 fn is_next(epoch: u64, next: u32) -> bool

@@ -3,7 +3,7 @@
 
 ghost use Rattle.std.specs.Prelude.{ℕ, []};
 ghost use Rattle.aper_defs.specs.Membership.{Has};
-ghost use Rattle.profile_defs.specs.Profile.{core_type};
+ghost use Rattle.message_defs.specs.profile_defs.Profile.{core_type};
 ghost use Rattle.aper_values.specs.Views.{view, ies_view};
 ghost use Rattle.message_defs.specs.Core.{core_at, heard_core};
 ghost use Rattle.message_values.specs.Fitting.{AreFitting};

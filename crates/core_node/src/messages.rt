@@ -8,8 +8,8 @@ ghost use Rattle.unit_defs.specs.Ways.{core};
 ghost use Rattle.unit_defs.specs.Core.{asked, came, core_acts, switch_path};
 ghost use Rattle.unit_octet_defs.specs.Codec.{octet_way};
 ghost use Rattle.unit_octet_defs.specs.Units.{core_steps};
-ghost use Rattle.unit_messages.specs.Messages.{message_as};
-ghost use Rattle.unit_steps.specs.Steps.{IsStep, step_after};
+ghost use Rattle.unit_requests.specs.unit_messages.Messages.{message_as};
+ghost use Rattle.unit_requests.specs.unit_steps.Steps.{IsStep, step_after};
 
 use crate::node::CoreNode;
 use gnb_types::items::Items;
@@ -20,10 +20,10 @@ use gnb_types::plans::{Peer, TunnelList};
 use gnb_types::reasons::DropReason;
 use message_types::CoreMessage;
 use std::alloc::Global;
-use transactions::callee::Verdict;
-use unit_messages::{Kind, Message, MessageCodec};
+use unit_requests::from_transactions::callee::Verdict;
+use unit_requests::from_unit_messages::{Kind, Message, MessageCodec};
+use unit_requests::from_unit_steps::StepError;
 use unit_requests::put;
-use unit_steps::StepError;
 
 /// A path switch that is asked for: whose downlink goes to which CU-UP, and to which N3 tunnel for each bearer.
 #[derive(Clone, Copy)]

@@ -6,7 +6,7 @@ ghost use Rattle.tables.specs.Tables.{find, put};
 ghost use Rattle.unit_defs.specs.Core.{new_core, old_ends, moved};
 ghost use Rattle.unit_octet_defs.specs.Codec.{Codec, octet_way};
 ghost use Rattle.unit_octet_defs.specs.Writing.{outputs_of};
-ghost use Rattle.unit_steps.specs.Steps.{IsStep, step_after};
+ghost use Rattle.unit_requests.specs.unit_steps.Steps.{IsStep, step_after};
 
 use crate::paths::CorePath;
 use gnb_types::items::Memory;
@@ -17,7 +17,7 @@ use std::alloc::Global;
 use std::marker::Model;
 use tables::table::Table;
 use unit_requests::Requests;
-use unit_steps::StepError;
+use unit_requests::from_unit_steps::StepError;
 
 /// The path of each terminal, and the replies that are kept. Contracts see the record of the table of rows.
 #[derive(Drop)]

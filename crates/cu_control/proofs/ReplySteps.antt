@@ -8,12 +8,12 @@ use Rattle.unit_defs.specs.Ways.{Message}
 use Rattle.unit_defs.specs.CpRecords.{CuCpRecord, Row, carry_out}
 use Rattle.unit_defs.specs.CuCp.{Answered, answers_with, closed_at, put_next, answered_by}
 use Rattle.unit_octet_defs.specs.Codec.{Codec, octet_way}
-use Rattle.unit_steps.specs.declared.StepError.{StepError}
-use Rattle.unit_steps.specs.declared.StepError.TheVariants as errors
-use Rattle.unit_steps.specs.Steps.{Step, stepped, step_after, IsStep}
-use Rattle.unit_requests.proofs.Thens.{goes_on, stops}
-use Rattle.control_says.specs.declared.row.Row.{Row as CodeRow}
-use Rattle.control_says.specs.Rows.{row_as}
+use Rattle.control_steps.specs.unit_steps.declared.StepError.{StepError}
+use Rattle.control_steps.specs.unit_steps.declared.StepError.TheVariants as errors
+use Rattle.control_steps.specs.unit_steps.Steps.{Step, stepped, step_after, IsStep}
+use Rattle.control_steps.proofs.unit_requests.Thens.{goes_on, stops}
+use Rattle.control_steps.specs.control_says.declared.row.Row.{Row as CodeRow}
+use Rattle.control_steps.specs.control_says.Rows.{row_as}
 use Rattle.control_answers.specs.declared.states.Answered.{Answered as CodeAnswered}
 use Rattle.control_answers.specs.declared.states.Answered.TheVariants.{Awaited}
 use Rattle.control_answers.specs.Answers.{some_row_as, AnswerGives}

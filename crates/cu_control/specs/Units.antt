@@ -7,9 +7,9 @@ use Rattle.unit_defs.specs.CpRecords.{CuCpRecord}
 use Rattle.unit_defs.specs.Static.{cp_placed}
 use Rattle.unit_octet_defs.specs.Codec.{Codec}
 use Rattle.unit_octet_defs.specs.Units.{cu_cp_steps}
-use Rattle.unit_steps.specs.Steps.{step_after, IsStep}
-use Rattle.unit_steps.specs.declared.StepError.{StepError}
-use Rattle.unit_steps.specs.declared.StepError.TheVariants.{Memory}
+use Rattle.control_steps.specs.unit_steps.Steps.{step_after, IsStep}
+use Rattle.control_steps.specs.unit_steps.declared.StepError.{StepError}
+use Rattle.control_steps.specs.unit_steps.declared.StepError.TheVariants.{Memory}
 
 pub record ControlUnit : Type 0 where
   pub kept : CuCpRecord (List ℕ) (List ℕ)

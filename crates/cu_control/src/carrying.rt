@@ -4,17 +4,17 @@ ghost use Rattle.std.specs.Prelude.{List, ℕ};
 ghost use Rattle.unit_defs.specs.CpRecords as cp;
 ghost use Rattle.unit_defs.specs.CuCp.{by_row};
 ghost use Rattle.unit_octet_defs.specs.Codec.{octet_way};
-ghost use Rattle.control_says.specs.Rows.{RowGives};
-ghost use Rattle.unit_steps.specs.Steps.{step_after, IsStep};
+ghost use Rattle.control_steps.specs.control_says.Rows.{RowGives};
+ghost use Rattle.control_steps.specs.unit_steps.Steps.{step_after, IsStep};
 
-use control_records::ControlRecord;
-use control_says::Row;
 use control_steps::carry_out;
+use control_steps::from_control_records::ControlRecord;
+use control_steps::from_control_says::Row;
+use control_steps::from_unit_messages::MessageCodec;
+use control_steps::from_unit_steps::StepError;
 use gnb_types::names::UeId;
 use gnb_types::outputs::Outputs;
 use std::alloc::Global;
-use unit_messages::MessageCodec;
-use unit_steps::StepError;
 
 /// A row that was made is carried out, and an error stays one: so a caller owns no row at an exit of its own.
 pub(crate) fn carry_made<C: MessageCodec>(

@@ -12,3 +12,8 @@ mod ticks;
 mod tokens;
 
 pub use control::CuControl;
+
+/// Of `control_rows`, for crates above.
+pub mod from_control_rows {
+    pub use control_rows::is_same_gnb;
+}

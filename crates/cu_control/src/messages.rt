@@ -8,14 +8,17 @@ ghost use Rattle.unit_defs.specs.CpRecords.{with_transactions};
 ghost use Rattle.unit_defs.specs.CuCp.{asked, reply_came, transferred, control_by, control_came};
 ghost use Rattle.unit_octet_defs.specs.Codec.{octet_way};
 ghost use Rattle.unit_octet_defs.specs.Units.{cu_cp_steps};
-ghost use Rattle.unit_messages.specs.Messages.{message_as};
-ghost use Rattle.unit_steps.specs.Steps.{step_after, IsStep};
+ghost use Rattle.control_steps.specs.unit_messages.Messages.{message_as};
+ghost use Rattle.control_steps.specs.unit_steps.Steps.{step_after, IsStep};
 
 use crate::asked::asked;
 use crate::replies::reply_came;
 use crate::tokens::token_came;
-use control_records::ControlRecord;
 use control_rows::is_same_gnb;
+use control_steps::from_control_records::ControlRecord;
+use control_steps::from_unit_messages::{Kind, Message, MessageCodec};
+use control_steps::from_unit_requests::put;
+use control_steps::from_unit_steps::StepError;
 use gnb_types::keys::Channel;
 use gnb_types::names::{Gnb, NodeId};
 use gnb_types::octets::Octets;
@@ -24,9 +27,6 @@ use gnb_types::reasons::DropReason;
 use message_types::F1;
 use std::alloc::Global;
 use transactions::callee::Verdict;
-use unit_messages::{Kind, Message, MessageCodec};
-use unit_requests::put;
-use unit_steps::StepError;
 
 /// Whether the CU-CP of this gNB shares an interface with a node (TS 38.401, 6.1.2).
 fn shares_interface(gnb: Gnb, from: NodeId) -> bool

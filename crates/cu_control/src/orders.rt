@@ -5,21 +5,21 @@ ghost use Rattle.unit_defs.specs.CpRecords.{terminal_of};
 ghost use Rattle.unit_defs.specs.CpRows.{attach, handover, cancel, release};
 ghost use Rattle.unit_defs.specs.CuCp.{at_of, by_row, ordered};
 ghost use Rattle.unit_octet_defs.specs.Codec.{octet_way};
-ghost use Rattle.unit_steps.specs.Steps.{step_after, IsStep};
+ghost use Rattle.control_steps.specs.unit_steps.Steps.{step_after, IsStep};
 
 use crate::asked::at_of;
 use crate::carrying::carry_made;
-use control_records::ControlRecord;
 use control_rows as rows;
+use control_steps::from_control_records::ControlRecord;
+use control_steps::from_unit_messages::MessageCodec;
+use control_steps::from_unit_requests::put;
+use control_steps::from_unit_steps::StepError;
 use gnb_types::inputs::Order;
 use gnb_types::names::UeId;
 use gnb_types::outputs::{Output, Outputs};
 use gnb_types::plans::Plan;
 use gnb_types::reasons::DropReason;
 use std::alloc::Global;
-use unit_messages::MessageCodec;
-use unit_requests::put;
-use unit_steps::StepError;
 
 fn attach<C: MessageCodec>(
     record: &mut ControlRecord,

@@ -4,14 +4,18 @@ ghost use Rattle.std.specs.Prelude.{◌≡◌, ℕ, List, Some};
 ghost use Rattle.unit_defs.specs.Ways as ways;
 ghost use Rattle.unit_defs.specs.CuCp.{answers_none, answers_with, is_setup_failure, after_failed_setup, closed_at, answered_by, reply_came};
 ghost use Rattle.unit_octet_defs.specs.Codec.{octet_way};
-ghost use Rattle.unit_messages.specs.Messages.{message_as};
-ghost use Rattle.unit_steps.specs.Steps.{step_after, IsStep};
-ghost use Rattle.control_says.specs.Rows.{row_as};
+ghost use Rattle.control_steps.specs.unit_messages.Messages.{message_as};
+ghost use Rattle.control_steps.specs.unit_steps.Steps.{step_after, IsStep};
+ghost use Rattle.control_steps.specs.control_says.Rows.{row_as};
 
 use crate::asked::at_of;
 use control_answers::{Answered, answer};
-use control_records::ControlRecord;
-use control_says::Row;
+use control_steps::from_control_records::ControlRecord;
+use control_steps::from_control_says::Row;
+use control_steps::from_unit_messages::{Message, MessageCodec};
+use control_steps::from_unit_requests::{Requests, put};
+use control_steps::from_unit_steps::StepError;
+use control_steps::from_waiting_requests::give_up_release;
 use control_steps::{carry_out, put_next};
 use gnb_types::keys::Channel;
 use gnb_types::names::UeId;
@@ -19,10 +23,6 @@ use gnb_types::outputs::{Output, Outputs};
 use gnb_types::reasons::DropReason;
 use message_types::E1Message;
 use std::alloc::Global;
-use unit_messages::{Message, MessageCodec};
-use unit_requests::{Requests, put};
-use unit_steps::StepError;
-use waiting_requests::give_up_release;
 
 fn is_setup_failure<C: MessageCodec>(_codec: &C, message: &Message) -> bool
     ensures { result ≡ is_setup_failure (octet_way C.codec) (message_as message.now) }

@@ -2,8 +2,8 @@
 use Rattle.std.specs.Prelude.{ℕ, List, [], Option, Some, None, Result, Ok, Err}
 use Rattle.gnb_types.specs.declared.names.Gnb.{Gnb}
 use Rattle.gnb_types.specs.declared.outputs.Output.{Output}
-use Rattle.unit_defs.specs.CuUp.{new_cu_up}
-use Rattle.unit_steps.specs.declared.StepError.{StepError}
+use Rattle.up_rows.specs.unit_defs.CuUp.{new_cu_up}
+use Rattle.up_rows.specs.unit_steps.declared.StepError.{StepError}
 use Rattle.up_rows.specs.up_contexts.declared.placing.PlaceError.{PlaceError}
 use Rattle.up_rows.specs.up_contexts.declared.placing.PlaceError.TheVariants as errors
 use Rattle.up_rows.specs.up_contexts.Tables.{OctetUp}

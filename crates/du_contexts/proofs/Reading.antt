@@ -8,7 +8,7 @@ use Rattle.gnb_types.specs.declared.inputs.Input.TheVariants as ins
 use Rattle.gnb_types.specs.declared.reasons.DropReason.TheVariants.{Undecodable}
 use Rattle.gnb_types.specs.Orders.{ue_cmp}
 use Rattle.tables.specs.Tables.{find}
-use Rattle.link_defs.specs.Decoding.{Item, f1u_downlink, DecodesOn}
+use Rattle.link_packets.specs.link_defs.Decoding.{Item, f1u_downlink, DecodesOn}
 use Rattle.unit_defs.specs.Ways.{drops}
 use Rattle.unit_defs.specs.Du.{DuContext, DuTunnel, du_acts, take, taken_on, taken_of}
 use Rattle.unit_octet_defs.specs.Codec.{Codec, octet_way}

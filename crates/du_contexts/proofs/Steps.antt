@@ -8,7 +8,7 @@ use Rattle.gnb_types.specs.declared.outputs.Output.{Output}
 use Rattle.gnb_types.specs.Orders.{ue_cmp, bearer_cmp}
 use Rattle.tables.specs.Tables.{find, put}
 use Rattle.pdcp.specs.Pdus.{Content}
-use Rattle.link_defs.specs.Decoding.{CarriesPdu}
+use Rattle.link_packets.specs.link_defs.Decoding.{CarriesPdu}
 use Rattle.unit_defs.specs.Ways.{frame_item}
 use Rattle.unit_defs.specs.Du.{DuBearer, DuContext, DuTunnel, told, gap_after, carried, taken_of, taken_in, frame_came}
 use Rattle.unit_octet_defs.specs.Codec.{Codec, octet_way}

@@ -6,7 +6,7 @@ use Rattle.gnb_types.specs.declared.reasons.DropReason.TheVariants.{NoContext, U
 use Rattle.gnb_types.specs.Orders.{ue_cmp}
 use Rattle.tables.specs.Tables.{find}
 use Rattle.pdcp.specs.Pdus.{Content}
-use Rattle.link_defs.specs.Decoding.{CarriesPdu}
+use Rattle.link_packets.specs.link_defs.Decoding.{CarriesPdu}
 use Rattle.unit_defs.specs.Du.{DuContext}
 use Rattle.unit_octet_defs.specs.Codec.{number_in}
 use Rattle.du_contexts.specs.Tables.{DuTables}

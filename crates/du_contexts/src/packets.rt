@@ -6,7 +6,7 @@ ghost use Rattle.gnb_types.specs.declared.names.Dir.TheVariants.{Dl, Ul};
 ghost use Rattle.gnb_types.specs.declared.outputs.Output.TheVariants as outs;
 ghost use Rattle.nr_user_plane.specs.declared.frames.Frame.TheVariants.{Status};
 ghost use Rattle.nr_user_plane.specs.Frames.{FitsFrame};
-ghost use Rattle.link_defs.specs.Layouts.{desired_buffer_size, delivery_status};
+ghost use Rattle.link_packets.specs.link_defs.Layouts.{desired_buffer_size, delivery_status};
 ghost use Rattle.gnb_types.specs.Orders.{ue_cmp};
 ghost use Rattle.tables.specs.Tables.{find};
 ghost use Rattle.unit_defs.specs.Ways.{drops};

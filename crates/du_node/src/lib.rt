@@ -5,3 +5,8 @@
 pub mod node;
 
 pub use node::DuNode;
+
+/// Of `unit_steps`, for crates above.
+pub mod from_unit_steps {
+    pub use du_rows::from_unit_steps::StepError;
+}

@@ -20,8 +20,8 @@ use Rattle.unit_defs.specs.Messages.{bearers_of, are_first_bearers}
 use Rattle.unit_defs.specs.Du.{DuContext, downlink_list, old_downlinks, openings, replaced, replaces, replies, context_with, context_anew, setup, modify, modify_on, release, released_on}
 use Rattle.unit_octet_defs.specs.Codec.{Codec, octet_way}
 use Rattle.unit_octet_defs.specs.Units.{OctetAnswer}
-use Rattle.unit_steps.specs.declared.StepError.{StepError}
-use Rattle.unit_steps.specs.Steps.{stepped, step_after, IsStep}
+use Rattle.unit_requests.specs.unit_steps.declared.StepError.{StepError}
+use Rattle.unit_requests.specs.unit_steps.Steps.{stepped, step_after, IsStep}
 use Rattle.unit_requests.proofs.Thens.{goes_on, stops}
 use Rattle.du_contexts.specs.Tables.{OctetDu, downlinks_at}
 use Rattle.du_contexts.specs.Renewed.{renewed}

@@ -4,8 +4,8 @@ use Rattle.std.specs.List.{flat_map}
 use Rattle.gnb_types.specs.declared.outputs.Output.{Output}
 use Rattle.transaction_defs.specs.Callers.{repeats, expires, due, after_tick}
 use Rattle.transaction_defs.specs.Callers as callers
-use Rattle.transactions.specs.declared.caller.Due.{Due}
-use Rattle.transactions.specs.Answers.{due_as}
+use Rattle.unit_requests.specs.transactions.declared.caller.Due.{Due}
+use Rattle.unit_requests.specs.transactions.Answers.{due_as}
 use Rattle.setup_requests.specs.Dues.{put_again}
 use Rattle.gnb_types.specs.declared.inputs.Input.TheVariants as ins
 use Rattle.unit_defs.specs.Du.{due_output, with_transactions, tick, du_acts}
@@ -13,8 +13,8 @@ use Rattle.unit_octet_defs.specs.Reading.{read_at_du}
 use Rattle.unit_octet_defs.specs.Units.{du_steps}
 use Rattle.unit_octet_defs.specs.Codec.{Codec, octet_way}
 use Rattle.unit_octet_defs.specs.Writing.{outputs_of}
-use Rattle.unit_steps.specs.Steps.{stepped, step_after}
-use Rattle.unit_steps.proofs.StepLaws.{outputs_append}
+use Rattle.unit_requests.specs.unit_steps.Steps.{stepped, step_after}
+use Rattle.unit_requests.proofs.unit_steps.StepLaws.{outputs_append}
 use Rattle.unit_requests.specs.Requests.{Kept}
 use Rattle.du_contexts.specs.Tables.{OctetDu}
 

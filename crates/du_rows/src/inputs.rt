@@ -3,8 +3,8 @@
 ghost use Rattle.gnb_types.specs.declared.inputs.Input.TheVariants as ins;
 ghost use Rattle.unit_octet_defs.specs.Codec.{octet_way};
 ghost use Rattle.unit_octet_defs.specs.Units.{du_steps};
-ghost use Rattle.codec_defs.specs.Reading.{ReadsItems, ReadsPdus};
-ghost use Rattle.unit_steps.specs.Steps.{IsStep, step_after};
+ghost use Rattle.du_contexts.specs.codec_defs.Reading.{ReadsItems, ReadsPdus};
+ghost use Rattle.unit_requests.specs.unit_steps.Steps.{IsStep, step_after};
 
 use crate::record::DuRecord;
 use du_contexts::packets::RadioKey;
@@ -13,9 +13,9 @@ use gnb_types::names::Dir;
 use gnb_types::outputs::{Output, Outputs};
 use gnb_types::reasons::DropReason;
 use std::alloc::Global;
-use unit_messages::MessageCodec;
+use unit_requests::from_unit_messages::MessageCodec;
+use unit_requests::from_unit_steps::StepError;
 use unit_requests::put;
-use unit_steps::StepError;
 
 impl DuRecord {
     /// One step: what the DU does with its input. What it can't read it drops, and its record is as before.

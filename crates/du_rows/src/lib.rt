@@ -11,3 +11,13 @@ pub mod setups;
 pub mod terminals;
 
 pub use record::DuRecord;
+
+/// Of `unit_steps`, for crates above.
+pub mod from_unit_steps {
+    pub use unit_requests::from_unit_steps::StepError;
+}
+
+/// Of `unit_messages`, for crates above.
+pub mod from_unit_messages {
+    pub use unit_requests::from_unit_messages::MessageCodec;
+}

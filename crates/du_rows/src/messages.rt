@@ -8,8 +8,8 @@ ghost use Rattle.unit_defs.specs.Transactions.{kind_of, on_request, on_reply};
 ghost use Rattle.unit_defs.specs.Du.{du_node, with_transactions, token_ue, asked, transferred, set_up, of_cp, of_terminal, control_came};
 ghost use Rattle.unit_octet_defs.specs.Codec.{octet_way};
 ghost use Rattle.unit_octet_defs.specs.Units.{du_steps};
-ghost use Rattle.unit_messages.specs.Messages.{message_as};
-ghost use Rattle.unit_steps.specs.Steps.{IsStep, step_after};
+ghost use Rattle.unit_requests.specs.unit_messages.Messages.{message_as};
+ghost use Rattle.unit_requests.specs.unit_steps.Steps.{IsStep, step_after};
 
 use crate::record::DuRecord;
 use crate::terminals::UeRequest;
@@ -20,10 +20,10 @@ use gnb_types::outputs::{Output, Outputs};
 use gnb_types::reasons::DropReason;
 use message_types::{F1, F1Message, Token};
 use std::alloc::Global;
-use transactions::callee::Verdict;
-use unit_messages::{Kind, Message, MessageCodec};
+use unit_requests::from_transactions::callee::Verdict;
+use unit_requests::from_unit_messages::{Kind, Message, MessageCodec};
+use unit_requests::from_unit_steps::StepError;
 use unit_requests::put;
-use unit_steps::StepError;
 
 fn is_same_gnb(a: Gnb, b: Gnb) -> bool
     ensures { result ≡ is_same_gnb a b }

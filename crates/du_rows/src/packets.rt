@@ -4,14 +4,14 @@ ghost use Rattle.gnb_types.specs.declared.inputs.Input.TheVariants as ins;
 ghost use Rattle.gnb_types.specs.declared.names.Dir.TheVariants.{Dl, Ul};
 ghost use Rattle.unit_octet_defs.specs.Codec.{Codec};
 ghost use Rattle.unit_octet_defs.specs.Units.{du_steps};
-ghost use Rattle.codec_defs.specs.Reading.{ReadsItems, ReadsPdus};
-ghost use Rattle.unit_steps.specs.Steps.{IsStep, step_after};
+ghost use Rattle.du_contexts.specs.codec_defs.Reading.{ReadsItems, ReadsPdus};
+ghost use Rattle.unit_requests.specs.unit_steps.Steps.{IsStep, step_after};
 
 use crate::record::DuRecord;
 use du_contexts::packets::RadioKey;
 use gnb_types::outputs::Outputs;
 use std::alloc::Global;
-use unit_steps::StepError;
+use unit_requests::from_unit_steps::StepError;
 
 impl DuRecord {
     /// An item of a downlink tunnel: a loss is told and a poll is answered, then its PDU goes to the radio.

@@ -6,7 +6,7 @@ ghost use Rattle.tables.specs.Tables.{find};
 ghost use Rattle.unit_defs.specs.Du.{new_du, du_node};
 ghost use Rattle.unit_defs.specs.Accessors.{du_epoch};
 ghost use Rattle.unit_defs.specs.Static.{du_set_up};
-ghost use Rattle.codec_defs.specs.Reading.{ReadsItems};
+ghost use Rattle.du_contexts.specs.codec_defs.Reading.{ReadsItems};
 ghost use Rattle.unit_octet_defs.specs.Codec.{Codec};
 ghost use Rattle.unit_octet_defs.specs.Reading.{du_link};
 ghost use Rattle.du_contexts.specs.Tables.{is_item};
@@ -19,7 +19,7 @@ use gnb_types::plans::Plan;
 use std::alloc::Global;
 use std::marker::Model;
 use unit_requests::Requests;
-use unit_steps::StepError;
+use unit_requests::from_unit_steps::StepError;
 
 /// The DU `number` of a gNB: whether its F1 interface is set up, the contexts of its terminals, its open requests and the replies that it
 /// keeps. Contracts see the record of the table of rows.

@@ -3,15 +3,15 @@
 ghost use Rattle.std.specs.Prelude.{◌≡◌};
 ghost use Rattle.unit_defs.specs.Du.{relay_down, relay_up};
 ghost use Rattle.unit_octet_defs.specs.Codec.{Codec, octet_way};
-ghost use Rattle.unit_steps.specs.Steps.{IsStep, step_after};
+ghost use Rattle.unit_requests.specs.unit_steps.Steps.{IsStep, step_after};
 
 use crate::record::DuRecord;
 use gnb_types::names::UeId;
 use gnb_types::outputs::Outputs;
 use message_types::{F1, Token};
 use std::alloc::Global;
-use unit_messages::{Message, MessageCodec, spelled};
-use unit_steps::StepError;
+use unit_requests::from_unit_messages::{Message, MessageCodec, spelled};
+use unit_requests::from_unit_steps::StepError;
 
 impl DuRecord {
     /// DL RRC Message Transfer: the container goes to the terminal as it came.

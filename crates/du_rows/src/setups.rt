@@ -2,7 +2,7 @@
 
 ghost use Rattle.unit_defs.specs.Du.{start, set_up, tick};
 ghost use Rattle.unit_octet_defs.specs.Codec.{Codec, octet_way};
-ghost use Rattle.unit_steps.specs.Steps.{IsStep, step_after};
+ghost use Rattle.unit_requests.specs.unit_steps.Steps.{IsStep, step_after};
 
 use crate::record::DuRecord;
 use gnb_types::keys::Channel;
@@ -11,9 +11,9 @@ use gnb_types::outputs::Outputs;
 use message_types::F1;
 use setup_requests::{node_name, put_due};
 use std::alloc::Global;
-use unit_messages::{Message, MessageCodec};
 use unit_requests::Waiting;
-use unit_steps::StepError;
+use unit_requests::from_unit_messages::{Message, MessageCodec};
+use unit_requests::from_unit_steps::StepError;
 
 impl DuRecord {
     /// F1 Setup is begun, unless the DU is set up.

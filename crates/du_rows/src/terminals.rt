@@ -4,7 +4,7 @@ ghost use Rattle.std.specs.Prelude.{◌≡◌, ◌==◌};
 ghost use Rattle.unit_defs.specs.Messages.{bearers_of, are_first_bearers};
 ghost use Rattle.unit_defs.specs.Du.{replies, setup, modify, release};
 ghost use Rattle.unit_octet_defs.specs.Codec.{octet_way};
-ghost use Rattle.unit_steps.specs.Steps.{IsStep, step_after};
+ghost use Rattle.unit_requests.specs.unit_steps.Steps.{IsStep, step_after};
 
 use crate::record::DuRecord;
 use du_contexts::making::ContextSetup;
@@ -15,9 +15,9 @@ use gnb_types::plans::Tunnel;
 use gnb_types::reasons::DropReason;
 use message_types::{F1, F1Message};
 use std::alloc::Global;
-use unit_messages::{Message, MessageCodec};
+use unit_requests::from_unit_messages::{Message, MessageCodec};
+use unit_requests::from_unit_steps::StepError;
 use unit_requests::put;
-use unit_steps::StepError;
 
 /// A request for a terminal: the channel on which it came, and its instance.
 #[derive(Clone, Copy)]

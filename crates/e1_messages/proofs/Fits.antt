@@ -3,8 +3,8 @@ use Rattle.std.proofs.Common.{ℕ, []}
 use Rattle.std.specs.Prelude.{codes}
 use Rattle.aper_defs.specs.Values.{Value, message}
 use Rattle.aper_defs.specs.Membership.{Has}
-use Rattle.profile_defs.specs.Messages.{e1_messages}
-use Rattle.profile_defs.specs.Profile.{e1_type}
+use Rattle.message_defs.specs.profile_defs.Messages.{e1_messages}
+use Rattle.message_defs.specs.profile_defs.Profile.{e1_type}
 use Rattle.message_defs.specs.Places.{elements_in}
 use Rattle.message_values.specs.Fitting.{AreFitting}
 use Rattle.message_values.proofs.Fits.{AllFit, none, one, no_more, also, pdu_fits, bearers_one, cause_fits, du_one, flag_fits, instance_one, mode_fits, name_fits, peer_fits, quota_one, sn_fits, statuses_fit, tunnels_fit, ue_one}

@@ -1,0 +1,1 @@
+pub use Rattle.profile_types.specs as profile_types

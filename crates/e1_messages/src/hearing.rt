@@ -3,7 +3,7 @@
 
 ghost use Rattle.std.specs.Prelude.{◌≡◌, ℕ, []};
 ghost use Rattle.aper_defs.specs.Membership.{Has};
-ghost use Rattle.profile_defs.specs.Profile.{e1_type};
+ghost use Rattle.message_defs.specs.profile_defs.Profile.{e1_type};
 ghost use Rattle.aper_values.specs.Views.{view, ies_view};
 ghost use Rattle.message_defs.specs.E1.{e1_at, heard_e1};
 ghost use Rattle.message_values.specs.Fitting.{AreFitting};

@@ -5,7 +5,7 @@ ghost use Rattle.std.specs.Prelude.{◌≤◌, [], IfOk};
 ghost use Rattle.aper_defs.specs.Bits.{octet_count};
 ghost use Rattle.aper_defs.specs.Membership.{Has};
 ghost use Rattle.aper_defs.specs.Spelling.{Spells, spelling_limit, whole_layout};
-ghost use Rattle.profile_defs.specs.Profile.{e1_type};
+ghost use Rattle.message_defs.specs.profile_defs.Profile.{e1_type};
 ghost use Rattle.message_defs.specs.E1.{written_e1};
 
 use crate::writing::written;
@@ -13,8 +13,8 @@ use aper_encoding::encode;
 use gnb_types::items::Memory;
 use gnb_types::octets::Octets;
 use message_types::E1Message;
-use profile_module::Profile;
 use profile_types::e1_pdu;
+use profile_types::from_profile_module::Profile;
 use std::alloc::Global;
 
 /// The one spelling of a message, of at most 131,072 octets. Out of memory is the one error.

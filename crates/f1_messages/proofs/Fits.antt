@@ -3,8 +3,8 @@ use Rattle.std.proofs.Common.{ℕ, []}
 use Rattle.std.specs.Prelude.{codes}
 use Rattle.aper_defs.specs.Values.{Value, message}
 use Rattle.aper_defs.specs.Membership.{Has}
-use Rattle.profile_defs.specs.Messages.{f1_messages}
-use Rattle.profile_defs.specs.Profile.{f1_type}
+use Rattle.message_defs.specs.profile_defs.Messages.{f1_messages}
+use Rattle.message_defs.specs.profile_defs.Profile.{f1_type}
 use Rattle.message_defs.specs.Places.{elements_in}
 use Rattle.message_values.specs.Fitting.{AreFitting}
 use Rattle.message_values.proofs.Fits.{AllFit, none, one, no_more, also, pdu_fits, container_fits, epoch_one, instance_one, name_fits, peer_fits, sn_fits, tunnels_fit, ue_one}

@@ -1,7 +1,7 @@
 -- The place of a name among those of the root, then among the additions.
 use Rattle.std.proofs.Common.{◌≡◌, ℕ, suc, ◌+◌, List, [], ◌∷◌, ◌++◌, length, Bool, true, false, cond, Option, Some, None, refl, sym, ap, ◌∙◌, arith}
-use Rattle.json_defs.specs.Members.{Text, same_text, place_in}
-use Rattle.json_defs.specs.Readings.{first_of}
+use Rattle.json_proof_values.specs.json_defs.Members.{Text, same_text, place_in}
+use Rattle.json_proof_values.specs.json_defs.Readings.{first_of}
 use Rattle.json_proof_values.proofs.Words.{place_after}
 
 abbrev later : ℕ → Option ℕ → Option ℕ

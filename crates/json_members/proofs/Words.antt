@@ -7,9 +7,9 @@ use Rattle.asn1_types.specs.declared.definition.Component.{Component}
 use Rattle.serde_json.specs.Find.{get_member}
 use Rattle.serde_json.specs.View.{members_view}
 use Rattle.serde_json.proofs.Views.{Entry, member_later}
-use Rattle.json_defs.specs.Named.{Named}
-use Rattle.json_defs.specs.Members.{Text, bit_of, bit_before, read_bits, same_text, place_in, is_among}
-use Rattle.json_defs.specs.Shown.{names_of}
+use Rattle.json_proof_values.specs.json_defs.Named.{Named}
+use Rattle.json_proof_values.specs.json_defs.Members.{Text, bit_of, bit_before, read_bits, same_text, place_in, is_among}
+use Rattle.json_proof_values.specs.json_defs.Shown.{names_of}
 use Rattle.json_type_defs.specs.Types.{parts_with}
 
 -- a name that isn't UTF-8 is no member's

@@ -2,7 +2,7 @@
 
 ghost use Rattle.std.specs.Prelude.{◌≡◌, IfOk};
 ghost use Rattle.serde_json.specs.View.{view};
-ghost use Rattle.json_defs.specs.Members.{integer_in, natural_in, octets_in, bits_in, bit_of, read_bits};
+ghost use Rattle.json_proof_values.specs.json_defs.Members.{integer_in, natural_in, octets_in, bits_in, bit_of, read_bits};
 
 use gnb_types::bits::Bits;
 use gnb_types::hex::{HexError, hex_bytes};

@@ -3,9 +3,9 @@
 ghost use Rattle.std.specs.Prelude.{◌≡◌, ◌∷◌, [], ℕ, option_map};
 ghost use Rattle.serde_json.specs.Find.{get_member};
 ghost use Rattle.serde_json.specs.View.{view, members_view};
-ghost use Rattle.json_defs.specs.Named.{Named};
-ghost use Rattle.json_defs.specs.Members.{are_keys_among, is_among, criticality_in, member_of, criticality_key};
-ghost use Rattle.json_defs.specs.Shown.{names_of, keys_of};
+ghost use Rattle.json_proof_values.specs.json_defs.Named.{Named};
+ghost use Rattle.json_proof_values.specs.json_defs.Members.{are_keys_among, is_among, criticality_in, member_of, criticality_key};
+ghost use Rattle.json_proof_values.specs.json_defs.Shown.{names_of, keys_of};
 ghost use Rattle.json_type_defs.specs.Types.{parts_with};
 
 use crate::names::{criticality_of, same_text};

@@ -2,7 +2,7 @@
 
 ghost use Rattle.std.specs.Prelude.{◌≡◌, ◌++◌, ◌<◌, ◌+◌, length, IfSome};
 ghost use Rattle.asn1_types.specs.Members.{additions_of};
-ghost use Rattle.json_defs.specs.Members.{same_text, place_in, criticalities};
+ghost use Rattle.json_proof_values.specs.json_defs.Members.{same_text, place_in, criticalities};
 
 use asn1_types::Extensible;
 use gnb_types::octets::Octets;

@@ -5,7 +5,7 @@ use Rattle.std.proofs.lemmas.List.{drop_all}
 use Rattle.aper_defs.specs.Trees.{Slot, slots_left, mandatory_count}
 use Rattle.aper_values.specs.declared.value.Element.{Element}
 use Rattle.aper_values.specs.declared.value.Value.{Value}
-use Rattle.aper_members.proofs.Turns.{item_at}
+use Rattle.aper_measuring.proofs.aper_members.Turns.{item_at}
 use Rattle.aper_measuring.specs.Order.{LeavesRows}
 use Rattle.json_defs.specs.Demands.{is_next}
 use Rattle.json_proof_values.proofs.Holding.{by_cases}

@@ -2,11 +2,11 @@
 
 ghost use Rattle.std.specs.Prelude.{◌≡◌, ℕ};
 ghost use Rattle.aper_defs.specs.Trees.{Tree, slots};
-ghost use Rattle.aper_types.specs.Types.{rows_of};
+ghost use Rattle.aper_measuring.specs.aper_types.Types.{rows_of};
 ghost use Rattle.json_parts.specs.Order.{are_ids_in_order, ids_of};
 
+use aper_measuring::from_aper_members::rows::row_type;
 use aper_measuring::order::{has_mandatory, rows_left};
-use aper_members::rows::row_type;
 use aper_values::value::Ie;
 use asn1_assignments::IeRow;
 

@@ -8,7 +8,7 @@ use Rattle.json_defs.specs.Named.{Named, choice}
 use Rattle.json_defs.specs.Members.{Text}
 use Rattle.json_defs.specs.Shown.{count_of, names_of}
 use Rattle.json_shown_defs.specs.Printed.{shown_as, part_shown, one_member, past_shown, name_at}
-use Rattle.json_type_defs.specs.Types.{parts_with}
+use Rattle.json_types.specs.json_type_defs.Types.{parts_with}
 use Rattle.json_proof_values.proofs.Words.{is_less, is_not_less}
 
 module _ (of : ℕ → Named) where

@@ -15,7 +15,7 @@ use Rattle.aper_members.proofs.Turns.{item_at}
 use Rattle.json_defs.specs.Named.{Named}
 use Rattle.json_defs.specs.Members.{id_key}
 use Rattle.json_shown_defs.specs.Printed.{shown_as, items_shown, elements_shown, components_shown, added_shown, row_shown, body_shown}
-use Rattle.json_type_defs.specs.Types.{parts_with, rows_with}
+use Rattle.json_types.specs.json_type_defs.Types.{parts_with, rows_with}
 use Rattle.json_pieces.specs.Bodies.{contents_as}
 use Rattle.json_printing.specs.Inside.{inside_shown}
 use Rattle.json_printing.proofs.Turns.{items_then, items_end, items_more, row_is, added_one, added_step, added_end, component_absent, component_present}

@@ -17,7 +17,7 @@ use Rattle.aper_members.specs.Rows.{part_type, row_type, outcome_type, message_t
 use Rattle.json_defs.specs.Named.{Named, NamedParts, NamedRows, NamedProcedures, sequence, sequence_of, container, pdu}
 use Rattle.json_defs.specs.Members.{dots, code_key, outcomes}
 use Rattle.json_shown_defs.specs.Printed.{name_at, one_member, past_shown, shown_as, items_shown, elements_shown, components_shown, added_shown, row_shown, contents_shown, outcome_shown, body_shown}
-use Rattle.json_type_defs.specs.Types.{parts_with, rows_with, outcome_with, procedures_with}
+use Rattle.json_types.specs.json_type_defs.Types.{parts_with, rows_with, outcome_with, procedures_with}
 use Rattle.json_proof_values.proofs.Holding.{apart, by_cases}
 use Rattle.json_proof_values.proofs.Words.{same, is_same}
 use Rattle.json_pieces.specs.Bodies.{contents_as}

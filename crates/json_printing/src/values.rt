@@ -9,7 +9,7 @@ ghost use Rattle.aper_values.specs.Views.{view, options_view};
 ghost use Rattle.json_defs.specs.Named.{container, pdu, sequence_of};
 ghost use Rattle.json_defs.specs.Members.{outcomes};
 ghost use Rattle.json_shown_defs.specs.Printed.{shown_as, components_shown, added_shown, name_at};
-ghost use Rattle.json_type_defs.specs.Types.{named, parts_with, rows_with, procedures_with};
+ghost use Rattle.json_types.specs.json_type_defs.Types.{named, parts_with, rows_with, procedures_with};
 ghost use Rattle.json_types.specs.Forms.{sequence_named, choice_named};
 ghost use Rattle.json_printing.specs.Inside.{inside_shown};
 

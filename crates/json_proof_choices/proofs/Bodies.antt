@@ -2,15 +2,15 @@
 use Rattle.std.proofs.Common.{◌≡◌, ℕ, ◌≤◌, true, List, [], ◌∷◌, ◌++◌, Option, Some, None, is_some, refl, sym, ap, ◌∙◌, arith}
 use Rattle.serde_json.specs.Data.{Data, null, string, Members}
 use Rattle.serde_json.specs.Find.{get_member}
-use Rattle.aper_defs.specs.Fields.{Path}
-use Rattle.aper_defs.specs.Layouts.{layout}
-use Rattle.aper_defs.specs.Values.{Value}
-use Rattle.aper_defs.specs.Membership.{IsRaw, FitsOpen, Has}
-use Rattle.json_defs.specs.Named.{Named, tree_of}
-use Rattle.json_defs.specs.Members.{Text, natural_in, are_keys_among, or_null, member_of, value_key, raw_key, criticality_key, criticalities, criticality_in}
-use Rattle.json_defs.specs.Shown.{IsMember, HasCriticality, HasNatural, HasRaw, ShowsRaw, Shows}
-use Rattle.json_defs.specs.Readings.{or_else, raw_in, raw_of, value_of}
-use Rattle.json_defs.specs.Demands.{Demand, shape, range, raw_demands, raw_member, known_member, fits_open, demands}
+use Rattle.json_proof_values.specs.aper_defs.Fields.{Path}
+use Rattle.json_proof_values.specs.aper_defs.Layouts.{layout}
+use Rattle.json_proof_values.specs.aper_defs.Values.{Value}
+use Rattle.json_proof_values.specs.aper_defs.Membership.{IsRaw, FitsOpen, Has}
+use Rattle.json_proof_values.specs.json_defs.Named.{Named, tree_of}
+use Rattle.json_proof_values.specs.json_defs.Members.{Text, natural_in, are_keys_among, or_null, member_of, value_key, raw_key, criticality_key, criticalities, criticality_in}
+use Rattle.json_proof_values.specs.json_defs.Shown.{IsMember, HasCriticality, HasNatural, HasRaw, ShowsRaw, Shows}
+use Rattle.json_proof_values.specs.json_defs.Readings.{or_else, raw_in, raw_of, value_of}
+use Rattle.json_proof_values.specs.json_defs.Demands.{Demand, shape, range, raw_demands, raw_member, known_member, fits_open, demands}
 use Rattle.json_proof_values.proofs.Holding.{Holds, Lawful, apart, is_there, front_holds, rest_holds, both_hold}
 use Rattle.json_proof_values.proofs.Words.{raw_one, raw_forth, raw_back, place_bounds}
 use Rattle.json_proof_values.proofs.Sequences.{fits, is_fitting}

@@ -2,16 +2,16 @@
 use Rattle.std.proofs.Common.{◌≡◌, ◌⊎◌, ℕ, zero, suc, ◌+◌, ◌-◌, ◌<◌, ◌≤◌, Bool, true, false, ◌&&◌, ◌==◌, nat_lt, List, [], ◌∷◌, ◌++◌, Option, Some, None, is_some, refl, sym, ap, subst, ◌∙◌, inl, inr, arith}
 use Rattle.serde_json.specs.Data.{Data, object, Members, no_members, member}
 use Rattle.serde_json.specs.Find.{get_member}
-use Rattle.aper_defs.specs.Fields.{Path}
-use Rattle.aper_defs.specs.Fields as ways
-use Rattle.aper_defs.specs.Values.{Value, chosen}
-use Rattle.aper_defs.specs.Membership.{Either, is_index_of, IsRaw, Has, HasAlternative, HasAdded}
-use Rattle.json_defs.specs.Named.{NamedParts, choice, no_parts, part, tree_of, parts_of}
-use Rattle.json_defs.specs.Bounds.{MayAdd}
-use Rattle.json_defs.specs.Members.{Text, same_text, place_in, member_count, or_null, member_of, has_member, dots}
-use Rattle.json_defs.specs.Shown.{count_of, names_of, IsPlaced, IsPast, ShowsPast, Shows, ShowsPart}
-use Rattle.json_defs.specs.Readings.{or_else, past_in, past_raw_in, first_of, chosen_in, value_of, alternative_in}
-use Rattle.json_defs.specs.Demands.{Demand, shape, range, fits_open, past_demands, only_member, on_members, demands, alternative_demands, addition_demands}
+use Rattle.json_proof_values.specs.aper_defs.Fields.{Path}
+use Rattle.json_proof_values.specs.aper_defs.Fields as ways
+use Rattle.json_proof_values.specs.aper_defs.Values.{Value, chosen}
+use Rattle.json_proof_values.specs.aper_defs.Membership.{Either, is_index_of, IsRaw, Has, HasAlternative, HasAdded}
+use Rattle.json_proof_values.specs.json_defs.Named.{NamedParts, choice, no_parts, part, tree_of, parts_of}
+use Rattle.json_proof_values.specs.json_defs.Bounds.{MayAdd}
+use Rattle.json_proof_values.specs.json_defs.Members.{Text, same_text, place_in, member_count, or_null, member_of, has_member, dots}
+use Rattle.json_proof_values.specs.json_defs.Shown.{count_of, names_of, IsPlaced, IsPast, ShowsPast, Shows, ShowsPart}
+use Rattle.json_proof_values.specs.json_defs.Readings.{or_else, past_in, past_raw_in, first_of, chosen_in, value_of, alternative_in}
+use Rattle.json_proof_values.specs.json_defs.Demands.{Demand, shape, range, fits_open, past_demands, only_member, on_members, demands, alternative_demands, addition_demands}
 use Rattle.json_proof_values.proofs.Holding.{Holds, Lawful, AreLawful, apart, by_cases, both_true, first_true, second_true, either_is, front_holds, rest_holds, both_hold}
 use Rattle.json_proof_values.proofs.Words.{is_less, is_not_less, at_most, is_at_most, same, texts_same, found, missed, past_one, past_forth, past_back}
 use Rattle.json_proof_values.proofs.Simple.{index_is, past_index_is, index_most}

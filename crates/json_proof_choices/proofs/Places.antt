@@ -1,17 +1,17 @@
 -- Which alternative the one member of an object is: the part with its name, or none.
 use Rattle.std.proofs.Common.{◌≡◌, ◌⊎◌, ℕ, suc, ◌+◌, ◌<◌, Bool, true, false, List, [], ◌∷◌, ◌++◌, length, Option, Some, None, refl, ap, ◌∙◌, inl, inr, arith}
 use Rattle.serde_json.specs.Data.{Data, Members, no_members, member}
-use Rattle.aper_defs.specs.Trees.{part_count}
-use Rattle.aper_defs.specs.Fields.{Path}
-use Rattle.aper_defs.specs.Fields as ways
-use Rattle.aper_defs.specs.Layouts.{layout}
-use Rattle.aper_defs.specs.Values.{Value}
-use Rattle.aper_defs.specs.Membership.{FitsOpen, Has, HasAlternative, HasAdded}
-use Rattle.json_defs.specs.Named.{Name, Named, NamedParts, no_parts, part, tree_of, parts_of}
-use Rattle.json_defs.specs.Members.{Text, same_text, place_in}
-use Rattle.json_defs.specs.Shown.{count_of, names_of, Shows, ShowsPart}
-use Rattle.json_defs.specs.Readings.{first_of, numbered, read_if, value_of, alternative_in}
-use Rattle.json_defs.specs.Demands.{Demand, range, fits_open, only_member, on_members, demands, alternative_demands, addition_demands}
+use Rattle.json_proof_values.specs.aper_defs.Trees.{part_count}
+use Rattle.json_proof_values.specs.aper_defs.Fields.{Path}
+use Rattle.json_proof_values.specs.aper_defs.Fields as ways
+use Rattle.json_proof_values.specs.aper_defs.Layouts.{layout}
+use Rattle.json_proof_values.specs.aper_defs.Values.{Value}
+use Rattle.json_proof_values.specs.aper_defs.Membership.{FitsOpen, Has, HasAlternative, HasAdded}
+use Rattle.json_proof_values.specs.json_defs.Named.{Name, Named, NamedParts, no_parts, part, tree_of, parts_of}
+use Rattle.json_proof_values.specs.json_defs.Members.{Text, same_text, place_in}
+use Rattle.json_proof_values.specs.json_defs.Shown.{count_of, names_of, Shows, ShowsPart}
+use Rattle.json_proof_values.specs.json_defs.Readings.{first_of, numbered, read_if, value_of, alternative_in}
+use Rattle.json_proof_values.specs.json_defs.Demands.{Demand, range, fits_open, only_member, on_members, demands, alternative_demands, addition_demands}
 use Rattle.json_proof_values.proofs.Holding.{Lawful, AreLawful, by_cases, taken, passed}
 use Rattle.json_proof_values.proofs.Words.{found, missed, place_after}
 

@@ -1,18 +1,18 @@
 -- A list of information elements.
 use Rattle.std.proofs.Common.{◌≡◌, ℕ, suc, ◌<◌, Bool, true, false, cond, ◌&&◌, ◌==◌, nat_lt, List, ◌∷◌, Option, Some, None, is_some, refl, sym, ap, subst, arith}
 use Rattle.serde_json.specs.Data.{Data, array, object, Items, no_items, item, Members}
-use Rattle.aper_defs.specs.Trees.{Slot, slots, slots_left, slots_before, has_slot, mandatory_count}
-use Rattle.aper_defs.specs.Fields.{Path}
-use Rattle.aper_defs.specs.Fields as ways
-use Rattle.aper_defs.specs.Values.{Value, elements, Ies, no_ies, ie, ie_count}
-use Rattle.aper_defs.specs.Membership.{Either, IsInOrder, AreElements, Has, HasRow}
-use Rattle.json_defs.specs.Named.{NamedRows, container, no_rows, row, tree_of, rows_of}
-use Rattle.json_defs.specs.Members.{integer_in, natural_in, item_count, member_of, value_key, id_key, criticality_key, criticality_in}
-use Rattle.json_defs.specs.Shown.{EachElement, element_keys, Shows, ShowsRow}
-use Rattle.json_defs.specs.Readings.{or_else, elements_in, value_of, row_in}
-use Rattle.json_defs.specs.Demands.{Demand, known_member, each_demand, is_within, is_next, are_in_order, element_demands, demands, row_demands}
-use Rattle.json_proof_values.proofs.Holding.{Holds, Lawful, AreRowsLawful, apart, both_true, first_true, second_true, front_holds, rest_holds, both_hold}
-use Rattle.json_proof_values.proofs.Words.{below, is_less, same, is_same, within, is_within_of}
+use Rattle.json_proof_choices.specs.aper_defs.Trees.{Slot, slots, slots_left, slots_before, has_slot, mandatory_count}
+use Rattle.json_proof_choices.specs.aper_defs.Fields.{Path}
+use Rattle.json_proof_choices.specs.aper_defs.Fields as ways
+use Rattle.json_proof_choices.specs.aper_defs.Values.{Value, elements, Ies, no_ies, ie, ie_count}
+use Rattle.json_proof_choices.specs.aper_defs.Membership.{Either, IsInOrder, AreElements, Has, HasRow}
+use Rattle.json_proof_choices.specs.json_defs.Named.{NamedRows, container, no_rows, row, tree_of, rows_of}
+use Rattle.json_proof_choices.specs.json_defs.Members.{integer_in, natural_in, item_count, member_of, value_key, id_key, criticality_key, criticality_in}
+use Rattle.json_proof_choices.specs.json_defs.Shown.{EachElement, element_keys, Shows, ShowsRow}
+use Rattle.json_proof_choices.specs.json_defs.Readings.{or_else, elements_in, value_of, row_in}
+use Rattle.json_proof_choices.specs.json_defs.Demands.{Demand, known_member, each_demand, is_within, is_next, are_in_order, element_demands, demands, row_demands}
+use Rattle.json_proof_choices.proofs.json_proof_values.Holding.{Holds, Lawful, AreRowsLawful, apart, both_true, first_true, second_true, front_holds, rest_holds, both_hold}
+use Rattle.json_proof_choices.proofs.json_proof_values.Words.{below, is_less, same, is_same, within, is_within_of}
 use Rattle.json_proof_choices.proofs.Bodies.{HasKnown, HasFitting, natural_told, natural_read, criticality_read, criticality_told, criticality_there, raw_member_forth, raw_member_back, known_forth, known_back}
 use Rattle.json_proof_lawful.proofs.Lists.{row_one, forth_by, back_by}
 

@@ -1,18 +1,18 @@
 -- The law, by induction over types.
 use Rattle.std.proofs.Common.{◌≡◌, ◌↔◌, ◌⊎◌, Option, Some, None, [], refl, sym, subst, ◌∙◌, inl, inr}
 use Rattle.serde_json.specs.Data.{Data}
-use Rattle.aper_defs.specs.Fields.{Path}
-use Rattle.aper_defs.specs.Values.{Value}
-use Rattle.json_defs.specs.declared.fault.JsonFault.{JsonFault}
-use Rattle.json_defs.specs.Named.{Named, NamedParts, NamedRows, NamedProcedures, NamedOutcome}
-use Rattle.json_defs.specs.Named.{boolean, integer, enumerated, bit_string, octet_string, printable_string, sequence, choice, sequence_of, container, pdu, no_parts, part, no_rows, row, no_procedures, procedure, no_outcome, outcome}
-use Rattle.json_defs.specs.Bounds.{IsBounded, ArePartsBounded, AreRowsBounded, AreProceduresBounded, IsOutcomeBounded}
-use Rattle.json_defs.specs.Json.{Json}
-use Rattle.json_defs.specs.Readings.{value_of}
-use Rattle.json_defs.specs.Demands.{demands, first_fault}
-use Rattle.json_proof_values.proofs.Holding.{none_fails, all_hold, Lawful, AreLawful, AreRowsLawful, AreProceduresLawful, IsOutcomeLawful}
-use Rattle.json_proof_values.proofs.Simple.{boolean_lawful, integer_lawful, enumerated_lawful, bits_lawful, octets_lawful, text_lawful}
-use Rattle.json_proof_values.proofs.Sequences.{sequence_lawful}
+use Rattle.json_proof_choices.specs.aper_defs.Fields.{Path}
+use Rattle.json_proof_choices.specs.aper_defs.Values.{Value}
+use Rattle.json_proof_choices.specs.json_defs.declared.fault.JsonFault.{JsonFault}
+use Rattle.json_proof_choices.specs.json_defs.Named.{Named, NamedParts, NamedRows, NamedProcedures, NamedOutcome}
+use Rattle.json_proof_choices.specs.json_defs.Named.{boolean, integer, enumerated, bit_string, octet_string, printable_string, sequence, choice, sequence_of, container, pdu, no_parts, part, no_rows, row, no_procedures, procedure, no_outcome, outcome}
+use Rattle.json_proof_choices.specs.json_defs.Bounds.{IsBounded, ArePartsBounded, AreRowsBounded, AreProceduresBounded, IsOutcomeBounded}
+use Rattle.json_proof_choices.specs.json_defs.Json.{Json}
+use Rattle.json_proof_choices.specs.json_defs.Readings.{value_of}
+use Rattle.json_proof_choices.specs.json_defs.Demands.{demands, first_fault}
+use Rattle.json_proof_choices.proofs.json_proof_values.Holding.{none_fails, all_hold, Lawful, AreLawful, AreRowsLawful, AreProceduresLawful, IsOutcomeLawful}
+use Rattle.json_proof_choices.proofs.json_proof_values.Simple.{boolean_lawful, integer_lawful, enumerated_lawful, bits_lawful, octets_lawful, text_lawful}
+use Rattle.json_proof_choices.proofs.json_proof_values.Sequences.{sequence_lawful}
 use Rattle.json_proof_choices.proofs.Choices.{choice_lawful}
 use Rattle.json_proof_lawful.proofs.Lists.{list_lawful}
 use Rattle.json_proof_lawful.proofs.Containers.{container_lawful}

@@ -2,16 +2,16 @@
 use Rattle.std.proofs.Common.{◌≡◌, ℕ, suc, Bool, true, false, cond, ◌==◌, List, ◌∷◌, Option, Some, refl, sym, ap, subst, ◌∙◌}
 use Rattle.asn1_types.specs.declared.definition.Size.{Size}
 use Rattle.serde_json.specs.Data.{Data, array, Items, no_items, item, Members}
-use Rattle.aper_defs.specs.Fields.{Path}
-use Rattle.aper_defs.specs.Fields as ways
-use Rattle.aper_defs.specs.Values.{Value, list, Values, no_values, value, value_count}
-use Rattle.aper_defs.specs.Membership.{Either, is_count_of, EachFrom, Has}
-use Rattle.json_defs.specs.Named.{Named, NamedRows, sequence_of, no_rows, row, tree_of}
-use Rattle.json_defs.specs.Members.{item_count, member_of, value_key}
-use Rattle.json_defs.specs.Shown.{EachShown, element_keys, Shows, ShowsRow}
-use Rattle.json_defs.specs.Readings.{values_in, value_of, row_in}
-use Rattle.json_defs.specs.Demands.{Demand, each_demand, demands}
-use Rattle.json_proof_values.proofs.Holding.{Holds, Lawful, AreRowsLawful, apart, front_holds, rest_holds, both_hold}
+use Rattle.json_proof_choices.specs.aper_defs.Fields.{Path}
+use Rattle.json_proof_choices.specs.aper_defs.Fields as ways
+use Rattle.json_proof_choices.specs.aper_defs.Values.{Value, list, Values, no_values, value, value_count}
+use Rattle.json_proof_choices.specs.aper_defs.Membership.{Either, is_count_of, EachFrom, Has}
+use Rattle.json_proof_choices.specs.json_defs.Named.{Named, NamedRows, sequence_of, no_rows, row, tree_of}
+use Rattle.json_proof_choices.specs.json_defs.Members.{item_count, member_of, value_key}
+use Rattle.json_proof_choices.specs.json_defs.Shown.{EachShown, element_keys, Shows, ShowsRow}
+use Rattle.json_proof_choices.specs.json_defs.Readings.{values_in, value_of, row_in}
+use Rattle.json_proof_choices.specs.json_defs.Demands.{Demand, each_demand, demands}
+use Rattle.json_proof_choices.proofs.json_proof_values.Holding.{Holds, Lawful, AreRowsLawful, apart, front_holds, rest_holds, both_hold}
 use Rattle.json_proof_choices.proofs.Bodies.{HasKnown, raw_member_one, known_one}
 
 -- ---- SEQUENCE OF

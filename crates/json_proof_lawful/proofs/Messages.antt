@@ -2,17 +2,17 @@
 use Rattle.std.proofs.Common.{◌≡◌, ℕ, suc, cond, ◌==◌, List, [], ◌∷◌, Option, Some, None, refl, ap, ◌∙◌}
 use Rattle.serde_json.specs.Data.{Data, Members}
 use Rattle.serde_json.specs.Find.{get_member}
-use Rattle.aper_defs.specs.Fields.{Path}
-use Rattle.aper_defs.specs.Fields as ways
-use Rattle.aper_defs.specs.Values.{Value}
-use Rattle.aper_defs.specs.Membership.{Either, HasBody, HasOutcome}
-use Rattle.json_defs.specs.Named.{NamedProcedures, NamedOutcome, no_procedures, procedure, no_outcome, outcome, procedures_of, outcome_of}
-use Rattle.json_defs.specs.Members.{Text, same_text, place_in, dots, outcomes}
-use Rattle.json_defs.specs.Shown.{body_keys, ShowsBody, ShowsOutcome}
-use Rattle.json_defs.specs.Readings.{first_of, numbered, outcome_in, body_in, told_in}
-use Rattle.json_defs.specs.Demands.{body_demands, outcome_demands}
-use Rattle.json_proof_values.proofs.Holding.{Holds, IsOutcomeLawful, AreProceduresLawful, by_cases}
-use Rattle.json_proof_values.proofs.Words.{found, missed}
+use Rattle.json_proof_choices.specs.aper_defs.Fields.{Path}
+use Rattle.json_proof_choices.specs.aper_defs.Fields as ways
+use Rattle.json_proof_choices.specs.aper_defs.Values.{Value}
+use Rattle.json_proof_choices.specs.aper_defs.Membership.{Either, HasBody, HasOutcome}
+use Rattle.json_proof_choices.specs.json_defs.Named.{NamedProcedures, NamedOutcome, no_procedures, procedure, no_outcome, outcome, procedures_of, outcome_of}
+use Rattle.json_proof_choices.specs.json_defs.Members.{Text, same_text, place_in, dots, outcomes}
+use Rattle.json_proof_choices.specs.json_defs.Shown.{body_keys, ShowsBody, ShowsOutcome}
+use Rattle.json_proof_choices.specs.json_defs.Readings.{first_of, numbered, outcome_in, body_in, told_in}
+use Rattle.json_proof_choices.specs.json_defs.Demands.{body_demands, outcome_demands}
+use Rattle.json_proof_choices.proofs.json_proof_values.Holding.{Holds, IsOutcomeLawful, AreProceduresLawful, by_cases}
+use Rattle.json_proof_choices.proofs.json_proof_values.Words.{found, missed}
 use Rattle.json_proof_choices.proofs.Places.{one}
 use Rattle.json_proof_choices.proofs.Bodies.{raw_member_one, raw_member_forth, raw_member_back, known_one, known_forth, known_back}
 use Rattle.json_proof_lawful.proofs.Lists.{one_by, forth_by, back_by}

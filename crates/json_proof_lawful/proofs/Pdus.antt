@@ -2,17 +2,17 @@
 use Rattle.std.proofs.Common.{◌≡◌, ℕ, suc, ◌+◌, ◌-◌, ◌<◌, ◌≤◌, true, false, nat_lt, List, ◌∷◌, Option, Some, None, is_some, refl, sym, ap, subst, ◌∙◌, arith}
 use Rattle.std.specs.Prelude.{ℤ}
 use Rattle.serde_json.specs.Data.{Data, object, Members, no_members, member}
-use Rattle.aper_defs.specs.Fields.{Path}
-use Rattle.aper_defs.specs.Fields as ways
-use Rattle.aper_defs.specs.Values.{Value, message}
-use Rattle.aper_defs.specs.Membership.{Either, IsRaw, Has, HasBody}
-use Rattle.json_defs.specs.Named.{NamedProcedures, pdu, tree_of, procedures_of}
-use Rattle.json_defs.specs.Members.{Text, integer_in, place_in, member_count, member_of, dots, outcomes, code_key, criticality_key, criticality_in}
-use Rattle.json_defs.specs.Shown.{IsObject, HasNatural, HasCriticality, ShowsPast, Shows, ShowsBody}
-use Rattle.json_defs.specs.Readings.{or_else, past_in, past_raw_in, code_of, outcome_in, message_in, value_of, body_in}
-use Rattle.json_defs.specs.Demands.{Demand, is_within, past_demands, only_member, message_demands, demands, body_demands}
-use Rattle.json_proof_values.proofs.Holding.{Holds, Lawful, AreProceduresLawful, apart, by_cases, either_is, front_holds, rest_holds, both_hold}
-use Rattle.json_proof_values.proofs.Words.{is_less, is_not_less, not_below, same, within, is_within_of, past_one, past_forth, past_back, place_bounds}
+use Rattle.json_proof_choices.specs.aper_defs.Fields.{Path}
+use Rattle.json_proof_choices.specs.aper_defs.Fields as ways
+use Rattle.json_proof_choices.specs.aper_defs.Values.{Value, message}
+use Rattle.json_proof_choices.specs.aper_defs.Membership.{Either, IsRaw, Has, HasBody}
+use Rattle.json_proof_choices.specs.json_defs.Named.{NamedProcedures, pdu, tree_of, procedures_of}
+use Rattle.json_proof_choices.specs.json_defs.Members.{Text, integer_in, place_in, member_count, member_of, dots, outcomes, code_key, criticality_key, criticality_in}
+use Rattle.json_proof_choices.specs.json_defs.Shown.{IsObject, HasNatural, HasCriticality, ShowsPast, Shows, ShowsBody}
+use Rattle.json_proof_choices.specs.json_defs.Readings.{or_else, past_in, past_raw_in, code_of, outcome_in, message_in, value_of, body_in}
+use Rattle.json_proof_choices.specs.json_defs.Demands.{Demand, is_within, past_demands, only_member, message_demands, demands, body_demands}
+use Rattle.json_proof_choices.proofs.json_proof_values.Holding.{Holds, Lawful, AreProceduresLawful, apart, by_cases, either_is, front_holds, rest_holds, both_hold}
+use Rattle.json_proof_choices.proofs.json_proof_values.Words.{is_less, is_not_less, not_below, same, within, is_within_of, past_one, past_forth, past_back, place_bounds}
 use Rattle.json_proof_choices.proofs.Places.{one}
 use Rattle.json_proof_choices.proofs.Choices.{dots_member, dots_is, has_dots}
 use Rattle.json_proof_choices.proofs.Bodies.{natural_told, natural_read, criticality_read, criticality_told, criticality_there}

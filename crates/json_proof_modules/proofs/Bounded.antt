@@ -7,15 +7,15 @@ use Rattle.asn1_types.specs.declared.definition.Definition.{Definition}
 use Rattle.asn1_types.specs.declared.definition.Definition.TheVariants as types
 use Rattle.asn1_types.specs.declared.definition.Node.{Node}
 use Rattle.asn1_types.specs.Members.{additions_of}
-use Rattle.asn1_module.specs.asn1_assignments.declared.assignment.IeRow.{IeRow}
-use Rattle.asn1_module.specs.asn1_assignments.declared.assignment.ProcedureRow.{ProcedureRow}
-use Rattle.asn1_module.specs.asn1_assignments.declared.assignment.Assignment.{Assignment}
-use Rattle.asn1_module.specs.asn1_assignments.declared.assignment.Syntax.{Syntax}
-use Rattle.asn1_module.proofs.asn1_proof_reading.Readings.{read_of}
-use Rattle.asn1_module.specs.asn1_defs.Targets.{find_type, ie_rows, procedure_rows, definition_of, definition_at, all_of}
-use Rattle.asn1_module.specs.asn1_defs.Modules.{IsModule}
-use Rattle.asn1_proof_module.specs.Proper.{Each, IsWithin}
-use Rattle.asn1_proof_module.proofs.ModuleBounds.{proper}
+use Rattle.json_type_defs.specs.asn1_assignments.declared.assignment.IeRow.{IeRow}
+use Rattle.json_type_defs.specs.asn1_assignments.declared.assignment.ProcedureRow.{ProcedureRow}
+use Rattle.json_type_defs.specs.asn1_assignments.declared.assignment.Assignment.{Assignment}
+use Rattle.json_type_defs.specs.asn1_assignments.declared.assignment.Syntax.{Syntax}
+use Rattle.json_type_defs.proofs.asn1_proof_reading.Readings.{read_of}
+use Rattle.json_type_defs.specs.asn1_defs.Targets.{find_type, ie_rows, procedure_rows, definition_of, definition_at, all_of}
+use Rattle.json_type_defs.specs.asn1_defs.Modules.{IsModule}
+use Rattle.json_type_defs.specs.asn1_proof_module.Proper.{Each, IsWithin}
+use Rattle.json_type_defs.proofs.asn1_proof_module.ModuleBounds.{proper}
 use Rattle.json_defs.specs.Named.{Named}
 use Rattle.json_defs.specs.Shown.{count_of}
 use Rattle.json_defs.specs.Bounds.{MayAdd, IsBounded, ArePartsBounded, AreRowsBounded, AreProceduresBounded, IsOutcomeBounded}

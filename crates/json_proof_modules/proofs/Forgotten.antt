@@ -6,14 +6,14 @@ use Rattle.asn1_types.specs.declared.definition.Component.{Component}
 use Rattle.asn1_types.specs.declared.definition.Definition.{Definition}
 use Rattle.asn1_types.specs.declared.definition.Definition.TheVariants as types
 use Rattle.asn1_types.specs.Members.{additions_of}
-use Rattle.asn1_module.specs.asn1_assignments.declared.assignment.IeRow.{IeRow}
-use Rattle.asn1_module.specs.asn1_assignments.declared.assignment.ProcedureRow.{ProcedureRow}
-use Rattle.asn1_module.specs.asn1_assignments.declared.assignment.Assignment.{Assignment}
-use Rattle.asn1_module.specs.asn1_assignments.declared.assignment.Syntax.{Syntax}
-use Rattle.asn1_module.specs.asn1_defs.Targets.{find_type, ie_rows, procedure_rows, definition_at, all_of}
+use Rattle.json_type_defs.specs.asn1_assignments.declared.assignment.IeRow.{IeRow}
+use Rattle.json_type_defs.specs.asn1_assignments.declared.assignment.ProcedureRow.{ProcedureRow}
+use Rattle.json_type_defs.specs.asn1_assignments.declared.assignment.Assignment.{Assignment}
+use Rattle.json_type_defs.specs.asn1_assignments.declared.assignment.Syntax.{Syntax}
+use Rattle.json_type_defs.specs.asn1_defs.Targets.{find_type, ie_rows, procedure_rows, definition_at, all_of}
 use Rattle.aper_defs.specs.Trees.{Tree, Parts, Rows, part, row, outcome}
-use Rattle.aper_types.specs.Types.{is_mandatory, definition_tree, tree_by, tree}
-use Rattle.aper_types.specs.Types as trees
+use Rattle.json_type_defs.specs.aper_types.Types.{is_mandatory, definition_tree, tree_by, tree}
+use Rattle.json_type_defs.specs.aper_types.Types as trees
 use Rattle.json_defs.specs.Named.{Named, tree_of, parts_of, rows_of, procedures_of, outcome_of}
 use Rattle.json_type_defs.specs.Types.{parts_with, rows_with, outcome_with, procedures_with, referred_with, definition_with, named_by, named}
 

@@ -1,11 +1,11 @@
 -- JSON of which no demand of a module's type fails shows a value that the codec takes.
 use Rattle.std.proofs.Common.{◌≡◌, ℕ, None, [], sym, subst}
 use Rattle.serde_json.specs.Data.{Data}
-use Rattle.aper_types.specs.asn1_module.asn1_assignments.declared.assignment.Syntax.{Syntax}
-use Rattle.asn1_module.specs.asn1_defs.Modules.{IsModule}
+use Rattle.json_type_defs.specs.asn1_assignments.declared.assignment.Syntax.{Syntax}
+use Rattle.json_type_defs.specs.asn1_defs.Modules.{IsModule}
 use Rattle.aper_defs.specs.Values.{Value}
 use Rattle.aper_defs.specs.Membership.{Has}
-use Rattle.aper_types.specs.Types.{tree}
+use Rattle.json_type_defs.specs.aper_types.Types.{tree}
 use Rattle.json_defs.specs.Json.{Json}
 use Rattle.json_defs.specs.Readings.{value_of}
 use Rattle.json_defs.specs.Demands.{demands, first_fault}

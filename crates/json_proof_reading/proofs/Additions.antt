@@ -7,8 +7,8 @@ use Rattle.asn1_types.specs.declared.definition.Component.{Component}
 use Rattle.aper_defs.specs.Fields.{Path}
 use Rattle.aper_defs.specs.Fields as ways
 use Rattle.aper_defs.specs.Values as seen
-use Rattle.aper_frames.specs.declared.path.Step.{Step}
-use Rattle.aper_frames.specs.Paths.{step_view}
+use Rattle.json_wholes.specs.aper_frames.declared.path.Step.{Step}
+use Rattle.json_wholes.specs.aper_frames.Paths.{step_view}
 use Rattle.aper_values.specs.declared.value.Value.{Value}
 use Rattle.aper_values.specs.Views.{view, options_view}
 use Rattle.json_defs.specs.declared.fault.JsonFault.{JsonFault}
@@ -16,11 +16,11 @@ use Rattle.json_defs.specs.Named.{Named}
 use Rattle.json_defs.specs.Members.{is_null, item_count}
 use Rattle.json_defs.specs.Readings.{raw_in, present_if, unless_null, first_of, added_in, value_of}
 use Rattle.json_defs.specs.Demands.{Demand, first_fault, shape, range, fits_open, raw_demands, each_demand, any_told, demands, each_added, open_demands}
-use Rattle.json_type_defs.specs.Types.{parts_with}
+use Rattle.json_parts.specs.json_type_defs.Types.{parts_with}
 use Rattle.json_proof_values.proofs.Words.{below, not_below}
-use Rattle.json_simple.specs.declared.refusal.Refusal.{Refusal}
-use Rattle.json_simple.specs.declared.refusal.Refusal.TheVariants.{Fault, Memory}
-use Rattle.json_simple.specs.Answers.{Tells}
+use Rattle.json_wholes.specs.json_simple.declared.refusal.Refusal.{Refusal}
+use Rattle.json_wholes.specs.json_simple.declared.refusal.Refusal.TheVariants.{Fault, Memory}
+use Rattle.json_wholes.specs.json_simple.Answers.{Tells}
 use Rattle.json_wholes.specs.declared.wholes.Additions.{Additions}
 use Rattle.json_wholes.specs.Reads.{ReadsAs, ReadsAdditions, unfit_at}
 use Rattle.json_wholes.proofs.Demanded.{NoneFails, both_faults, reads_later}

@@ -13,8 +13,8 @@ use Rattle.json_defs.specs.Members.{dots, has_member, member_of}
 use Rattle.json_defs.specs.Shown.{count_of}
 use Rattle.json_defs.specs.Readings.{or_else, first_of, numbered, read_if, chosen_in, past_in, past_raw_in, value_of, alternative_in}
 use Rattle.json_defs.specs.Demands.{Demand, shape, range, fits_open, past_demands, only_member, on_members, demands, alternative_demands, addition_demands}
-use Rattle.json_type_defs.specs.Types.{parts_with}
-use Rattle.json_simple.specs.declared.refusal.Refusal.{Refusal}
+use Rattle.json_parts.specs.json_type_defs.Types.{parts_with}
+use Rattle.json_wholes.specs.json_simple.declared.refusal.Refusal.{Refusal}
 use Rattle.json_parts.specs.Parts.{part_in}
 use Rattle.json_wholes.specs.Reads.{ReadsAs}
 use Rattle.json_wholes.proofs.Demanded.{reads_later, reads_same}

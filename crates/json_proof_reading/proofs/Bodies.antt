@@ -5,13 +5,13 @@ use Rattle.asn1_types.specs.declared.definition.TypeId.{TypeId}
 use Rattle.asn1_assignments.specs.declared.assignment.IeRow.{IeRow}
 use Rattle.asn1_assignments.specs.declared.assignment.ProcedureRow.{ProcedureRow}
 use Rattle.aper_defs.specs.Fields.{Path}
-use Rattle.aper_members.specs.Rows.{row_type, outcome_type, message_type}
+use Rattle.json_parts.specs.aper_members.Rows.{row_type, outcome_type, message_type}
 use Rattle.json_defs.specs.Named.{Named}
 use Rattle.json_defs.specs.Members.{value_key, member_of}
 use Rattle.json_defs.specs.Shown.{element_keys, body_keys}
 use Rattle.json_defs.specs.Readings.{value_of, row_in, body_in, told_in}
 use Rattle.json_defs.specs.Demands.{demands, known_member, row_demands, body_demands, outcome_demands}
-use Rattle.json_type_defs.specs.Types.{rows_with, outcome_with, procedures_with}
+use Rattle.json_parts.specs.json_type_defs.Types.{rows_with, outcome_with, procedures_with}
 use Rattle.json_proof_values.proofs.Holding.{by_cases}
 use Rattle.json_proof_reading.specs.Inside.{contents_demands, contents_read}
 

@@ -7,15 +7,15 @@ use Rattle.asn1_types.specs.declared.definition.Component.{Component}
 use Rattle.aper_defs.specs.Fields.{Path}
 use Rattle.aper_defs.specs.Fields as ways
 use Rattle.aper_defs.specs.Values as seen
-use Rattle.aper_members.proofs.Turns.{item_at}
+use Rattle.json_parts.proofs.aper_members.Turns.{item_at}
 use Rattle.aper_values.specs.declared.value.Value.{Value}
 use Rattle.aper_values.specs.Views.{options_of, options_view}
 use Rattle.json_defs.specs.Named.{Named}
 use Rattle.json_defs.specs.Readings.{components_in, present_if, read_if, value_of}
 use Rattle.json_defs.specs.Demands.{Demand, shape, if_there, demands, component_demands}
-use Rattle.json_type_defs.specs.Types.{parts_with}
-use Rattle.json_simple.specs.declared.refusal.Refusal.{Refusal}
-use Rattle.json_simple.specs.Answers.{Tells, Reads}
+use Rattle.json_parts.specs.json_type_defs.Types.{parts_with}
+use Rattle.json_wholes.specs.json_simple.declared.refusal.Refusal.{Refusal}
+use Rattle.json_wholes.specs.json_simple.Answers.{Tells, Reads}
 use Rattle.json_wholes.proofs.Demanded.{NoneFails, told_first, reads_later}
 use Rattle.json_wholes.proofs.Puts.{options_then, option_more, options_end}
 use Rattle.json_proof_reading.proofs.Lists.{reads_other}

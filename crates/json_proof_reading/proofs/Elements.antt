@@ -11,9 +11,9 @@ use Rattle.aper_defs.specs.Fields.{Path}
 use Rattle.aper_defs.specs.Fields as ways
 use Rattle.aper_defs.specs.Trees.{Tree, Slot, Rows, row, slots, slots_left}
 use Rattle.aper_defs.specs.Values as seen
-use Rattle.aper_members.specs.Rows.{row_type}
-use Rattle.aper_types.specs.Types as types
-use Rattle.aper_types.specs.Types.{is_mandatory}
+use Rattle.json_parts.specs.aper_members.Rows.{row_type}
+use Rattle.json_parts.specs.aper_types.Types as types
+use Rattle.json_parts.specs.aper_types.Types.{is_mandatory}
 use Rattle.aper_values.specs.declared.value.Value.{Value}
 use Rattle.aper_values.specs.declared.value.Element.{Element}
 use Rattle.aper_values.specs.Views.{view, ies_of, element_view}
@@ -22,11 +22,11 @@ use Rattle.json_defs.specs.Members.{members_in, item_count, natural_in, member_o
 use Rattle.json_defs.specs.Shown.{element_keys}
 use Rattle.json_defs.specs.Readings.{or_else, elements_in, row_in, value_of}
 use Rattle.json_defs.specs.Demands.{Demand, first_fault, shape, range, each_demand, element_demands, id_in, is_next, are_in_order, row_demands, demands}
-use Rattle.json_type_defs.specs.Types.{rows_with}
+use Rattle.json_parts.specs.json_type_defs.Types.{rows_with}
 use Rattle.json_proof_values.proofs.Words.{is_not_less}
-use Rattle.json_simple.specs.declared.refusal.Refusal.{Refusal}
-use Rattle.json_simple.specs.declared.refusal.Refusal.TheVariants.{Fault, Memory}
-use Rattle.json_simple.specs.Answers.{Tells}
+use Rattle.json_wholes.specs.json_simple.declared.refusal.Refusal.{Refusal}
+use Rattle.json_wholes.specs.json_simple.declared.refusal.Refusal.TheVariants.{Fault, Memory}
+use Rattle.json_wholes.specs.json_simple.Answers.{Tells}
 use Rattle.json_parts.specs.Order.{are_ids_in_order, ids_of}
 use Rattle.json_wholes.specs.declared.heads.ElementHead.{ElementHead}
 use Rattle.json_wholes.specs.Heads.{element_head_demands, IsElementHead}

@@ -8,8 +8,8 @@ use Rattle.asn1_module.specs.asn1_defs.Modules.{IsModule}
 use Rattle.aper_defs.specs.Trees.{part_count}
 use Rattle.aper_defs.specs.Bounds as trees
 use Rattle.aper_defs.specs.Values.{Options, no_options}
-use Rattle.aper_types.specs.Types.{tree, is_extensible}
-use Rattle.aper_types.proofs.Bounded.{tree_bounded}
+use Rattle.json_parts.specs.aper_types.Types.{tree, is_extensible}
+use Rattle.json_parts.proofs.aper_types.Bounded.{tree_bounded}
 use Rattle.aper_values.specs.declared.value.Value.{Value}
 use Rattle.aper_values.specs.Views.{view}
 use Rattle.json_defs.specs.Named.{Named, tree_of, parts_of}
@@ -17,14 +17,14 @@ use Rattle.json_defs.specs.Shown.{count_of}
 use Rattle.json_defs.specs.Bounds.{MayAdd, IsBounded}
 use Rattle.json_defs.specs.Readings.{additions_in, value_of}
 use Rattle.json_defs.specs.Demands.{demands}
-use Rattle.json_type_defs.specs.Types.{named, parts_with}
-use Rattle.json_types.specs.declared.form.NamedForm.{NamedForm}
-use Rattle.json_types.specs.declared.form.NamedForm.TheVariants as forms
-use Rattle.json_types.specs.Forms.{form_named}
-use Rattle.json_proof_modules.proofs.Bounded.{bounded}
-use Rattle.json_proof_modules.proofs.Forgotten.{forgotten}
-use Rattle.json_proof_modules.proofs.Members.{read_has}
-use Rattle.json_simple.specs.declared.refusal.Refusal.{Refusal}
+use Rattle.json_parts.specs.json_type_defs.Types.{named, parts_with}
+use Rattle.json_wholes.specs.json_types.declared.form.NamedForm.{NamedForm}
+use Rattle.json_wholes.specs.json_types.declared.form.NamedForm.TheVariants as forms
+use Rattle.json_wholes.specs.json_types.Forms.{form_named}
+use Rattle.json_wholes.proofs.json_proof_modules.Bounded.{bounded}
+use Rattle.json_wholes.proofs.json_proof_modules.Forgotten.{forgotten}
+use Rattle.json_wholes.proofs.json_proof_modules.Members.{read_has}
+use Rattle.json_wholes.specs.json_simple.declared.refusal.Refusal.{Refusal}
 use Rattle.json_wholes.specs.Reads.{ReadsAs, HasAsked}
 use Rattle.json_proof_reading.specs.Inside.{IsFormSmall}
 

@@ -9,15 +9,15 @@ use Rattle.aper_defs.specs.Fields.{Path}
 use Rattle.aper_defs.specs.Fields as ways
 use Rattle.aper_defs.specs.Values as seen
 use Rattle.aper_defs.specs.Membership.{is_count_of}
-use Rattle.aper_members.proofs.Turns.{item_at}
+use Rattle.json_parts.proofs.aper_members.Turns.{item_at}
 use Rattle.aper_values.specs.declared.value.Value.{Value}
 use Rattle.aper_values.specs.Views.{view}
 use Rattle.json_defs.specs.Named.{Named, sequence_of}
 use Rattle.json_defs.specs.Members.{item_count}
 use Rattle.json_defs.specs.Readings.{values_in, value_of}
 use Rattle.json_defs.specs.Demands.{Demand, shape, range, each_demand, demands}
-use Rattle.json_simple.specs.declared.refusal.Refusal.{Refusal}
-use Rattle.json_simple.specs.Answers.{Tells, Reads}
+use Rattle.json_wholes.specs.json_simple.declared.refusal.Refusal.{Refusal}
+use Rattle.json_wholes.specs.json_simple.Answers.{Tells, Reads}
 use Rattle.json_wholes.specs.Reads.{ReadsAs}
 use Rattle.json_wholes.proofs.Demanded.{NoneFails, told_turn, reads_later, reads_turn}
 use Rattle.json_wholes.proofs.Puts.{values_then, values_more, items_count}

@@ -9,8 +9,8 @@ use Rattle.asn1_assignments.specs.declared.assignment.ProcedureRow.{ProcedureRow
 use Rattle.aper_defs.specs.Fields.{Path}
 use Rattle.aper_defs.specs.Fields as ways
 use Rattle.aper_defs.specs.Values as seen
-use Rattle.aper_members.specs.Rows.{message_type}
-use Rattle.aper_types.specs.Types.{tree}
+use Rattle.json_parts.specs.aper_members.Rows.{message_type}
+use Rattle.json_parts.specs.aper_types.Types.{tree}
 use Rattle.aper_values.specs.declared.value.Value.{Value}
 use Rattle.aper_values.specs.Views.{view}
 use Rattle.json_defs.specs.declared.fault.JsonFault.{JsonFault}
@@ -20,10 +20,10 @@ use Rattle.json_defs.specs.Members.{Text, has_member, member_of, or_null, are_ke
 use Rattle.json_defs.specs.Shown.{body_keys}
 use Rattle.json_defs.specs.Readings.{or_else, first_of, past_in, past_raw_in, code_of, outcome_in, message_in, value_of, body_in}
 use Rattle.json_defs.specs.Demands.{Demand, first_fault, shape, range, fits_open, past_demands, only_member, known_member, message_demands, demands, body_demands}
-use Rattle.json_type_defs.specs.Types.{named, procedures_with}
-use Rattle.json_proof_modules.proofs.Members.{read_has}
-use Rattle.json_simple.specs.declared.refusal.Refusal.{Refusal}
-use Rattle.json_simple.specs.Answers.{Tells}
+use Rattle.json_parts.specs.json_type_defs.Types.{named, procedures_with}
+use Rattle.json_wholes.proofs.json_proof_modules.Members.{read_has}
+use Rattle.json_wholes.specs.json_simple.declared.refusal.Refusal.{Refusal}
+use Rattle.json_wholes.specs.json_simple.Answers.{Tells}
 use Rattle.json_wholes.specs.declared.heads.BodyHead.{BodyHead}
 use Rattle.json_wholes.specs.Heads.{body_head_demands, IsBodyHead}
 use Rattle.json_wholes.specs.Reads.{ReadsAs, HasAsked}

@@ -8,7 +8,7 @@ use Rattle.asn1_types.specs.declared.definition.Extensible.{Extensible}
 use Rattle.asn1_types.specs.Members.{additions_of}
 use Rattle.aper_defs.specs.Fields.{Path}
 use Rattle.aper_defs.specs.Values as seen
-use Rattle.aper_types.specs.Types.{is_extensible}
+use Rattle.json_parts.specs.aper_types.Types.{is_extensible}
 use Rattle.aper_values.specs.declared.value.Value.{Value}
 use Rattle.aper_values.specs.Views.{view, options_view}
 use Rattle.json_defs.specs.Named.{Named, sequence}
@@ -16,10 +16,10 @@ use Rattle.json_defs.specs.Members.{are_keys_among, items_in, dots}
 use Rattle.json_defs.specs.Shown.{keys_of}
 use Rattle.json_defs.specs.Readings.{components_in, added_in, additions_in, value_of}
 use Rattle.json_defs.specs.Demands.{Demand, first_fault, shape, if_there, added_demands, demands, component_demands, each_added, open_demands}
-use Rattle.json_type_defs.specs.Types.{parts_with}
-use Rattle.json_types.specs.Forms.{sequence_named}
-use Rattle.json_simple.specs.declared.refusal.Refusal.{Refusal}
-use Rattle.json_simple.specs.Answers.{Tells, Reads}
+use Rattle.json_parts.specs.json_type_defs.Types.{parts_with}
+use Rattle.json_wholes.specs.json_types.Forms.{sequence_named}
+use Rattle.json_wholes.specs.json_simple.declared.refusal.Refusal.{Refusal}
+use Rattle.json_wholes.specs.json_simple.Answers.{Tells, Reads}
 use Rattle.json_wholes.specs.declared.wholes.Additions.{Additions}
 use Rattle.json_wholes.specs.Reads.{ReadsAs, ReadsAdditions}
 use Rattle.json_wholes.proofs.Demanded.{NoneFails, told_first, told_later, reads_later, reads_same}

@@ -12,9 +12,9 @@ use Rattle.json_defs.specs.Named.{Named}
 use Rattle.json_defs.specs.Members.{Text, items_in, member_of, value_key}
 use Rattle.json_defs.specs.Readings.{value_of, raw_of, additions_in, added_in}
 use Rattle.json_defs.specs.Demands.{Demand, demands, each_added, open_demands, added_demands, known_member, raw_member}
-use Rattle.json_type_defs.specs.Types.{parts_with}
-use Rattle.json_types.specs.declared.form.NamedForm.{NamedForm}
-use Rattle.json_types.specs.declared.form.NamedForm.TheVariants as forms
+use Rattle.json_parts.specs.json_type_defs.Types.{parts_with}
+use Rattle.json_wholes.specs.json_types.declared.form.NamedForm.{NamedForm}
+use Rattle.json_wholes.specs.json_types.declared.form.NamedForm.TheVariants as forms
 
 -- so many parts as a module's types have at most
 abbrev pub ArePartsFew : {T : Type 0} → Extensible T → Type 0

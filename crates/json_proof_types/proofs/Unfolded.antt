@@ -6,16 +6,16 @@ use Rattle.asn1_types.specs.declared.definition.Component.{Component}
 use Rattle.asn1_types.specs.declared.definition.Definition.{Definition}
 use Rattle.asn1_types.specs.declared.definition.Definition.TheVariants as types
 use Rattle.asn1_types.specs.Members.{additions_of}
-use Rattle.asn1_module.specs.asn1_assignments.declared.assignment.IeRow.{IeRow}
-use Rattle.asn1_module.specs.asn1_assignments.declared.assignment.ProcedureRow.{ProcedureRow}
-use Rattle.asn1_module.specs.asn1_assignments.declared.assignment.Assignment.{Assignment}
-use Rattle.asn1_module.specs.asn1_assignments.declared.assignment.Syntax.{Syntax}
-use Rattle.asn1_module.specs.asn1_defs.Modules.{IsModule}
-use Rattle.asn1_module.specs.asn1_defs.Targets.{find_type, ie_rows, procedure_rows, definition_at, referred, all_of}
-use Rattle.asn1_proof_ranks.specs.Leading.{EachPart, OfOption, EachIe, EachProcedure, EachOf, Lesser}
-use Rattle.asn1_proof_ranks.proofs.Ranks.{rank, rank_most}
-use Rattle.asn1_proof_ranks.proofs.Inside.{each_more, ranks_fall}
-use Rattle.aper_types.specs.Types.{is_mandatory}
+use Rattle.json_type_defs.specs.asn1_assignments.declared.assignment.IeRow.{IeRow}
+use Rattle.json_type_defs.specs.asn1_assignments.declared.assignment.ProcedureRow.{ProcedureRow}
+use Rattle.json_type_defs.specs.asn1_assignments.declared.assignment.Assignment.{Assignment}
+use Rattle.json_type_defs.specs.asn1_assignments.declared.assignment.Syntax.{Syntax}
+use Rattle.json_type_defs.specs.asn1_defs.Modules.{IsModule}
+use Rattle.json_type_defs.specs.asn1_defs.Targets.{find_type, ie_rows, procedure_rows, definition_at, referred, all_of}
+use Rattle.json_type_defs.specs.asn1_proof_ranks.Leading.{EachPart, OfOption, EachIe, EachProcedure, EachOf, Lesser}
+use Rattle.json_type_defs.proofs.asn1_proof_ranks.Ranks.{rank, rank_most}
+use Rattle.json_type_defs.proofs.asn1_proof_ranks.Inside.{each_more, ranks_fall}
+use Rattle.json_type_defs.specs.aper_types.Types.{is_mandatory}
 use Rattle.json_defs.specs.Named.{Named, NamedParts, NamedRows, part, row, outcome}
 use Rattle.json_type_defs.specs.Types.{parts_with, rows_with, outcome_with, procedures_with, referred_with, definition_with, named_by, named}
 

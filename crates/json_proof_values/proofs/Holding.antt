@@ -1,9 +1,9 @@
 -- Demands that hold, all of them; and what the law says of one type.
 use Rattle.std.proofs.Common.{◌≡◌, Bool, true, false, cond, ◌&&◌, List, [], ◌∷◌, ◌++◌, Option, Some, None, is_some, refl, ap, ◌∙◌}
 use Rattle.serde_json.specs.Data.{Data}
-use Rattle.aper_defs.specs.Values.{Value}
-use Rattle.aper_defs.specs.Fields.{Path}
-use Rattle.aper_defs.specs.Membership.{Either, Has}
+use Rattle.json_defs.specs.aper_defs.Values.{Value}
+use Rattle.json_defs.specs.aper_defs.Fields.{Path}
+use Rattle.json_defs.specs.aper_defs.Membership.{Either, Has}
 use Rattle.json_defs.specs.Named.{Named, NamedParts, NamedRows, NamedProcedures, NamedOutcome, no_parts, part, no_rows, row, no_procedures, procedure, no_outcome, outcome, tree_of}
 use Rattle.json_defs.specs.Shown.{Shows}
 use Rattle.json_defs.specs.Readings.{or_else, value_of}

@@ -3,12 +3,12 @@ use Rattle.std.proofs.Common.{◌≡◌, suc, ◌≤◌, Bool, true, false, ◌&
 use Rattle.std.specs.Prelude.{nat_le}
 use Rattle.serde_json.specs.Data.{Data, null, array, object, Items, no_items, item, Members}
 use Rattle.serde_json.specs.Find.{get_member, as_array}
-use Rattle.aper_defs.specs.Fields.{Path}
-use Rattle.aper_defs.specs.Fields as ways
-use Rattle.aper_defs.specs.Bits.{closed, octet_count}
-use Rattle.aper_defs.specs.Layouts.{layout}
-use Rattle.aper_defs.specs.Values.{Value, components, raw, Options, no_options, absent, present, presence, has_options}
-use Rattle.aper_defs.specs.Membership.{AreRaw, AreAdditions, some_present, FitsOpen, Has, HasComponents, HasAdditions}
+use Rattle.json_defs.specs.aper_defs.Fields.{Path}
+use Rattle.json_defs.specs.aper_defs.Fields as ways
+use Rattle.json_defs.specs.aper_defs.Bits.{closed, octet_count}
+use Rattle.json_defs.specs.aper_defs.Layouts.{layout}
+use Rattle.json_defs.specs.aper_defs.Values.{Value, components, raw, Options, no_options, absent, present, presence, has_options}
+use Rattle.json_defs.specs.aper_defs.Membership.{AreRaw, AreAdditions, some_present, FitsOpen, Has, HasComponents, HasAdditions}
 use Rattle.json_defs.specs.Named.{Named, NamedParts, sequence, no_parts, part, tree_of, parts_of}
 use Rattle.json_defs.specs.Members.{items_in, item_count, is_null, dots}
 use Rattle.json_defs.specs.Shown.{IsMember, RawShown, AreShown, ShowsRaw, Shows, ShowsComponents, ShowsAdditions}

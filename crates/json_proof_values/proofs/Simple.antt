@@ -2,11 +2,11 @@
 use Rattle.std.proofs.Common.{◌≡◌, ℕ, suc, ◌+◌, ◌-◌, ◌<◌, Bool, true, false, ◌&&◌, ◌||◌, ◌==◌, nat_lt, List, [], ◌∷◌, ◌++◌, length, Option, Some, None, is_some, refl, sym, ap, subst, ◌∙◌, arith, length-append}
 use Rattle.std.specs.Prelude.{ℤ, pos}
 use Rattle.std.specs.List.{list_all}
-use Rattle.asn1_types.specs.declared.definition.Size.{Size}
+use Rattle.json_defs.specs.asn1_types.declared.definition.Size.{Size}
 use Rattle.serde_json.specs.Data.{Data, boolean as truth_value, string, object, no_members, member}
-use Rattle.aper_defs.specs.Fields.{Path}
-use Rattle.aper_defs.specs.Values.{Value, truth, number, enumeral, bits, octets, text}
-use Rattle.aper_defs.specs.Membership.{is_number_of, is_index_of, is_count_of, is_printable, Has}
+use Rattle.json_defs.specs.aper_defs.Fields.{Path}
+use Rattle.json_defs.specs.aper_defs.Values.{Value, truth, number, enumeral, bits, octets, text}
+use Rattle.json_defs.specs.aper_defs.Membership.{is_number_of, is_index_of, is_count_of, is_printable, Has}
 use Rattle.json_defs.specs.Named.{Name, boolean, integer, enumerated, bit_string, octet_string, printable_string, tree_of}
 use Rattle.json_defs.specs.Bounds.{MayAdd}
 use Rattle.json_defs.specs.Members.{Text, integer_in, natural_in, octets_in, bits_in, same_text, place_in, member_count, or_null, member_of, unknown_key}

@@ -11,9 +11,9 @@ use Rattle.gnb_types.specs.Hex.{IsDigitOf, IsHexOf}
 use Rattle.gnb_types.proofs.HexLemmas.{read_is_hex}
 use Rattle.serde_json.specs.Data.{Data, array, no_items, item, Members, no_members, member}
 use Rattle.serde_json.specs.Find.{get_member, as_str}
-use Rattle.aper_defs.specs.Fields.{Path}
-use Rattle.aper_defs.specs.Values.{Value, raw}
-use Rattle.aper_defs.specs.Membership.{are_octets, IsRaw}
+use Rattle.json_defs.specs.aper_defs.Fields.{Path}
+use Rattle.json_defs.specs.aper_defs.Values.{Value, raw}
+use Rattle.json_defs.specs.aper_defs.Membership.{are_octets, IsRaw}
 use Rattle.json_defs.specs.Members.{Text, natural_of, natural_in, octets_of, octets_in, same_text, place_in, member_count}
 use Rattle.json_defs.specs.Shown.{ShowsRaw, ShowsPast}
 use Rattle.json_defs.specs.Readings.{or_else, raw_in, past_in, past_raw_in, first_of}

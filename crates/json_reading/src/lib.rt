@@ -4,3 +4,10 @@
 mod values;
 
 pub use values::value_in;
+
+/// Of `json_simple`, for crates above.
+pub mod from_json_simple {
+    pub mod refusal {
+        pub use json_proof_reading::from_json_simple::refusal::Refusal;
+    }
+}

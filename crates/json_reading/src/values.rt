@@ -9,35 +9,37 @@ ghost use Rattle.json_defs.specs.Named.{container, pdu, sequence_of};
 ghost use Rattle.json_defs.specs.Members.{criticality_key};
 ghost use Rattle.json_defs.specs.Readings.{value_of, components_in};
 ghost use Rattle.json_defs.specs.Demands.{demands, component_demands};
-ghost use Rattle.json_type_defs.specs.Types.{named, parts_with, rows_with, procedures_with};
-ghost use Rattle.json_types.specs.Forms.{form_named, IsFormInside, sequence_named, choice_named};
-ghost use Rattle.json_simple.specs.Answers.{Reads};
-ghost use Rattle.json_wholes.specs.Reads.{ReadsAs, ReadsAdditions};
+ghost use Rattle.json_proof_reading.specs.json_type_defs.Types.{named, parts_with, rows_with, procedures_with};
+ghost use Rattle.json_proof_reading.specs.json_types.Forms.{form_named, IsFormInside, sequence_named, choice_named};
+ghost use Rattle.json_proof_reading.specs.json_simple.Answers.{Reads};
+ghost use Rattle.json_proof_reading.specs.json_wholes.Reads.{ReadsAs, ReadsAdditions};
 ghost use Rattle.json_proof_reading.specs.Inside.{IsFormSmall, ArePartsFew, listed, opened, added, contents_demands, contents_read};
 
-use aper_frames::Step;
-use aper_measuring::bounds::is_member_count_of;
-use aper_members::rows::{message_type, named, row_type};
 use aper_values::value::{OptValues, Value};
 use asn1_assignments::{IeRow, ProcedureRow};
 use asn1_module::Module;
 use asn1_types::{Component, Extensible, Size, TypeId};
-use json_members::members::{Members, member};
-use json_parts::order::are_in_order;
-use json_parts::outcomes::outcome_in;
-use json_parts::parts::part_in;
-use json_simple::enumerated::enumerated_in;
-use json_simple::refusal::{Refusal, range, shape};
-use json_simple::simple::{
+use json_proof_reading::from_aper_frames::Step;
+use json_proof_reading::from_aper_measuring::bounds::is_member_count_of;
+use json_proof_reading::from_aper_members::rows::{message_type, named, row_type};
+use json_proof_reading::from_json_members::members::{Members, member};
+use json_proof_reading::from_json_parts::order::are_in_order;
+use json_proof_reading::from_json_parts::outcomes::outcome_in;
+use json_proof_reading::from_json_parts::parts::part_in;
+use json_proof_reading::from_json_simple::enumerated::enumerated_in;
+use json_proof_reading::from_json_simple::refusal::{Refusal, range, shape};
+use json_proof_reading::from_json_simple::simple::{
     bit_string_in, boolean_in, octet_string_in, printable_string_in, raw_in, whole_number_in,
 };
-use json_types::{NamedForm, form_of};
-use json_wholes::contents::{alone, first_unfit, held, inside, is_fitting, keyed, unknown_in};
-use json_wholes::heads::{element_head, message_head};
-use json_wholes::members::{
+use json_proof_reading::from_json_types::{NamedForm, form_of};
+use json_proof_reading::from_json_wholes::contents::{
+    alone, first_unfit, held, inside, is_fitting, keyed, unknown_in,
+};
+use json_proof_reading::from_json_wholes::heads::{element_head, message_head};
+use json_proof_reading::from_json_wholes::members::{
     additions_member, are_additions, put_absent, put_element, put_member, put_present,
 };
-use json_wholes::wholes::{
+use json_proof_reading::from_json_wholes::wholes::{
     Additions, alternative, message, past_alternative, past_message, sequence,
 };
 use serde_json::Value as Json;

@@ -4,8 +4,8 @@ use Rattle.std.specs.Prelude.{ℕ, zero, suc, ◌+◌, ◌-◌, ◌==◌, List, 
 use Rattle.gnb_types.specs.Hex.{hex_of}
 use Rattle.serde_json.specs.Data.{Data, null, boolean as truth_value, number as number_value, string, array, object, Items, no_items, item, Members, no_members, member, put}
 use Rattle.serde_json.specs.Find.{of_integer}
-use Rattle.aper_defs.specs.Values.{Value, Values, Options, Ies, has_options}
-use Rattle.aper_defs.specs.Values.{truth, number, enumeral, bits, octets, text, components, chosen, list, elements, message, raw, no_values, value, no_options, absent, present, no_ies, ie}
+use Rattle.json_defs.specs.aper_defs.Values.{Value, Values, Options, Ies, has_options}
+use Rattle.json_defs.specs.aper_defs.Values.{truth, number, enumeral, bits, octets, text, components, chosen, list, elements, message, raw, no_values, value, no_options, absent, present, no_ies, ie}
 use Rattle.json_defs.specs.Named.{Name, Named, NamedParts, NamedRows, NamedProcedures, NamedOutcome}
 use Rattle.json_defs.specs.Named.{boolean, integer, enumerated, bit_string, octet_string, printable_string, sequence, choice, sequence_of, container, pdu, no_parts, part, no_rows, row, no_procedures, procedure, no_outcome, outcome}
 use Rattle.json_defs.specs.Members.{Text, dots, unknown_key, id_key, criticality_key, code_key, value_key, raw_key, criticalities, outcomes}

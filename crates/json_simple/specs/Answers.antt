@@ -6,7 +6,7 @@ use Rattle.serde_json.specs.declared.value.Value.{Value}
 use Rattle.serde_json.specs.View.{view, items_view}
 use Rattle.asn1_types.specs.declared.definition.Extensible.{Extensible}
 use Rattle.asn1_types.specs.Members.{additions_of, all_parts}
-use Rattle.aper_types.specs.Types.{is_extensible}
+use Rattle.aper_measuring.specs.aper_types.Types.{is_extensible}
 use Rattle.aper_defs.specs.Fields.{Path}
 use Rattle.aper_frames.specs.Paths.{step_view}
 use Rattle.json_defs.specs.declared.fault.JsonFault.{JsonFault}

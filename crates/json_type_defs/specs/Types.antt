@@ -1,11 +1,11 @@
 -- The tree of a type of a module with its names: those of components, alternatives and an ENUMERATED. Names of types are followed, and
 -- what a set holds stands in the tree, as in the tree that an encoding depends on.
 use Rattle.std.specs.Prelude.{ℕ, zero, suc, ◌+◌, List, [], ◌∷◌, length, Option, Some, None}
-use Rattle.asn1_types.specs.declared.definition.TypeId.{TypeId}
-use Rattle.asn1_types.specs.declared.definition.Component.{Component}
-use Rattle.asn1_types.specs.declared.definition.Definition.{Definition}
-use Rattle.asn1_types.specs.declared.definition.Definition.TheVariants as types
-use Rattle.asn1_types.specs.Members.{additions_of}
+use Rattle.aper_types.specs.asn1_types.declared.definition.TypeId.{TypeId}
+use Rattle.aper_types.specs.asn1_types.declared.definition.Component.{Component}
+use Rattle.aper_types.specs.asn1_types.declared.definition.Definition.{Definition}
+use Rattle.aper_types.specs.asn1_types.declared.definition.Definition.TheVariants as types
+use Rattle.aper_types.specs.asn1_types.Members.{additions_of}
 use Rattle.aper_types.specs.asn1_module.asn1_assignments.declared.assignment.IeRow.{IeRow}
 use Rattle.aper_types.specs.asn1_module.asn1_assignments.declared.assignment.ProcedureRow.{ProcedureRow}
 use Rattle.aper_types.specs.asn1_module.asn1_assignments.declared.assignment.Assignment.{Assignment}

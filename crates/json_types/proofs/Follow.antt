@@ -18,10 +18,10 @@ use Rattle.asn1_module.specs.asn1_defs.Modules.{IsModule}
 use Rattle.asn1_module.specs.asn1_defs.Targets.{find_type, HasTarget, definition_at, referred, element_rows, message_rows}
 use Rattle.asn1_module.specs.asn1_defs.Links.{AreBelow, PartsBelow, IsInside}
 use Rattle.json_defs.specs.Named.{Named, integer, container, pdu}
-use Rattle.json_type_defs.specs.Types.{rows_with, procedures_with, definition_with}
-use Rattle.asn1_proof_ranks.specs.Leading.{OfOption, EachOf, Lesser}
-use Rattle.asn1_proof_ranks.proofs.Ranks.{rank}
-use Rattle.asn1_proof_ranks.proofs.Inside.{ranks_fall}
+use Rattle.json_proof_types.specs.json_type_defs.Types.{rows_with, procedures_with, definition_with}
+use Rattle.json_proof_types.specs.asn1_proof_ranks.Leading.{OfOption, EachOf, Lesser}
+use Rattle.json_proof_types.proofs.asn1_proof_ranks.Ranks.{rank}
+use Rattle.json_proof_types.proofs.asn1_proof_ranks.Inside.{ranks_fall}
 
 named_has : (P : ℕ → Type 0) (names : List Assignment) (d : Definition) (next : TypeId) → referred names d ≡ Some next → EachOf P names d
     → P next.number

@@ -4,9 +4,9 @@ use Rattle.asn1_types.specs.declared.definition.Component.{Component}
 use Rattle.asn1_types.specs.declared.definition.Extensible.{Extensible}
 use Rattle.asn1_types.specs.Members.{additions_of}
 use Rattle.asn1_module.specs.asn1_defs.Links.{PartsBelow, IesBelow, ProceduresBelow}
-use Rattle.aper_types.specs.Types.{is_extensible}
+use Rattle.json_proof_types.specs.aper_types.Types.{is_extensible}
 use Rattle.json_defs.specs.Named.{Named, boolean, integer, enumerated, bit_string, octet_string, printable_string, sequence, choice, sequence_of, container, pdu}
-use Rattle.json_type_defs.specs.Types.{parts_with, rows_with, procedures_with}
+use Rattle.json_proof_types.specs.json_type_defs.Types.{parts_with, rows_with, procedures_with}
 use Rattle.json_types.specs.declared.form.NamedForm.{NamedForm}
 use Rattle.json_types.specs.declared.form.NamedForm.TheVariants as forms
 

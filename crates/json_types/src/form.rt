@@ -4,7 +4,7 @@ ghost use Rattle.std.specs.Prelude.{◌≡◌, ℕ, ◌<◌, length, None};
 ghost use Rattle.asn1_module.specs.asn1_defs.Modules.{IsModule};
 ghost use Rattle.asn1_module.specs.asn1_defs.Targets.{definition_at, referred};
 ghost use Rattle.json_defs.specs.Named.{Named};
-ghost use Rattle.json_type_defs.specs.Types.{definition_with, named};
+ghost use Rattle.json_proof_types.specs.json_type_defs.Types.{definition_with, named};
 ghost use Rattle.json_types.specs.Forms.{form_named, IsFormInside};
 
 use asn1_module::{Component, Definition, Extensible, IeRow, Module, ProcedureRow, Size, TypeId};

@@ -4,3 +4,8 @@
 mod form;
 
 pub use form::{NamedForm, form_of};
+
+/// Of `asn1_module`, for crates above.
+pub mod from_asn1_module {
+    pub use asn1_module::Module;
+}

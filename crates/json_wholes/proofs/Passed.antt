@@ -3,23 +3,23 @@ use Rattle.std.proofs.Common.{◌≡◌, ℕ, ◌≤◌, ◌<◌, List, [], ◌�
 use Rattle.std.specs.Prelude.{◌↔◌, IsTrue, nat_le, is_some}
 use Rattle.serde_json.specs.Data.{Data, null, boolean, number, string, array, object}
 use Rattle.serde_json.specs.Find.{as_null}
-use Rattle.asn1_module.specs.asn1_assignments.declared.assignment.Syntax.{Syntax}
+use Rattle.aper_value_checks.specs.asn1_assignments.declared.assignment.Syntax.{Syntax}
 use Rattle.aper_defs.specs.Bits.{closed, octet_count}
 use Rattle.aper_defs.specs.Fields.{Path}
 use Rattle.aper_defs.specs.Layouts.{layout}
 use Rattle.aper_defs.specs.Membership.{FitsOpen}
 use Rattle.aper_defs.specs.Trees.{Tree}
 use Rattle.aper_defs.specs.Values.{Value as SeenValue}
-use Rattle.aper_frames.specs.declared.path.Step.{Step}
-use Rattle.aper_frames.specs.Paths.{step_view}
-use Rattle.aper_types.specs.Types.{tree}
+use Rattle.json_simple.specs.aper_frames.declared.path.Step.{Step}
+use Rattle.json_simple.specs.aper_frames.Paths.{step_view}
+use Rattle.aper_value_checks.specs.aper_types.Types.{tree}
 use Rattle.aper_values.specs.declared.value.Value.{Value}
 use Rattle.json_defs.specs.declared.fault.JsonFault.{JsonFault}
 use Rattle.json_defs.specs.Named.{tree_of}
 use Rattle.json_defs.specs.Members.{is_null}
 use Rattle.json_defs.specs.Readings.{value_of, past_in}
 use Rattle.json_defs.specs.Demands.{Demand, fits_open, past_demands}
-use Rattle.json_type_defs.specs.Types.{named}
+use Rattle.json_proof_modules.specs.json_type_defs.Types.{named}
 use Rattle.json_proof_values.proofs.Holding.{by_cases, all_hold}
 use Rattle.json_proof_values.proofs.Words.{at_most, is_at_most, past_forth}
 use Rattle.json_proof_modules.proofs.Forgotten.{forgotten}

@@ -4,8 +4,8 @@ use Rattle.aper_defs.specs.Trees.{Tree}
 use Rattle.aper_defs.specs.Fields.{Path}
 use Rattle.aper_defs.specs.Values as seen
 use Rattle.aper_defs.specs.Membership.{Has}
-use Rattle.aper_frames.specs.Paths.{step_view}
-use Rattle.aper_frames.specs.declared.path.Step.{Step}
+use Rattle.json_simple.specs.aper_frames.Paths.{step_view}
+use Rattle.json_simple.specs.aper_frames.declared.path.Step.{Step}
 use Rattle.aper_values.specs.Views.{view, options_view}
 use Rattle.aper_values.specs.declared.value.Value.{Value}
 use Rattle.aper_values.specs.declared.value.Element.{Element}

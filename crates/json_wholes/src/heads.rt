@@ -9,9 +9,9 @@ ghost use Rattle.json_defs.specs.Demands.{id_in};
 ghost use Rattle.serde_json.specs.Data.{object};
 ghost use Rattle.json_wholes.specs.Heads.{element_id_demands, element_head_demands, IsElementHead, body_head_demands, IsBodyHead};
 
-use aper_frames::Step;
 use json_members::kinds::integer_in;
 use json_members::members::{Members, criticality_in, member};
+use json_simple::from_aper_frames::Step;
 use json_simple::refusal::{Refusal, range, shape, under};
 use serde_json::Value as Json;
 use std::alloc::Global;

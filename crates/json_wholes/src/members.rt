@@ -14,10 +14,10 @@ ghost use Rattle.json_wholes.specs.Reads.{ReadsAs, element_of};
 
 use crate::contents::inside;
 use crate::heads::ElementHead;
-use aper_frames::Step;
 use aper_values::value::{Element, Ies, OptValues, Value, Values};
 use asn1_types::Component;
 use json_members::members::{Members, member};
+use json_simple::from_aper_frames::Step;
 use json_simple::refusal::{Refusal, shape, under};
 use serde_json::Value as Json;
 use std::alloc::Global;

@@ -11,15 +11,15 @@ ghost use Rattle.json_defs.specs.Members.{are_keys_among, has_member, member_of,
 ghost use Rattle.json_defs.specs.Shown.{keys_of};
 ghost use Rattle.json_defs.specs.Readings.{past_in, past_raw_in};
 ghost use Rattle.json_defs.specs.Demands.{Demand, shape, past_demands, only_member};
-ghost use Rattle.json_type_defs.specs.Types.{parts_with};
+ghost use Rattle.json_proof_modules.specs.json_type_defs.Types.{parts_with};
 ghost use Rattle.json_wholes.specs.Reads.{ReadsAs, ReadsAdditions};
 
 use crate::contents::{alone, inside};
 use crate::heads::BodyHead;
-use aper_frames::Step;
 use aper_values::value::{OptValues, Value};
 use asn1_types::Component;
 use json_members::members::{Members, are_keys, member};
+use json_simple::from_aper_frames::Step;
 use json_simple::past::past_in;
 use json_simple::refusal::{Refusal, range, shape, under};
 use std::alloc::Global;

@@ -22,7 +22,7 @@ use Rattle.law_named_events.proofs.law_run_facts.Later.{made_later}
 use Rattle.law_named_events.proofs.law_run_facts.Plain.{plain_kept, first_holds}
 use Rattle.law_open_tunnels.proofs.Runs.{first_stands, made_stands}
 use Rattle.law_open_tunnels.specs.Open.{StandWhereOpen}
-use Rattle.law_owner_facts.specs.Owned.{AreOwned}
+use Rattle.law_named_events.specs.law_owner_facts.Owned.{AreOwned}
 use Rattle.law_named_events.proofs.law_tunnel_owners.Placed.{first_owned}
 use Rattle.law_named_events.proofs.law_tunnel_owners.Runs.{owned_made}
 use Rattle.law_tunnel_names.specs.Names.{by_book}

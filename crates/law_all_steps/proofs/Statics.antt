@@ -27,7 +27,7 @@ use Rattle.run_defs.specs.Units.{Units, cp_of, with_cp, up_of, with_up, du_of, w
 use Rattle.run_defs.specs.States.{State}
 use Rattle.run_defs.specs.Steps.{with_tunnel}
 use Rattle.run_defs.specs.Conditions.{is_held_by_units, all_set_up, units_placed, n3_from, tunnels_from, statically}
-use Rattle.law_owner_facts.specs.Owned.{du_names, du_context_names, DuOwns, AreOwned}
+use Rattle.law_named_events.specs.law_owner_facts.Owned.{du_names, du_context_names, DuOwns, AreOwned}
 use Rattle.law_named_events.proofs.law_tunnel_owners.Placed.{placed_owned}
 use Rattle.law_named_events.proofs.law_slice_owners.Owners.{tunnels_same as up_tunnels_same}
 use Rattle.law_slices.specs.Slices.{Requests, requests_of}

@@ -1,9 +1,9 @@
 -- Answers after which something holds: by cases, one after another, and where a request or a reply is taken.
 use Rattle.std.proofs.Common.{ℕ, Bool, true, false, Option, Some, None}
 use Rattle.std.specs.Prelude.{if◌then◌else◌}
-use Rattle.gnb_types.specs.declared.keys.Channel.{Channel}
-use Rattle.transaction_defs.specs.Callers.{is_awaited}
-use Rattle.transaction_defs.specs.Callees.{Verdict, new, again, stale, verdict, taken, kept_reply}
+use Rattle.unit_defs.specs.gnb_types.declared.keys.Channel.{Channel}
+use Rattle.unit_defs.specs.transaction_defs.Callers.{is_awaited}
+use Rattle.unit_defs.specs.transaction_defs.Callees.{Verdict, new, again, stale, verdict, taken, kept_reply}
 use Rattle.unit_defs.specs.Ways.{Way, Answer, gives, spent, with_outputs, ◌then◌}
 use Rattle.unit_defs.specs.Transactions.{Transactions, answered_again, request_by, on_request, on_reply}
 use Rattle.law_answers.specs.After.{HoldsAfter}

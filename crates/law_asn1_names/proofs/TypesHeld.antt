@@ -11,7 +11,8 @@ use Rattle.asn1_types.specs.declared.definition.Definition.TheVariants as types
 use Rattle.asn1_types.specs.declared.definition.Node.{Node}
 use Rattle.asn1_types.specs.declared.members.Group.{Group}
 use Rattle.asn1_types.specs.Shapes.{Shape, shape_of, Content, Simple, parts_of}
-use Rattle.asn1_types.specs.Members.{no_parts, node, additions_of}
+use Rattle.asn1_types.specs.Members.{no_parts, additions_of}
+use Rattle.asn1_types.specs.Types.{node}
 use Rattle.asn1_module.proofs.SimpleTypes.{followed_parts}
 use Rattle.asn1_module.specs.asn1_defs.declared.names.Kind.{Kind}
 use Rattle.asn1_module.specs.asn1_defs.declared.names.Kind.TheVariants as kinds

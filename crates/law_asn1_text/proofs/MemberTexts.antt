@@ -19,7 +19,9 @@ use Rattle.asn1_types.specs.declared.members.Frame.TheVariants as frames
 use Rattle.asn1_types.specs.declared.members.Head.{Head}
 use Rattle.asn1_types.specs.declared.members.Head.TheVariants as heads
 use Rattle.asn1_types.specs.Reading.{Left, begins_with, begins_with_sign}
-use Rattle.asn1_types.specs.Members.{no_parts, put_part, with_part, extended, can_extend, all_parts, is_full, has_name, has_component, new_name_at, list_goes_on_at, name_entry_at, names_turn_at, names_at, least_members, composed, node, named_at, entry_at, optional_at, component, member_end_at, close_at}
+use Rattle.asn1_types.specs.Members.{no_parts, put_part, with_part, extended, all_parts, is_full, has_name, component}
+use Rattle.asn1_types.specs.Types.{node}
+use Rattle.asn1_types.specs.inside.Members.{can_extend, has_component, new_name_at, list_goes_on_at, name_entry_at, names_turn_at, names_at, least_members, composed, named_at, entry_at, optional_at, member_end_at, close_at}
 use Rattle.law_asn1_text.specs.Written.{Written, word, sign, lower, separated, addition_entries, entries_of, type_text, optional_text, component_text, optional_size_text, definition_text}
 use Rattle.asn1_proof_syntax.proofs.Gives.{Gives, ok, no_value, and_gives, and_parts, Next, repeat_gives}
 use Rattle.law_asn1_text.proofs.Taken.{Taken, ◌then◌, nothing_taken, written_as, word_gives, sign_gives, lower_gives}

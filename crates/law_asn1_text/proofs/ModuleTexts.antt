@@ -13,7 +13,7 @@ use Rattle.asn1_types.specs.Reading.{Left, begins_with, begins_with_sign}
 use Rattle.asn1_assignments.specs.declared.assignment.Body.{Body}
 use Rattle.asn1_assignments.specs.declared.assignment.Assignment.{Assignment}
 use Rattle.asn1_assignments.specs.declared.assignment.Syntax.{Syntax}
-use Rattle.asn1_assignments.specs.Module.{Parts, has_all_types, is_assigned, new_assignment_at, ie_body_at, procedure_body_at, type_body_at, body_at, assignment_at, module_turn_at, header_at, no_assignments, assignments_at, syntax_at, syntax_of}
+use Rattle.asn1_assignments.specs.inside.Module.{Parts, has_all_types, is_assigned, new_assignment_at, ie_body_at, procedure_body_at, type_body_at, body_at, assignment_at, module_turn_at, header_at, no_assignments, assignments_at, syntax_at, syntax_of}
 use Rattle.asn1_module.specs.asn1_defs.Links.{AreOrdered}
 use Rattle.asn1_module.proofs.RowLinks.{linked}
 use Rattle.law_asn1_text.specs.Written.{Written, upper, texts_of, body_text, assignment_text, assignments_text, header_text, IsWrittenSo}

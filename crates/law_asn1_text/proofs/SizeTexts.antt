@@ -11,8 +11,10 @@ use Rattle.asn1_tokens.specs.Stream.{Placed}
 use Rattle.asn1_types.specs.declared.fault.ModuleReason.TheVariants as reasons
 use Rattle.asn1_types.specs.declared.definition.Size.{Size}
 use Rattle.asn1_types.specs.declared.definition.Definition.{Definition}
-use Rattle.asn1_types.specs.Reading.{Left, fault_at, begins_with_sign}
-use Rattle.asn1_types.specs.Sizes.{natural as natural_of, bounded_at, natural_at, ellipsis_at, size_end_at, least_high, size_rest_at, size_at, optional_size_at, integer_ellipsis_at, integer_least, integer_greatest, greatest_beside, integer_at}
+use Rattle.asn1_types.specs.Reading.{Left, begins_with_sign}
+use Rattle.asn1_types.specs.inside.Reading.{fault_at}
+use Rattle.asn1_types.specs.Sizes.{natural as natural_of, least_high, integer_least, integer_greatest, greatest_beside}
+use Rattle.asn1_types.specs.inside.Sizes.{bounded_at, natural_at, ellipsis_at, size_end_at, size_rest_at, size_at, optional_size_at, integer_ellipsis_at, integer_at}
 use Rattle.law_asn1_text.specs.Written.{Written, word, sign, natural, mark_text, high_text, size_text, optional_size_text, definition_text}
 use Rattle.asn1_proof_syntax.proofs.Gives.{Gives, ok, no_value, and_gives, gives_so, and_parts}
 use Rattle.law_asn1_text.proofs.Taken.{Taken, ◌then◌, nothing_taken, written_as, word_gives, sign_gives, number_gives}

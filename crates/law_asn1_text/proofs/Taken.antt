@@ -7,7 +7,8 @@ use Rattle.asn1_tokens.specs.declared.token.Sign.{Sign}
 use Rattle.asn1_tokens.specs.declared.token.Token.{Token}
 use Rattle.asn1_tokens.specs.declared.token.Token.TheVariants as tokens
 use Rattle.asn1_tokens.specs.Stream.{Placed}
-use Rattle.asn1_types.specs.Reading.{Left, word_at, sign_at, upper_at, lower_at, number_at}
+use Rattle.asn1_types.specs.Reading.{Left}
+use Rattle.asn1_types.specs.inside.Reading.{word_at, sign_at, upper_at, lower_at, number_at}
 use Rattle.asn1_module.specs.asn1_defs.Spelling.{tokens_of}
 use Rattle.asn1_proof_syntax.proofs.Gives.{Gives, gives_so}
 use Rattle.asn1_module.specs.asn1_defs.ItemMeanings.{The, is}

@@ -21,11 +21,14 @@ use Rattle.asn1_types.specs.declared.members.Group.TheVariants as groups
 use Rattle.asn1_types.specs.declared.members.Frame.{Frame}
 use Rattle.asn1_types.specs.declared.members.Head.{Head}
 use Rattle.asn1_types.specs.declared.members.Head.TheVariants as heads
-use Rattle.asn1_types.specs.Reading.{Left, first_word, begins_with_sign}
+use Rattle.asn1_types.specs.Reading.{Left, begins_with_sign}
+use Rattle.asn1_types.specs.inside.Reading.{first_word}
 use Rattle.asn1_types.specs.Shapes.{Shape, Alone, BoundsFollow, NamesFollow, StringFollows, TextSizeFollows, shape_of, Nothing, StringSize, TextSize, Parts, Simple, parts_of}
-use Rattle.asn1_types.specs.Members.{no_parts, close_at, additions_of}
+use Rattle.asn1_types.specs.Members.{no_parts, additions_of}
+use Rattle.asn1_types.specs.inside.Members.{close_at}
 use Rattle.asn1_types.proofs.ShapeLemmas.{alone_parts, string_parts, text_parts, bounds_word, names_word}
-use Rattle.asn1_types.specs.Types.{enumerated_at, string_at, rest_at, rest_by, simple_rest_at, is_simple, simple_at, list_head_at, components_head_at, sequence_head_at, choice_head_at, set_name_at, container_at, pdu_at, reference_at, head_by, next_id, Risen, risen, rise_at, type_turn_at, type_goes_on, type_within_at, type_at}
+use Rattle.asn1_types.specs.Types.{next_id}
+use Rattle.asn1_types.specs.inside.Types.{enumerated_at, string_at, rest_at, rest_by, simple_rest_at, is_simple, simple_at, list_head_at, components_head_at, sequence_head_at, choice_head_at, set_name_at, container_at, pdu_at, reference_at, head_by, Risen, risen, rise_at, type_turn_at, type_goes_on, type_within_at, type_at}
 use Rattle.asn1_module.specs.asn1_defs.Links.{AreBelow, PartsBelow, IsInside, AreOrdered}
 use Rattle.law_asn1_text.specs.Written.{Written, word, sign, lower, optional_text, separated, addition_entries, entries_of, braced, optional_size_text, type_text, component_text, set_name_text, parts_text, definition_text, with_text, texts_of}
 use Rattle.asn1_proof_syntax.proofs.Gives.{Gives, ok, no_value, and_gives, gives_so}

@@ -4,21 +4,21 @@ use Rattle.std.specs.Prelude.{⊤}
 use Rattle.std.specs.List.{AllByRecursion}
 use Rattle.gnb_types.specs.declared.names.NodeId.{NodeId}
 use Rattle.gnb_types.specs.declared.names.SnBits.{SnBits}
-use Rattle.pdcp_defs.specs.Senders.{Sender, numbered as with_next, has_room, may_restore, confirmed_by}
-use Rattle.unit_defs.specs.Ways.{packet_content, report_content, Taken, fresh_item, numbered_item, uplink_item, status_item, end_item, Output, Way, Answer, gives}
-use Rattle.unit_defs.specs.UpRecords.{UpAt, UpBearer, TunnelKind, n3 as n3_kind, f1u_uplink, forwarding_down, forwarding_up}
-use Rattle.unit_defs.specs.UpBearers.{thawed}
-use Rattle.chain_defs.specs.Parts.{Item, Member, Part, set}
-use Rattle.chain_defs.specs.Orders.{Order, knows, switches, resumes, releases, freezes, keeps_n3, keeps_fresh, passes_n3, passes_fresh, sends, passes_numbered, drops, ends_n3, ends_hop, numbers, confirms, reports, tells_loss, sends_again, on_downlink, known, waits, changed, passed, after, run}
+use Rattle.law_bearer_orders.specs.pdcp_defs.Senders.{Sender, numbered as with_next, has_room, may_restore, confirmed_by}
+use Rattle.law_bearer_orders.specs.unit_defs.Ways.{packet_content, report_content, Taken, fresh_item, numbered_item, uplink_item, status_item, end_item, Output, Way, Answer, gives}
+use Rattle.law_bearer_orders.specs.unit_defs.UpRecords.{UpAt, UpBearer, TunnelKind, n3 as n3_kind, f1u_uplink, forwarding_down, forwarding_up}
+use Rattle.law_bearer_orders.specs.unit_defs.UpBearers.{thawed}
+use Rattle.law_bearer_orders.specs.chain_defs.Parts.{Item, Member, Part, set}
+use Rattle.law_bearer_orders.specs.chain_defs.Orders.{Order, knows, switches, resumes, releases, freezes, keeps_n3, keeps_fresh, passes_n3, passes_fresh, sends, passes_numbered, drops, ends_n3, ends_hop, numbers, confirms, reports, tells_loss, sends_again, on_downlink, known, waits, changed, passed, after, run}
 use Rattle.law_intervals.proofs.Intervals.{all_append}
-use Rattle.law_chain.proofs.Frames.{set_here, set_far}
-use Rattle.law_chain_rows.specs.Shown.{items_of, number_orders}
-use Rattle.law_context_orders.specs.Orders.{UpPart, UpOrder, on_switch, on_status, on_resume, done}
-use Rattle.law_context_orders.specs.Orders as ups
-use Rattle.law_down_orders.specs.Down.{IsDown, serves_none, numbers_if, fresh_orders, numbered_order, confirms_if, confirmed_if, losses, item_orders, control_orders, Went, Shown, Shows, IsFit, IsAsked, IsOfUplink, ShownFrozen, ShowsFrozen}
-use Rattle.law_down_orders.proofs.Beside.{beside}
-use Rattle.law_down_orders.proofs.Control.{control_shows, freeze_shows}
-use Rattle.law_down_orders.proofs.Items.{item_one}
+use Rattle.law_bearer_orders.proofs.law_chain.Frames.{set_here, set_far}
+use Rattle.law_bearer_orders.specs.law_chain_rows.Shown.{items_of, number_orders}
+use Rattle.law_bearer_orders.specs.law_context_orders.Orders.{UpPart, UpOrder, on_switch, on_status, on_resume, done}
+use Rattle.law_bearer_orders.specs.law_context_orders.Orders as ups
+use Rattle.law_bearer_orders.specs.law_down_orders.Down.{IsDown, serves_none, numbers_if, fresh_orders, numbered_order, confirms_if, confirmed_if, losses, item_orders, control_orders, Went, Shown, Shows, IsFit, IsAsked, IsOfUplink, ShownFrozen, ShowsFrozen}
+use Rattle.law_bearer_orders.proofs.law_down_orders.Beside.{beside}
+use Rattle.law_bearer_orders.proofs.law_down_orders.Control.{control_shows, freeze_shows}
+use Rattle.law_bearer_orders.proofs.law_down_orders.Items.{item_one}
 use Rattle.law_bearer_orders.specs.Happenings.{Beside}
 use Rattle.law_bearer_orders.specs.Down.{hop_to, orders_of}
 use Rattle.law_bearer_orders.proofs.Down.{not_same}

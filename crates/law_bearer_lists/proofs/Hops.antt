@@ -7,16 +7,16 @@ use Rattle.gnb_types.specs.declared.outputs.Tag.{Tag}
 use Rattle.gnb_types.specs.declared.outputs.Tag.TheVariants.{Absent, Own, Same}
 use Rattle.gnb_types.specs.declared.plans.SnStatus.{SnStatus}
 use Rattle.gnb_types.specs.declared.reasons.DropReason.TheVariants.{Duplicate, Unexpected}
-use Rattle.pdcp.specs.Near.{last_count}
-use Rattle.pdcp_defs.specs.Senders.{numbered as with_next, has_room, may_restore, restored, confirmed_by}
-use Rattle.pdcp_defs.specs.Receivers.{deliver as handed_up, is_duplicate, received_bits, stored}
-use Rattle.unit_defs.specs.Ways.{packet_pdu, report_pdu, packet_content, report_content, Load, fresh, numbered, end_marker, Taken, fresh_item, numbered_item, uplink_item, status_item, end_item, closed, Way, Answer, gives, spent, with_outputs, ◌then◌, nothing, puts, drops, frames_spent, counts_spent}
-use Rattle.unit_defs.specs.UpRecords.{UpAt, UpBearer, Downlink, SourceHop, TunnelKind, n3, f1u_uplink, forwarding_down, forwarding_up}
-use Rattle.unit_defs.specs.UpBearers.{last_frame, has_downlink, thawed, owed, bits_in, no_uplink, delivered, framed_on, framed, sent, sent_again, number_each, number_waiting, deliver_stored, put_down, forwarded_down, put_up, forwarded_up, with_uplink, begin_downlink, begin_where_known, switched, forward_numbered, forward_fresh, forward_late, frozen_to, with_status, resumed}
-use Rattle.unit_defs.specs.UpItems.{took_fresh, closed_n3, n3_ended, restored_at, took_numbered, down_ended, stored_at, passed_up, took_uplink, took_report, confirmed_if, lost_frames, took_delivery_status, up_hop_ends_if, uplink_ended, up_ended, took}
+use Rattle.law_bearer_orders.specs.pdcp.Near.{last_count}
+use Rattle.law_bearer_orders.specs.pdcp_defs.Senders.{numbered as with_next, has_room, may_restore, restored, confirmed_by}
+use Rattle.law_bearer_orders.specs.pdcp_defs.Receivers.{deliver as handed_up, is_duplicate, received_bits, stored}
+use Rattle.law_bearer_orders.specs.unit_defs.Ways.{packet_pdu, report_pdu, packet_content, report_content, Load, fresh, numbered, end_marker, Taken, fresh_item, numbered_item, uplink_item, status_item, end_item, closed, Way, Answer, gives, spent, with_outputs, ◌then◌, nothing, puts, drops, frames_spent, counts_spent}
+use Rattle.law_bearer_orders.specs.unit_defs.UpRecords.{UpAt, UpBearer, Downlink, SourceHop, TunnelKind, n3, f1u_uplink, forwarding_down, forwarding_up}
+use Rattle.law_bearer_orders.specs.unit_defs.UpBearers.{last_frame, has_downlink, thawed, owed, bits_in, no_uplink, delivered, framed_on, framed, sent, sent_again, number_each, number_waiting, deliver_stored, put_down, forwarded_down, put_up, forwarded_up, with_uplink, begin_downlink, begin_where_known, switched, forward_numbered, forward_fresh, forward_late, frozen_to, with_status, resumed}
+use Rattle.law_bearer_orders.specs.unit_defs.UpItems.{took_fresh, closed_n3, n3_ended, restored_at, took_numbered, down_ended, stored_at, passed_up, took_uplink, took_report, confirmed_if, lost_frames, took_delivery_status, up_hop_ends_if, uplink_ended, up_ended, took}
 use Rattle.law_intervals.proofs.Intervals.{all_append}
-use Rattle.law_context_orders.specs.Orders.{UpPart, UpOrder, on_switch, on_freeze, on_status, on_resume, kept_in, done}
-use Rattle.law_context_orders.specs.Orders as ups
+use Rattle.law_bearer_orders.specs.law_context_orders.Orders.{UpPart, UpOrder, on_switch, on_freeze, on_status, on_resume, kept_in, done}
+use Rattle.law_bearer_orders.specs.law_context_orders.Orders as ups
 use Rattle.law_bearer_lists.specs.Puts.{HopEnds, ends_of, IsHopEnd, IsPutAt, IsOwnPut, AreOwnPuts, hop_after, PutsOwn}
 
 module _ {M C P : Type 0} (way : Way M C P) (at : UpAt) (h : Option HopEnds) where

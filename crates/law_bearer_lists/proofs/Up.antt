@@ -3,20 +3,20 @@ use Rattle.std.proofs.Common.{inl, inr, ◌≡◌, ◌≢◌, ◌==◌, ℕ, Boo
 use Rattle.std.specs.Prelude.{⊤}
 use Rattle.std.specs.List.{AllByRecursion}
 use Rattle.gnb_types.specs.declared.names.NodeId.{NodeId}
-use Rattle.pdcp_defs.specs.Receivers.{Delivery, is_duplicate, stored as stores_in, deliver}
-use Rattle.unit_defs.specs.Ways.{packet_content, report_content, Taken, fresh_item, numbered_item, uplink_item, status_item, end_item, Output, Way, Answer, gives}
-use Rattle.unit_defs.specs.UpRecords.{SourceHop, TunnelKind, n3, f1u_uplink, forwarding_down, forwarding_up}
-use Rattle.chain_defs.specs.Parts.{set}
-use Rattle.uplink_defs.specs.Parts.{Item, numbered, end_marker, uplink_tunnel, forwarding, Member, Part, with_rest}
-use Rattle.uplink_defs.specs.Orders.{Order, adds, knows, switches, resumes, releases, freezes, takes, stores, without_uplink, changed, passed, handed, stored_at, new_at, late_at, taken_at, is_up_over, with_ended, ended_if, ended_at, after, run}
-use Rattle.law_chain.proofs.Frames.{set_here, set_far}
-use Rattle.law_uplink_rows.specs.Shown.{items_of}
-use Rattle.law_context_orders.specs.Orders.{UpPart, UpOrder, done}
-use Rattle.law_context_orders.specs.Orders as ups
-use Rattle.law_up_orders.specs.Up.{IsUp, item_orders, control_orders, Went, Shown, Shows, IsFit, IsAsked, IsOfDownlink, ShownFrozen, ShowsFrozen}
-use Rattle.law_up_orders.proofs.Beside.{beside, polled}
-use Rattle.law_up_orders.proofs.Control.{control_shows, freeze_shows}
-use Rattle.law_up_orders.proofs.Items.{item_one}
+use Rattle.law_bearer_orders.specs.pdcp_defs.Receivers.{Delivery, is_duplicate, stored as stores_in, deliver}
+use Rattle.law_bearer_orders.specs.unit_defs.Ways.{packet_content, report_content, Taken, fresh_item, numbered_item, uplink_item, status_item, end_item, Output, Way, Answer, gives}
+use Rattle.law_bearer_orders.specs.unit_defs.UpRecords.{SourceHop, TunnelKind, n3, f1u_uplink, forwarding_down, forwarding_up}
+use Rattle.law_bearer_orders.specs.chain_defs.Parts.{set}
+use Rattle.law_bearer_orders.specs.uplink_defs.Parts.{Item, numbered, end_marker, uplink_tunnel, forwarding, Member, Part, with_rest}
+use Rattle.law_bearer_orders.specs.uplink_defs.Orders.{Order, adds, knows, switches, resumes, releases, freezes, takes, stores, without_uplink, changed, passed, handed, stored_at, new_at, late_at, taken_at, is_up_over, with_ended, ended_if, ended_at, after, run}
+use Rattle.law_bearer_orders.proofs.law_chain.Frames.{set_here, set_far}
+use Rattle.law_bearer_orders.specs.law_uplink_rows.Shown.{items_of}
+use Rattle.law_bearer_orders.specs.law_context_orders.Orders.{UpPart, UpOrder, done}
+use Rattle.law_bearer_orders.specs.law_context_orders.Orders as ups
+use Rattle.law_bearer_orders.specs.law_up_orders.Up.{IsUp, item_orders, control_orders, Went, Shown, Shows, IsFit, IsAsked, IsOfDownlink, ShownFrozen, ShowsFrozen}
+use Rattle.law_bearer_orders.proofs.law_up_orders.Beside.{beside, polled}
+use Rattle.law_bearer_orders.proofs.law_up_orders.Control.{control_shows, freeze_shows}
+use Rattle.law_bearer_orders.proofs.law_up_orders.Items.{item_one}
 use Rattle.law_bearer_orders.specs.Happenings.{Beside}
 use Rattle.law_bearer_orders.specs.Down.{hop_to}
 use Rattle.law_bearer_orders.specs.Up.{orders_of}

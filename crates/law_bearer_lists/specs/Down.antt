@@ -1,13 +1,13 @@
 -- What an order to a bearer of a CU-UP does to the lists of its downlink's part: what is left on the tunnels that end at its context, and
 -- what comes to where its hop leads.
 use Rattle.std.specs.Prelude.{◌≡◌, ◌≢◌, ◌⊎◌, ◌==◌, ℕ, if◌then◌else◌, List, ◌++◌, Some}
-use Rattle.unit_defs.specs.UpRecords.{n3 as n3_kind, forwarding_down}
-use Rattle.unit_defs.specs.Ways.{Output, Way, gives}
-use Rattle.chain_defs.specs.Parts.{Item, Member, Part}
-use Rattle.chain_defs.specs.Orders.{run}
-use Rattle.law_chain_rows.specs.Shown.{items_of}
-use Rattle.law_context_orders.specs.Orders.{UpPart, UpOrder, makes, freezes, closes, takes, done}
-use Rattle.law_down_orders.specs.Down.{IsDown, Stands, IsFit, IsAsked, IsOfUplink}
+use Rattle.law_bearer_orders.specs.unit_defs.UpRecords.{n3 as n3_kind, forwarding_down}
+use Rattle.law_bearer_orders.specs.unit_defs.Ways.{Output, Way, gives}
+use Rattle.law_bearer_orders.specs.chain_defs.Parts.{Item, Member, Part}
+use Rattle.law_bearer_orders.specs.chain_defs.Orders.{run}
+use Rattle.law_bearer_orders.specs.law_chain_rows.Shown.{items_of}
+use Rattle.law_bearer_orders.specs.law_context_orders.Orders.{UpPart, UpOrder, makes, freezes, closes, takes, done}
+use Rattle.law_bearer_orders.specs.law_down_orders.Down.{IsDown, Stands, IsFit, IsAsked, IsOfUplink}
 use Rattle.law_bearer_orders.specs.Happenings.{Beside}
 use Rattle.law_bearer_orders.specs.Down.{orders_of}
 

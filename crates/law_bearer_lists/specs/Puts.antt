@@ -6,9 +6,9 @@ use Rattle.gnb_types.specs.declared.names.UeId.{UeId}
 use Rattle.gnb_types.specs.declared.names.BearerId.{BearerId}
 use Rattle.gnb_types.specs.declared.names.Dir.{Dir}
 use Rattle.gnb_types.specs.declared.names.Dir.TheVariants.{Dl, Ul}
-use Rattle.unit_defs.specs.Ways.{Load, frame, uplink, status, Output, packet, Answer, gives, spent}
-use Rattle.unit_defs.specs.UpRecords.{SourceHop}
-use Rattle.law_context_orders.specs.Orders.{UpPart, UpOrder, switches, freezes, resumes}
+use Rattle.law_bearer_orders.specs.unit_defs.Ways.{Load, frame, uplink, status, Output, packet, Answer, gives, spent}
+use Rattle.law_bearer_orders.specs.unit_defs.UpRecords.{SourceHop}
+use Rattle.law_bearer_orders.specs.law_context_orders.Orders.{UpPart, UpOrder, switches, freezes, resumes}
 
 -- where a hop leads: to which CU-UP, and on which of its tunnels
 pub record HopEnds : Type 0 where

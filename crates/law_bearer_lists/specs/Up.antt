@@ -1,13 +1,13 @@
 -- What an order to a bearer of a CU-UP does to the lists of its uplink's part.
 use Rattle.std.specs.Prelude.{◌≡◌, ◌≢◌, ◌⊎◌, ◌==◌, ℕ, Bool, true, false, if◌then◌else◌, List, ◌++◌, Some}
-use Rattle.unit_defs.specs.UpRecords.{f1u_uplink, forwarding_up}
-use Rattle.unit_defs.specs.Ways.{packet_content, Taken, uplink_item, end_item, Output, Way, gives}
-use Rattle.chain_defs.specs.Parts.{set}
-use Rattle.uplink_defs.specs.Parts.{Item, Member, Part}
-use Rattle.uplink_defs.specs.Orders.{run}
-use Rattle.law_uplink_rows.specs.Shown.{items_of}
-use Rattle.law_context_orders.specs.Orders.{UpPart, UpOrder, makes, freezes, closes, takes, polls, done}
-use Rattle.law_up_orders.specs.Up.{IsUp, Stands, IsFit, IsAsked, IsOfDownlink}
+use Rattle.law_bearer_orders.specs.unit_defs.UpRecords.{f1u_uplink, forwarding_up}
+use Rattle.law_bearer_orders.specs.unit_defs.Ways.{packet_content, Taken, uplink_item, end_item, Output, Way, gives}
+use Rattle.law_bearer_orders.specs.chain_defs.Parts.{set}
+use Rattle.law_bearer_orders.specs.uplink_defs.Parts.{Item, Member, Part}
+use Rattle.law_bearer_orders.specs.uplink_defs.Orders.{run}
+use Rattle.law_bearer_orders.specs.law_uplink_rows.Shown.{items_of}
+use Rattle.law_bearer_orders.specs.law_context_orders.Orders.{UpPart, UpOrder, makes, freezes, closes, takes, polls, done}
+use Rattle.law_bearer_orders.specs.law_up_orders.Up.{IsUp, Stands, IsFit, IsAsked, IsOfDownlink}
 use Rattle.law_bearer_orders.specs.Happenings.{Beside}
 use Rattle.law_bearer_orders.specs.Up.{orders_of}
 

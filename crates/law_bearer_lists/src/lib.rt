@@ -5,8 +5,8 @@
 ghost use Rattle.law_bearer_lists.specs.Down.{MovesDown};
 ghost use Rattle.law_bearer_lists.specs.Puts.{PutsOwn};
 ghost use Rattle.law_bearer_lists.specs.Up.{MovesUp};
-ghost use Rattle.law_context_orders.specs.Orders.{done, UpOrder, UpPart};
-ghost use Rattle.unit_defs.specs.Ways.{Way};
+ghost use Rattle.law_bearer_orders.specs.law_context_orders.Orders.{done, UpOrder, UpPart};
+ghost use Rattle.law_bearer_orders.specs.unit_defs.Ways.{Way};
 
 /// Whatever is asked of a bearer, what its row puts on tunnels is of this bearer: frames for its DU, and all else on the two tunnels
 /// of its hop, each in its direction. And its hop leads there then: a freeze gives it one, a switch and a resume end it, and nothing

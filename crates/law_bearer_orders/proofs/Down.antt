@@ -1,27 +1,27 @@
 -- What happens to a bearer is kept orders of its downlink, after which the part has what the CU-UPs have.
 use Rattle.std.proofs.Common.{inl, inr, ◌≡◌, ◌≢◌, ℕ, ◌==◌, Bool, true, false, if◌then◌else◌, List, [], ◌∷◌, ◌++◌, Option, Some, None, refl, sym, ap, subst, ◌∙◌, eqb-true, arith}
 use Rattle.std.specs.Prelude.{⊤}
-use Rattle.gnb_types.specs.declared.names.SnBits.{SnBits}
-use Rattle.gnb_types.specs.declared.names.UeId.{UeId}
-use Rattle.gnb_types.specs.declared.names.BearerId.{BearerId}
-use Rattle.pdcp_defs.specs.Receivers.{Delivery, is_duplicate, stored, deliver}
-use Rattle.unit_defs.specs.UpRecords.{UpBearer, UpFlags, TunnelKind, f1u_uplink, forwarding_up}
-use Rattle.unit_defs.specs.UpBearers.{with_uplink, switched, frozen_to, with_status, resumed, framed}
-use Rattle.unit_defs.specs.UpItems.{took}
-use Rattle.gnb_types.specs.declared.outputs.Tag.TheVariants.{Absent}
-use Rattle.unit_defs.specs.Ways.{packet_content, Taken, numbered_item, uplink_item, end_item, Way, Answer, gives, spent}
-use Rattle.chain_defs.specs.Parts.{Item, fresh, end_marker, Member, Part, set, new_member}
-use Rattle.chain_defs.specs.Orders.{Order, offers, switches_path, makes, freezes, closes, arrives, fails, carries, handed, after, run}
-use Rattle.chain_defs.specs.Guards.{IsReady, IsOwed, AreKept}
-use Rattle.law_chain.proofs.Control.{target_apart}
-use Rattle.law_chain.proofs.Frames.{apart, set_far}
-use Rattle.law_context_orders.specs.Orders.{UpPart, UpOrder, on_switch, on_freeze, on_status, on_resume, kept_in, begun, done, carried_out}
-use Rattle.law_context_orders.specs.Orders as ups
-use Rattle.law_context_tests.specs.Tests.{IsTested}
-use Rattle.law_down_orders.specs.Down.{down_of, item_orders, control_orders, IsAsked, IsOfUplink, Shows, new_part, ShowsFrozen}
-use Rattle.law_down_orders.proofs.Beside.{beside, made_down}
-use Rattle.law_down_orders.proofs.Control.{control_shows, freeze_shows}
-use Rattle.law_down_orders.proofs.Items.{item_one}
+use Rattle.law_orders_kept.specs.gnb_types.declared.names.SnBits.{SnBits}
+use Rattle.law_orders_kept.specs.gnb_types.declared.names.UeId.{UeId}
+use Rattle.law_orders_kept.specs.gnb_types.declared.names.BearerId.{BearerId}
+use Rattle.law_orders_kept.specs.pdcp_defs.Receivers.{Delivery, is_duplicate, stored, deliver}
+use Rattle.law_orders_kept.specs.unit_defs.UpRecords.{UpBearer, UpFlags, TunnelKind, f1u_uplink, forwarding_up}
+use Rattle.law_orders_kept.specs.unit_defs.UpBearers.{with_uplink, switched, frozen_to, with_status, resumed, framed}
+use Rattle.law_orders_kept.specs.unit_defs.UpItems.{took}
+use Rattle.law_orders_kept.specs.gnb_types.declared.outputs.Tag.TheVariants.{Absent}
+use Rattle.law_orders_kept.specs.unit_defs.Ways.{packet_content, Taken, numbered_item, uplink_item, end_item, Way, Answer, gives, spent}
+use Rattle.law_orders_kept.specs.chain_defs.Parts.{Item, fresh, end_marker, Member, Part, set, new_member}
+use Rattle.law_orders_kept.specs.chain_defs.Orders.{Order, offers, switches_path, makes, freezes, closes, arrives, fails, carries, handed, after, run}
+use Rattle.law_orders_kept.specs.chain_defs.Guards.{IsReady, IsOwed, AreKept}
+use Rattle.law_orders_kept.proofs.law_chain.Control.{target_apart}
+use Rattle.law_orders_kept.proofs.law_chain.Frames.{apart, set_far}
+use Rattle.law_orders_kept.specs.law_context_orders.Orders.{UpPart, UpOrder, on_switch, on_freeze, on_status, on_resume, kept_in, begun, done, carried_out}
+use Rattle.law_orders_kept.specs.law_context_orders.Orders as ups
+use Rattle.law_orders_kept.specs.law_context_tests.Tests.{IsTested}
+use Rattle.law_orders_kept.specs.law_down_orders.Down.{down_of, item_orders, control_orders, IsAsked, IsOfUplink, Shows, new_part, ShowsFrozen}
+use Rattle.law_orders_kept.proofs.law_down_orders.Beside.{beside, made_down}
+use Rattle.law_orders_kept.proofs.law_down_orders.Control.{control_shows, freeze_shows}
+use Rattle.law_orders_kept.proofs.law_down_orders.Items.{item_one}
 use Rattle.law_orders_kept.specs.Down.{ControlOwes}
 use Rattle.law_orders_kept.proofs.Down.{item_kept, control_kept, freeze_kept, end_is, end_kept}
 use Rattle.law_bearer_orders.specs.Happenings.{Beside, Happening, asks, down_by, up_by, Contexts, kept_of, context_after, contexts_after}

@@ -1,26 +1,26 @@
 -- The first context of a bearer: one that is made for an attach, and one that is set up without messages.
 use Rattle.std.proofs.Common.{◌≡◌, ℕ, ◌+◌, ◌==◌, Bool, true, false, cond, if◌then◌else◌, List, [], ◌∷◌, Option, Some, None, refl, sym, ap, subst, ◌∙◌, arith}
 use Rattle.std.specs.Ordering.{eq_by_cmp}
-use Rattle.gnb_types.specs.declared.names.Gnb.{Gnb}
-use Rattle.gnb_types.specs.declared.names.NodeId.TheVariants.{Du as du_id}
-use Rattle.gnb_types.specs.declared.names.SnBits.{SnBits}
-use Rattle.gnb_types.specs.declared.names.UeId.{UeId}
-use Rattle.gnb_types.specs.declared.names.BearerId.{BearerId}
-use Rattle.gnb_types.specs.declared.plans.Plan.{Plan}
-use Rattle.gnb_types.specs.Orders.{bearer_cmp}
-use Rattle.tables.specs.Tables.{find}
-use Rattle.unit_defs.specs.UpRecords.{UpBearer, Downlink, CuUp}
-use Rattle.unit_defs.specs.UpBearers.{made}
-use Rattle.unit_defs.specs.CuUp.{bearers_from, bearers_made}
-use Rattle.unit_defs.specs.Static.{with_downlinks, up_context}
-use Rattle.chain_defs.specs.Parts.{set}
-use Rattle.chain_defs.specs.Parts as down_parts
-use Rattle.chain_defs.specs.Orders as down
-use Rattle.chain_defs.specs.Guards as down_guards
-use Rattle.uplink_defs.specs.Parts as up_parts
-use Rattle.law_chain.proofs.Frames.{set_here}
-use Rattle.law_context_orders.specs.Orders.{UpPart, part_with, part_of_bearer, part_in}
-use Rattle.law_down_orders.specs.Down.{down_of, new_part}
+use Rattle.law_orders_kept.specs.gnb_types.declared.names.Gnb.{Gnb}
+use Rattle.law_orders_kept.specs.gnb_types.declared.names.NodeId.TheVariants.{Du as du_id}
+use Rattle.law_orders_kept.specs.gnb_types.declared.names.SnBits.{SnBits}
+use Rattle.law_orders_kept.specs.gnb_types.declared.names.UeId.{UeId}
+use Rattle.law_orders_kept.specs.gnb_types.declared.names.BearerId.{BearerId}
+use Rattle.law_orders_kept.specs.gnb_types.declared.plans.Plan.{Plan}
+use Rattle.law_orders_kept.specs.gnb_types.Orders.{bearer_cmp}
+use Rattle.law_orders_kept.specs.tables.Tables.{find}
+use Rattle.law_orders_kept.specs.unit_defs.UpRecords.{UpBearer, Downlink, CuUp}
+use Rattle.law_orders_kept.specs.unit_defs.UpBearers.{made}
+use Rattle.law_orders_kept.specs.unit_defs.CuUp.{bearers_from, bearers_made}
+use Rattle.law_orders_kept.specs.unit_defs.Static.{with_downlinks, up_context}
+use Rattle.law_orders_kept.specs.chain_defs.Parts.{set}
+use Rattle.law_orders_kept.specs.chain_defs.Parts as down_parts
+use Rattle.law_orders_kept.specs.chain_defs.Orders as down
+use Rattle.law_orders_kept.specs.chain_defs.Guards as down_guards
+use Rattle.law_orders_kept.specs.uplink_defs.Parts as up_parts
+use Rattle.law_orders_kept.proofs.law_chain.Frames.{set_here}
+use Rattle.law_orders_kept.specs.law_context_orders.Orders.{UpPart, part_with, part_of_bearer, part_in}
+use Rattle.law_orders_kept.specs.law_down_orders.Down.{down_of, new_part}
 use Rattle.law_bearer_orders.specs.Down as downs
 use Rattle.law_bearer_orders.specs.Up as ups
 use Rattle.law_bearer_orders.specs.Starts.{only, with_downlink, DownStarts, UpStarts}

@@ -1,24 +1,24 @@
 -- What happens to a bearer is kept orders of its uplink, after which the part has what the CU-UPs have.
 use Rattle.std.proofs.Common.{inl, inr, ◌≡◌, ◌≢◌, ℕ, ◌==◌, ◌&&◌, ◌||◌, Bool, true, false, if◌then◌else◌, List, [], ◌∷◌, ◌++◌, Option, Some, None, refl, sym, ap, subst, ◌∙◌, true≢false, eqb-true}
-use Rattle.gnb_types.specs.declared.names.UeId.{UeId}
-use Rattle.gnb_types.specs.declared.names.BearerId.{BearerId}
-use Rattle.gnb_types.specs.declared.plans.SnStatus.{SnStatus}
-use Rattle.unit_defs.specs.UpRecords.{UpBearer, UpFlags, TunnelKind, n3, f1u_uplink, forwarding_down, forwarding_up}
-use Rattle.unit_defs.specs.UpBearers.{is_over}
-use Rattle.unit_defs.specs.Ways.{packet_content, report_content, Taken, fresh_item, numbered_item, uplink_item, status_item, end_item, Way, Answer, gives, spent}
-use Rattle.chain_defs.specs.Parts.{set}
-use Rattle.uplink_defs.specs.Parts.{Item, numbered, end_marker, Member, Part, new_member}
-use Rattle.uplink_defs.specs.Orders.{Order, offers, numbers, connects, leaves, arrives, carries, acknowledges, reports, marks, makes, freezes, knows, resumes, closes, discards, after, run}
-use Rattle.uplink_defs.specs.Guards.{IsReady, IsOwed, AreKept}
-use Rattle.law_chain.proofs.Frames.{apart, set_far}
-use Rattle.law_context_orders.specs.Orders.{UpPart, UpOrder, begun, done, carried_out}
-use Rattle.law_context_orders.specs.Orders as ups
-use Rattle.law_context_tests.specs.Tests.{IsTested}
-use Rattle.law_gone.specs.Silent.{AreSilent}
-use Rattle.law_up_orders.specs.Up.{up_of, IsUp, item_orders, control_orders, IsAsked, IsOfDownlink, Shows, new_part, ShowsFrozen}
-use Rattle.law_up_orders.proofs.Beside.{beside, polled, made_up}
-use Rattle.law_up_orders.proofs.Control.{control_shows, freeze_shows}
-use Rattle.law_up_orders.proofs.Items.{item_one}
+use Rattle.law_orders_kept.specs.gnb_types.declared.names.UeId.{UeId}
+use Rattle.law_orders_kept.specs.gnb_types.declared.names.BearerId.{BearerId}
+use Rattle.law_orders_kept.specs.gnb_types.declared.plans.SnStatus.{SnStatus}
+use Rattle.law_orders_kept.specs.unit_defs.UpRecords.{UpBearer, UpFlags, TunnelKind, n3, f1u_uplink, forwarding_down, forwarding_up}
+use Rattle.law_orders_kept.specs.unit_defs.UpBearers.{is_over}
+use Rattle.law_orders_kept.specs.unit_defs.Ways.{packet_content, report_content, Taken, fresh_item, numbered_item, uplink_item, status_item, end_item, Way, Answer, gives, spent}
+use Rattle.law_orders_kept.specs.chain_defs.Parts.{set}
+use Rattle.law_orders_kept.specs.uplink_defs.Parts.{Item, numbered, end_marker, Member, Part, new_member}
+use Rattle.law_orders_kept.specs.uplink_defs.Orders.{Order, offers, numbers, connects, leaves, arrives, carries, acknowledges, reports, marks, makes, freezes, knows, resumes, closes, discards, after, run}
+use Rattle.law_orders_kept.specs.uplink_defs.Guards.{IsReady, IsOwed, AreKept}
+use Rattle.law_orders_kept.proofs.law_chain.Frames.{apart, set_far}
+use Rattle.law_orders_kept.specs.law_context_orders.Orders.{UpPart, UpOrder, begun, done, carried_out}
+use Rattle.law_orders_kept.specs.law_context_orders.Orders as ups
+use Rattle.law_orders_kept.specs.law_context_tests.Tests.{IsTested}
+use Rattle.law_orders_kept.specs.law_gone.Silent.{AreSilent}
+use Rattle.law_orders_kept.specs.law_up_orders.Up.{up_of, IsUp, item_orders, control_orders, IsAsked, IsOfDownlink, Shows, new_part, ShowsFrozen}
+use Rattle.law_orders_kept.proofs.law_up_orders.Beside.{beside, polled, made_up}
+use Rattle.law_orders_kept.proofs.law_up_orders.Control.{control_shows, freeze_shows}
+use Rattle.law_orders_kept.proofs.law_up_orders.Items.{item_one}
 use Rattle.law_orders_kept.specs.Up.{ControlOwes, Ended}
 use Rattle.law_orders_kept.proofs.Up.{item_kept, control_kept, freeze_kept, close_kept, end_is, discard_is, discard_kept}
 use Rattle.law_orders_kept.proofs.Released.{silent_together}

@@ -1,19 +1,19 @@
 -- What happens to a bearer, as orders of its downlink; and what they ask.
 use Rattle.std.specs.Prelude.{◌≡◌, ◌⊎◌, ℕ, true, false, List, [], ◌∷◌, ◌++◌, Option, Some, None, ⊤}
-use Rattle.gnb_types.specs.declared.names.SnBits.{SnBits}
-use Rattle.gnb_types.specs.declared.names.NodeId.{NodeId}
-use Rattle.gnb_types.specs.declared.names.UeId.{UeId}
-use Rattle.gnb_types.specs.declared.names.BearerId.{BearerId}
-use Rattle.unit_defs.specs.UpRecords.{SourceHop, TunnelKind}
-use Rattle.unit_defs.specs.UpItems.{held_reason}
-use Rattle.unit_defs.specs.Ways.{Taken, Way, Answer, gives, spent}
-use Rattle.chain_defs.specs.Parts.{Member, Part}
-use Rattle.chain_defs.specs.Orders.{Order, offers, switches_path, makes, freezes, closes, arrives, fails, carries, run}
-use Rattle.chain_defs.specs.Guards.{IsReady, IsOwed}
-use Rattle.law_context_orders.specs.Orders.{UpPart, UpOrder, carried_out}
-use Rattle.law_context_orders.specs.Orders as ups
-use Rattle.law_context_tests.specs.Tests.{IsTested}
-use Rattle.law_down_orders.specs.Down.{IsDown, item_orders, control_orders, Stands, IsFit, IsAsked, IsOfUplink}
+use Rattle.law_orders_kept.specs.gnb_types.declared.names.SnBits.{SnBits}
+use Rattle.law_orders_kept.specs.gnb_types.declared.names.NodeId.{NodeId}
+use Rattle.law_orders_kept.specs.gnb_types.declared.names.UeId.{UeId}
+use Rattle.law_orders_kept.specs.gnb_types.declared.names.BearerId.{BearerId}
+use Rattle.law_orders_kept.specs.unit_defs.UpRecords.{SourceHop, TunnelKind}
+use Rattle.law_orders_kept.specs.unit_defs.UpItems.{held_reason}
+use Rattle.law_orders_kept.specs.unit_defs.Ways.{Taken, Way, Answer, gives, spent}
+use Rattle.law_orders_kept.specs.chain_defs.Parts.{Member, Part}
+use Rattle.law_orders_kept.specs.chain_defs.Orders.{Order, offers, switches_path, makes, freezes, closes, arrives, fails, carries, run}
+use Rattle.law_orders_kept.specs.chain_defs.Guards.{IsReady, IsOwed}
+use Rattle.law_orders_kept.specs.law_context_orders.Orders.{UpPart, UpOrder, carried_out}
+use Rattle.law_orders_kept.specs.law_context_orders.Orders as ups
+use Rattle.law_orders_kept.specs.law_context_tests.Tests.{IsTested}
+use Rattle.law_orders_kept.specs.law_down_orders.Down.{IsDown, item_orders, control_orders, Stands, IsFit, IsAsked, IsOfUplink}
 use Rattle.law_orders_kept.specs.Down.{StandsFirst, ItemOwes, ControlOwes}
 use Rattle.law_bearer_orders.specs.Happenings.{Beside, Happening, asks, down_by, up_by, Contexts, context_after}
 

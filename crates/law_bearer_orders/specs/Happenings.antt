@@ -1,15 +1,15 @@
 -- What happens to one bearer in a run, one thing after another: orders to its contexts at CU-UPs, and orders of the rest of the run
 -- (the terminal, the core, the radio, the DU). Contexts are numbered, each once in a run.
 use Rattle.std.specs.Prelude.{ℕ, Bool, List, [], ◌∷◌, Option}
-use Rattle.gnb_types.specs.declared.names.UeId.{UeId}
-use Rattle.gnb_types.specs.declared.names.BearerId.{BearerId}
-use Rattle.unit_defs.specs.Ways.{Way, Answer, gives, spent}
-use Rattle.chain_defs.specs.Parts as down_parts
-use Rattle.chain_defs.specs.Parts.{set}
-use Rattle.chain_defs.specs.Orders as down
-use Rattle.uplink_defs.specs.Parts as up_parts
-use Rattle.uplink_defs.specs.Orders as up
-use Rattle.law_context_orders.specs.Orders.{UpPart, UpOrder, carried_out}
+use Rattle.law_orders_kept.specs.gnb_types.declared.names.UeId.{UeId}
+use Rattle.law_orders_kept.specs.gnb_types.declared.names.BearerId.{BearerId}
+use Rattle.law_orders_kept.specs.unit_defs.Ways.{Way, Answer, gives, spent}
+use Rattle.law_orders_kept.specs.chain_defs.Parts as down_parts
+use Rattle.law_orders_kept.specs.chain_defs.Parts.{set}
+use Rattle.law_orders_kept.specs.chain_defs.Orders as down
+use Rattle.law_orders_kept.specs.uplink_defs.Parts as up_parts
+use Rattle.law_orders_kept.specs.uplink_defs.Orders as up
+use Rattle.law_orders_kept.specs.law_context_orders.Orders.{UpPart, UpOrder, carried_out}
 
 -- what the run says beside an order: what is left on the tunnel that an item is taken from, the context that a hop leads to, the radio
 -- that a switch is for, and whether a release is final

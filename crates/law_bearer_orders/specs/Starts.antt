@@ -1,14 +1,14 @@
 -- The first context of a bearer, and what a part has of it.
 use Rattle.std.specs.Prelude.{ℕ, false, List, [], ◌∷◌, Some, None}
-use Rattle.gnb_types.specs.declared.names.SnBits.{SnBits}
-use Rattle.unit_defs.specs.UpRecords.{UpBearer, Downlink}
-use Rattle.unit_defs.specs.UpBearers.{made}
-use Rattle.chain_defs.specs.Parts.{set}
-use Rattle.chain_defs.specs.Parts as down_parts
-use Rattle.chain_defs.specs.Orders as down
-use Rattle.chain_defs.specs.Guards as down_guards
-use Rattle.uplink_defs.specs.Parts as up_parts
-use Rattle.law_context_orders.specs.Orders.{UpPart}
+use Rattle.law_orders_kept.specs.gnb_types.declared.names.SnBits.{SnBits}
+use Rattle.law_orders_kept.specs.unit_defs.UpRecords.{UpBearer, Downlink}
+use Rattle.law_orders_kept.specs.unit_defs.UpBearers.{made}
+use Rattle.law_orders_kept.specs.chain_defs.Parts.{set}
+use Rattle.law_orders_kept.specs.chain_defs.Parts as down_parts
+use Rattle.law_orders_kept.specs.chain_defs.Orders as down
+use Rattle.law_orders_kept.specs.chain_defs.Guards as down_guards
+use Rattle.law_orders_kept.specs.uplink_defs.Parts as up_parts
+use Rattle.law_orders_kept.specs.law_context_orders.Orders.{UpPart}
 use Rattle.law_bearer_orders.specs.Happenings.{Contexts}
 use Rattle.law_bearer_orders.specs.Down as downs
 use Rattle.law_bearer_orders.specs.Up as ups

@@ -1,18 +1,18 @@
 -- What happens to a bearer, as orders of its uplink; and what they ask.
 use Rattle.std.specs.Prelude.{◌≡◌, ◌⊎◌, ◌||◌, ◌&&◌, ℕ, Bool, true, false, if◌then◌else◌, List, [], ◌∷◌, ◌++◌, Option, Some, None, ⊤}
-use Rattle.gnb_types.specs.declared.names.UeId.{UeId}
-use Rattle.gnb_types.specs.declared.names.BearerId.{BearerId}
-use Rattle.unit_defs.specs.UpRecords.{TunnelKind}
-use Rattle.unit_defs.specs.UpBearers.{is_over}
-use Rattle.unit_defs.specs.UpItems.{held_reason}
-use Rattle.unit_defs.specs.Ways.{Taken, Way}
-use Rattle.uplink_defs.specs.Parts.{Member, Part}
-use Rattle.uplink_defs.specs.Orders.{Order, offers, numbers, connects, leaves, arrives, carries, acknowledges, reports, marks, makes, freezes, closes, discards, run}
-use Rattle.uplink_defs.specs.Guards.{IsReady, IsOwed}
-use Rattle.law_context_orders.specs.Orders.{UpPart, UpOrder, carried_out}
-use Rattle.law_context_orders.specs.Orders as ups
-use Rattle.law_context_tests.specs.Tests.{IsTested}
-use Rattle.law_up_orders.specs.Up.{IsUp, item_orders, control_orders, Stands, IsFit, IsAsked, IsOfDownlink}
+use Rattle.law_orders_kept.specs.gnb_types.declared.names.UeId.{UeId}
+use Rattle.law_orders_kept.specs.gnb_types.declared.names.BearerId.{BearerId}
+use Rattle.law_orders_kept.specs.unit_defs.UpRecords.{TunnelKind}
+use Rattle.law_orders_kept.specs.unit_defs.UpBearers.{is_over}
+use Rattle.law_orders_kept.specs.unit_defs.UpItems.{held_reason}
+use Rattle.law_orders_kept.specs.unit_defs.Ways.{Taken, Way}
+use Rattle.law_orders_kept.specs.uplink_defs.Parts.{Member, Part}
+use Rattle.law_orders_kept.specs.uplink_defs.Orders.{Order, offers, numbers, connects, leaves, arrives, carries, acknowledges, reports, marks, makes, freezes, closes, discards, run}
+use Rattle.law_orders_kept.specs.uplink_defs.Guards.{IsReady, IsOwed}
+use Rattle.law_orders_kept.specs.law_context_orders.Orders.{UpPart, UpOrder, carried_out}
+use Rattle.law_orders_kept.specs.law_context_orders.Orders as ups
+use Rattle.law_orders_kept.specs.law_context_tests.Tests.{IsTested}
+use Rattle.law_orders_kept.specs.law_up_orders.Up.{IsUp, item_orders, control_orders, Stands, IsFit, IsAsked, IsOfDownlink}
 use Rattle.law_orders_kept.specs.Up.{StandsFirst, ControlOwes}
 use Rattle.law_bearer_orders.specs.Happenings.{Beside, Happening, asks, down_by, up_by, Contexts, context_after}
 use Rattle.law_bearer_orders.specs.Down.{hop_to, IsFreezable, IsGiven}

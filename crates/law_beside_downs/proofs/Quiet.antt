@@ -19,18 +19,18 @@ use Rattle.run_defs.specs.Steps.{carried_out}
 use Rattle.run_defs.specs.Runs.{Reading, plain_world}
 use Rattle.law_steps.specs.Causes.{node_of, given_of, count_of, first_of}
 use Rattle.law_steps.specs.Reached.{reached}
-use Rattle.law_own_events.specs.law_run_facts.Facts.{Hold, PutsFit}
-use Rattle.law_own_events.specs.law_run_facts.UnitFacts.{written_facts}
-use Rattle.law_own_events.specs.Passed.{Passes, not_yet, further}
-use Rattle.law_own_events.specs.law_own_steps.Own.{IsActed}
-use Rattle.law_own_events.proofs.law_run_facts.Steps.{taken_has}
-use Rattle.law_own_events.proofs.law_run_facts.Runs.{made_holds}
-use Rattle.law_own_events.proofs.law_run_facts.Plain.{plain_kept, plain_run_holds}
-use Rattle.law_link_items.proofs.Names.{link_items}
-use Rattle.law_link_items.proofs.Links.{items_keep}
-use Rattle.law_tied_runs.specs.Steps.{IsPassed}
+use Rattle.law_radio_downs.specs.law_run_facts.Facts.{Hold, PutsFit}
+use Rattle.law_radio_downs.specs.law_run_facts.UnitFacts.{written_facts}
+use Rattle.law_beside_ties.specs.law_own_events.Passed.{Passes, not_yet, further}
+use Rattle.law_beside_ties.specs.law_own_steps.Own.{IsActed}
+use Rattle.law_radio_downs.proofs.law_run_facts.Steps.{taken_has}
+use Rattle.law_radio_downs.proofs.law_run_facts.Runs.{made_holds}
+use Rattle.law_radio_downs.proofs.law_run_facts.Plain.{plain_kept, plain_run_holds}
+use Rattle.law_beside_ties.proofs.law_link_items.Names.{link_items}
+use Rattle.law_beside_ties.proofs.law_link_items.Links.{items_keep}
+use Rattle.law_beside_ties.specs.law_tied_runs.Steps.{IsPassed}
 use Rattle.law_radio_steps.specs.Radios.{on_air}
-use Rattle.law_radio_ties.specs.Radio.{RunState, RunCause, IsBeside}
+use Rattle.law_radio_downs.specs.law_radio_ties.Radio.{RunState, RunCause, IsBeside}
 use Rattle.law_beside_ties.specs.Nodes.{IsNoTerminal}
 use Rattle.law_beside_ties.proofs.Beside.{is_beside}
 use Rattle.law_heard_packets.specs.Heard.{LeavesRadio}

@@ -24,23 +24,23 @@ use Rattle.unit_defs.specs.CuUp.{cu_up_acts}
 use Rattle.unit_defs.specs.Du.{Du, du_acts}
 use Rattle.unit_defs.specs.CpRecords.{CuCpRecord}
 use Rattle.unit_defs.specs.CuCp.{cu_cp_acts}
-use Rattle.run_defs.specs.Lines.{RunLine}
-use Rattle.run_defs.specs.Units.{Units, cp_of, with_cp, up_of, with_up, du_of, with_du}
-use Rattle.run_defs.specs.Written.{Written, PlainStepped, WrittenStepped, written_step}
-use Rattle.run_defs.specs.States.{new_state, goes, stepped, step_spent, Lengths, sn_of, entity}
-use Rattle.run_defs.specs.Steps.{carried_out}
-use Rattle.run_defs.specs.Runs.{Reading, PlainGiven, Plain, plain_world, plain_way, input_of, stepped_with, acts_on, plain_by}
-use Rattle.law_steps.specs.Causes.{node_of, given_of, count_of, first_of}
-use Rattle.law_steps.specs.Reached.{reached}
-use Rattle.law_own_events.specs.law_run_facts.Facts.{Hold, PutFits, PutsFit}
-use Rattle.law_own_events.specs.law_run_facts.UnitFacts.{written_facts}
-use Rattle.law_own_events.specs.Passed.{Passes, not_yet, further}
-use Rattle.law_own_events.specs.law_own_steps.Own.{IsActed}
-use Rattle.law_own_events.proofs.law_run_facts.Steps.{taken_has}
-use Rattle.law_own_events.proofs.law_run_facts.Runs.{made_holds}
-use Rattle.law_own_events.proofs.law_run_facts.Plain.{plain_kept, plain_run_holds}
-use Rattle.law_link_items.proofs.Names.{link_items}
-use Rattle.law_link_items.proofs.Links.{items_keep}
+use Rattle.law_radio_ties.specs.run_defs.Lines.{RunLine}
+use Rattle.law_radio_ties.specs.run_defs.Units.{Units, cp_of, with_cp, up_of, with_up, du_of, with_du}
+use Rattle.law_radio_ties.specs.run_defs.Written.{Written, PlainStepped, WrittenStepped, written_step}
+use Rattle.law_radio_ties.specs.run_defs.States.{new_state, goes, stepped, step_spent, Lengths, sn_of, entity}
+use Rattle.law_radio_ties.specs.run_defs.Steps.{carried_out}
+use Rattle.law_radio_ties.specs.run_defs.Runs.{Reading, PlainGiven, Plain, plain_world, plain_way, input_of, stepped_with, acts_on, plain_by}
+use Rattle.law_radio_ties.specs.law_steps.Causes.{node_of, given_of, count_of, first_of}
+use Rattle.law_radio_ties.specs.law_steps.Reached.{reached}
+use Rattle.law_radio_ties.specs.law_run_facts.Facts.{Hold, PutFits, PutsFit}
+use Rattle.law_radio_ties.specs.law_run_facts.UnitFacts.{written_facts}
+use Rattle.law_tied_runs.specs.law_own_events.Passed.{Passes, not_yet, further}
+use Rattle.law_tied_runs.specs.law_own_steps.Own.{IsActed}
+use Rattle.law_radio_ties.proofs.law_run_facts.Steps.{taken_has}
+use Rattle.law_radio_ties.proofs.law_run_facts.Runs.{made_holds}
+use Rattle.law_radio_ties.proofs.law_run_facts.Plain.{plain_kept, plain_run_holds}
+use Rattle.law_tied_runs.proofs.law_link_items.Names.{link_items}
+use Rattle.law_tied_runs.proofs.law_link_items.Links.{items_keep}
 use Rattle.law_tied_runs.specs.Steps.{IsPassed}
 use Rattle.law_radio_ties.specs.Radio.{RunState, RunCause, up_key, IsOff, IsOther, IsBeside}
 use Rattle.law_beside_ties.specs.Nodes.{IsNoTerminal}

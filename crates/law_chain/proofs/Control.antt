@@ -1,7 +1,7 @@
 -- The orders of control keep all.
 use Rattle.std.proofs.Common.{◌≡◌, ◌≢◌, ℕ, zero, suc, ◌+◌, ◌-◌, ◌<◌, ◌≤◌, max, Bool, true, false, ◌&&◌, ◌==◌, nat_lt, nat_le, if◌then◌else◌, List, [], ◌++◌, filter, refl, sym, ap, subst, ◌∙◌, true≢false, arith}
 use Rattle.std.specs.List.{list_any}
-use Rattle.gnb_types.specs.declared.plans.SnStatus.{SnStatus}
+use Rattle.chain_defs.specs.gnb_types.declared.plans.SnStatus.{SnStatus}
 use Rattle.law_intervals.specs.Intervals.{segment, upto, HasNoGap, reach}
 use Rattle.law_intervals.proofs.Intervals.{upto-nil, upto-filter, reach-le}
 use Rattle.chain_defs.specs.unit_defs.UpRecords.{SourceHop, Downlink}

@@ -1,12 +1,12 @@
 -- What the core does, and what the terminal takes, keep all; and no numbered packet is ever a duplicate.
 use Rattle.std.proofs.Common.{◌≡◌, ℕ, zero, suc, ◌+◌, ◌-◌, ◌<◌, ◌≤◌, max, Bool, true, false, ◌&&◌, ◌==◌, nat_lt, nat_le, List, [], ◌∷◌, ◌++◌, Option, Some, None, refl, sym, ap, subst, ◌∙◌, true≢false, arith}
 use Rattle.std.specs.List.{AllByRecursion}
-use Rattle.gnb_types.specs.declared.names.SnBits.{SnBits}
+use Rattle.chain_defs.specs.gnb_types.declared.names.SnBits.{SnBits}
 use Rattle.law_intervals.specs.Intervals.{segment, upto, HasNoGap, reach}
 use Rattle.law_intervals.proofs.Intervals.{upto-snoc}
-use Rattle.tables.specs.Tables.{find, put}
-use Rattle.pdcp_defs.specs.Senders.{window, may_restore, is_above, last_of}
-use Rattle.pdcp_defs.specs.Receivers.{Receiver, is_duplicate, stored, deliver}
+use Rattle.chain_defs.specs.tables.Tables.{find, put}
+use Rattle.chain_defs.specs.pdcp_defs.Senders.{window, may_restore, is_above, last_of}
+use Rattle.chain_defs.specs.pdcp_defs.Receivers.{Receiver, is_duplicate, stored, deliver}
 use Rattle.chain_defs.specs.Parts.{Item, numbered, fresh, end_marker, Member, Part, set, is_open, is_fed}
 use Rattle.chain_defs.specs.Orders.{offers, switches_path, carries, handed, after}
 use Rattle.chain_defs.specs.Guards.{OnForwarding}

@@ -2,7 +2,7 @@
 use Rattle.std.proofs.Common.{◌≡◌, ℕ, ◌+◌, ◌<◌, ◌≤◌, Bool, true, false, ◌&&◌, ◌==◌, if◌then◌else◌, List, [], ◌∷◌, ◌++◌, None, refl, sym, ap, ◌∙◌, true≢false, arith}
 use Rattle.law_intervals.specs.Intervals.{upto}
 use Rattle.law_intervals.proofs.Intervals.{upto-snoc}
-use Rattle.pdcp_defs.specs.Senders.{restored}
+use Rattle.chain_defs.specs.pdcp_defs.Senders.{restored}
 use Rattle.chain_defs.specs.Parts.{Item, numbered, fresh, end_marker, Member, Part, set, is_open, is_fed}
 use Rattle.chain_defs.specs.Orders.{keeps_n3, keeps_fresh, passes_n3, passes_fresh, sends, passes_numbered, ends_n3, ends_hop, waits, waits_unless, holds, takes_unless, after}
 use Rattle.chain_defs.specs.Guards.{OnN3, OnForwarding}

@@ -1,10 +1,10 @@
 -- The laws of one bearer's downlink, from what holds after every list of orders.
 use Rattle.std.proofs.Common.{◌≡◌, ℕ, zero, suc, ◌+◌, ◌-◌, ◌<◌, ◌≤◌, max, Bool, true, false, List, [], ◌∷◌, ◌++◌, length, take, Some, slice_get, refl, sym, ap, ◌∙◌, nat_lt, arith}
 use Rattle.std.specs.List.{AllByRecursion, enumerate_from}
-use Rattle.gnb_types.specs.declared.names.SnBits.{SnBits}
+use Rattle.chain_defs.specs.gnb_types.declared.names.SnBits.{SnBits}
 use Rattle.law_intervals.specs.Intervals.{segment, upto, reach}
 use Rattle.law_intervals.proofs.Intervals.{all_append, all_upto, upto-nil, upto-cons, upto-length, reach-le}
-use Rattle.pdcp_defs.specs.Senders.{window, first, first_of}
+use Rattle.chain_defs.specs.pdcp_defs.Senders.{window, first, first_of}
 use Rattle.chain_defs.specs.Parts.{Item, numbered, fresh, Part, start, is_open, is_fed}
 use Rattle.chain_defs.specs.Orders.{Order, drops, run, offers_in}
 use Rattle.chain_defs.specs.Guards.{IsReady, AreKept}

@@ -9,3 +9,4 @@ pub mod Core
 pub mod Runs
 pub mod Laws
 pub mod Relayed
+pub use Rattle.law_intervals.proofs as law_intervals

@@ -1,9 +1,9 @@
 -- What is asked in the worked runs is met.
 use Rattle.std.proofs.Common.{◌≡◌, ◌≢◌, ℕ, ◌==◌, ◌&&◌, Bool, true, false, if◌then◌else◌, List, [], ◌∷◌, take, refl, sym, true≢false, arith}
-use Rattle.gnb_types.specs.declared.names.SnBits.TheVariants.{Len12}
-use Rattle.tables.specs.Tables.{find, put}
-use Rattle.pdcp_defs.specs.Senders.{numbered, has_room, first, may_restore, restored, confirmed_to, confirmed_by}
-use Rattle.pdcp_defs.specs.Receivers.{is_duplicate, stored, deliver}
+use Rattle.chain_defs.specs.gnb_types.declared.names.SnBits.TheVariants.{Len12}
+use Rattle.chain_defs.specs.tables.Tables.{find, put}
+use Rattle.chain_defs.specs.pdcp_defs.Senders.{numbered, has_room, first, may_restore, restored, confirmed_to, confirmed_by}
+use Rattle.chain_defs.specs.pdcp_defs.Receivers.{is_duplicate, stored, deliver}
 use Rattle.chain_defs.specs.unit_defs.UpBearers.{made}
 use Rattle.chain_defs.specs.Parts.{Member, start, is_open}
 use Rattle.chain_defs.specs.Orders.{Order, after, run}

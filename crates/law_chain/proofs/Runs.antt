@@ -1,10 +1,10 @@
 -- What holds at the start and is kept by each order holds after every list of orders.
 use Rattle.std.proofs.Common.{◌≡◌, ℕ, zero, suc, ◌+◌, ◌≤◌, Bool, true, false, List, [], ◌∷◌, length, refl, sym, ap, subst, ◌∙◌, true≢false, arith}
 use Rattle.std.specs.Prelude.{⊤}
-use Rattle.gnb_types.specs.declared.names.SnBits.{SnBits}
+use Rattle.chain_defs.specs.gnb_types.declared.names.SnBits.{SnBits}
 use Rattle.law_intervals.specs.Intervals.{segment, upto, HasNoGap, reach}
-use Rattle.pdcp_defs.specs.Senders.{window}
-use Rattle.pdcp_defs.specs.Receivers.{Delivery, is_duplicate, stored, deliver}
+use Rattle.chain_defs.specs.pdcp_defs.Senders.{window}
+use Rattle.chain_defs.specs.pdcp_defs.Receivers.{Delivery, is_duplicate, stored, deliver}
 use Rattle.chain_defs.specs.unit_defs.UpBearers.{made}
 use Rattle.chain_defs.specs.Parts.{Part, set, start, no_member, new_member}
 use Rattle.chain_defs.specs.Orders.{Order, offers, switches_path, makes, freezes, knows, switches, resumes, releases, closes, arrives, fails, keeps_n3, keeps_fresh, passes_n3, passes_fresh, sends, passes_numbered, drops, ends_n3, ends_hop, numbers, confirms, reports, tells_loss, sends_again, carries, handed, after, run, offers_in}

@@ -1,9 +1,9 @@
 -- The orders of a sender keep all: COUNTs are given and confirmed, a loss is told, all is sent again.
 use Rattle.std.proofs.Common.{◌≡◌, ℕ, ◌+◌, ◌-◌, ◌<◌, ◌≤◌, min, max, Bool, true, false, not, ◌&&◌, ◌||◌, ◌==◌, nat_lt, if◌then◌else◌, List, [], ◌∷◌, ◌++◌, filter, refl, sym, ap, ◌∙◌, arith}
-use Rattle.gnb_types.specs.declared.names.SnBits.{SnBits}
+use Rattle.chain_defs.specs.gnb_types.declared.names.SnBits.{SnBits}
 use Rattle.law_intervals.specs.Intervals.{upto, reach}
 use Rattle.law_intervals.proofs.Intervals.{upto-nil, upto-cons, upto-join, upto-head, upto-filter, reach-le}
-use Rattle.pdcp_defs.specs.Senders.{numbered as with_next, has_room, first, first_of, window, confirmed_to, confirmed_by, is_reported}
+use Rattle.chain_defs.specs.pdcp_defs.Senders.{numbered as with_next, has_room, first, first_of, window, confirmed_to, confirmed_by, is_reported}
 use Rattle.chain_defs.specs.Parts.{Member, Part, set}
 use Rattle.chain_defs.specs.Orders.{numbers, confirms, reports, tells_loss, sends_again, after}
 use Rattle.law_chain.proofs.Tunnels.{shape-late}

@@ -1,7 +1,7 @@
 -- An item is taken from a tunnel, or put on the next one: what the tunnels hold then.
 use Rattle.std.proofs.Common.{◌≡◌, ℕ, ◌+◌, ◌<◌, ◌≤◌, Bool, true, false, not, List, [], ◌∷◌, ◌++◌, None, refl, sym, ap, ◌∙◌, true≢false, arith}
 use Rattle.chain_defs.specs.unit_defs.UpItems.{first_held}
-use Rattle.gnb_types.specs.declared.reasons.HeldReason.TheVariants.{NoStatus, NotArrived, Early}
+use Rattle.chain_defs.specs.gnb_types.declared.reasons.HeldReason.TheVariants.{NoStatus, NotArrived, Early}
 use Rattle.chain_defs.specs.Parts.{Item, numbered, fresh, end_marker}
 use Rattle.law_chain.proofs.Tunnels.{flow-fresh, flow-end, shape-numbered, shape-fresh, shape-end, shape-put, shape-close, shape-put_numbered}
 use Rattle.law_chain.proofs.Facts.{Ghost, View, ends_of, Tunnels, IsFed, Numbers}

@@ -1,8 +1,8 @@
 -- A run with packets forwarded through three contexts: the second handover begins before the first hop is done.
 use Rattle.std.specs.Prelude.{ℕ, true, false, List, [], ◌∷◌, None}
-use Rattle.gnb_types.specs.declared.names.Gnb.TheVariants.{A}
-use Rattle.gnb_types.specs.declared.names.NodeId.TheVariants.{CuUp, Du}
-use Rattle.gnb_types.specs.declared.plans.SnStatus.{SnStatus}
+use Rattle.chain_defs.specs.gnb_types.declared.names.Gnb.TheVariants.{A}
+use Rattle.chain_defs.specs.gnb_types.declared.names.NodeId.TheVariants.{CuUp, Du}
+use Rattle.chain_defs.specs.gnb_types.declared.plans.SnStatus.{SnStatus}
 use Rattle.chain_defs.specs.unit_defs.UpRecords.{Downlink, SourceHop}
 use Rattle.chain_defs.specs.Parts.{fresh, end_marker}
 use Rattle.chain_defs.specs.Orders.{Order, offers, switches_path, makes, freezes, knows, switches, releases, closes, arrives, keeps_n3, keeps_fresh, passes_n3, passes_fresh, sends, ends_n3, ends_hop, numbers, confirms, reports, tells_loss, sends_again, resumes, fails, carries}

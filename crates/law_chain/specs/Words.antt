@@ -1,8 +1,8 @@
 -- What the laws say of the downlink of one bearer, after some orders that offered these packets.
 use Rattle.std.specs.Prelude.{◌≡◌, ℕ, ◌-◌, ◌≤◌, true, false, List, length, take, Some, slice_get, ⊤}
 use Rattle.std.specs.List.{AllByRecursion, enumerate_from}
-use Rattle.gnb_types.specs.declared.names.SnBits.{SnBits}
-use Rattle.pdcp_defs.specs.Senders.{first, window}
+use Rattle.chain_defs.specs.gnb_types.declared.names.SnBits.{SnBits}
+use Rattle.chain_defs.specs.pdcp_defs.Senders.{first, window}
 use Rattle.chain_defs.specs.Parts.{Item, numbered, fresh, end_marker, Part}
 
 -- what was delivered is a prefix of what was offered, each packet once, and the COUNTs are 0, 1, 2 and so on

@@ -3,8 +3,8 @@
 #![tactic(auto)]
 
 ghost use Rattle.std.specs.Prelude.{◌≡◌, ℕ, List, [], ◌∷◌};
-ghost use Rattle.gnb_types.specs.declared.names.SnBits.{SnBits};
-ghost use Rattle.gnb_types.specs.declared.names.SnBits.TheVariants.{Len12};
+ghost use Rattle.chain_defs.specs.gnb_types.declared.names.SnBits.{SnBits};
+ghost use Rattle.chain_defs.specs.gnb_types.declared.names.SnBits.TheVariants.{Len12};
 ghost use Rattle.chain_defs.specs.Parts.{Item, start};
 ghost use Rattle.chain_defs.specs.Orders.{Order, drops, run, offers_in};
 ghost use Rattle.chain_defs.specs.Guards.{IsReady, AreKept};

@@ -1,12 +1,12 @@
 -- The numbering of what waits is a list of orders: what they ask of the unit is so, and what they do is what the row does.
 use Rattle.std.proofs.Common.{◌≡◌, ◌≢◌, ◌==◌, ℕ, ◌+◌, Bool, true, false, if◌then◌else◌, List, [], ◌∷◌, ◌++◌, map, refl, sym, ap, subst, ◌∙◌, append_assoc, true≢false}
 use Rattle.std.proofs.lemmas.List.{append-nil}
-use Rattle.gnb_types.specs.declared.names.SnBits.{SnBits}
-use Rattle.pdcp_defs.specs.Senders.{Sender, numbered as with_next, has_room}
-use Rattle.unit_defs.specs.Ways.{Pdu, packet_pdu}
-use Rattle.chain_defs.specs.Parts.{Member, Part, set}
-use Rattle.chain_defs.specs.Orders.{Order, numbers, after, run}
-use Rattle.chain_defs.specs.Guards.{IsReady, IsOwed, AreKept}
+use Rattle.law_chain.specs.gnb_types.declared.names.SnBits.{SnBits}
+use Rattle.law_chain.specs.pdcp_defs.Senders.{Sender, numbered as with_next, has_room}
+use Rattle.law_chain.specs.unit_defs.Ways.{Pdu, packet_pdu}
+use Rattle.law_chain.specs.chain_defs.Parts.{Member, Part, set}
+use Rattle.law_chain.specs.chain_defs.Orders.{Order, numbers, after, run}
+use Rattle.law_chain.specs.chain_defs.Guards.{IsReady, IsOwed, AreKept}
 use Rattle.law_chain.proofs.Frames.{set_here, set_far}
 use Rattle.law_chain_rows.specs.Shown.{numbers_all, still_waits, numbered_pdus, number_orders, numbered_packets, Became}
 

@@ -1,21 +1,21 @@
 -- The rows of a CU-UP on one bearer, by what their orders do.
 use Rattle.std.proofs.Common.{◌≡◌, ℕ, ◌+◌, Bool, true, false, not, ◌&&◌, ◌||◌, if◌then◌else◌, nat_lt, List, [], ◌∷◌, ◌++◌, map, Option, Some, None, refl, sym, ap, subst, ◌∙◌, append_assoc, true≢false, arith}
 use Rattle.std.proofs.lemmas.List.{append-nil, map-append}
-use Rattle.gnb_types.specs.declared.reasons.DropReason.TheVariants.{Duplicate}
-use Rattle.pdcp.specs.Near.{last_count}
-use Rattle.pdcp_defs.specs.Senders.{Sender, numbered as with_next, has_room, may_restore, restored, confirmed_to, confirmed_by}
-use Rattle.gnb_types.specs.declared.names.SnBits.{SnBits}
-use Rattle.gnb_types.specs.declared.names.NodeId.{NodeId}
-use Rattle.gnb_types.specs.declared.names.Dir.TheVariants.{Dl, Ul}
-use Rattle.gnb_types.specs.declared.outputs.Tag.{Tag}
-use Rattle.gnb_types.specs.declared.outputs.Tag.TheVariants.{Absent, Own, Same}
-use Rattle.unit_defs.specs.Ways.{Pdu, packet_pdu, Load, frame, Output, packet, control, radio, deliver, dropped, held, opened, closed, failed, no, Way, Answer, gives, spent, with_outputs, ◌then◌, nothing, puts, drops, frames_spent, counts_spent}
-use Rattle.unit_defs.specs.Ways as ways
-use Rattle.unit_defs.specs.UpRecords.{UpBearer, SourceHop, Downlink, UpAt}
-use Rattle.unit_defs.specs.UpBearers.{forwarded_down, forwarded_up, forward_numbered, forward_fresh, forward_late, frozen_to, number_waiting, number_each, sent, sent_again, framed, framed_on, has_downlink, last_frame}
-use Rattle.unit_defs.specs.UpItems.{took_fresh, took_numbered, took_report, took_delivery_status, closed_n3, n3_ended}
-use Rattle.chain_defs.specs.Parts.{Item, numbered, fresh, end_marker}
-use Rattle.chain_defs.specs.Orders.{forwards, frozen, waits, waits_unless, takes_unless, holds}
+use Rattle.law_chain.specs.gnb_types.declared.reasons.DropReason.TheVariants.{Duplicate}
+use Rattle.law_chain.specs.pdcp.Near.{last_count}
+use Rattle.law_chain.specs.pdcp_defs.Senders.{Sender, numbered as with_next, has_room, may_restore, restored, confirmed_to, confirmed_by}
+use Rattle.law_chain.specs.gnb_types.declared.names.SnBits.{SnBits}
+use Rattle.law_chain.specs.gnb_types.declared.names.NodeId.{NodeId}
+use Rattle.law_chain.specs.gnb_types.declared.names.Dir.TheVariants.{Dl, Ul}
+use Rattle.law_chain.specs.gnb_types.declared.outputs.Tag.{Tag}
+use Rattle.law_chain.specs.gnb_types.declared.outputs.Tag.TheVariants.{Absent, Own, Same}
+use Rattle.law_chain.specs.unit_defs.Ways.{Pdu, packet_pdu, Load, frame, Output, packet, control, radio, deliver, dropped, held, opened, closed, failed, no, Way, Answer, gives, spent, with_outputs, ◌then◌, nothing, puts, drops, frames_spent, counts_spent}
+use Rattle.law_chain.specs.unit_defs.Ways as ways
+use Rattle.law_chain.specs.unit_defs.UpRecords.{UpBearer, SourceHop, Downlink, UpAt}
+use Rattle.law_chain.specs.unit_defs.UpBearers.{forwarded_down, forwarded_up, forward_numbered, forward_fresh, forward_late, frozen_to, number_waiting, number_each, sent, sent_again, framed, framed_on, has_downlink, last_frame}
+use Rattle.law_chain.specs.unit_defs.UpItems.{took_fresh, took_numbered, took_report, took_delivery_status, closed_n3, n3_ended}
+use Rattle.law_chain.specs.chain_defs.Parts.{Item, numbered, fresh, end_marker}
+use Rattle.law_chain.specs.chain_defs.Orders.{forwards, frozen, waits, waits_unless, takes_unless, holds}
 use Rattle.law_chain_rows.specs.Shown.{items_of, item_of, pdus_of, pdu_of, plain, without_number, Gives, numbers_all, still_waits, numbered_pdus}
 
 module _ {M P : Type 0} where

@@ -1,1 +1,2 @@
 pub mod Shown
+pub use Rattle.law_chain.specs as law_chain

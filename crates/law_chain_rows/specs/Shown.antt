@@ -1,13 +1,13 @@
 -- What a row gives to the downlink of its bearer: items for the next context, PDUs for the radio, and the bearer.
 use Rattle.std.specs.Prelude.{◌≡◌, ◌≢◌, ◌==◌, ℕ, if◌then◌else◌, Bool, true, false, List, [], ◌∷◌, ◌++◌, map, Option, Some, None, ⊤}
-use Rattle.gnb_types.specs.declared.names.SnBits.{SnBits}
-use Rattle.gnb_types.specs.declared.names.Dir.TheVariants.{Dl, Ul}
-use Rattle.pdcp_defs.specs.Senders.{Sender, numbered as with_next, has_room}
-use Rattle.unit_defs.specs.Ways.{Pdu, packet_pdu, Load, frame, Output, packet, Way, Answer, gives, spent}
-use Rattle.unit_defs.specs.Ways as ways
-use Rattle.unit_defs.specs.UpRecords.{UpBearer, Downlink}
-use Rattle.chain_defs.specs.Parts.{Item, numbered, fresh, end_marker, Member, Part}
-use Rattle.chain_defs.specs.Orders.{Order, numbers}
+use Rattle.law_chain.specs.gnb_types.declared.names.SnBits.{SnBits}
+use Rattle.law_chain.specs.gnb_types.declared.names.Dir.TheVariants.{Dl, Ul}
+use Rattle.law_chain.specs.pdcp_defs.Senders.{Sender, numbered as with_next, has_room}
+use Rattle.law_chain.specs.unit_defs.Ways.{Pdu, packet_pdu, Load, frame, Output, packet, Way, Answer, gives, spent}
+use Rattle.law_chain.specs.unit_defs.Ways as ways
+use Rattle.law_chain.specs.unit_defs.UpRecords.{UpBearer, Downlink}
+use Rattle.law_chain.specs.chain_defs.Parts.{Item, numbered, fresh, end_marker, Member, Part}
+use Rattle.law_chain.specs.chain_defs.Orders.{Order, numbers}
 
 -- what goes to the next context, in order
 abbrev pub item_of : {P : Type 0} → Load P → List Item

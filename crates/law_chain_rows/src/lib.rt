@@ -3,17 +3,17 @@
 #![tactic(auto)]
 
 ghost use Rattle.std.specs.Prelude.{◌≡◌, ℕ, Bool, true, false, List, [], ◌∷◌, map, Some, None};
-ghost use Rattle.gnb_types.specs.declared.names.NodeId.{NodeId};
-ghost use Rattle.message_types.specs.declared.rrc.Token.{Token};
-ghost use Rattle.gnb_types.specs.declared.names.SnBits.{SnBits};
-ghost use Rattle.pdcp_defs.specs.Senders.{Sender, may_restore, confirmed_to, confirmed_by};
-ghost use Rattle.unit_defs.specs.Ways.{Message, Pdu, packet_pdu, Way};
-ghost use Rattle.unit_defs.specs.UpRecords.{UpBearer, SourceHop, UpAt};
-ghost use Rattle.unit_defs.specs.UpBearers.{frozen_to, has_downlink, number_waiting, number_each, sent_again};
-ghost use Rattle.unit_defs.specs.UpItems.{took_fresh, took_numbered, took_report, took_delivery_status, n3_ended};
-ghost use Rattle.chain_defs.specs.Parts.{numbered, fresh, end_marker, Part};
-ghost use Rattle.chain_defs.specs.Orders.{forwards, frozen, waits, waits_unless, holds, takes_unless, run};
-ghost use Rattle.chain_defs.specs.Guards.{AreKept};
+ghost use Rattle.law_chain.specs.gnb_types.declared.names.NodeId.{NodeId};
+ghost use Rattle.law_chain.specs.message_types.declared.rrc.Token.{Token};
+ghost use Rattle.law_chain.specs.gnb_types.declared.names.SnBits.{SnBits};
+ghost use Rattle.law_chain.specs.pdcp_defs.Senders.{Sender, may_restore, confirmed_to, confirmed_by};
+ghost use Rattle.law_chain.specs.unit_defs.Ways.{Message, Pdu, packet_pdu, Way};
+ghost use Rattle.law_chain.specs.unit_defs.UpRecords.{UpBearer, SourceHop, UpAt};
+ghost use Rattle.law_chain.specs.unit_defs.UpBearers.{frozen_to, has_downlink, number_waiting, number_each, sent_again};
+ghost use Rattle.law_chain.specs.unit_defs.UpItems.{took_fresh, took_numbered, took_report, took_delivery_status, n3_ended};
+ghost use Rattle.law_chain.specs.chain_defs.Parts.{numbered, fresh, end_marker, Part};
+ghost use Rattle.law_chain.specs.chain_defs.Orders.{forwards, frozen, waits, waits_unless, holds, takes_unless, run};
+ghost use Rattle.law_chain.specs.chain_defs.Guards.{AreKept};
 ghost use Rattle.law_chain_rows.specs.Shown.{Gives, numbers_all, still_waits, numbered_pdus, number_orders, numbered_packets, Became};
 
 /// A freeze forwards all that is unconfirmed and then all that waits, and freezes the bearer.

@@ -8,8 +8,8 @@ use Rattle.gnb_types.specs.declared.keys.Channel.{Channel}
 use Rattle.gnb_types.specs.declared.reasons.DropReason.TheVariants.{Stale}
 use Rattle.gnb_types.specs.Orders.{channel_cmp}
 use Rattle.tables.specs.Tables.{at}
-use Rattle.transaction_defs.specs.Callers.{Opened, spent as begins_no_more, begin, begin_after, begun_with, last_instance, opened_at, is_open, is_awaited, has_instance}
-use Rattle.transaction_defs.specs.Callees.{Kept, new, again, stale, verdict, verdict_after, newest, newest_in, kept_at, kept_reply, reply_in}
+use Rattle.unit_defs.specs.transaction_defs.Callers.{Opened, spent as begins_no_more, begin, begin_after, begun_with, last_instance, opened_at, is_open, is_awaited, has_instance}
+use Rattle.unit_defs.specs.transaction_defs.Callees.{Kept, new, again, stale, verdict, verdict_after, newest, newest_in, kept_at, kept_reply, reply_in}
 use Rattle.unit_defs.specs.Ways.{control, dropped, Answer, ◌then◌, nothing, drops}
 use Rattle.unit_defs.specs.Transactions.{with_instance, Waiting, Transactions, Asked, is_empty, waits_at, with_waiting, begun_as, begin_request, ask, advance, advance_with, ask_at_once, answered_again, request_by, on_request, on_reply}
 use Rattle.law_channel.specs.Replies.{Talk}

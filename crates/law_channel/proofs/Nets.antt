@@ -9,8 +9,8 @@ use Rattle.gnb_types.specs.declared.names.UeId.{UeId}
 use Rattle.gnb_types.specs.declared.keys.Channel.{Channel}
 use Rattle.gnb_types.specs.Orders.{channel_cmp}
 use Rattle.tables.specs.Tables.{at, find, IsSorted}
-use Rattle.transaction_defs.specs.Callers.{Opened, Caller, opened_at, after_tick, is_last, one_less}
-use Rattle.transaction_defs.specs.Callees.{kept_at, Callee}
+use Rattle.unit_defs.specs.transaction_defs.Callers.{Opened, Caller, opened_at, after_tick, is_last, one_less}
+use Rattle.unit_defs.specs.transaction_defs.Callees.{kept_at, Callee}
 use Rattle.unit_defs.specs.Transactions.{Waiting, Transactions, waits_at}
 use Rattle.unit_defs.specs.CpRecords.{forgotten, unawaited, not_awaited}
 use Rattle.law_channel.specs.Replies.{Talk}

@@ -7,8 +7,8 @@ use Rattle.gnb_types.specs.Orders.{channel_cmp}
 use Rattle.gnb_types.proofs.OrderLemmas.{channel_total}
 use Rattle.tables.specs.Tables.{find, put, without, at, IsSorted}
 use Rattle.tables.proofs.TableLaws.{find-put-same, find-put-other, find-without-same, find-without-other, sorted-put, sorted-without}
-use Rattle.transaction_defs.specs.Callers.{Opened, Caller, opened_at, keep_request, with_request, close}
-use Rattle.transaction_defs.specs.Callees.{Kept, Callee, kept_at, taken, keep, with_reply, keep_for, is_newest, newest, newest_in}
+use Rattle.unit_defs.specs.transaction_defs.Callers.{Opened, Caller, opened_at, keep_request, with_request, close}
+use Rattle.unit_defs.specs.transaction_defs.Callees.{Kept, Callee, kept_at, taken, keep, with_reply, keep_for, is_newest, newest, newest_in}
 use Rattle.unit_defs.specs.Transactions.{Waiting, Transactions, waits_at, with_waiting}
 use Rattle.law_channel.specs.Ends.{same_channel, Asking, asking_at, Answering, answering_at, answering_in}
 

@@ -1,7 +1,7 @@
 -- What each kind of order does to a channel on which all holds.
 use Rattle.std.proofs.Common.{arith, inl, inr, ◌≡◌, ◌<◌, ◌≤◌, ◌⊎◌, ℕ, ◌+◌, ◌-◌, true, false, List, [], ◌∷◌, Option, Some, None, refl, sym, ap, ◌∙◌, subst}
 use Rattle.std.proofs.lemmas.Bool.{cases_lt}
-use Rattle.transaction_defs.specs.Callers.{Opened}
+use Rattle.unit_defs.specs.transaction_defs.Callers.{Opened}
 use Rattle.unit_defs.specs.Transactions.{Waiting}
 use Rattle.law_channel.specs.Replies.{Talk}
 use Rattle.law_channel.specs.Ends.{Act, Ends, Note, asked, told, top, InOrder, Once}

@@ -14,7 +14,7 @@ use Rattle.gnb_types.specs.declared.keys.Channel.{Channel}
 use Rattle.gnb_types.specs.Orders.{channel_cmp}
 use Rattle.gnb_types.proofs.OrderLemmas.{channel_total}
 use Rattle.tables.specs.Tables.{find, IsSorted}
-use Rattle.transaction_defs.specs.Callers.{Opened, Caller, opened_at, after_tick, aged, one_less, is_last}
+use Rattle.unit_defs.specs.transaction_defs.Callers.{Opened, Caller, opened_at, after_tick, aged, one_less, is_last}
 
 -- what a tick leaves of an open request
 abbrev pub aged_in : {M : Type 0} → Option (Opened M) → Option (Opened M)

@@ -7,8 +7,8 @@ use Rattle.gnb_types.specs.declared.names.NodeId.{NodeId}
 use Rattle.gnb_types.specs.declared.keys.Channel.{Channel}
 use Rattle.gnb_types.specs.Orders.{node_cmp, channel_cmp}
 use Rattle.tables.specs.Tables.{at}
-use Rattle.transaction_defs.specs.Callers.{Opened, opened_at}
-use Rattle.transaction_defs.specs.Callees.{Kept, kept_at, reply_in}
+use Rattle.unit_defs.specs.transaction_defs.Callers.{Opened, opened_at}
+use Rattle.unit_defs.specs.transaction_defs.Callees.{Kept, kept_at, reply_in}
 use Rattle.unit_defs.specs.Messages.{channel}
 use Rattle.unit_defs.specs.Transactions.{request, reply, Waiting, Transactions, waits_at}
 use Rattle.law_channel.specs.Replies.{Talk}

@@ -3,7 +3,7 @@ use Rattle.std.specs.Prelude.{◌≡◌, ℕ, ◌<◌, true, List, [], ◌∷◌
 use Rattle.std.specs.List.{AllByRecursion}
 use Rattle.gnb_types.specs.declared.keys.Channel.{Channel}
 use Rattle.gnb_types.specs.declared.reasons.DropReason.TheVariants.{Stale}
-use Rattle.transaction_defs.specs.Callers.{opened_at}
+use Rattle.unit_defs.specs.transaction_defs.Callers.{opened_at}
 use Rattle.unit_defs.specs.Ways.{Output, control, dropped, Answer, gives, spent}
 use Rattle.unit_defs.specs.Transactions.{Transactions, waits_at}
 use Rattle.law_channel.specs.Replies.{Talk}

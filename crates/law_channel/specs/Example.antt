@@ -6,8 +6,8 @@ use Rattle.gnb_types.specs.declared.names.NodeId.{NodeId}
 use Rattle.gnb_types.specs.declared.names.NodeId.TheVariants.{CuCp}
 use Rattle.gnb_types.specs.declared.names.SnBits.TheVariants.{Len12}
 use Rattle.gnb_types.specs.declared.keys.Channel.{Channel}
-use Rattle.message_types.specs.declared.xn.XnMessage.TheVariants as xns
-use Rattle.message_types.specs.declared.rrc.Token.{Token}
+use Rattle.unit_defs.specs.message_types.declared.xn.XnMessage.TheVariants as xns
+use Rattle.unit_defs.specs.message_types.declared.rrc.Token.{Token}
 use Rattle.unit_defs.specs.Ways.{Message, xn, rrc, Pdu}
 use Rattle.unit_defs.specs.Transactions.{kind_of, no_instance, Waiting}
 use Rattle.law_channel.specs.Replies.{answers, overtakes, Talk}

@@ -5,8 +5,8 @@ use Rattle.std.specs.List.{AllByRecursion}
 use Rattle.gnb_types.specs.declared.names.NodeId.{NodeId}
 use Rattle.gnb_types.specs.declared.names.UeId.{UeId}
 use Rattle.gnb_types.specs.declared.keys.Channel.{Channel}
-use Rattle.transaction_defs.specs.Callers.{Opened, opened_at, is_awaited, close, after_tick, is_last}
-use Rattle.transaction_defs.specs.Callees.{new, newest, verdict, taken, kept_reply}
+use Rattle.unit_defs.specs.transaction_defs.Callers.{Opened, opened_at, is_awaited, close, after_tick, is_last}
+use Rattle.unit_defs.specs.transaction_defs.Callees.{new, newest, verdict, taken, kept_reply}
 use Rattle.unit_defs.specs.Ways.{Message, Output, control, Answer, gives, spent, ◌then◌, nothing, puts}
 use Rattle.unit_defs.specs.Transactions.{request, reply, transfer, with_instance, Waiting, Transactions, no_transactions, ask, ask_at_once, advance, with_waiting, replied, replied_late, answered_again}
 use Rattle.unit_defs.specs.CpRecords.{forgotten}

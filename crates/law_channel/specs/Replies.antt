@@ -1,10 +1,10 @@
 -- Which message is the reply to which request (the class 1 procedures of TS 38.473, 37.483 and 38.423, 8.1; a path switch, TS
 -- 38.413, 8.4.4), and which request overtakes the one before it: Handover Cancel alone (TS 38.423, 8.2.3).
 use Rattle.std.specs.Prelude.{Bool, true, false}
-use Rattle.message_types.specs.declared.f1.F1.TheVariants as f1s
-use Rattle.message_types.specs.declared.e1.E1Message.TheVariants as e1s
-use Rattle.message_types.specs.declared.xn.XnMessage.TheVariants as xns
-use Rattle.message_types.specs.declared.xn.CoreMessage.TheVariants as cores
+use Rattle.unit_defs.specs.message_types.declared.f1.F1.TheVariants as f1s
+use Rattle.unit_defs.specs.message_types.declared.e1.E1Message.TheVariants as e1s
+use Rattle.unit_defs.specs.message_types.declared.xn.XnMessage.TheVariants as xns
+use Rattle.unit_defs.specs.message_types.declared.xn.CoreMessage.TheVariants as cores
 use Rattle.unit_defs.specs.Ways.{Message, f1, e1, xn, core, Way}
 use Rattle.unit_defs.specs.Transactions.{Kind}
 

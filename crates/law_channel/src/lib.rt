@@ -7,7 +7,7 @@ ghost use Rattle.std.specs.Prelude.{◌≡◌, ℕ, ◌+◌, ◌<◌, ◌≤◌,
 ghost use Rattle.gnb_types.specs.declared.names.NodeId.{NodeId};
 ghost use Rattle.gnb_types.specs.declared.keys.Channel.{Channel};
 ghost use Rattle.gnb_types.specs.declared.reasons.DropReason.TheVariants.{Stale};
-ghost use Rattle.transaction_defs.specs.Callers.{Opened, opened_at, is_awaited};
+ghost use Rattle.unit_defs.specs.transaction_defs.Callers.{Opened, opened_at, is_awaited};
 ghost use Rattle.unit_defs.specs.Ways.{Answer, drops};
 ghost use Rattle.unit_defs.specs.Transactions.{Waiting, Transactions, on_request, on_reply};
 ghost use Rattle.law_channel.specs.Replies.{Talk};

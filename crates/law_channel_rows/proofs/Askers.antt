@@ -6,8 +6,8 @@ use Rattle.gnb_types.specs.declared.names.NodeId.{NodeId}
 use Rattle.gnb_types.specs.declared.keys.Channel.{Channel}
 use Rattle.gnb_types.specs.declared.reasons.DropReason.TheVariants.{Stale}
 use Rattle.transaction_defs.specs.Callers.{Opened, opened_at, is_awaited, has_instance, close}
-use Rattle.unit_defs.specs.Ways.{Output, control, Answer, gives, spent, ◌then◌, nothing, puts, drops}
-use Rattle.unit_defs.specs.Transactions.{Transactions, Asked, transfer, advance, on_reply}
+use Rattle.law_channel.specs.unit_defs.Ways.{Output, control, Answer, gives, spent, ◌then◌, nothing, puts, drops}
+use Rattle.law_channel.specs.unit_defs.Transactions.{Transactions, Asked, transfer, advance, on_reply}
 use Rattle.law_channel.specs.Replies.{Talk}
 use Rattle.law_channel.specs.Ends.{told, Sent, Put}
 use Rattle.law_channel.specs.Moves.{Move, advances, closes, transfers, Net, asked_by, sent_by, moved, after, May}

@@ -6,12 +6,12 @@ use Rattle.gnb_types.specs.declared.outputs.Tag.{Tag}
 use Rattle.gnb_types.specs.declared.outputs.Tag.TheVariants.{Absent, Own, Same}
 use Rattle.gnb_types.specs.declared.plans.SnStatus.{SnStatus}
 use Rattle.pdcp.specs.Near.{last_count}
-use Rattle.pdcp_defs.specs.Senders.{numbered as with_next, has_room, may_restore, restored, confirmed_by}
-use Rattle.pdcp_defs.specs.Receivers.{deliver as handed_up, received_bits, is_duplicate, stored}
-use Rattle.unit_defs.specs.Ways.{packet_pdu, report_pdu, Content, packet_content, report_content, Load, fresh, numbered, end_marker, Taken, fresh_item, numbered_item, uplink_item, status_item, end_item, Way, Answer, gives, spent, with_outputs, ◌then◌, nothing, puts, closed, counts_spent}
-use Rattle.unit_defs.specs.UpRecords.{Downlink, SourceHop, UpBearer, TunnelKind, n3, f1u_uplink, forwarding_down, forwarding_up, UpAt}
-use Rattle.unit_defs.specs.UpBearers.{last_frame, has_downlink, owed, thawed, no_uplink, bits_in, framed_on, framed, sent, sent_again, number_each, number_waiting, delivered, deliver_stored, put_down, forwarded_down, put_up, forwarded_up, with_uplink, begin_downlink, begin_where_known, switched, forward_numbered, forward_fresh, forward_late, frozen_to, begin_where_arrived, with_status, resumed}
-use Rattle.unit_defs.specs.UpItems.{took_fresh, closed_n3, n3_ended, restored_at, took_numbered, stored_at, passed_up, took_uplink, took_report, took_content, confirmed_if, lost_frames, took_delivery_status, up_hop_ends_if, uplink_ended, up_ended, took}
+use Rattle.law_channel.specs.pdcp_defs.Senders.{numbered as with_next, has_room, may_restore, restored, confirmed_by}
+use Rattle.law_channel.specs.pdcp_defs.Receivers.{deliver as handed_up, received_bits, is_duplicate, stored}
+use Rattle.law_channel.specs.unit_defs.Ways.{packet_pdu, report_pdu, Content, packet_content, report_content, Load, fresh, numbered, end_marker, Taken, fresh_item, numbered_item, uplink_item, status_item, end_item, Way, Answer, gives, spent, with_outputs, ◌then◌, nothing, puts, closed, counts_spent}
+use Rattle.law_channel.specs.unit_defs.UpRecords.{Downlink, SourceHop, UpBearer, TunnelKind, n3, f1u_uplink, forwarding_down, forwarding_up, UpAt}
+use Rattle.law_channel.specs.unit_defs.UpBearers.{last_frame, has_downlink, owed, thawed, no_uplink, bits_in, framed_on, framed, sent, sent_again, number_each, number_waiting, delivered, deliver_stored, put_down, forwarded_down, put_up, forwarded_up, with_uplink, begin_downlink, begin_where_known, switched, forward_numbered, forward_fresh, forward_late, frozen_to, begin_where_arrived, with_status, resumed}
+use Rattle.law_channel.specs.unit_defs.UpItems.{took_fresh, closed_n3, n3_ended, restored_at, took_numbered, stored_at, passed_up, took_uplink, took_report, took_content, confirmed_if, lost_frames, took_delivery_status, up_hop_ends_if, uplink_ended, up_ended, took}
 use Rattle.law_channel.specs.Moves.{sent_by}
 use Rattle.law_channel_rows.proofs.Requests.{sent_both}
 

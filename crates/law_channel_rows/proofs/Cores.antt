@@ -9,10 +9,10 @@ use Rattle.gnb_types.specs.declared.reasons.DropReason.TheVariants.{Unexpected}
 use Rattle.gnb_types.specs.Orders.{ue_cmp}
 use Rattle.tables.specs.Tables.{find}
 use Rattle.message_types.specs.declared.xn.CoreMessage.TheVariants as cores
-use Rattle.unit_defs.specs.Ways.{Message, core}
-use Rattle.unit_defs.specs.Messages.{channel}
-use Rattle.unit_defs.specs.Transactions.{Kind, request, reply, transfer, kind_of, Transactions, on_request}
-use Rattle.unit_defs.specs.Core.{CoreRecord, CorePath, end_of, old_ends, moved, asked, came, core_acts, switch_path}
+use Rattle.law_channel.specs.unit_defs.Ways.{Message, core}
+use Rattle.law_channel.specs.unit_defs.Messages.{channel}
+use Rattle.law_channel.specs.unit_defs.Transactions.{Kind, request, reply, transfer, kind_of, Transactions, on_request}
+use Rattle.law_channel.specs.unit_defs.Core.{CoreRecord, CorePath, end_of, old_ends, moved, asked, came, core_acts, switch_path}
 use Rattle.law_channel.specs.Replies.{Talk}
 use Rattle.law_channel.specs.Moves.{Net, sent_by}
 use Rattle.law_channel_rows.specs.Made.{ReadsWell, Made, WasSent}

@@ -14,14 +14,14 @@ use Rattle.message_types.specs.declared.xn.XnMessage.TheVariants as xns
 use Rattle.message_types.specs.declared.xn.CoreMessage.TheVariants as cores
 use Rattle.transaction_defs.specs.Callers.{close, is_awaited}
 use Rattle.transaction_defs.specs.Callees.{newest, kept_reply}
-use Rattle.unit_defs.specs.declared.StateName.{StateName}
-use Rattle.unit_defs.specs.declared.StateName.TheVariants as states
-use Rattle.unit_defs.specs.Ways.{Message, f1, e1, xn, core, Answer, gives, spent, with_outputs, ◌then◌, drops}
-use Rattle.unit_defs.specs.Messages.{channel, cause_name, are_bearers, statuses_of}
-use Rattle.unit_defs.specs.Transactions.{kind_of, Waiting, Transactions, waits_at, with_waiting, advance, on_reply}
-use Rattle.unit_defs.specs.CpRecords.{Awaited, Attempt, CpContext, CpTerminal, CuCpRecord, terminal_of, with_transactions, bearers_in, answered, awaits_answer, after_asked, waiting_of, Say, asks as says_ask, cancels as says_cancel, replies as says_reply, replies_late as says_late, sends, fails, ignores, refuses, forgets as says_forget, Row, row, row_spent, carry_out}
-use Rattle.unit_defs.specs.CpRows.{CpAt, other_cp, name_bearers, is_between_dus, is_between_gnbs, attach_fails, handover_is_declined, handover_is_not_frozen, offer_is_declined, offer_is_placed, own_peer}
-use Rattle.unit_defs.specs.CuCp.{at_of, listed, caused, in_attaching, in_moving, in_preparing, in_prepared, in_offered, in_switching, in_releasing, in_state, Answered, answers_none, answers_with, answer_of, answer_on, answer, is_up_release, without_release, is_setup_failure, put_next, closed_at, answered_by, reply_came}
+use Rattle.law_channel.specs.unit_defs.declared.StateName.{StateName}
+use Rattle.law_channel.specs.unit_defs.declared.StateName.TheVariants as states
+use Rattle.law_channel.specs.unit_defs.Ways.{Message, f1, e1, xn, core, Answer, gives, spent, with_outputs, ◌then◌, drops}
+use Rattle.law_channel.specs.unit_defs.Messages.{channel, cause_name, are_bearers, statuses_of}
+use Rattle.law_channel.specs.unit_defs.Transactions.{kind_of, Waiting, Transactions, waits_at, with_waiting, advance, on_reply}
+use Rattle.law_channel.specs.unit_defs.CpRecords.{Awaited, Attempt, CpContext, CpTerminal, CuCpRecord, terminal_of, with_transactions, bearers_in, answered, awaits_answer, after_asked, waiting_of, Say, asks as says_ask, cancels as says_cancel, replies as says_reply, replies_late as says_late, sends, fails, ignores, refuses, forgets as says_forget, Row, row, row_spent, carry_out}
+use Rattle.law_channel.specs.unit_defs.CpRows.{CpAt, other_cp, name_bearers, is_between_dus, is_between_gnbs, attach_fails, handover_is_declined, handover_is_not_frozen, offer_is_declined, offer_is_placed, own_peer}
+use Rattle.law_channel.specs.unit_defs.CuCp.{at_of, listed, caused, in_attaching, in_moving, in_preparing, in_prepared, in_offered, in_switching, in_releasing, in_state, Answered, answers_none, answers_with, answer_of, answer_on, answer, is_up_release, without_release, is_setup_failure, put_next, closed_at, answered_by, reply_came}
 use Rattle.law_channel.specs.Replies.{Talk}
 use Rattle.law_channel.specs.Ends.{told, Sent, Put}
 use Rattle.law_channel.specs.Moves.{Move, asks, asks_at_once, advances, waits_as, closes, replies, replies_late, Net, asked_by, sent_by, moved, after_move, after, IsRequest}

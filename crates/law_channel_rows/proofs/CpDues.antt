@@ -18,12 +18,12 @@ use Rattle.message_types.specs.declared.xn.XnMessage.TheVariants as xns
 use Rattle.tables.specs.Tables.{find}
 use Rattle.tables.proofs.TableLaws.{find-put}
 use Rattle.transaction_defs.specs.Callers.{Opened, opened_at, Due, repeats as due_again, expires, due, due_of, repeated, is_last}
-use Rattle.unit_defs.specs.Ways.{Output, xn, control, Answer, gives, spent, with_outputs, ◌then◌, nothing}
-use Rattle.unit_defs.specs.Messages.{channel, other_gnb}
-use Rattle.unit_defs.specs.Transactions.{Waiting, Transactions, Asked, no_instance, ask_at_once}
-use Rattle.unit_defs.specs.CpRecords.{Attempt, CpContext, CpTerminal, CuCpRecord, terminal_in, terminal_of, with_terminal, with_attempt, on_context, serving, waiting_of, after_begun, after_asked, fails, say_one, say_all, carry_out}
-use Rattle.unit_defs.specs.CpRows.{other_cp, handover_expires}
-use Rattle.unit_defs.specs.CuCp.{at_of, expired_on, due_one, due_each}
+use Rattle.law_channel.specs.unit_defs.Ways.{Output, xn, control, Answer, gives, spent, with_outputs, ◌then◌, nothing}
+use Rattle.law_channel.specs.unit_defs.Messages.{channel, other_gnb}
+use Rattle.law_channel.specs.unit_defs.Transactions.{Waiting, Transactions, Asked, no_instance, ask_at_once}
+use Rattle.law_channel.specs.unit_defs.CpRecords.{Attempt, CpContext, CpTerminal, CuCpRecord, terminal_in, terminal_of, with_terminal, with_attempt, on_context, serving, waiting_of, after_begun, after_asked, fails, say_one, say_all, carry_out}
+use Rattle.law_channel.specs.unit_defs.CpRows.{other_cp, handover_expires}
+use Rattle.law_channel.specs.unit_defs.CuCp.{at_of, expired_on, due_one, due_each}
 use Rattle.law_channel.specs.Replies.{Talk}
 use Rattle.law_channel.specs.Ends.{Sent, same_node}
 use Rattle.law_channel.specs.Moves.{Move, asks_at_once, ages, repeats, Net, asked_by, sent_by, expires_now, after_answer, after_move, after}

@@ -10,12 +10,12 @@ use Rattle.gnb_types.specs.declared.reasons.DropReason.TheVariants.{Unexpected}
 use Rattle.message_types.specs.declared.rrc.Token.{Token}
 use Rattle.message_types.specs.declared.rrc.Token.TheVariants as tokens
 use Rattle.message_types.specs.declared.f1.F1.TheVariants as f1s
-use Rattle.unit_defs.specs.Ways.{Message, f1, Answer, gives, spent, ◌then◌}
-use Rattle.unit_defs.specs.Messages.{channel}
-use Rattle.unit_defs.specs.Transactions.{Transactions}
-use Rattle.unit_defs.specs.CpRecords.{Attempt, CpContext, CpTerminal, CuCpRecord, terminal_of, same_node, waiting_of, Say, asks as says_ask, cancels as says_cancel, replies as says_reply, replies_late as says_late, sends, fails, ignores, refuses, forgets as says_forget, Row, row, row_spent, carry_out}
-use Rattle.unit_defs.specs.CpRows.{CpAt, own_du}
-use Rattle.unit_defs.specs.CuCp.{at_of, ordered, is_complete, is_reestablish, is_epoch, is_own_command, may_return, is_too_early, is_ready, token_in_ready, token_of_return, token_of_attempt, token_by_attempt, token_on, token_row, token_ue, container_row, no_context_first, token_came, transferred}
+use Rattle.law_channel.specs.unit_defs.Ways.{Message, f1, Answer, gives, spent, ◌then◌}
+use Rattle.law_channel.specs.unit_defs.Messages.{channel}
+use Rattle.law_channel.specs.unit_defs.Transactions.{Transactions}
+use Rattle.law_channel.specs.unit_defs.CpRecords.{Attempt, CpContext, CpTerminal, CuCpRecord, terminal_of, same_node, waiting_of, Say, asks as says_ask, cancels as says_cancel, replies as says_reply, replies_late as says_late, sends, fails, ignores, refuses, forgets as says_forget, Row, row, row_spent, carry_out}
+use Rattle.law_channel.specs.unit_defs.CpRows.{CpAt, own_du}
+use Rattle.law_channel.specs.unit_defs.CuCp.{at_of, ordered, is_complete, is_reestablish, is_epoch, is_own_command, may_return, is_too_early, is_ready, token_in_ready, token_of_return, token_of_attempt, token_by_attempt, token_on, token_row, token_ue, container_row, no_context_first, token_came, transferred}
 use Rattle.law_channel.specs.Replies.{Talk}
 use Rattle.law_channel.specs.Moves.{Move, asks, asks_at_once, Net, asked_by, with_route, moved, expired_after, after_answer, MayAll, after}
 use Rattle.law_channel.proofs.Keys.{route_cases, with_route_here, with_route_other}

@@ -11,14 +11,14 @@ use Rattle.message_types.specs.declared.f1.F1.TheVariants as f1s
 use Rattle.message_types.specs.declared.e1.E1Message.TheVariants as e1s
 use Rattle.message_types.specs.declared.xn.XnMessage.TheVariants as xns
 use Rattle.transaction_defs.specs.Callees.{kept_reply, newest}
-use Rattle.unit_defs.specs.declared.StateName.{StateName}
-use Rattle.unit_defs.specs.declared.StateName.TheVariants as states
-use Rattle.unit_defs.specs.Ways.{Message, f1, e1, xn, Answer, gives, spent, ◌then◌}
-use Rattle.unit_defs.specs.Messages.{channel, cause_busy, cause_unit, are_bearers, statuses_of}
-use Rattle.unit_defs.specs.Transactions.{request, reply, kind_of, Transactions, replied}
-use Rattle.unit_defs.specs.CpRecords.{Attempt, CpContext, CpTerminal, CuCpRecord, terminal_of, has_unit, bearers_in, Say, replies as says_reply, ignores, Row, carry_out}
-use Rattle.unit_defs.specs.CpRows.{CpAt, own_up, own_du, is_between_gnbs, bearer_setup, du_release, up_release, say_status, handed_over, offer_context, refuse_offer, offer_on, offer, takes_status, status_on, status, du_release_if, offer_cancelled, is_cancellable, xn_cancelled_of, xn_cancelled_on, xn_cancelled, xn_released_of, xn_released_on, xn_released}
-use Rattle.unit_defs.specs.CuCp.{at_of, by_row, set_up, asked}
+use Rattle.law_channel.specs.unit_defs.declared.StateName.{StateName}
+use Rattle.law_channel.specs.unit_defs.declared.StateName.TheVariants as states
+use Rattle.law_channel.specs.unit_defs.Ways.{Message, f1, e1, xn, Answer, gives, spent, ◌then◌}
+use Rattle.law_channel.specs.unit_defs.Messages.{channel, cause_busy, cause_unit, are_bearers, statuses_of}
+use Rattle.law_channel.specs.unit_defs.Transactions.{request, reply, kind_of, Transactions, replied}
+use Rattle.law_channel.specs.unit_defs.CpRecords.{Attempt, CpContext, CpTerminal, CuCpRecord, terminal_of, has_unit, bearers_in, Say, replies as says_reply, ignores, Row, carry_out}
+use Rattle.law_channel.specs.unit_defs.CpRows.{CpAt, own_up, own_du, is_between_gnbs, bearer_setup, du_release, up_release, say_status, handed_over, offer_context, refuse_offer, offer_on, offer, takes_status, status_on, status, du_release_if, offer_cancelled, is_cancellable, xn_cancelled_of, xn_cancelled_on, xn_cancelled, xn_released_of, xn_released_on, xn_released}
+use Rattle.law_channel.specs.unit_defs.CuCp.{at_of, by_row, set_up, asked}
 use Rattle.law_channel.specs.Replies.{Talk, answers}
 use Rattle.law_channel.specs.Moves.{replies, forgets, Net, moved, after_answer, after_move, MayReply, May, MayAll}
 use Rattle.law_channel.proofs.Keys.{with_node_here}

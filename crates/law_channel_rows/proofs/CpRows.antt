@@ -8,15 +8,15 @@ use Rattle.gnb_types.specs.declared.plans.SnStatus.{SnStatus}
 use Rattle.gnb_types.specs.declared.reasons.CauseName.{CauseName}
 use Rattle.message_types.specs.declared.rrc.Token.{Token}
 use Rattle.message_types.specs.declared.xn.XnMessage.TheVariants as xns
-use Rattle.unit_defs.specs.declared.StateName.{StateName}
-use Rattle.unit_defs.specs.declared.StateName.TheVariants as states
-use Rattle.unit_defs.specs.declared.AttemptKind.{AttemptKind}
-use Rattle.unit_defs.specs.declared.AttemptKind.TheVariants as kinds
-use Rattle.unit_defs.specs.Ways.{xn, epochs_spent}
-use Rattle.unit_defs.specs.Messages.{is_same_gnb}
-use Rattle.unit_defs.specs.Transactions.{kind_of, with_instance, no_instance}
-use Rattle.unit_defs.specs.CpRecords.{Attempt, CpContext, CpTerminal, has_unit, last_epoch, Say, asks, Row, row_spent}
-use Rattle.unit_defs.specs.CpRows.{CpAt, other_cp, own_up, own_du, is_between_dus, bearer_setup, du_setup, du_modify, du_release, up_release, say_uplinks, say_switch, say_freeze, say_status, say_resume, xn_cancel, path_switch, say_token, say_accepted, attach_context, attach_on, attach, attach_has_tunnels, attach_is_placed, attach_fails, move_begins, move_has_uplinks, move_is_placed, handover_request, handover_begins, epoch_of, is_serving, handover_on, handover, handover_is_acknowledged, handover_is_declined, handover_expires, handover_is_frozen, handover_is_not_frozen, command, cancel_attempt, cancel_of, cancel_on, cancel, release_on, release, offer_has_tunnels, place_is_renewed, is_switched, let_source_go, path_is_switched, leave_old, completes, leave_old_again, completes_again, give_up_attempt, returns, arrives, arrives_again}
+use Rattle.law_channel.specs.unit_defs.declared.StateName.{StateName}
+use Rattle.law_channel.specs.unit_defs.declared.StateName.TheVariants as states
+use Rattle.law_channel.specs.unit_defs.declared.AttemptKind.{AttemptKind}
+use Rattle.law_channel.specs.unit_defs.declared.AttemptKind.TheVariants as kinds
+use Rattle.law_channel.specs.unit_defs.Ways.{xn, epochs_spent}
+use Rattle.law_channel.specs.unit_defs.Messages.{is_same_gnb}
+use Rattle.law_channel.specs.unit_defs.Transactions.{kind_of, with_instance, no_instance}
+use Rattle.law_channel.specs.unit_defs.CpRecords.{Attempt, CpContext, CpTerminal, has_unit, last_epoch, Say, asks, Row, row_spent}
+use Rattle.law_channel.specs.unit_defs.CpRows.{CpAt, other_cp, own_up, own_du, is_between_dus, bearer_setup, du_setup, du_modify, du_release, up_release, say_uplinks, say_switch, say_freeze, say_status, say_resume, xn_cancel, path_switch, say_token, say_accepted, attach_context, attach_on, attach, attach_has_tunnels, attach_is_placed, attach_fails, move_begins, move_has_uplinks, move_is_placed, handover_request, handover_begins, epoch_of, is_serving, handover_on, handover, handover_is_acknowledged, handover_is_declined, handover_expires, handover_is_frozen, handover_is_not_frozen, command, cancel_attempt, cancel_of, cancel_on, cancel, release_on, release, offer_has_tunnels, place_is_renewed, is_switched, let_source_go, path_is_switched, leave_old, completes, leave_old_again, completes_again, give_up_attempt, returns, arrives, arrives_again}
 use Rattle.law_channel.specs.Replies.{Talk}
 use Rattle.law_channel_rows.specs.Made.{ReadsWell}
 use Rattle.law_channel_rows.specs.Rows.{SpeaksOne, Speaks, RowSpeaks}

@@ -8,14 +8,14 @@ use Rattle.gnb_types.specs.declared.reasons.DropReason.TheVariants.{Unexpected}
 use Rattle.gnb_types.specs.Orders.{channel_cmp}
 use Rattle.tables.specs.Tables.{IsSorted}
 use Rattle.transaction_defs.specs.Callers.{due, after_tick}
-use Rattle.unit_defs.specs.declared.StateName.{StateName}
-use Rattle.unit_defs.specs.declared.StateName.TheVariants as states
-use Rattle.unit_defs.specs.Ways.{Message, Input, control_input, tick_input, order_input, Answer, gives, spent, with_outputs, ◌then◌, nothing, drops}
-use Rattle.unit_defs.specs.Messages.{shares_interface, channel}
-use Rattle.unit_defs.specs.Transactions.{Kind, request, reply, transfer, kind_of, Transactions, on_request}
-use Rattle.unit_defs.specs.CpRecords.{Attempt, CpContext, CuCpRecord, terminal_of, with_transactions, Row, carry_out}
-use Rattle.unit_defs.specs.CpRows.{command}
-use Rattle.unit_defs.specs.CuCp.{at_of, asked, control_by, control_came, due_each, command_by, command_on, command_each, ues_of, tick, cu_cp_acts}
+use Rattle.law_channel.specs.unit_defs.declared.StateName.{StateName}
+use Rattle.law_channel.specs.unit_defs.declared.StateName.TheVariants as states
+use Rattle.law_channel.specs.unit_defs.Ways.{Message, Input, control_input, tick_input, order_input, Answer, gives, spent, with_outputs, ◌then◌, nothing, drops}
+use Rattle.law_channel.specs.unit_defs.Messages.{shares_interface, channel}
+use Rattle.law_channel.specs.unit_defs.Transactions.{Kind, request, reply, transfer, kind_of, Transactions, on_request}
+use Rattle.law_channel.specs.unit_defs.CpRecords.{Attempt, CpContext, CuCpRecord, terminal_of, with_transactions, Row, carry_out}
+use Rattle.law_channel.specs.unit_defs.CpRows.{command}
+use Rattle.law_channel.specs.unit_defs.CuCp.{at_of, asked, control_by, control_came, due_each, command_by, command_on, command_each, ues_of, tick, cu_cp_acts}
 use Rattle.law_channel.specs.Replies.{Talk}
 use Rattle.law_channel.specs.Ends.{Sent}
 use Rattle.law_channel.specs.Moves.{ages, Net, sent_by, after}

@@ -12,11 +12,11 @@ use Rattle.gnb_types.specs.declared.inputs.Order.TheVariants as orders
 use Rattle.gnb_types.specs.declared.reasons.DropReason.TheVariants.{Unexpected, NoContext}
 use Rattle.gnb_types.specs.declared.outputs.Tag.TheVariants.{Absent, Same}
 use Rattle.message_types.specs.declared.f1.F1.TheVariants as f1s
-use Rattle.unit_defs.specs.Ways.{Message, f1, Output, status, uplink, rrc, Taken, frame_item, Input, control_input, packet_input, radio_input, confirm_input, offer_input, tick_input, order_input, Answer, gives, spent, ◌then◌, nothing, puts, drops, closed, opened, packet, end_marker, teids_spent}
-use Rattle.unit_defs.specs.Messages.{channel, is_same_gnb, are_first_bearers, bearers_of}
-use Rattle.unit_defs.specs.Teids.{teids_are_left}
-use Rattle.unit_defs.specs.Transactions.{Kind, request, reply, transfer, kind_of, with_instance, no_instance, Waiting, Transactions, waits_at, ask, on_request}
-use Rattle.unit_defs.specs.Du.{Du, DuContext, DuBearer, context_of, with_transactions, replies, replaces, closings, openings, old_downlinks, replaced, setup, context_with, modify, modify_on, release, released_on, end_markers, downlinks_of, asked, downlink_list, relayed_up, relayed_down, relay_up, relay_down, transferred, of_terminal, token_ue, set_up, of_cp, control_came, told, is_missing, missing, carried, frame_came, with_bearer, gap_after, take, taken_in, taken_of, taken_on, DuTunnel, of_context, of_bearer, confirmed, pass_up, confirm, start, du_node, due_output, tick, du_acts}
+use Rattle.law_channel.specs.unit_defs.Ways.{Message, f1, Output, status, uplink, rrc, Taken, frame_item, Input, control_input, packet_input, radio_input, confirm_input, offer_input, tick_input, order_input, Answer, gives, spent, ◌then◌, nothing, puts, drops, closed, opened, packet, end_marker, teids_spent}
+use Rattle.law_channel.specs.unit_defs.Messages.{channel, is_same_gnb, are_first_bearers, bearers_of}
+use Rattle.law_channel.specs.unit_defs.Teids.{teids_are_left}
+use Rattle.law_channel.specs.unit_defs.Transactions.{Kind, request, reply, transfer, kind_of, with_instance, no_instance, Waiting, Transactions, waits_at, ask, on_request}
+use Rattle.law_channel.specs.unit_defs.Du.{Du, DuContext, DuBearer, context_of, with_transactions, replies, replaces, closings, openings, old_downlinks, replaced, setup, context_with, modify, modify_on, release, released_on, end_markers, downlinks_of, asked, downlink_list, relayed_up, relayed_down, relay_up, relay_down, transferred, of_terminal, token_ue, set_up, of_cp, control_came, told, is_missing, missing, carried, frame_came, with_bearer, gap_after, take, taken_in, taken_of, taken_on, DuTunnel, of_context, of_bearer, confirmed, pass_up, confirm, start, du_node, due_output, tick, du_acts}
 use Rattle.gnb_types.specs.Names.{node_text}
 use Rattle.gnb_types.specs.Orders.{bearer_cmp, channel_cmp}
 use Rattle.std.specs.Ordering.{nat_cmp}

@@ -1,8 +1,8 @@
 -- A list of orders goes on with the moves of a step.
 use Rattle.std.proofs.Common.{◌≡◌, List, [], ◌∷◌, ◌++◌, refl, ap, ◌∙◌}
 use Rattle.gnb_types.specs.declared.names.NodeId.{NodeId}
-use Rattle.unit_defs.specs.Ways.{Output}
-use Rattle.unit_defs.specs.Transactions.{Transactions}
+use Rattle.law_channel.specs.unit_defs.Ways.{Output}
+use Rattle.law_channel.specs.unit_defs.Transactions.{Transactions}
 use Rattle.law_channel.specs.Replies.{Talk}
 use Rattle.law_channel.specs.Moves.{Move, Net, new_net, asked_by, sent_by, after_move, Order, after, MayAll}
 use Rattle.law_channel_rows.specs.Made.{orders_of, Plays, NoneExpired, GoesOn}

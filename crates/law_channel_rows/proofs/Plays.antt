@@ -2,8 +2,8 @@
 use Rattle.std.proofs.Common.{◌≡◌, Bool, cond, List, [], ◌∷◌, ◌++◌, refl, sym, ap, ◌∙◌, append_assoc}
 use Rattle.std.proofs.lemmas.List.{append-nil}
 use Rattle.gnb_types.specs.declared.names.NodeId.{NodeId}
-use Rattle.unit_defs.specs.Ways.{Output, Answer, gives}
-use Rattle.unit_defs.specs.Transactions.{Transactions}
+use Rattle.law_channel.specs.unit_defs.Ways.{Output, Answer, gives}
+use Rattle.law_channel.specs.unit_defs.Transactions.{Transactions}
 use Rattle.law_channel.specs.Replies.{Talk}
 use Rattle.law_channel.specs.Ends.{Sent}
 use Rattle.law_channel.specs.Moves.{Move, Net, sent_by, moved, after_answer, after_move, May, after, MayAll}

@@ -8,8 +8,8 @@ use Rattle.gnb_types.specs.declared.reasons.DropReason.{DropReason}
 use Rattle.gnb_types.proofs.OrderLemmas.{channel_total}
 use Rattle.tables.proofs.TableLaws.{find-put-same}
 use Rattle.transaction_defs.specs.Callees.{Verdict, new, again, stale, verdict, newest, newest_in, kept_at, kept_reply, reply_in, taken, keep}
-use Rattle.unit_defs.specs.Ways.{Message, Output, control, Answer, gives, spent, with_outputs, ◌then◌, puts, drops}
-use Rattle.unit_defs.specs.Transactions.{reply, kind_of, Transactions, replied, answered_again, request_by, on_request}
+use Rattle.law_channel.specs.unit_defs.Ways.{Message, Output, control, Answer, gives, spent, with_outputs, ◌then◌, puts, drops}
+use Rattle.law_channel.specs.unit_defs.Transactions.{reply, kind_of, Transactions, replied, answered_again, request_by, on_request}
 use Rattle.law_channel.specs.Replies.{Talk, answers}
 use Rattle.law_channel.specs.Ends.{asked, Sent, Put}
 use Rattle.law_channel.specs.Moves.{Move, takes, replies, replies_again, Net, answered_by, sent_by, moved, after, MayReply, May}

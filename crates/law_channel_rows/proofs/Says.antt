@@ -4,10 +4,10 @@ use Rattle.std.specs.Prelude.{if◌then◌else◌}
 use Rattle.std.proofs.lemmas.List.{append-nil}
 use Rattle.gnb_types.specs.declared.names.NodeId.{NodeId}
 use Rattle.gnb_types.specs.declared.names.UeId.{UeId}
-use Rattle.unit_defs.specs.Ways.{Output, Answer, gives, spent, with_outputs, ◌then◌, nothing}
-use Rattle.unit_defs.specs.Messages.{channel}
-use Rattle.unit_defs.specs.Transactions.{Transactions, ask, ask_at_once, replied, replied_late}
-use Rattle.unit_defs.specs.CpRecords.{CuCpRecord, with_transactions, with_terminal, waiting_of, after_begun, after_asked, noted, Say, asks as says_ask, cancels as says_cancel, replies as says_reply, replies_late as says_late, sends, fails, ignores, refuses, forgets as says_forget, say_one, say_all, Row, row, row_spent, carry_out}
+use Rattle.law_channel.specs.unit_defs.Ways.{Output, Answer, gives, spent, with_outputs, ◌then◌, nothing}
+use Rattle.law_channel.specs.unit_defs.Messages.{channel}
+use Rattle.law_channel.specs.unit_defs.Transactions.{Transactions, ask, ask_at_once, replied, replied_late}
+use Rattle.law_channel.specs.unit_defs.CpRecords.{CuCpRecord, with_transactions, with_terminal, waiting_of, after_begun, after_asked, noted, Say, asks as says_ask, cancels as says_cancel, replies as says_reply, replies_late as says_late, sends, fails, ignores, refuses, forgets as says_forget, say_one, say_all, Row, row, row_spent, carry_out}
 use Rattle.law_channel.specs.Replies.{Talk}
 use Rattle.law_channel.specs.Ends.{Sent}
 use Rattle.law_channel.specs.Moves.{Move, asks, asks_at_once, replies, replies_late, transfers, forgets, Net, sent_by, moved, May, after, after_move, MayAll}

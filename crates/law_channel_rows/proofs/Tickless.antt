@@ -3,9 +3,9 @@ use Rattle.std.proofs.Common.{inl, inr, ◌≡◌, ◌⊎◌, Bool, true, false,
 use Rattle.gnb_types.specs.declared.names.NodeId.{NodeId}
 use Rattle.gnb_types.specs.declared.names.UeId.{UeId}
 use Rattle.gnb_types.specs.declared.keys.Channel.{Channel}
-use Rattle.unit_defs.specs.Ways.{Answer, gives, spent}
-use Rattle.unit_defs.specs.Transactions.{Transactions}
-use Rattle.unit_defs.specs.CpRecords.{Say, asks as says_ask, cancels as says_cancel, replies as says_reply, replies_late as says_late, sends, fails, ignores, refuses, forgets as says_forget}
+use Rattle.law_channel.specs.unit_defs.Ways.{Answer, gives, spent}
+use Rattle.law_channel.specs.unit_defs.Transactions.{Transactions}
+use Rattle.law_channel.specs.unit_defs.CpRecords.{Say, asks as says_ask, cancels as says_cancel, replies as says_reply, replies_late as says_late, sends, fails, ignores, refuses, forgets as says_forget}
 use Rattle.transaction_defs.specs.Callers.{opened_at}
 use Rattle.law_channel.specs.Replies.{Talk}
 use Rattle.law_channel.specs.Ends.{Route, same_node, at_initiator}

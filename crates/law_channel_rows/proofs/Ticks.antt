@@ -16,8 +16,8 @@ use Rattle.gnb_types.specs.Orders.{channel_cmp}
 use Rattle.gnb_types.proofs.OrderLemmas.{channel_total}
 use Rattle.tables.specs.Tables.{find, IsSorted}
 use Rattle.transaction_defs.specs.Callers.{Opened, opened_at, after_tick, Due, repeats as due_again, expires, due, due_of, repeated, is_last}
-use Rattle.unit_defs.specs.Ways.{Output, control}
-use Rattle.unit_defs.specs.Transactions.{Transactions}
+use Rattle.law_channel.specs.unit_defs.Ways.{Output, control}
+use Rattle.law_channel.specs.unit_defs.Transactions.{Transactions}
 use Rattle.law_channel.specs.Replies.{Talk}
 use Rattle.law_channel.specs.Ends.{Sent, asked, Put, same_node}
 use Rattle.law_channel.specs.Moves.{Move, ages, repeats, Net, asked_by, sent_by, expires_now, after_move, after}

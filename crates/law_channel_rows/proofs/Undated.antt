@@ -9,8 +9,8 @@ use Rattle.gnb_types.specs.declared.reasons.DropReason.TheVariants.{Stale}
 use Rattle.tables.specs.Tables.{at, IsSorted}
 use Rattle.transaction_defs.specs.Callers.{Opened, opened_at, spent as begins_no_more, begin, begin_after, begun_with, last_instance, is_open, is_awaited, is_last, one_less, after_tick, close}
 use Rattle.transaction_defs.specs.Callees.{Verdict, new, again, stale, verdict, kept_reply, taken}
-use Rattle.unit_defs.specs.Ways.{Way, Answer, gives, spent, ◌then◌, nothing, drops}
-use Rattle.unit_defs.specs.Transactions.{Waiting, Transactions, Asked, is_empty, waits_at, with_waiting, with_instance, begun_as, begin_request, ask, advance, advance_with, request_by, on_request, on_reply, answered_again}
+use Rattle.law_channel.specs.unit_defs.Ways.{Way, Answer, gives, spent, ◌then◌, nothing, drops}
+use Rattle.law_channel.specs.unit_defs.Transactions.{Waiting, Transactions, Asked, is_empty, waits_at, with_waiting, with_instance, begun_as, begin_request, ask, advance, advance_with, request_by, on_request, on_reply, answered_again}
 use Rattle.law_channel.specs.Replies.{Talk}
 use Rattle.law_channel.specs.Moves.{Net}
 use Rattle.law_channel.proofs.Nets.{Good}

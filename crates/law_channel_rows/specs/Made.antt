@@ -5,8 +5,8 @@ use Rattle.std.specs.List.{AllByRecursion, Contains}
 use Rattle.gnb_types.specs.declared.names.NodeId.{NodeId}
 use Rattle.gnb_types.specs.declared.keys.Channel.{Channel}
 use Rattle.transaction_defs.specs.Callers.{Opened, opened_at, is_last}
-use Rattle.unit_defs.specs.Ways.{Message, Input, control_input, Answer, gives, spent}
-use Rattle.unit_defs.specs.Transactions.{transfer, Waiting, Transactions, kind_of}
+use Rattle.law_channel.specs.unit_defs.Ways.{Message, Input, control_input, Answer, gives, spent}
+use Rattle.law_channel.specs.unit_defs.Transactions.{transfer, Waiting, Transactions, kind_of}
 use Rattle.law_channel.specs.Replies.{Talk, answers, overtakes}
 use Rattle.law_channel.specs.Ends.{same_node, Asking, asking_at, Sent}
 use Rattle.law_channel.specs.Moves.{Move, ages, Net, new_net, asked_by, sent_by, Order, after, MayAll}

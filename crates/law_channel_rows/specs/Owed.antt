@@ -6,13 +6,13 @@ use Rattle.gnb_types.specs.declared.names.NodeId.TheVariants.{CuCp}
 use Rattle.gnb_types.specs.declared.names.UeId.{UeId}
 use Rattle.gnb_types.specs.declared.keys.Channel.{Channel}
 use Rattle.transaction_defs.specs.Callers.{Opened, opened_at, is_last}
-use Rattle.unit_defs.specs.declared.StateName.TheVariants as states
-use Rattle.unit_defs.specs.Ways.{Message}
-use Rattle.unit_defs.specs.Messages.{channel, other_gnb}
-use Rattle.unit_defs.specs.Transactions.{reply, kind_of}
-use Rattle.unit_defs.specs.CpRecords.{Attempt, CpContext, CuCpRecord, terminal_of}
-use Rattle.unit_defs.specs.CpRows.{CpAt, other_cp}
-use Rattle.unit_defs.specs.CuCp.{at_of}
+use Rattle.law_channel.specs.unit_defs.declared.StateName.TheVariants as states
+use Rattle.law_channel.specs.unit_defs.Ways.{Message}
+use Rattle.law_channel.specs.unit_defs.Messages.{channel, other_gnb}
+use Rattle.law_channel.specs.unit_defs.Transactions.{reply, kind_of}
+use Rattle.law_channel.specs.unit_defs.CpRecords.{Attempt, CpContext, CuCpRecord, terminal_of}
+use Rattle.law_channel.specs.unit_defs.CpRows.{CpAt, other_cp}
+use Rattle.law_channel.specs.unit_defs.CuCp.{at_of}
 use Rattle.law_channel.specs.Replies.{Talk, is_preparation}
 use Rattle.law_channel.specs.Moves.{Net, MayReply}
 

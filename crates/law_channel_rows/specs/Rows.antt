@@ -3,10 +3,10 @@ use Rattle.std.specs.Prelude.{◌≡◌, ℕ, false, List, [], ◌∷◌, ◌++�
 use Rattle.std.specs.List.{AllByRecursion}
 use Rattle.gnb_types.specs.declared.names.NodeId.{NodeId}
 use Rattle.gnb_types.specs.declared.names.UeId.{UeId}
-use Rattle.unit_defs.specs.Ways.{Answer, gives, spent}
-use Rattle.unit_defs.specs.Messages.{channel}
-use Rattle.unit_defs.specs.Transactions.{transfer}
-use Rattle.unit_defs.specs.CpRecords.{CuCpRecord, waiting_of, Say, asks as says_ask, cancels as says_cancel, replies as says_reply, replies_late as says_late, sends, fails, ignores, refuses, forgets as says_forget, Row, row, row_spent}
+use Rattle.law_channel.specs.unit_defs.Ways.{Answer, gives, spent}
+use Rattle.law_channel.specs.unit_defs.Messages.{channel}
+use Rattle.law_channel.specs.unit_defs.Transactions.{transfer}
+use Rattle.law_channel.specs.unit_defs.CpRecords.{CuCpRecord, waiting_of, Say, asks as says_ask, cancels as says_cancel, replies as says_reply, replies_late as says_late, sends, fails, ignores, refuses, forgets as says_forget, Row, row, row_spent}
 use Rattle.law_channel.specs.Replies.{Talk}
 use Rattle.law_channel.specs.Moves.{Move, asks, asks_at_once, replies, replies_late, transfers, forgets, Net, sent_by, IsRequest, IsCancel, MayAll}
 use Rattle.law_channel_rows.specs.Made.{orders_of, Plays}

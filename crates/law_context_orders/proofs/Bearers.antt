@@ -7,17 +7,17 @@ use Rattle.std.specs.Map.{lookup, keys_of}
 use Rattle.std.specs.BTreeMap.{is_at}
 use Rattle.std.proofs.lemmas.List.{append-nil}
 use Rattle.std.proofs.lemmas.List.Elements.{filter-append}
-use Rattle.gnb_types.specs.declared.names.UeId.{UeId}
-use Rattle.gnb_types.specs.declared.names.BearerId.{BearerId}
-use Rattle.gnb_types.specs.declared.plans.SnStatus.{SnStatus}
-use Rattle.gnb_types.specs.Orders.{ue_cmp, bearer_cmp}
-use Rattle.gnb_types.proofs.OrderLemmas.{bearer_total, bearer_exact}
-use Rattle.tables.specs.Tables.{find}
-use Rattle.unit_defs.specs.Ways.{Output, Way, Answer, gives, spent}
-use Rattle.unit_defs.specs.Messages.{are_bearers, statuses_of, teid_of}
-use Rattle.unit_defs.specs.UpRecords.{UpBearer, UpContext, up_at}
-use Rattle.unit_defs.specs.UpBearers.{with_status, with_uplink}
-use Rattle.unit_defs.specs.CuUp.{UpStep, steps, stops, step_with, each_bearer, status_each, uplinks_from, teids_from}
+use Rattle.law_tunnel_frames.specs.gnb_types.declared.names.UeId.{UeId}
+use Rattle.law_tunnel_frames.specs.gnb_types.declared.names.BearerId.{BearerId}
+use Rattle.law_tunnel_frames.specs.gnb_types.declared.plans.SnStatus.{SnStatus}
+use Rattle.law_tunnel_frames.specs.gnb_types.Orders.{ue_cmp, bearer_cmp}
+use Rattle.law_tunnel_frames.proofs.gnb_types.OrderLemmas.{bearer_total, bearer_exact}
+use Rattle.law_tunnel_frames.specs.tables.Tables.{find}
+use Rattle.law_tunnel_frames.specs.unit_defs.Ways.{Output, Way, Answer, gives, spent}
+use Rattle.law_tunnel_frames.specs.unit_defs.Messages.{are_bearers, statuses_of, teid_of}
+use Rattle.law_tunnel_frames.specs.unit_defs.UpRecords.{UpBearer, UpContext, up_at}
+use Rattle.law_tunnel_frames.specs.unit_defs.UpBearers.{with_status, with_uplink}
+use Rattle.law_tunnel_frames.specs.unit_defs.CuUp.{UpStep, steps, stops, step_with, each_bearer, status_each, uplinks_from, teids_from}
 use Rattle.law_tunnel_frames.proofs.Contexts.{Bearers, Others, Apart}
 use Rattle.law_context_orders.specs.Inputs.{status_in}
 use Rattle.law_context_orders.specs.Shown.{is_bearer, is_on, on_bearer}

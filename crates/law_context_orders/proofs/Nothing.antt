@@ -1,19 +1,19 @@
 -- What asks nothing of a bearer.
 use Rattle.std.proofs.Common.{◌≡◌, ℕ, Bool, true, false, List, [], ◌∷◌, ◌++◌, Option, Some, None, refl, ap, ◌∙◌}
 use Rattle.std.specs.Ordering.{nat_cmp, eq_by_cmp}
-use Rattle.gnb_types.specs.declared.names.NodeId.{NodeId}
-use Rattle.gnb_types.specs.declared.names.UeId.{UeId}
-use Rattle.gnb_types.specs.declared.names.BearerId.{BearerId}
-use Rattle.gnb_types.specs.declared.reasons.HeldReason.{HeldReason}
-use Rattle.gnb_types.specs.Orders.{ue_cmp, bearer_cmp}
-use Rattle.tables.specs.Tables.{find}
-use Rattle.transaction_defs.specs.Callees.{Verdict, verdict}
-use Rattle.unit_defs.specs.Messages.{channel}
-use Rattle.unit_defs.specs.Transactions.{Kind, request, kind_of}
-use Rattle.unit_defs.specs.CuUp.{context_of, ue_in, is_own_cp}
-use Rattle.unit_defs.specs.UpItems.{held_reason, took}
-use Rattle.unit_defs.specs.UpRecords.{CuUp, UpBearer, UpContext, UpTunnel, up_at}
-use Rattle.unit_defs.specs.Ways.{Message, Taken, control_input, packet_input, Way}
+use Rattle.law_tunnel_frames.specs.gnb_types.declared.names.NodeId.{NodeId}
+use Rattle.law_tunnel_frames.specs.gnb_types.declared.names.UeId.{UeId}
+use Rattle.law_tunnel_frames.specs.gnb_types.declared.names.BearerId.{BearerId}
+use Rattle.law_tunnel_frames.specs.gnb_types.declared.reasons.HeldReason.{HeldReason}
+use Rattle.law_tunnel_frames.specs.gnb_types.Orders.{ue_cmp, bearer_cmp}
+use Rattle.law_tunnel_frames.specs.tables.Tables.{find}
+use Rattle.law_tunnel_frames.specs.transaction_defs.Callees.{Verdict, verdict}
+use Rattle.law_tunnel_frames.specs.unit_defs.Messages.{channel}
+use Rattle.law_tunnel_frames.specs.unit_defs.Transactions.{Kind, request, kind_of}
+use Rattle.law_tunnel_frames.specs.unit_defs.CuUp.{context_of, ue_in, is_own_cp}
+use Rattle.law_tunnel_frames.specs.unit_defs.UpItems.{held_reason, took}
+use Rattle.law_tunnel_frames.specs.unit_defs.UpRecords.{CuUp, UpBearer, UpContext, UpTunnel, up_at}
+use Rattle.law_tunnel_frames.specs.unit_defs.Ways.{Message, Taken, control_input, packet_input, Way}
 use Rattle.law_context_orders.specs.Orders.{UpOrder, takes}
 use Rattle.law_context_orders.specs.Inputs.{only_if, closes_after, taken_by, taken_in, taken_of, taken_on, asked_orders, new_orders, control_orders, orders_of}
 

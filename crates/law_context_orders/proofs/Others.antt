@@ -3,26 +3,26 @@ use Rattle.std.proofs.Common.{◌≡◌, ◌==◌, ℕ, ◌+◌, Bool, true, fal
 use Rattle.std.specs.Prelude.{if◌then◌else◌}
 use Rattle.std.specs.List.{flat_map}
 use Rattle.std.proofs.lemmas.List.Elements.{filter-append}
-use Rattle.gnb_types.specs.declared.names.NodeId.{NodeId}
-use Rattle.gnb_types.specs.declared.names.UeId.{UeId}
-use Rattle.gnb_types.specs.declared.names.BearerId.{BearerId}
-use Rattle.gnb_types.specs.declared.names.Dir.{Dir}
-use Rattle.gnb_types.specs.declared.names.Dir.TheVariants.{Dl, Ul}
-use Rattle.gnb_types.specs.declared.plans.SnStatus.{SnStatus}
-use Rattle.gnb_types.specs.declared.keys.Channel.{Channel}
-use Rattle.gnb_types.specs.declared.outputs.Tag.{Tag}
-use Rattle.gnb_types.specs.declared.outputs.Tag.TheVariants.{Absent, Own, Same}
-use Rattle.gnb_types.specs.declared.reasons.DropReason.TheVariants.{Duplicate, Unexpected}
-use Rattle.pdcp.specs.Near.{last_count}
-use Rattle.pdcp_defs.specs.Senders.{numbered as with_next, has_room, may_restore, restored, confirmed_by}
-use Rattle.pdcp_defs.specs.Receivers.{deliver as handed_up, received_bits, is_duplicate, stored}
-use Rattle.transaction_defs.specs.Callers.{Begin, begun, running, spent as begins_no_more, begin, is_open, Due, repeats, expires}
-use Rattle.unit_defs.specs.Ways.{packet_pdu, report_pdu, Content, packet_content, report_content, Load, fresh, numbered, frame, end_marker, Taken, fresh_item, numbered_item, uplink_item, status_item, end_item, Message, Output, packet, deliver, closed, Way, Answer, gives, spent, with_outputs, ◌then◌, nothing, puts, drops, frames_spent, counts_spent}
-use Rattle.unit_defs.specs.Transactions.{Transactions, Waiting, is_empty, waits_at, with_waiting, begun_as, begin_request, ask, advance_with, advance, replied}
-use Rattle.unit_defs.specs.UpRecords.{UpBearer, Downlink, SourceHop, TunnelKind, n3, f1u_uplink, forwarding_down, forwarding_up, UpAt}
-use Rattle.unit_defs.specs.UpBearers.{last_frame, thawed, owed, bits_in, no_uplink, has_downlink, framed_on, framed, sent, sent_again, number_each, number_waiting, delivered, deliver_stored, put_down, forwarded_down, put_up, forwarded_up, with_uplink, begin_downlink, begin_where_known, switched, forward_numbered, forward_fresh, forward_late, frozen_to, with_status, resumed}
-use Rattle.unit_defs.specs.UpItems.{took_fresh, closed_n3, n3_ended, restored_at, took_numbered, passed_up, stored_at, took_uplink, took_report, took_content, confirmed_if, lost_frames, took_delivery_status, up_hop_ends_if, uplink_ended, up_ended, took}
-use Rattle.unit_defs.specs.CuUp.{due_output}
+use Rattle.law_tunnel_frames.specs.gnb_types.declared.names.NodeId.{NodeId}
+use Rattle.law_tunnel_frames.specs.gnb_types.declared.names.UeId.{UeId}
+use Rattle.law_tunnel_frames.specs.gnb_types.declared.names.BearerId.{BearerId}
+use Rattle.law_tunnel_frames.specs.gnb_types.declared.names.Dir.{Dir}
+use Rattle.law_tunnel_frames.specs.gnb_types.declared.names.Dir.TheVariants.{Dl, Ul}
+use Rattle.law_tunnel_frames.specs.gnb_types.declared.plans.SnStatus.{SnStatus}
+use Rattle.law_tunnel_frames.specs.gnb_types.declared.keys.Channel.{Channel}
+use Rattle.law_tunnel_frames.specs.gnb_types.declared.outputs.Tag.{Tag}
+use Rattle.law_tunnel_frames.specs.gnb_types.declared.outputs.Tag.TheVariants.{Absent, Own, Same}
+use Rattle.law_tunnel_frames.specs.gnb_types.declared.reasons.DropReason.TheVariants.{Duplicate, Unexpected}
+use Rattle.law_tunnel_frames.specs.pdcp.Near.{last_count}
+use Rattle.law_tunnel_frames.specs.pdcp_defs.Senders.{numbered as with_next, has_room, may_restore, restored, confirmed_by}
+use Rattle.law_tunnel_frames.specs.pdcp_defs.Receivers.{deliver as handed_up, received_bits, is_duplicate, stored}
+use Rattle.law_tunnel_frames.specs.transaction_defs.Callers.{Begin, begun, running, spent as begins_no_more, begin, is_open, Due, repeats, expires}
+use Rattle.law_tunnel_frames.specs.unit_defs.Ways.{packet_pdu, report_pdu, Content, packet_content, report_content, Load, fresh, numbered, frame, end_marker, Taken, fresh_item, numbered_item, uplink_item, status_item, end_item, Message, Output, packet, deliver, closed, Way, Answer, gives, spent, with_outputs, ◌then◌, nothing, puts, drops, frames_spent, counts_spent}
+use Rattle.law_tunnel_frames.specs.unit_defs.Transactions.{Transactions, Waiting, is_empty, waits_at, with_waiting, begun_as, begin_request, ask, advance_with, advance, replied}
+use Rattle.law_tunnel_frames.specs.unit_defs.UpRecords.{UpBearer, Downlink, SourceHop, TunnelKind, n3, f1u_uplink, forwarding_down, forwarding_up, UpAt}
+use Rattle.law_tunnel_frames.specs.unit_defs.UpBearers.{last_frame, thawed, owed, bits_in, no_uplink, has_downlink, framed_on, framed, sent, sent_again, number_each, number_waiting, delivered, deliver_stored, put_down, forwarded_down, put_up, forwarded_up, with_uplink, begin_downlink, begin_where_known, switched, forward_numbered, forward_fresh, forward_late, frozen_to, with_status, resumed}
+use Rattle.law_tunnel_frames.specs.unit_defs.UpItems.{took_fresh, closed_n3, n3_ended, restored_at, took_numbered, passed_up, stored_at, took_uplink, took_report, took_content, confirmed_if, lost_frames, took_delivery_status, up_hop_ends_if, uplink_ended, up_ended, took}
+use Rattle.law_tunnel_frames.specs.unit_defs.CuUp.{due_output}
 use Rattle.law_context_orders.specs.Shown.{is_bearer, is_on, on_bearer, IsOff}
 
 module _ {M C P : Type 0} (way : Way M C P) (ue : UeId) (bearer : BearerId) where

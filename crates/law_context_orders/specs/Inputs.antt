@@ -3,29 +3,29 @@
 use Rattle.std.specs.Prelude.{◌==◌, ℕ, ◌+◌, Bool, not, ◌&&◌, ◌||◌, if◌then◌else◌, List, [], ◌∷◌, ◌++◌, length, Option, Some, None}
 use Rattle.std.specs.List.{list_all}
 use Rattle.std.specs.Ordering.{nat_cmp, eq_by_cmp}
-use Rattle.gnb_types.specs.declared.names.Gnb.{Gnb}
-use Rattle.gnb_types.specs.declared.names.NodeId.TheVariants.{Du}
-use Rattle.gnb_types.specs.declared.names.UeId.{UeId}
-use Rattle.gnb_types.specs.declared.names.BearerId.{BearerId}
-use Rattle.gnb_types.specs.declared.names.SnBits.{SnBits}
-use Rattle.gnb_types.specs.declared.keys.Channel.{Channel}
-use Rattle.gnb_types.specs.declared.plans.Peer.{Peer}
-use Rattle.gnb_types.specs.declared.plans.Tunnel.{Tunnel}
-use Rattle.gnb_types.specs.declared.plans.SnStatus.{SnStatus}
-use Rattle.gnb_types.specs.declared.inputs.Order.TheVariants as inputs
-use Rattle.gnb_types.specs.declared.reasons.HeldReason.{HeldReason}
-use Rattle.gnb_types.specs.Orders.{ue_cmp, bearer_cmp}
-use Rattle.tables.specs.Tables.{find, put}
-use Rattle.transaction_defs.specs.Callees.{Verdict, new, again, stale, verdict}
-use Rattle.message_types.specs.declared.e1.E1Message.{E1Message}
-use Rattle.message_types.specs.declared.e1.E1Message.TheVariants as e1s
-use Rattle.unit_defs.specs.Ways.{Message, e1, Taken, Input, control_input, packet_input, order_input, Way, Answer, gives, spent}
-use Rattle.unit_defs.specs.Messages.{mode_uplinks, mode_switch, mode_freeze, mode_status, mode_resume, channel, are_bearers, bearers_of, statuses_of, teid_of}
-use Rattle.unit_defs.specs.Transactions.{Kind, request, reply, transfer, kind_of}
-use Rattle.unit_defs.specs.UpRecords.{UpBearer, UpContext, CuUp, UpTunnel, up_at}
-use Rattle.unit_defs.specs.UpBearers.{teids_of_bearer, is_over, has_downlink}
-use Rattle.unit_defs.specs.UpItems.{held_reason, took}
-use Rattle.unit_defs.specs.CuUp.{context_of, bearers_from, fits, teids_from, peer_node, names, as_released, is_own_cp, ue_in}
+use Rattle.law_tunnel_frames.specs.gnb_types.declared.names.Gnb.{Gnb}
+use Rattle.law_tunnel_frames.specs.gnb_types.declared.names.NodeId.TheVariants.{Du}
+use Rattle.law_tunnel_frames.specs.gnb_types.declared.names.UeId.{UeId}
+use Rattle.law_tunnel_frames.specs.gnb_types.declared.names.BearerId.{BearerId}
+use Rattle.law_tunnel_frames.specs.gnb_types.declared.names.SnBits.{SnBits}
+use Rattle.law_tunnel_frames.specs.gnb_types.declared.keys.Channel.{Channel}
+use Rattle.law_tunnel_frames.specs.gnb_types.declared.plans.Peer.{Peer}
+use Rattle.law_tunnel_frames.specs.gnb_types.declared.plans.Tunnel.{Tunnel}
+use Rattle.law_tunnel_frames.specs.gnb_types.declared.plans.SnStatus.{SnStatus}
+use Rattle.law_tunnel_frames.specs.gnb_types.declared.inputs.Order.TheVariants as inputs
+use Rattle.law_tunnel_frames.specs.gnb_types.declared.reasons.HeldReason.{HeldReason}
+use Rattle.law_tunnel_frames.specs.gnb_types.Orders.{ue_cmp, bearer_cmp}
+use Rattle.law_tunnel_frames.specs.tables.Tables.{find, put}
+use Rattle.law_tunnel_frames.specs.transaction_defs.Callees.{Verdict, new, again, stale, verdict}
+use Rattle.law_tunnel_frames.specs.message_types.declared.e1.E1Message.{E1Message}
+use Rattle.law_tunnel_frames.specs.message_types.declared.e1.E1Message.TheVariants as e1s
+use Rattle.law_tunnel_frames.specs.unit_defs.Ways.{Message, e1, Taken, Input, control_input, packet_input, order_input, Way, Answer, gives, spent}
+use Rattle.law_tunnel_frames.specs.unit_defs.Messages.{mode_uplinks, mode_switch, mode_freeze, mode_status, mode_resume, channel, are_bearers, bearers_of, statuses_of, teid_of}
+use Rattle.law_tunnel_frames.specs.unit_defs.Transactions.{Kind, request, reply, transfer, kind_of}
+use Rattle.law_tunnel_frames.specs.unit_defs.UpRecords.{UpBearer, UpContext, CuUp, UpTunnel, up_at}
+use Rattle.law_tunnel_frames.specs.unit_defs.UpBearers.{teids_of_bearer, is_over, has_downlink}
+use Rattle.law_tunnel_frames.specs.unit_defs.UpItems.{held_reason, took}
+use Rattle.law_tunnel_frames.specs.unit_defs.CuUp.{context_of, bearers_from, fits, teids_from, peer_node, names, as_released, is_own_cp, ue_in}
 use Rattle.law_context_orders.specs.Orders.{UpOrder, makes, adds, switches, freezes, knows, resumes, releases, closes, takes, polls}
 
 module _ {M C P : Type 0} (way : Way M C P) where

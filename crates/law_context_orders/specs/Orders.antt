@@ -1,19 +1,19 @@
 -- One bearer of a CU-UP as it stands in its context, and what happens to it, in orders: each is a row of the bearer, with what the
 -- bearers of the context share then.
 use Rattle.std.specs.Prelude.{ℕ, Bool, true, false, List, [], ◌∷◌, Option, Some, None}
-use Rattle.gnb_types.specs.declared.names.NodeId.{NodeId}
-use Rattle.gnb_types.specs.declared.names.UeId.{UeId}
-use Rattle.gnb_types.specs.declared.names.BearerId.{BearerId}
-use Rattle.gnb_types.specs.declared.names.SnBits.{SnBits}
-use Rattle.gnb_types.specs.declared.plans.SnStatus.{SnStatus}
-use Rattle.gnb_types.specs.declared.outputs.Tag.TheVariants.{Absent}
-use Rattle.gnb_types.specs.Orders.{bearer_cmp}
-use Rattle.tables.specs.Tables.{find}
-use Rattle.unit_defs.specs.Ways.{Taken, Way, Answer, gives, spent, ◌then◌, nothing}
-use Rattle.unit_defs.specs.UpRecords.{TunnelKind, UpBearer, UpFlags, UpContext, CuUp, UpAt, up_at}
-use Rattle.unit_defs.specs.UpBearers.{made, with_uplink, switched, frozen_to, with_status, resumed, released, framed}
-use Rattle.unit_defs.specs.UpItems.{took}
-use Rattle.unit_defs.specs.CuUp.{context_of, new_flags_of}
+use Rattle.law_tunnel_frames.specs.gnb_types.declared.names.NodeId.{NodeId}
+use Rattle.law_tunnel_frames.specs.gnb_types.declared.names.UeId.{UeId}
+use Rattle.law_tunnel_frames.specs.gnb_types.declared.names.BearerId.{BearerId}
+use Rattle.law_tunnel_frames.specs.gnb_types.declared.names.SnBits.{SnBits}
+use Rattle.law_tunnel_frames.specs.gnb_types.declared.plans.SnStatus.{SnStatus}
+use Rattle.law_tunnel_frames.specs.gnb_types.declared.outputs.Tag.TheVariants.{Absent}
+use Rattle.law_tunnel_frames.specs.gnb_types.Orders.{bearer_cmp}
+use Rattle.law_tunnel_frames.specs.tables.Tables.{find}
+use Rattle.law_tunnel_frames.specs.unit_defs.Ways.{Taken, Way, Answer, gives, spent, ◌then◌, nothing}
+use Rattle.law_tunnel_frames.specs.unit_defs.UpRecords.{TunnelKind, UpBearer, UpFlags, UpContext, CuUp, UpAt, up_at}
+use Rattle.law_tunnel_frames.specs.unit_defs.UpBearers.{made, with_uplink, switched, frozen_to, with_status, resumed, released, framed}
+use Rattle.law_tunnel_frames.specs.unit_defs.UpItems.{took}
+use Rattle.law_tunnel_frames.specs.unit_defs.CuUp.{context_of, new_flags_of}
 
 -- the instance of its context, what it shares with the others, and the bearer
 pub record UpPart : Type 0 where

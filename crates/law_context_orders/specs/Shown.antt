@@ -1,11 +1,11 @@
 -- An answer of a CU-UP as one bearer sees it: what is put on the bearer's tunnels and handed to its user, and the bearer then.
 use Rattle.std.specs.Prelude.{◌≡◌, Bool, false, ◌&&◌, List, [], filter, Option}
 use Rattle.std.specs.Ordering.{eq_by_cmp}
-use Rattle.gnb_types.specs.declared.names.UeId.{UeId}
-use Rattle.gnb_types.specs.declared.names.BearerId.{BearerId}
-use Rattle.gnb_types.specs.Orders.{ue_cmp, bearer_cmp}
-use Rattle.unit_defs.specs.Ways.{Output, packet, deliver, Answer, gives, spent}
-use Rattle.unit_defs.specs.UpRecords.{CuUp}
+use Rattle.law_tunnel_frames.specs.gnb_types.declared.names.UeId.{UeId}
+use Rattle.law_tunnel_frames.specs.gnb_types.declared.names.BearerId.{BearerId}
+use Rattle.law_tunnel_frames.specs.gnb_types.Orders.{ue_cmp, bearer_cmp}
+use Rattle.law_tunnel_frames.specs.unit_defs.Ways.{Output, packet, deliver, Answer, gives, spent}
+use Rattle.law_tunnel_frames.specs.unit_defs.UpRecords.{CuUp}
 use Rattle.law_context_orders.specs.Orders.{UpPart, part_of}
 
 abbrev pub is_bearer : UeId → BearerId → UeId → BearerId → Bool

@@ -18,16 +18,16 @@ use Rattle.gnb_types.specs.declared.names.SnBits.{SnBits}
 use Rattle.gnb_types.specs.declared.keys.Channel.{Channel}
 use Rattle.gnb_types.specs.Orders.{ue_cmp, bearer_cmp}
 use Rattle.gnb_types.proofs.OrderLemmas.{ue_total, bearer_total}
-use Rattle.tables.specs.Tables.{find, put, without, map_values, IsSorted}
-use Rattle.tables.proofs.TableLaws.{find-put, find-put-same, find-put-other, find-without, find-without-same, find-without-other, sorted-put, find-mapped}
-use Rattle.message_types.specs.declared.e1.E1Message.{E1Message}
-use Rattle.unit_defs.specs.Ways.{e1, opened, closed, Output, Way, Answer, gives, spent, with_outputs, ◌then◌, nothing}
-use Rattle.unit_defs.specs.Transactions.{replied}
-use Rattle.unit_defs.specs.UpRecords.{UpBearer, UpContext, CuUp, UpTunnel}
-use Rattle.unit_defs.specs.UpBearers.{made, teids_of_bearer, released, open_teids}
-use Rattle.unit_defs.specs.CuUp.{context_of, with_context, with_transactions, bearers_from, bearers_made, UpStep, steps, stops, answer_with, ended, ended_if_over, end_where_over, replies, entries_of, opened_of, new_context, with_new, as_released, with_bearer}
-use Rattle.law_tunnel_frames.specs.OneTunnel.{BearersInOrder}
-use Rattle.law_tunnel_frames.proofs.Contexts.{Bearers}
+use Rattle.law_answers.specs.tables.Tables.{find, put, without, map_values, IsSorted}
+use Rattle.law_answers.proofs.tables.TableLaws.{find-put, find-put-same, find-put-other, find-without, find-without-same, find-without-other, sorted-put, find-mapped}
+use Rattle.law_answers.specs.message_types.declared.e1.E1Message.{E1Message}
+use Rattle.law_answers.specs.unit_defs.Ways.{e1, opened, closed, Output, Way, Answer, gives, spent, with_outputs, ◌then◌, nothing}
+use Rattle.law_answers.specs.unit_defs.Transactions.{replied}
+use Rattle.law_answers.specs.unit_defs.UpRecords.{UpBearer, UpContext, CuUp, UpTunnel}
+use Rattle.law_answers.specs.unit_defs.UpBearers.{made, teids_of_bearer, released, open_teids}
+use Rattle.law_answers.specs.unit_defs.CuUp.{context_of, with_context, with_transactions, bearers_from, bearers_made, UpStep, steps, stops, answer_with, ended, ended_if_over, end_where_over, replies, entries_of, opened_of, new_context, with_new, as_released, with_bearer}
+use Rattle.law_context_orders.specs.law_tunnel_frames.OneTunnel.{BearersInOrder}
+use Rattle.law_context_orders.proofs.law_tunnel_frames.Contexts.{Bearers}
 use Rattle.law_context_orders.specs.Orders.{UpPart, part_with, part_of_bearer, part_in, part_of, UpOrder, releases, closes, kept_in, begun, done, carried_out, carried}
 use Rattle.law_context_orders.specs.Inputs.{only_if, ends, closes_if, new_teid, makes_with}
 use Rattle.law_context_orders.specs.Shown.{is_on, on_bearer, Comes}

@@ -13,16 +13,16 @@ use Rattle.gnb_types.specs.declared.inputs.Order.TheVariants as inputs
 use Rattle.gnb_types.specs.declared.reasons.HeldReason.{HeldReason}
 use Rattle.gnb_types.specs.Orders.{ue_cmp, bearer_cmp}
 use Rattle.gnb_types.proofs.OrderLemmas.{ue_exact}
-use Rattle.tables.specs.Tables.{find, put}
-use Rattle.transaction_defs.specs.Callees.{Verdict, new, again, stale, verdict}
-use Rattle.message_types.specs.declared.e1.E1Message.TheVariants as e1s
-use Rattle.unit_defs.specs.Ways.{Message, e1, Taken, Input, control_input, packet_input, order_input, Way, Answer, gives, spent}
-use Rattle.unit_defs.specs.Messages.{mode_uplinks, mode_switch, mode_freeze, mode_status, mode_resume, channel, are_bearers, bearers_of, statuses_of}
-use Rattle.unit_defs.specs.Transactions.{Kind, request, reply, transfer, kind_of}
-use Rattle.unit_defs.specs.UpRecords.{UpBearer, UpContext, CuUp, UpTunnel, up_at}
-use Rattle.unit_defs.specs.UpBearers.{has_downlink}
-use Rattle.unit_defs.specs.UpItems.{held_reason, took}
-use Rattle.unit_defs.specs.CuUp.{context_of, names, as_released, is_own_cp, ue_in}
+use Rattle.law_answers.specs.tables.Tables.{find, put}
+use Rattle.law_answers.specs.transaction_defs.Callees.{Verdict, new, again, stale, verdict}
+use Rattle.law_answers.specs.message_types.declared.e1.E1Message.TheVariants as e1s
+use Rattle.law_answers.specs.unit_defs.Ways.{Message, e1, Taken, Input, control_input, packet_input, order_input, Way, Answer, gives, spent}
+use Rattle.law_answers.specs.unit_defs.Messages.{mode_uplinks, mode_switch, mode_freeze, mode_status, mode_resume, channel, are_bearers, bearers_of, statuses_of}
+use Rattle.law_answers.specs.unit_defs.Transactions.{Kind, request, reply, transfer, kind_of}
+use Rattle.law_answers.specs.unit_defs.UpRecords.{UpBearer, UpContext, CuUp, UpTunnel, up_at}
+use Rattle.law_answers.specs.unit_defs.UpBearers.{has_downlink}
+use Rattle.law_answers.specs.unit_defs.UpItems.{held_reason, took}
+use Rattle.law_answers.specs.unit_defs.CuUp.{context_of, names, as_released, is_own_cp, ue_in}
 use Rattle.law_context_orders.specs.Orders.{UpOrder, closes, takes, polls, knows, resumes}
 use Rattle.law_context_orders.specs.Inputs.{only_if, ends, closes_if, closes_after, taken_by, taken_in, taken_of, taken_on, polls_if, polls_on, setup_orders, switches_if, freezes_if, status_in, knows_if, modify_orders, release_orders, asked_orders, new_orders, control_orders, orders_of}
 use Rattle.law_context_orders.specs.Shown.{is_bearer}

@@ -20,23 +20,23 @@ use Rattle.gnb_types.specs.declared.reasons.RefuseReason.TheVariants.{Empty, NoR
 use Rattle.gnb_types.specs.Names.{node_text}
 use Rattle.gnb_types.specs.Orders.{ue_cmp, bearer_cmp}
 use Rattle.gnb_types.proofs.OrderLemmas.{ue_total, ue_exact, bearer_exact}
-use Rattle.tables.specs.Tables.{find, put}
-use Rattle.tables.proofs.TableLaws.{find-put-same}
-use Rattle.transaction_defs.specs.Callers.{is_awaited, close, due}
-use Rattle.transaction_defs.specs.Callees.{Verdict, new, again, stale, verdict, taken, keep, kept_reply}
-use Rattle.message_types.specs.declared.e1.E1Message.{E1Message}
-use Rattle.message_types.specs.declared.e1.E1Message.TheVariants as e1s
-use Rattle.unit_defs.specs.Ways.{Message, e1, Taken, control, no, Input, control_input, packet_input, tick_input, order_input, Way, Answer, gives, spent, ◌then◌, nothing, puts, drops, teids_spent}
-use Rattle.unit_defs.specs.Messages.{cause_busy, cause_quota, mode_uplinks, mode_switch, mode_freeze, mode_status, mode_resume, channel, are_bearers, bearers_of, statuses_of, teid_of}
-use Rattle.unit_defs.specs.Teids.{teids_are_left, without_each}
-use Rattle.unit_defs.specs.Transactions.{Kind, request, reply, transfer, kind_of, no_instance, Transactions, ask, advance, replied, answered_again, request_by, on_reply, on_request}
-use Rattle.unit_defs.specs.UpRecords.{UpBearer, UpContext, CuUp, UpTunnel, up_at}
-use Rattle.unit_defs.specs.UpBearers.{teids_of_bearer, has_downlink, with_uplink, switched, frozen_to, with_status, resumed, framed}
-use Rattle.unit_defs.specs.UpItems.{held_reason, took}
-use Rattle.unit_defs.specs.CuUp.{with_context, context_of, with_transactions, up_node, bearers_from, each_bearer, answer_with, end_where_over, replies, new_context, with_new, makes, fits, set_up_for, setup_response, setup_on, setup, modified, uplinks_from, teids_from, uplinks_given, add_uplinks, as_switched, switch, as_frozen, peer_node, statuses, freeze, as_known, status_each, take_status, as_resumed, resume, names, switch_if, freeze_if, status_if, resume_if, modify_on, as_released, released_on, release, asked, start, set_up, control_by, ue_in, is_own_cp, control_came, with_bearer, taken_by, taken_in, taken_of, taken_on, take, poll_bearer, poll_on, poll, tick, closed_in, cu_up_acts}
+use Rattle.law_answers.specs.tables.Tables.{find, put}
+use Rattle.law_answers.proofs.tables.TableLaws.{find-put-same}
+use Rattle.law_answers.specs.transaction_defs.Callers.{is_awaited, close, due}
+use Rattle.law_answers.specs.transaction_defs.Callees.{Verdict, new, again, stale, verdict, taken, keep, kept_reply}
+use Rattle.law_answers.specs.message_types.declared.e1.E1Message.{E1Message}
+use Rattle.law_answers.specs.message_types.declared.e1.E1Message.TheVariants as e1s
+use Rattle.law_answers.specs.unit_defs.Ways.{Message, e1, Taken, control, no, Input, control_input, packet_input, tick_input, order_input, Way, Answer, gives, spent, ◌then◌, nothing, puts, drops, teids_spent}
+use Rattle.law_answers.specs.unit_defs.Messages.{cause_busy, cause_quota, mode_uplinks, mode_switch, mode_freeze, mode_status, mode_resume, channel, are_bearers, bearers_of, statuses_of, teid_of}
+use Rattle.law_answers.specs.unit_defs.Teids.{teids_are_left, without_each}
+use Rattle.law_answers.specs.unit_defs.Transactions.{Kind, request, reply, transfer, kind_of, no_instance, Transactions, ask, advance, replied, answered_again, request_by, on_reply, on_request}
+use Rattle.law_answers.specs.unit_defs.UpRecords.{UpBearer, UpContext, CuUp, UpTunnel, up_at}
+use Rattle.law_answers.specs.unit_defs.UpBearers.{teids_of_bearer, has_downlink, with_uplink, switched, frozen_to, with_status, resumed, framed}
+use Rattle.law_answers.specs.unit_defs.UpItems.{held_reason, took}
+use Rattle.law_answers.specs.unit_defs.CuUp.{with_context, context_of, with_transactions, up_node, bearers_from, each_bearer, answer_with, end_where_over, replies, new_context, with_new, makes, fits, set_up_for, setup_response, setup_on, setup, modified, uplinks_from, teids_from, uplinks_given, add_uplinks, as_switched, switch, as_frozen, peer_node, statuses, freeze, as_known, status_each, take_status, as_resumed, resume, names, switch_if, freeze_if, status_if, resume_if, modify_on, as_released, released_on, release, asked, start, set_up, control_by, ue_in, is_own_cp, control_came, with_bearer, taken_by, taken_in, taken_of, taken_on, take, poll_bearer, poll_on, poll, tick, closed_in, cu_up_acts}
 use Rattle.law_answers.specs.After.{HoldsAfter}
-use Rattle.law_tunnel_frames.specs.OneTunnel.{BearersInOrder}
-use Rattle.law_tunnel_frames.proofs.Contexts.{Apart, sorted_apart}
+use Rattle.law_context_orders.specs.law_tunnel_frames.OneTunnel.{BearersInOrder}
+use Rattle.law_context_orders.proofs.law_tunnel_frames.Contexts.{Apart, sorted_apart}
 use Rattle.law_context_orders.specs.Orders.{UpPart, part_with, UpOrder, adds, switches, freezes, knows, resumes, releases, takes, polls, kept_in, carried_out, carried}
 use Rattle.law_context_orders.specs.Inputs as orders
 use Rattle.law_context_orders.specs.Inputs.{only_if, closes_if, closes_after, new_teid, makes_with, setup_orders, switches_if, freezes_if, status_in, knows_if, modify_orders, release_orders, asked_orders, new_orders, control_orders, orders_of}

@@ -8,11 +8,11 @@ ghost use Rattle.law_answers.specs.After.{HoldsAfter};
 ghost use Rattle.law_context_orders.specs.Inputs.{orders_of};
 ghost use Rattle.law_context_orders.specs.Orders.{carried, part_of};
 ghost use Rattle.law_context_orders.specs.Shown.{Follows, Untouched};
-ghost use Rattle.law_tunnel_frames.specs.OneTunnel.{BearersInOrder};
+ghost use Rattle.law_context_orders.specs.law_tunnel_frames.OneTunnel.{BearersInOrder};
 ghost use Rattle.law_context_rows.specs.Released.{AllPass};
-ghost use Rattle.unit_defs.specs.CuUp.{context_of, cu_up_acts};
-ghost use Rattle.unit_defs.specs.UpRecords.{CuUp, UpContext};
-ghost use Rattle.unit_defs.specs.Ways.{Input, Way};
+ghost use Rattle.law_answers.specs.unit_defs.CuUp.{context_of, cu_up_acts};
+ghost use Rattle.law_answers.specs.unit_defs.UpRecords.{CuUp, UpContext};
+ghost use Rattle.law_answers.specs.unit_defs.Ways.{Input, Way};
 
 /// Whatever a CU-UP is given, each bearer of it is then what its orders make of it, and what is put on the bearer's tunnels and
 /// handed to its user is what these orders put there.

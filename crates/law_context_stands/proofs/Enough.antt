@@ -1,8 +1,8 @@
 -- What is always so of a bearer, and that a released context is frozen, is what its rows ask for.
 use Rattle.std.proofs.Common.{◌≡◌, Bool, true, false, Option, Some, None, refl, sym, ap, ◌∙◌, true≢false}
 use Rattle.std.specs.Prelude.{is_some}
-use Rattle.unit_defs.specs.UpRecords.{SourceHop}
-use Rattle.law_context_orders.specs.Orders.{UpPart}
+use Rattle.law_context_tests.specs.unit_defs.UpRecords.{SourceHop}
+use Rattle.law_context_tests.specs.law_context_orders.Orders.{UpPart}
 use Rattle.law_context_stands.specs.Stands.{Stands}
 
 module _ (p : UpPart) (stands : Stands p) where

@@ -3,15 +3,15 @@ use Rattle.std.proofs.Common.{◌≡◌, List, [], Option, Some, None, refl, sym
 use Rattle.gnb_types.specs.declared.names.UeId.{UeId}
 use Rattle.gnb_types.specs.declared.names.BearerId.{BearerId}
 use Rattle.gnb_types.specs.Orders.{ue_cmp}
-use Rattle.tables.specs.Tables.{find}
-use Rattle.unit_defs.specs.Ways.{Input, Output, Way, Answer, gives, spent}
-use Rattle.unit_defs.specs.UpRecords.{CuUp, UpContext}
-use Rattle.unit_defs.specs.CuUp.{cu_up_acts}
-use Rattle.law_answers.specs.After.{HoldsAfter}
-use Rattle.law_tunnel_frames.specs.OneTunnel.{BearersInOrder}
-use Rattle.law_context_orders.specs.Orders.{UpPart, part_in, part_of, carried}
-use Rattle.law_context_orders.specs.Inputs.{orders_of}
-use Rattle.law_context_orders.specs.Shown.{Follows}
+use Rattle.law_context_tests.specs.tables.Tables.{find}
+use Rattle.law_context_tests.specs.unit_defs.Ways.{Input, Output, Way, Answer, gives, spent}
+use Rattle.law_context_tests.specs.unit_defs.UpRecords.{CuUp, UpContext}
+use Rattle.law_context_tests.specs.unit_defs.CuUp.{cu_up_acts}
+use Rattle.law_context_rows.specs.law_answers.After.{HoldsAfter}
+use Rattle.law_context_rows.specs.law_tunnel_frames.OneTunnel.{BearersInOrder}
+use Rattle.law_context_tests.specs.law_context_orders.Orders.{UpPart, part_in, part_of, carried}
+use Rattle.law_context_tests.specs.law_context_orders.Inputs.{orders_of}
+use Rattle.law_context_tests.specs.law_context_orders.Shown.{Follows}
 use Rattle.law_context_rows.proofs.Rows.{all_does, follows}
 use Rattle.law_context_tests.specs.Tests.{is_final}
 use Rattle.law_context_tests.proofs.Tests.{orders_tested}

@@ -3,11 +3,11 @@ use Rattle.std.proofs.Common.{◌≡◌, ℕ, Bool, true, false, List, [], ◌�
 use Rattle.gnb_types.specs.declared.names.UeId.{UeId}
 use Rattle.gnb_types.specs.declared.names.BearerId.{BearerId}
 use Rattle.gnb_types.specs.declared.outputs.Tag.TheVariants.{Absent}
-use Rattle.unit_defs.specs.Ways.{Output, Way, Answer, gives, spent, with_outputs, ◌then◌, nothing}
-use Rattle.unit_defs.specs.UpRecords.{UpBearer}
-use Rattle.unit_defs.specs.UpBearers.{made, with_uplink, switched, frozen_to, with_status, resumed, framed}
-use Rattle.unit_defs.specs.UpItems.{took}
-use Rattle.law_context_orders.specs.Orders.{UpPart, UpOrder, makes, adds, switches, freezes, knows, resumes, releases, closes, takes, polls, on_switch, on_freeze, on_status, on_resume, kept_in, begun, done, carried}
+use Rattle.law_context_tests.specs.unit_defs.Ways.{Output, Way, Answer, gives, spent, with_outputs, ◌then◌, nothing}
+use Rattle.law_context_tests.specs.unit_defs.UpRecords.{UpBearer}
+use Rattle.law_context_tests.specs.unit_defs.UpBearers.{made, with_uplink, switched, frozen_to, with_status, resumed, framed}
+use Rattle.law_context_tests.specs.unit_defs.UpItems.{took}
+use Rattle.law_context_tests.specs.law_context_orders.Orders.{UpPart, UpOrder, makes, adds, switches, freezes, knows, resumes, releases, closes, takes, polls, on_switch, on_freeze, on_status, on_resume, kept_in, begun, done, carried}
 use Rattle.law_context_tests.specs.Tests.{IsTested, IsBegun, EndsAfter, AreTested}
 use Rattle.law_context_stands.specs.Stands.{Stands, StandsIn, StandsAfter, IsSame, SameAfter}
 use Rattle.law_context_stands.proofs.Hops.{HopIs, hop_framed, hop_uplink, hop_status, hop_after_freeze, hop_after_switch, hop_after_resume, hop_took}

@@ -2,9 +2,9 @@
 use Rattle.std.specs.Prelude.{◌≡◌, Some}
 use Rattle.gnb_types.specs.declared.names.UeId.{UeId}
 use Rattle.gnb_types.specs.declared.names.BearerId.{BearerId}
-use Rattle.unit_defs.specs.Ways.{Answer, gives, spent}
-use Rattle.unit_defs.specs.UpRecords.{CuUp}
-use Rattle.law_context_orders.specs.Orders.{UpPart, part_of}
+use Rattle.law_context_tests.specs.unit_defs.Ways.{Answer, gives, spent}
+use Rattle.law_context_tests.specs.unit_defs.UpRecords.{CuUp}
+use Rattle.law_context_tests.specs.law_context_orders.Orders.{UpPart, part_of}
 use Rattle.law_context_stands.specs.Stands.{Stands, IsSame}
 
 abbrev pub AllStand : {M C : Type 0} → CuUp M C → Type 0

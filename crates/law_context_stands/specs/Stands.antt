@@ -1,8 +1,8 @@
 -- What is always so of a bearer of a CU-UP: it has a hop exactly while it is frozen, and its context has its SN status then, and its
 -- terminal came to it. That a released context is frozen isn't the unit's own: control owes it.
 use Rattle.std.specs.Prelude.{◌≡◌, ℕ, true, Option, Some, None, is_some}
-use Rattle.unit_defs.specs.Ways.{Answer, gives, spent}
-use Rattle.law_context_orders.specs.Orders.{UpPart}
+use Rattle.law_context_tests.specs.unit_defs.Ways.{Answer, gives, spent}
+use Rattle.law_context_tests.specs.law_context_orders.Orders.{UpPart}
 
 pub record Stands (p : UpPart) : Type 0 where
   pub hop : is_some p.bearer.hop ≡ p.at.flags.frozen

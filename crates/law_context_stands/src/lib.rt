@@ -5,16 +5,16 @@ ghost use Rattle.std.specs.Prelude.{◌≡◌, ℕ, true, false, None};
 ghost use Rattle.gnb_types.specs.declared.names.BearerId.{BearerId};
 ghost use Rattle.gnb_types.specs.declared.names.Gnb.{Gnb};
 ghost use Rattle.gnb_types.specs.declared.names.UeId.{UeId};
-ghost use Rattle.law_answers.specs.After.{HoldsAfter};
-ghost use Rattle.law_context_orders.specs.Orders.{UpPart};
+ghost use Rattle.law_context_rows.specs.law_answers.After.{HoldsAfter};
+ghost use Rattle.law_context_tests.specs.law_context_orders.Orders.{UpPart};
 ghost use Rattle.law_context_stands.specs.Holds.{AllStand, IsSameAfter};
 ghost use Rattle.law_context_stands.specs.Stands as always;
 ghost use Rattle.law_down_orders.specs.Down as down_rows;
-ghost use Rattle.law_tunnel_frames.specs.OneTunnel.{BearersInOrder};
+ghost use Rattle.law_context_rows.specs.law_tunnel_frames.OneTunnel.{BearersInOrder};
 ghost use Rattle.law_up_orders.specs.Up as up_rows;
-ghost use Rattle.unit_defs.specs.CuUp.{cu_up_acts, new_cu_up};
-ghost use Rattle.unit_defs.specs.UpRecords.{CuUp};
-ghost use Rattle.unit_defs.specs.Ways.{Input, Way};
+ghost use Rattle.law_context_tests.specs.unit_defs.CuUp.{cu_up_acts, new_cu_up};
+ghost use Rattle.law_context_tests.specs.unit_defs.UpRecords.{CuUp};
+ghost use Rattle.law_context_tests.specs.unit_defs.Ways.{Input, Way};
 
 /// A bearer of a CU-UP has a hop exactly while it is frozen, and its context has its SN status then and its terminal came to it: this
 /// is so at the start, and stays so whatever the CU-UP is given.

@@ -6,30 +6,30 @@ use Rattle.std.specs.Map.{lookup}
 use Rattle.std.specs.BTreeMap.{is_at}
 use Rattle.std.specs.Ordering.{nat_cmp, eq_by_cmp}
 use Rattle.std.specs.Cmp.{Equal-is}
-use Rattle.gnb_types.specs.declared.names.NodeId.{NodeId}
-use Rattle.gnb_types.specs.declared.names.NodeId.TheVariants.{Du as du_id}
-use Rattle.gnb_types.specs.declared.names.UeId.{UeId}
-use Rattle.gnb_types.specs.declared.names.BearerId.{BearerId}
-use Rattle.gnb_types.specs.declared.names.SnBits.{SnBits}
-use Rattle.gnb_types.specs.declared.keys.Channel.{Channel}
-use Rattle.gnb_types.specs.declared.plans.Peer.{Peer}
-use Rattle.gnb_types.specs.declared.plans.Tunnel.{Tunnel}
-use Rattle.gnb_types.specs.declared.plans.SnStatus.{SnStatus}
-use Rattle.gnb_types.specs.declared.inputs.Order.TheVariants as inputs
-use Rattle.gnb_types.specs.declared.reasons.HeldReason.{HeldReason}
-use Rattle.gnb_types.specs.Orders.{ue_cmp, bearer_cmp}
-use Rattle.gnb_types.proofs.OrderLemmas.{ue_exact, bearer_total, bearer_exact}
-use Rattle.tables.specs.Tables.{find, put}
-use Rattle.tables.proofs.TableLaws.{find-put-same, find-put-other}
-use Rattle.transaction_defs.specs.Callees.{Verdict, new, again, stale, verdict}
-use Rattle.message_types.specs.declared.e1.E1Message.TheVariants as e1s
-use Rattle.unit_defs.specs.Ways.{Message, e1, Taken, Input, control_input, packet_input, order_input, Output, Way, Answer, gives, spent}
-use Rattle.unit_defs.specs.Messages.{mode_uplinks, mode_switch, mode_freeze, mode_status, mode_resume, channel, are_bearers, bearers_of, statuses_of, teid_of}
-use Rattle.unit_defs.specs.Transactions.{Kind, request, reply, transfer, kind_of}
-use Rattle.unit_defs.specs.UpRecords.{TunnelKind, UpBearer, UpContext, CuUp, UpTunnel, up_at}
-use Rattle.unit_defs.specs.UpBearers.{has_downlink, is_over, released}
-use Rattle.unit_defs.specs.UpItems.{held_reason, took}
-use Rattle.unit_defs.specs.CuUp.{context_of, bearers_from, fits, teids_from, peer_node, names, as_released, is_own_cp, ue_in}
+use Rattle.law_context_orders.specs.gnb_types.declared.names.NodeId.{NodeId}
+use Rattle.law_context_orders.specs.gnb_types.declared.names.NodeId.TheVariants.{Du as du_id}
+use Rattle.law_context_orders.specs.gnb_types.declared.names.UeId.{UeId}
+use Rattle.law_context_orders.specs.gnb_types.declared.names.BearerId.{BearerId}
+use Rattle.law_context_orders.specs.gnb_types.declared.names.SnBits.{SnBits}
+use Rattle.law_context_orders.specs.gnb_types.declared.keys.Channel.{Channel}
+use Rattle.law_context_orders.specs.gnb_types.declared.plans.Peer.{Peer}
+use Rattle.law_context_orders.specs.gnb_types.declared.plans.Tunnel.{Tunnel}
+use Rattle.law_context_orders.specs.gnb_types.declared.plans.SnStatus.{SnStatus}
+use Rattle.law_context_orders.specs.gnb_types.declared.inputs.Order.TheVariants as inputs
+use Rattle.law_context_orders.specs.gnb_types.declared.reasons.HeldReason.{HeldReason}
+use Rattle.law_context_orders.specs.gnb_types.Orders.{ue_cmp, bearer_cmp}
+use Rattle.law_context_orders.proofs.gnb_types.OrderLemmas.{ue_exact, bearer_total, bearer_exact}
+use Rattle.law_context_orders.specs.tables.Tables.{find, put}
+use Rattle.law_context_orders.proofs.tables.TableLaws.{find-put-same, find-put-other}
+use Rattle.law_context_orders.specs.transaction_defs.Callees.{Verdict, new, again, stale, verdict}
+use Rattle.law_context_orders.specs.message_types.declared.e1.E1Message.TheVariants as e1s
+use Rattle.law_context_orders.specs.unit_defs.Ways.{Message, e1, Taken, Input, control_input, packet_input, order_input, Output, Way, Answer, gives, spent}
+use Rattle.law_context_orders.specs.unit_defs.Messages.{mode_uplinks, mode_switch, mode_freeze, mode_status, mode_resume, channel, are_bearers, bearers_of, statuses_of, teid_of}
+use Rattle.law_context_orders.specs.unit_defs.Transactions.{Kind, request, reply, transfer, kind_of}
+use Rattle.law_context_orders.specs.unit_defs.UpRecords.{TunnelKind, UpBearer, UpContext, CuUp, UpTunnel, up_at}
+use Rattle.law_context_orders.specs.unit_defs.UpBearers.{has_downlink, is_over, released}
+use Rattle.law_context_orders.specs.unit_defs.UpItems.{held_reason, took}
+use Rattle.law_context_orders.specs.unit_defs.CuUp.{context_of, bearers_from, fits, teids_from, peer_node, names, as_released, is_own_cp, ue_in}
 use Rattle.law_context_orders.specs.Orders.{UpPart, part_with, part_of_bearer, part_in, part_of, UpOrder, adds, switches, freezes, knows, resumes, releases, closes, takes, polls, kept_in}
 use Rattle.law_context_orders.specs.Inputs.{only_if, ends, closes_if, closes_after, taken_by, taken_in, taken_of, taken_on, polls_if, polls_on, new_teid, makes_with, setup_orders, switches_if, freezes_if, status_in, knows_if, modify_orders, release_orders, asked_orders, new_orders, control_orders, orders_of}
 use Rattle.law_context_orders.specs.Shown.{is_bearer}

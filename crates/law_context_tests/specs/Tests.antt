@@ -1,11 +1,11 @@
 -- What a CU-UP tests of its own before it does something to a bearer.
 use Rattle.std.specs.Prelude.{◌≡◌, ℕ, Bool, true, false, List, [], ◌∷◌, Option, Some, None}
-use Rattle.message_types.specs.declared.e1.E1Message.TheVariants as e1s
-use Rattle.gnb_types.specs.declared.names.UeId.{UeId}
-use Rattle.gnb_types.specs.declared.names.BearerId.{BearerId}
-use Rattle.unit_defs.specs.Ways.{e1, Input, control_input, Way, Answer, gives, nothing}
-use Rattle.unit_defs.specs.UpBearers.{has_downlink, is_over}
-use Rattle.unit_defs.specs.UpItems.{held_reason}
+use Rattle.law_context_orders.specs.message_types.declared.e1.E1Message.TheVariants as e1s
+use Rattle.law_context_orders.specs.gnb_types.declared.names.UeId.{UeId}
+use Rattle.law_context_orders.specs.gnb_types.declared.names.BearerId.{BearerId}
+use Rattle.law_context_orders.specs.unit_defs.Ways.{e1, Input, control_input, Way, Answer, gives, nothing}
+use Rattle.law_context_orders.specs.unit_defs.UpBearers.{has_downlink, is_over}
+use Rattle.law_context_orders.specs.unit_defs.UpItems.{held_reason}
 use Rattle.law_context_orders.specs.Orders.{UpPart, UpOrder, makes, adds, switches, freezes, knows, resumes, releases, closes, takes, polls, begun, done}
 
 -- the input is a final release, which ends a context at once

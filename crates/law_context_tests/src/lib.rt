@@ -1,13 +1,13 @@
 //! Laws of what a CU-UP tests of its own. Each function does nothing: its contract is the law.
 #![tactic(auto)]
 
-ghost use Rattle.gnb_types.specs.declared.names.BearerId.{BearerId};
-ghost use Rattle.gnb_types.specs.declared.names.UeId.{UeId};
+ghost use Rattle.law_context_orders.specs.gnb_types.declared.names.BearerId.{BearerId};
+ghost use Rattle.law_context_orders.specs.gnb_types.declared.names.UeId.{UeId};
 ghost use Rattle.law_context_orders.specs.Inputs.{orders_of};
 ghost use Rattle.law_context_orders.specs.Orders.{part_of};
 ghost use Rattle.law_context_tests.specs.Tests.{is_final, AreTested};
-ghost use Rattle.unit_defs.specs.UpRecords.{CuUp};
-ghost use Rattle.unit_defs.specs.Ways.{Input, Way};
+ghost use Rattle.law_context_orders.specs.unit_defs.UpRecords.{CuUp};
+ghost use Rattle.law_context_orders.specs.unit_defs.Ways.{Input, Way};
 
 /// Whatever a CU-UP is given, it asks one thing of a bearer, and tests first that the bearer's state allows it; and its end then
 /// at most, where the context was released and nothing comes any more. A context that is made has the next TEID as its instance.

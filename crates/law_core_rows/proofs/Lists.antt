@@ -2,8 +2,8 @@
 use Rattle.std.proofs.Common.{◌≡◌, List, [], ◌∷◌, ◌++◌, refl, sym, subst}
 use Rattle.gnb_types.specs.declared.names.UeId.{UeId}
 use Rattle.gnb_types.specs.declared.names.BearerId.{BearerId}
-use Rattle.unit_defs.specs.Ways.{Way, Answer, gives, spent}
-use Rattle.unit_defs.specs.Core.{CoreRecord, core_acts}
+use Rattle.chain_defs.specs.unit_defs.Ways.{Way, Answer, gives, spent}
+use Rattle.chain_defs.specs.unit_defs.Core.{CoreRecord, core_acts}
 use Rattle.chain_defs.specs.Parts.{Part}
 use Rattle.chain_defs.specs.Orders.{Order, after, run}
 use Rattle.law_core_rows.specs.Shown.{Places, IsPath, goal_by, orders_to, Follows}

@@ -19,10 +19,10 @@ use Rattle.tables.specs.Tables.{find, put}
 use Rattle.tables.proofs.TableLaws.{find-put-same, find-put-other}
 use Rattle.message_types.specs.declared.xn.CoreMessage.TheVariants as cores
 use Rattle.transaction_defs.specs.Callees.{Verdict, new, again, stale, verdict, taken, kept_reply, keep}
-use Rattle.unit_defs.specs.Ways.{Message, f1, e1, xn, core, rrc, Output, control, dropped, Way, Answer, gives, ◌then◌, drops}
-use Rattle.unit_defs.specs.Transactions.{Kind, request, reply, transfer, kind_of, Transactions, replied, request_by, answered_again, on_request}
-use Rattle.unit_defs.specs.Messages.{channel}
-use Rattle.unit_defs.specs.Core.{CorePath, CoreRecord, end_of, old_ends, new_path, switch_path, asked, came, core_acts}
+use Rattle.chain_defs.specs.unit_defs.Ways.{Message, f1, e1, xn, core, rrc, Output, control, dropped, Way, Answer, gives, ◌then◌, drops}
+use Rattle.chain_defs.specs.unit_defs.Transactions.{Kind, request, reply, transfer, kind_of, Transactions, replied, request_by, answered_again, on_request}
+use Rattle.chain_defs.specs.unit_defs.Messages.{channel}
+use Rattle.chain_defs.specs.unit_defs.Core.{CorePath, CoreRecord, end_of, old_ends, new_path, switch_path, asked, came, core_acts}
 use Rattle.chain_defs.specs.Parts.{Item, end_marker as end_item, Member, Part}
 use Rattle.chain_defs.specs.Orders.{switches_path, after, run}
 use Rattle.chain_defs.specs.Guards.{IsReady, IsOwed, AreKept}

@@ -3,8 +3,8 @@ use Rattle.std.specs.Prelude.{List, [], ◌∷◌, ◌++◌, ⊤}
 use Rattle.gnb_types.specs.declared.names.NodeId.{NodeId}
 use Rattle.gnb_types.specs.declared.names.UeId.{UeId}
 use Rattle.gnb_types.specs.declared.names.BearerId.{BearerId}
-use Rattle.unit_defs.specs.Ways.{Message, Way, Answer, gives, spent}
-use Rattle.unit_defs.specs.Core.{CoreRecord, core_acts}
+use Rattle.chain_defs.specs.unit_defs.Ways.{Message, Way, Answer, gives, spent}
+use Rattle.chain_defs.specs.unit_defs.Core.{CoreRecord, core_acts}
 use Rattle.chain_defs.specs.Orders.{Order}
 use Rattle.law_core_rows.specs.Shown.{Places, goal_by, orders_to, IsOne}
 

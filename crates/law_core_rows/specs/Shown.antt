@@ -10,10 +10,10 @@ use Rattle.gnb_types.specs.Orders.{ue_cmp, bearer_cmp}
 use Rattle.tables.specs.Tables.{find}
 use Rattle.message_types.specs.declared.xn.CoreMessage.TheVariants as cores
 use Rattle.transaction_defs.specs.Callees.{Verdict, new, again, stale, verdict}
-use Rattle.unit_defs.specs.Ways.{Message, core, Load, fresh, end_marker, Output, packet, Answer, gives, spent}
-use Rattle.unit_defs.specs.Transactions.{Kind, request, kind_of}
-use Rattle.unit_defs.specs.Messages.{channel}
-use Rattle.unit_defs.specs.Core.{CorePath, CoreRecord}
+use Rattle.chain_defs.specs.unit_defs.Ways.{Message, core, Load, fresh, end_marker, Output, packet, Answer, gives, spent}
+use Rattle.chain_defs.specs.unit_defs.Transactions.{Kind, request, kind_of}
+use Rattle.chain_defs.specs.unit_defs.Messages.{channel}
+use Rattle.chain_defs.specs.unit_defs.Core.{CorePath, CoreRecord}
 use Rattle.chain_defs.specs.Parts.{Item, fresh as fresh_item, end_marker as end_item, Part}
 use Rattle.chain_defs.specs.Orders.{Order, switches_path}
 

@@ -24,11 +24,11 @@ use Rattle.tables.specs.Tables.{find}
 use Rattle.message_types.specs.declared.rrc.Token.{Token}
 use Rattle.message_types.specs.declared.xn.CoreMessage.TheVariants as cores
 use Rattle.transaction_defs.specs.Callees.{Verdict, new, again, stale, verdict, taken, kept_reply}
-use Rattle.unit_defs.specs.Ways.{Message, f1, e1, xn, core, rrc, Pdu, fresh, end_marker, Output, control, packet, radio, deliver, dropped, held, opened, closed, failed, no, Answer, gives, spent}
-use Rattle.unit_defs.specs.UpRecords.{UpTunnel, TunnelKind, n3, f1u_uplink, forwarding_down, forwarding_up}
-use Rattle.unit_defs.specs.Transactions.{Kind, request, reply, transfer, kind_of, Transactions, replied, request_by, answered_again, on_request}
-use Rattle.unit_defs.specs.Messages.{channel, teid_of}
-use Rattle.unit_defs.specs.Core.{CorePath, CoreRecord, end_of as core_end, old_ends, switch_path, asked, came, core_acts}
+use Rattle.law_core_rows.specs.unit_defs.Ways.{Message, f1, e1, xn, core, rrc, Pdu, fresh, end_marker, Output, control, packet, radio, deliver, dropped, held, opened, closed, failed, no, Answer, gives, spent}
+use Rattle.law_core_rows.specs.unit_defs.UpRecords.{UpTunnel, TunnelKind, n3, f1u_uplink, forwarding_down, forwarding_up}
+use Rattle.law_core_rows.specs.unit_defs.Transactions.{Kind, request, reply, transfer, kind_of, Transactions, replied, request_by, answered_again, on_request}
+use Rattle.law_core_rows.specs.unit_defs.Messages.{channel, teid_of}
+use Rattle.law_core_rows.specs.unit_defs.Core.{CorePath, CoreRecord, end_of as core_end, old_ends, switch_path, asked, came, core_acts}
 use Rattle.law_put_ties.specs.law_tie_facts.law_tunnel_steps.run_defs.transport_defs.declared.Letter.{Letter}
 use Rattle.law_put_ties.specs.law_tie_facts.law_tunnel_steps.run_defs.transport_defs.Links.{landed}
 use Rattle.law_put_ties.specs.law_tie_facts.law_tunnel_steps.run_defs.Lines.{got_message}
@@ -51,7 +51,7 @@ use Rattle.law_put_ties.specs.law_tie_facts.law_bearer_lists.law_bearer_orders.D
 use Rattle.law_put_ties.specs.law_tie_facts.law_bearer_lists.law_bearer_orders.Up as ups
 use Rattle.law_put_ties.specs.law_tie_facts.law_bearer_lists.law_down_orders.Down.{down_of}
 use Rattle.law_put_ties.proofs.law_tie_facts.law_open_tunnels.Links.{end_of}
-use Rattle.law_owner_facts.proofs.Owners.{first_of, second_of}
+use Rattle.law_put_ties.proofs.law_owner_facts.Owners.{first_of, second_of}
 use Rattle.law_put_ties.specs.law_tie_facts.law_run_tunnels.Own.{IsOwnAt}
 use Rattle.law_put_ties.specs.law_tie_facts.law_run_bearers.Things.{PlainUnits}
 use Rattle.law_put_ties.specs.law_tie_facts.law_run_bearers.Bearers.{Numbering, contexts_of}
@@ -59,7 +59,7 @@ use Rattle.law_put_ties.specs.law_tie_facts.Ties.{RunState, RunItem, Owned, owne
 use Rattle.law_put_ties.specs.law_tie_facts.Asked.{AreTied, AreSound}
 use Rattle.law_put_ties.proofs.law_tie_facts.Ends.{clash}
 use Rattle.law_put_ties.proofs.law_tie_facts.Puts.{Outs, put_there, downs_both, downs_written, ups_written, IsOwn, own_from, stays_so}
-use Rattle.law_du_inputs.specs.Puts.{OnTunnel, tunnels_put}
+use Rattle.law_put_ties.specs.law_du_inputs.Puts.{OnTunnel, tunnels_put}
 use Rattle.law_core_rows.specs.Shown as told
 use Rattle.law_core_rows.specs.Shown.{teids_of, IsPath, Goal, goal_by, to_first, orders_to, IsOne, items_put, IsAfter, Follows}
 use Rattle.law_core_rows.proofs.Rows.{letter_follows}

@@ -7,10 +7,10 @@ use Rattle.gnb_types.specs.declared.names.Dir.TheVariants.{Dl}
 use Rattle.gnb_types.specs.Orders.{ue_cmp}
 use Rattle.tables.specs.Tables.{find}
 use Rattle.message_types.specs.declared.rrc.Token.{Token}
-use Rattle.unit_defs.specs.Ways.{Message, Pdu, Output, gives}
-use Rattle.unit_defs.specs.UpRecords.{n3}
-use Rattle.unit_defs.specs.Messages.{teid_of}
-use Rattle.unit_defs.specs.Core.{CorePath, CoreRecord, core_acts}
+use Rattle.law_core_rows.specs.unit_defs.Ways.{Message, Pdu, Output, gives}
+use Rattle.law_core_rows.specs.unit_defs.UpRecords.{n3}
+use Rattle.law_core_rows.specs.unit_defs.Messages.{teid_of}
+use Rattle.law_core_rows.specs.unit_defs.Core.{CorePath, CoreRecord, core_acts}
 use Rattle.law_put_ties.specs.law_tie_facts.law_tunnel_steps.run_defs.transport_defs.declared.Letter.{Letter}
 use Rattle.law_put_ties.specs.law_tie_facts.law_tunnel_steps.run_defs.Lines.{RunLine}
 use Rattle.law_put_ties.specs.law_tie_facts.law_tunnel_steps.run_defs.Written.{written_put}

@@ -5,7 +5,7 @@ use Rattle.gnb_types.specs.declared.names.Gnb.TheVariants.{A, B}
 use Rattle.gnb_types.specs.declared.names.NodeId.TheVariants.{CuUp, Du}
 use Rattle.gnb_types.specs.declared.names.Dir.TheVariants.{Dl}
 use Rattle.gnb_types.specs.declared.plans.SnStatus.{SnStatus}
-use Rattle.unit_defs.specs.UpRecords.{SourceHop, Downlink}
+use Rattle.law_core_rows.specs.unit_defs.UpRecords.{SourceHop, Downlink}
 use Rattle.law_put_ties.specs.law_tie_facts.law_tunnel_steps.run_defs.scenario_text.declared.event.Event.{Event}
 use Rattle.law_put_ties.specs.law_tie_facts.law_tunnel_steps.run_defs.scenario_text.declared.event.Event.TheVariants as events
 use Rattle.law_put_ties.specs.law_tie_facts.law_tunnel_steps.Standing.{standing}

@@ -20,8 +20,8 @@ ghost use Rattle.law_put_ties.specs.law_tie_facts.law_tunnel_steps.run_defs.Stat
 ghost use Rattle.law_put_ties.specs.law_tie_facts.law_tunnel_steps.run_defs.transport_defs.declared.Letter.{Letter};
 ghost use Rattle.message_types.specs.declared.rrc.Token.{Token};
 ghost use Rattle.std.specs.Prelude.{[], ◌∷◌, List, Some, true, ◌≡◌, ℕ};
-ghost use Rattle.unit_defs.specs.Core.{CorePath, CoreRecord};
-ghost use Rattle.unit_defs.specs.Ways.{Message, Output, Pdu};
+ghost use Rattle.law_core_rows.specs.unit_defs.Core.{CorePath, CoreRecord};
+ghost use Rattle.law_core_rows.specs.unit_defs.Ways.{Message, Output, Pdu};
 ghost use Rattle.law_put_ties.specs.law_tie_facts.law_bearer_lists.uplink_defs.Parts as up_parts;
 
 /// Where a packet is offered in a run, it is an order of the bearer that it is offered to, and of no other one: where the parts have the

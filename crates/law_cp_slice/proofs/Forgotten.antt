@@ -10,9 +10,9 @@ use Rattle.gnb_types.specs.declared.keys.Channel.{Channel}
 use Rattle.gnb_types.specs.Orders.{channel_cmp}
 use Rattle.gnb_types.proofs.OrderLemmas.{channel_exact}
 use Rattle.tables.specs.Tables.{find, at}
-use Rattle.unit_defs.specs.Ways.{Way}
-use Rattle.unit_defs.specs.Transactions.{Waiting}
-use Rattle.unit_defs.specs.CpRecords.{not_awaited, unawaited}
+use Rattle.law_slices.specs.unit_defs.Ways.{Way}
+use Rattle.law_slices.specs.unit_defs.Transactions.{Waiting}
+use Rattle.law_slices.specs.unit_defs.CpRecords.{not_awaited, unawaited}
 
 module _ {M C P : Type 0} (way : Way M C P) (ue : UeId) where
   abbrev Table : Type 0

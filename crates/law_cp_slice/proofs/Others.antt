@@ -18,11 +18,11 @@ use Rattle.gnb_types.proofs.OrderLemmas.{ue_total}
 use Rattle.message_types.specs.declared.f1.F1.TheVariants as f1s
 use Rattle.message_types.specs.declared.e1.E1Message.TheVariants as e1s
 use Rattle.message_types.specs.declared.xn.XnMessage.TheVariants as xns
-use Rattle.unit_defs.specs.Ways.{Message, f1, e1, xn, Input, control_input, order_input, Way, Answer, ◌then◌, nothing, drops}
-use Rattle.unit_defs.specs.Messages.{channel, shares_interface}
-use Rattle.unit_defs.specs.Transactions.{Kind, request, reply, transfer, kind_of, Transactions, Asked, waits_at, with_waiting, ask, ask_at_once, advance, replied, replied_late}
-use Rattle.unit_defs.specs.CpRecords.{Attempt, CpTerminal, CuCpRecord, terminal_in, terminal_of, with_terminal, with_transactions, Say, asks, cancels, replies, replies_late, sends, fails, ignores, refuses, forgets, Row, row, row_spent, awaiting, begun, with_attempt, waiting_of, after_begun, after_asked, noted, forgotten, say_one, say_all, carry_out}
-use Rattle.unit_defs.specs.CuCp.{at_of, Answered, answers_none, answers_with, answer, without_release, is_setup_failure, after_failed_setup, put_next, closed_at, answered_by, reply_came, with_unit, set_up, asked, token_came, transferred, control_by, control_came, ordered, cu_cp_acts}
+use Rattle.law_slices.specs.unit_defs.Ways.{Message, f1, e1, xn, Input, control_input, order_input, Way, Answer, ◌then◌, nothing, drops}
+use Rattle.law_slices.specs.unit_defs.Messages.{channel, shares_interface}
+use Rattle.law_slices.specs.unit_defs.Transactions.{Kind, request, reply, transfer, kind_of, Transactions, Asked, waits_at, with_waiting, ask, ask_at_once, advance, replied, replied_late}
+use Rattle.law_slices.specs.unit_defs.CpRecords.{Attempt, CpTerminal, CuCpRecord, terminal_in, terminal_of, with_terminal, with_transactions, Say, asks, cancels, replies, replies_late, sends, fails, ignores, refuses, forgets, Row, row, row_spent, awaiting, begun, with_attempt, waiting_of, after_begun, after_asked, noted, forgotten, say_one, say_all, carry_out}
+use Rattle.law_slices.specs.unit_defs.CuCp.{at_of, Answered, answers_none, answers_with, answer, without_release, is_setup_failure, after_failed_setup, put_next, closed_at, answered_by, reply_came, with_unit, set_up, asked, token_came, transferred, control_by, control_came, ordered, cu_cp_acts}
 use Rattle.law_slices.specs.Slices.{requests_of, ue_in, message_ue, order_ue}
 
 module _ {M C P : Type 0} (way : Way M C P) where

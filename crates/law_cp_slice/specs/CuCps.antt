@@ -3,8 +3,8 @@ use Rattle.std.specs.Prelude.{List, Option, Some, None}
 use Rattle.gnb_types.specs.declared.names.Gnb.{Gnb}
 use Rattle.gnb_types.specs.declared.names.NodeId.{NodeId}
 use Rattle.gnb_types.specs.declared.names.UeId.{UeId}
-use Rattle.unit_defs.specs.Ways.{Input, control_input, order_input}
-use Rattle.unit_defs.specs.CpRecords.{CpTerminal, CuCpRecord, terminal_of}
+use Rattle.law_slices.specs.unit_defs.Ways.{Input, control_input, order_input}
+use Rattle.law_slices.specs.unit_defs.CpRecords.{CpTerminal, CuCpRecord, terminal_of}
 use Rattle.law_slices.specs.Slices.{Requests, requests_of, message_ue, order_ue}
 
 -- its context, the greatest epoch that was taken, and its requests and replies

@@ -5,9 +5,9 @@ ghost use Rattle.gnb_types.specs.declared.names.UeId.{UeId};
 ghost use Rattle.law_cp_slice.specs.CuCps.{cp_slice, cp_view, cp_ue};
 ghost use Rattle.law_slices.specs.Steps.{DependsOn, IsStepOf};
 ghost use Rattle.std.specs.Prelude.{◌≡◌, Some};
-ghost use Rattle.unit_defs.specs.CpRecords.{CuCpRecord};
-ghost use Rattle.unit_defs.specs.CuCp.{cu_cp_acts};
-ghost use Rattle.unit_defs.specs.Ways.{Input, Way};
+ghost use Rattle.law_slices.specs.unit_defs.CpRecords.{CuCpRecord};
+ghost use Rattle.law_slices.specs.unit_defs.CuCp.{cu_cp_acts};
+ghost use Rattle.law_slices.specs.unit_defs.Ways.{Input, Way};
 
 /// What a CU-CP does with an input that is for a terminal depends on the terminal's slice and on what is shared alone: of two
 /// CU-CPs that have these in common both put out the same, and have them in common then.

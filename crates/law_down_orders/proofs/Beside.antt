@@ -1,22 +1,22 @@
 -- Items of the uplink leave the downlink alone; and a context that is made.
 use Rattle.std.proofs.Common.{◌≡◌, ◌==◌, ℕ, Bool, true, false, not, ◌&&◌, ◌||◌, nat_lt, List, [], ◌∷◌, ◌++◌, filter, Option, Some, None, refl, sym, ap, subst, ◌∙◌}
 use Rattle.std.specs.Prelude.{if◌then◌else◌}
-use Rattle.gnb_types.specs.declared.names.UeId.{UeId}
-use Rattle.gnb_types.specs.declared.names.BearerId.{BearerId}
-use Rattle.gnb_types.specs.declared.names.SnBits.{SnBits}
-use Rattle.gnb_types.specs.declared.outputs.Tag.{Tag}
-use Rattle.gnb_types.specs.declared.outputs.Tag.TheVariants.{Absent, Same}
-use Rattle.gnb_types.specs.declared.reasons.DropReason.TheVariants.{Duplicate, Unexpected}
-use Rattle.pdcp_defs.specs.Receivers.{deliver as handed_up, is_duplicate, stored}
-use Rattle.unit_defs.specs.Ways.{packet_content, Load, numbered, end_marker, Taken, numbered_item, uplink_item, end_item, closed, Way, Answer, gives, spent, with_outputs, ◌then◌, nothing, puts, drops}
-use Rattle.unit_defs.specs.UpRecords.{UpBearer, SourceHop, TunnelKind, f1u_uplink, forwarding_up}
-use Rattle.unit_defs.specs.UpBearers.{no_uplink, delivered, deliver_stored, put_up, forwarded_up}
-use Rattle.unit_defs.specs.UpItems.{passed_up, stored_at, took_uplink, up_hop_ends_if, uplink_ended, up_ended, took}
-use Rattle.chain_defs.specs.Parts.{Item, Member, Part, new_member}
-use Rattle.chain_defs.specs.Orders.{makes, after, run}
-use Rattle.law_chain.proofs.Frames.{set_here}
-use Rattle.law_chain_rows.specs.Shown.{items_of, pdus_of}
-use Rattle.law_chain_rows.proofs.Rows.{items-append, pdus-append}
+use Rattle.law_context_orders.specs.gnb_types.declared.names.UeId.{UeId}
+use Rattle.law_context_orders.specs.gnb_types.declared.names.BearerId.{BearerId}
+use Rattle.law_context_orders.specs.gnb_types.declared.names.SnBits.{SnBits}
+use Rattle.law_context_orders.specs.gnb_types.declared.outputs.Tag.{Tag}
+use Rattle.law_context_orders.specs.gnb_types.declared.outputs.Tag.TheVariants.{Absent, Same}
+use Rattle.law_context_orders.specs.gnb_types.declared.reasons.DropReason.TheVariants.{Duplicate, Unexpected}
+use Rattle.law_context_orders.specs.pdcp_defs.Receivers.{deliver as handed_up, is_duplicate, stored}
+use Rattle.law_context_orders.specs.unit_defs.Ways.{packet_content, Load, numbered, end_marker, Taken, numbered_item, uplink_item, end_item, closed, Way, Answer, gives, spent, with_outputs, ◌then◌, nothing, puts, drops}
+use Rattle.law_context_orders.specs.unit_defs.UpRecords.{UpBearer, SourceHop, TunnelKind, f1u_uplink, forwarding_up}
+use Rattle.law_context_orders.specs.unit_defs.UpBearers.{no_uplink, delivered, deliver_stored, put_up, forwarded_up}
+use Rattle.law_context_orders.specs.unit_defs.UpItems.{passed_up, stored_at, took_uplink, up_hop_ends_if, uplink_ended, up_ended, took}
+use Rattle.law_handover_rows.specs.chain_defs.Parts.{Item, Member, Part, new_member}
+use Rattle.law_handover_rows.specs.chain_defs.Orders.{makes, after, run}
+use Rattle.law_handover_rows.proofs.law_chain.Frames.{set_here}
+use Rattle.law_handover_rows.specs.law_chain_rows.Shown.{items_of, pdus_of}
+use Rattle.law_handover_rows.proofs.law_chain_rows.Rows.{items-append, pdus-append}
 use Rattle.law_context_orders.specs.Orders.{UpPart, kept_in, done, takes}
 use Rattle.law_down_orders.specs.Down.{down_of, IsDown, packets_of, Went, Shows, IsOfUplink, new_part}
 use Rattle.law_down_orders.proofs.Parts.{went_same}

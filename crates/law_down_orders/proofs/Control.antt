@@ -1,20 +1,20 @@
 -- Orders of control to a bearer are orders to its downlink.
 use Rattle.std.proofs.Common.{◌≡◌, ◌≢◌, ℕ, ◌+◌, Bool, true, false, not, ◌&&◌, ◌||◌, if◌then◌else◌, nat_lt, List, [], ◌∷◌, ◌++◌, Option, Some, None, refl, sym, ap, subst, ◌∙◌}
-use Rattle.gnb_types.specs.declared.names.NodeId.{NodeId}
-use Rattle.gnb_types.specs.declared.names.SnBits.{SnBits}
-use Rattle.gnb_types.specs.declared.plans.SnStatus.{SnStatus}
-use Rattle.gnb_types.specs.declared.outputs.Tag.TheVariants.{Absent}
-use Rattle.gnb_types.specs.declared.names.Dir.TheVariants.{Dl}
-use Rattle.pdcp_defs.specs.Receivers.{received_bits}
-use Rattle.unit_defs.specs.Ways.{Pdu, report_pdu, frame, packet, Way, Answer, gives, spent, puts, frames_spent}
-use Rattle.unit_defs.specs.UpRecords.{UpBearer, UpFlags, Downlink, SourceHop}
-use Rattle.unit_defs.specs.UpBearers.{has_downlink, with_uplink, switched, frozen_to, with_status, resumed, framed, framed_on, last_frame, thawed, owed, bits_in, released}
-use Rattle.chain_defs.specs.Parts.{Member, Part, set}
-use Rattle.chain_defs.specs.Orders.{switches, freezes, knows, resumes, releases, sends_again, frozen, forwards, known, on_downlink, changed, sent, after, run}
-use Rattle.law_chain.proofs.Frames.{set_here, set_far}
-use Rattle.law_chain_rows.specs.Shown.{items_of, pdus_of, Gives, numbered_packets, numbered_pdus}
-use Rattle.law_chain_rows.proofs.Rows.{freezes as freeze_gives}
-use Rattle.law_chain_rows.proofs.Numbering.{pdus_are}
+use Rattle.law_context_orders.specs.gnb_types.declared.names.NodeId.{NodeId}
+use Rattle.law_context_orders.specs.gnb_types.declared.names.SnBits.{SnBits}
+use Rattle.law_context_orders.specs.gnb_types.declared.plans.SnStatus.{SnStatus}
+use Rattle.law_context_orders.specs.gnb_types.declared.outputs.Tag.TheVariants.{Absent}
+use Rattle.law_context_orders.specs.gnb_types.declared.names.Dir.TheVariants.{Dl}
+use Rattle.law_context_orders.specs.pdcp_defs.Receivers.{received_bits}
+use Rattle.law_context_orders.specs.unit_defs.Ways.{Pdu, report_pdu, frame, packet, Way, Answer, gives, spent, puts, frames_spent}
+use Rattle.law_context_orders.specs.unit_defs.UpRecords.{UpBearer, UpFlags, Downlink, SourceHop}
+use Rattle.law_context_orders.specs.unit_defs.UpBearers.{has_downlink, with_uplink, switched, frozen_to, with_status, resumed, framed, framed_on, last_frame, thawed, owed, bits_in, released}
+use Rattle.law_handover_rows.specs.chain_defs.Parts.{Member, Part, set}
+use Rattle.law_handover_rows.specs.chain_defs.Orders.{switches, freezes, knows, resumes, releases, sends_again, frozen, forwards, known, on_downlink, changed, sent, after, run}
+use Rattle.law_handover_rows.proofs.law_chain.Frames.{set_here, set_far}
+use Rattle.law_handover_rows.specs.law_chain_rows.Shown.{items_of, pdus_of, Gives, numbered_packets, numbered_pdus}
+use Rattle.law_handover_rows.proofs.law_chain_rows.Rows.{freezes as freeze_gives}
+use Rattle.law_handover_rows.proofs.law_chain_rows.Numbering.{pdus_are}
 use Rattle.law_handover_rows.specs.Shown.{Does, handed_up}
 use Rattle.law_handover_rows.proofs.Rows.{switch_begins, switch_waits, status_begins, status_waits, resume_sends}
 use Rattle.law_context_orders.specs.Orders.{UpPart, UpOrder, on_switch, on_freeze, on_status, on_resume, on_release, kept_in, done}

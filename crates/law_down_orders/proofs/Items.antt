@@ -1,23 +1,23 @@
 -- Items that a bearer takes are orders to its downlink.
 use Rattle.std.proofs.Common.{◌≡◌, ℕ, Bool, true, false, not, ◌||◌, if◌then◌else◌, List, [], ◌∷◌, ◌++◌, map, Option, Some, None, refl, sym, ap, subst, ◌∙◌, true≢false}
 use Rattle.std.proofs.lemmas.List.{append-nil}
-use Rattle.gnb_types.specs.declared.reasons.DropReason.TheVariants.{Duplicate, Unexpected}
-use Rattle.pdcp_defs.specs.Senders.{may_restore, confirmed_to, confirmed_by}
-use Rattle.unit_defs.specs.Ways.{Pdu, packet_pdu, report_pdu, report_content, Taken, fresh_item, numbered_item, uplink_item, status_item, end_item, Way, Answer, gives, spent, ◌then◌, nothing, drops}
-use Rattle.unit_defs.specs.UpRecords.{UpBearer, Downlink, TunnelKind, n3, f1u_uplink, forwarding_down}
-use Rattle.unit_defs.specs.UpBearers.{has_downlink, number_waiting, number_each, sent_again}
-use Rattle.unit_defs.specs.UpItems.{took, took_fresh, took_numbered, took_report, took_delivery_status, lost_frames, n3_ended}
-use Rattle.unit_defs.specs.UpItems as rows
-use Rattle.unit_defs.specs.UpBearers.{forwarded_down}
-use Rattle.unit_defs.specs.Ways.{numbered as numbered_load}
-use Rattle.gnb_types.specs.declared.outputs.Tag.TheVariants.{Same}
-use Rattle.chain_defs.specs.Parts.{Item, numbered, fresh, end_marker, Member, Part}
-use Rattle.chain_defs.specs.Orders.{keeps_n3, keeps_fresh, passes_n3, passes_fresh, sends, passes_numbered, ends_n3, ends_hop, reports, tells_loss, sends_again, waits, waits_unless, takes_unless, holds, changed, sent, after, run}
-use Rattle.chain_defs.specs.Orders as chain
-use Rattle.law_chain.proofs.Frames.{set_here}
-use Rattle.law_chain_rows.specs.Shown.{plain, without_number, items_of, pdus_of, Gives, number_orders, numbered_packets}
-use Rattle.law_chain_rows.proofs.Rows.{passes_a_fresh_one, passes_a_numbered_one, passes_the_end, keeps_a_fresh_one, each_gives, then_gives, gives_as, sends_a_numbered_one, sends_all_again, reports_make_room}
-use Rattle.law_chain_rows.proofs.Numbering.{pdus_are}
+use Rattle.law_context_orders.specs.gnb_types.declared.reasons.DropReason.TheVariants.{Duplicate, Unexpected}
+use Rattle.law_context_orders.specs.pdcp_defs.Senders.{may_restore, confirmed_to, confirmed_by}
+use Rattle.law_context_orders.specs.unit_defs.Ways.{Pdu, packet_pdu, report_pdu, report_content, Taken, fresh_item, numbered_item, uplink_item, status_item, end_item, Way, Answer, gives, spent, ◌then◌, nothing, drops}
+use Rattle.law_context_orders.specs.unit_defs.UpRecords.{UpBearer, Downlink, TunnelKind, n3, f1u_uplink, forwarding_down}
+use Rattle.law_context_orders.specs.unit_defs.UpBearers.{has_downlink, number_waiting, number_each, sent_again}
+use Rattle.law_context_orders.specs.unit_defs.UpItems.{took, took_fresh, took_numbered, took_report, took_delivery_status, lost_frames, n3_ended}
+use Rattle.law_context_orders.specs.unit_defs.UpItems as rows
+use Rattle.law_context_orders.specs.unit_defs.UpBearers.{forwarded_down}
+use Rattle.law_context_orders.specs.unit_defs.Ways.{numbered as numbered_load}
+use Rattle.law_context_orders.specs.gnb_types.declared.outputs.Tag.TheVariants.{Same}
+use Rattle.law_handover_rows.specs.chain_defs.Parts.{Item, numbered, fresh, end_marker, Member, Part}
+use Rattle.law_handover_rows.specs.chain_defs.Orders.{keeps_n3, keeps_fresh, passes_n3, passes_fresh, sends, passes_numbered, ends_n3, ends_hop, reports, tells_loss, sends_again, waits, waits_unless, takes_unless, holds, changed, sent, after, run}
+use Rattle.law_handover_rows.specs.chain_defs.Orders as chain
+use Rattle.law_handover_rows.proofs.law_chain.Frames.{set_here}
+use Rattle.law_handover_rows.specs.law_chain_rows.Shown.{plain, without_number, items_of, pdus_of, Gives, number_orders, numbered_packets}
+use Rattle.law_handover_rows.proofs.law_chain_rows.Rows.{passes_a_fresh_one, passes_a_numbered_one, passes_the_end, keeps_a_fresh_one, each_gives, then_gives, gives_as, sends_a_numbered_one, sends_all_again, reports_make_room}
+use Rattle.law_handover_rows.proofs.law_chain_rows.Numbering.{pdus_are}
 use Rattle.law_context_orders.specs.Orders.{UpPart, takes, kept_in, done}
 use Rattle.law_down_orders.specs.Down.{down_only, down_of, IsDown, serves_none, numbers_if, packets_if, fresh_orders, numbered_order, confirms_if, confirmed_if, losses, item_orders, packets_of, Went, Shows, Stands, IsFit}
 use Rattle.law_down_orders.proofs.Parts.{numbered_by, went_same, went_kept, went_sent, went_passed, went_changed, went_more, went_numbers}

@@ -1,13 +1,13 @@
 -- What orders of each shape come to in the part: one bearer changes, items go on, packets go to the radio, and what waits is numbered.
 use Rattle.std.proofs.Common.{◌≡◌, ◌==◌, ℕ, Bool, true, false, if◌then◌else◌, List, [], ◌++◌, refl, sym, ap, ◌∙◌, append_assoc, eqb-true}
 use Rattle.std.proofs.lemmas.List.{append-nil}
-use Rattle.gnb_types.specs.declared.names.SnBits.{SnBits}
-use Rattle.unit_defs.specs.UpRecords.{UpBearer}
-use Rattle.chain_defs.specs.Parts.{Item, Member, Part, set}
-use Rattle.chain_defs.specs.Orders.{changed, passed, sent, run}
-use Rattle.law_chain.proofs.Frames.{set_here, set_far}
-use Rattle.law_chain_rows.specs.Shown.{numbers_all, still_waits, number_orders, numbered_packets}
-use Rattle.law_chain_rows.proofs.Numbering.{numbering_is}
+use Rattle.law_context_orders.specs.gnb_types.declared.names.SnBits.{SnBits}
+use Rattle.law_context_orders.specs.unit_defs.UpRecords.{UpBearer}
+use Rattle.law_handover_rows.specs.chain_defs.Parts.{Item, Member, Part, set}
+use Rattle.law_handover_rows.specs.chain_defs.Orders.{changed, passed, sent, run}
+use Rattle.law_handover_rows.proofs.law_chain.Frames.{set_here, set_far}
+use Rattle.law_handover_rows.specs.law_chain_rows.Shown.{numbers_all, still_waits, number_orders, numbered_packets}
+use Rattle.law_handover_rows.proofs.law_chain_rows.Numbering.{numbering_is}
 use Rattle.law_down_orders.specs.Down.{Went}
 
 abbrev Packets : Type 0

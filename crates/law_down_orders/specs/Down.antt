@@ -1,21 +1,21 @@
 -- An order to a bearer of a CU-UP, as a list of orders to the downlink of this bearer in the run.
 use Rattle.std.specs.Prelude.{◌≡◌, ◌≢◌, ◌==◌, ℕ, Bool, true, false, not, ◌||◌, if◌then◌else◌, List, [], ◌∷◌, ◌++◌, map, Option, Some, None}
-use Rattle.pdcp_defs.specs.Senders.{may_restore, confirmed_to, confirmed_by}
-use Rattle.pdcp_defs.specs.Receivers.{new_receiver}
-use Rattle.unit_defs.specs.Ways.{Pdu, packet_pdu, report_pdu, packet_content, report_content, Taken, fresh_item, numbered_item, uplink_item, status_item, end_item, Output, Way, Answer, gives, spent}
-use Rattle.unit_defs.specs.UpRecords.{UpBearer, Downlink, SourceHop, UpAt, TunnelKind, n3, f1u_uplink, forwarding_down, forwarding_up}
-use Rattle.unit_defs.specs.UpBearers.{made, has_downlink, thawed}
-use Rattle.chain_defs.specs.Parts.{Item, Member, Part}
-use Rattle.chain_defs.specs.Orders.{Order, keeps_n3, keeps_fresh, passes_n3, passes_fresh, sends, passes_numbered, drops, ends_n3, ends_hop, confirms, reports, tells_loss, sends_again, switches, knows, resumes, releases, on_downlink, known, waits}
-use Rattle.law_chain_rows.specs.Shown.{plain, items_of, pdus_of, number_orders, numbered_packets}
+use Rattle.law_context_orders.specs.pdcp_defs.Senders.{may_restore, confirmed_to, confirmed_by}
+use Rattle.law_context_orders.specs.pdcp_defs.Receivers.{new_receiver}
+use Rattle.law_context_orders.specs.unit_defs.Ways.{Pdu, packet_pdu, report_pdu, packet_content, report_content, Taken, fresh_item, numbered_item, uplink_item, status_item, end_item, Output, Way, Answer, gives, spent}
+use Rattle.law_context_orders.specs.unit_defs.UpRecords.{UpBearer, Downlink, SourceHop, UpAt, TunnelKind, n3, f1u_uplink, forwarding_down, forwarding_up}
+use Rattle.law_context_orders.specs.unit_defs.UpBearers.{made, has_downlink, thawed}
+use Rattle.law_handover_rows.specs.chain_defs.Parts.{Item, Member, Part}
+use Rattle.law_handover_rows.specs.chain_defs.Orders.{Order, keeps_n3, keeps_fresh, passes_n3, passes_fresh, sends, passes_numbered, drops, ends_n3, ends_hop, confirms, reports, tells_loss, sends_again, switches, knows, resumes, releases, on_downlink, known, waits}
+use Rattle.law_handover_rows.specs.law_chain_rows.Shown.{plain, items_of, pdus_of, number_orders, numbered_packets}
 use Rattle.law_context_orders.specs.Orders.{UpPart, UpOrder, on_switch, on_status, on_resume}
 use Rattle.law_context_orders.specs.Orders as ups
-use Rattle.gnb_types.specs.declared.names.NodeId.{NodeId}
-use Rattle.gnb_types.specs.declared.plans.SnStatus.{SnStatus}
-use Rattle.gnb_types.specs.declared.names.UeId.{UeId}
-use Rattle.gnb_types.specs.declared.names.BearerId.{BearerId}
-use Rattle.gnb_types.specs.declared.names.SnBits.{SnBits}
-use Rattle.unit_defs.specs.CuUp.{new_flags_of}
+use Rattle.law_context_orders.specs.gnb_types.declared.names.NodeId.{NodeId}
+use Rattle.law_context_orders.specs.gnb_types.declared.plans.SnStatus.{SnStatus}
+use Rattle.law_context_orders.specs.gnb_types.declared.names.UeId.{UeId}
+use Rattle.law_context_orders.specs.gnb_types.declared.names.BearerId.{BearerId}
+use Rattle.law_context_orders.specs.gnb_types.declared.names.SnBits.{SnBits}
+use Rattle.law_context_orders.specs.unit_defs.CuUp.{new_flags_of}
 
 -- ---- what the downlink says of a bearer: all but its uplink, the number of its next frame and its restart mark
 

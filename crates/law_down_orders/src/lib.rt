@@ -3,18 +3,18 @@
 #![tactic(auto)]
 
 ghost use Rattle.std.specs.Prelude.{◌≡◌, ◌≢◌, ℕ, Bool, false, List, [], ◌∷◌, Some};
-ghost use Rattle.chain_defs.specs.Orders.{run};
-ghost use Rattle.chain_defs.specs.Orders as chain;
-ghost use Rattle.chain_defs.specs.Parts.{Item, Part};
+ghost use Rattle.law_handover_rows.specs.chain_defs.Orders.{run};
+ghost use Rattle.law_handover_rows.specs.chain_defs.Orders as chain;
+ghost use Rattle.law_handover_rows.specs.chain_defs.Parts.{Item, Part};
 ghost use Rattle.law_context_orders.specs.Orders.{UpPart, UpOrder, begun, done, freezes, makes, takes};
 ghost use Rattle.law_down_orders.specs.Down.{IsDown, item_orders, IsFit, Shows, Stands};
 ghost use Rattle.law_down_orders.specs.Down.{control_orders, IsAsked, IsOfUplink, new_part, ShowsFrozen};
-ghost use Rattle.gnb_types.specs.declared.names.NodeId.{NodeId};
-ghost use Rattle.gnb_types.specs.declared.names.BearerId.{BearerId};
-ghost use Rattle.gnb_types.specs.declared.names.SnBits.{SnBits};
-ghost use Rattle.gnb_types.specs.declared.names.UeId.{UeId};
-ghost use Rattle.unit_defs.specs.UpRecords.{TunnelKind};
-ghost use Rattle.unit_defs.specs.Ways.{Taken, Way};
+ghost use Rattle.law_context_orders.specs.gnb_types.declared.names.NodeId.{NodeId};
+ghost use Rattle.law_context_orders.specs.gnb_types.declared.names.BearerId.{BearerId};
+ghost use Rattle.law_context_orders.specs.gnb_types.declared.names.SnBits.{SnBits};
+ghost use Rattle.law_context_orders.specs.gnb_types.declared.names.UeId.{UeId};
+ghost use Rattle.law_context_orders.specs.unit_defs.UpRecords.{TunnelKind};
+ghost use Rattle.law_context_orders.specs.unit_defs.Ways.{Taken, Way};
 
 /// An item that a bearer takes is a list of orders to its downlink: where the run's part has the bearer, it has it after them as
 /// the row leaves it; what the row puts on the target's tunnel is what they pass on, and the packets in its frames are what they

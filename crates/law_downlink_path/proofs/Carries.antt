@@ -1,10 +1,10 @@
 -- The terminal takes the next packet of its radio: a duplicate, or the next one, which is handed up at once.
 use Rattle.std.proofs.Common.{◌≡◌, ℕ, ◌+◌, ◌<◌, ◌≤◌, max, Bool, true, false, ◌==◌, nat_lt, List, [], ◌∷◌, ◌++◌, refl, sym, ap, subst, ◌∙◌, arith}
 use Rattle.std.specs.List.{AllByRecursion}
-use Rattle.tables.specs.Tables.{find, put}
-use Rattle.law_intervals.specs.Intervals.{HasNoGap, reach}
-use Rattle.law_intervals.proofs.Intervals.{upto-snoc}
-use Rattle.pdcp_defs.specs.Receivers.{Receiver, is_duplicate, stored, deliver}
+use Rattle.law_chain.specs.tables.Tables.{find, put}
+use Rattle.law_chain.specs.law_intervals.Intervals.{HasNoGap, reach}
+use Rattle.law_chain.proofs.law_intervals.Intervals.{upto-snoc}
+use Rattle.law_chain.specs.pdcp_defs.Receivers.{Receiver, is_duplicate, stored, deliver}
 use Rattle.law_chain.proofs.Facts.{pairs}
 use Rattle.law_chain.proofs.Frames.{same}
 use Rattle.law_downlink_path.specs.Paths.{Path}

@@ -1,11 +1,11 @@
 -- A freeze, a resume and a new tunnel keep all.
 use Rattle.std.proofs.Common.{◌≡◌, ℕ, ◌≤◌, max, Bool, true, false, ◌||◌, if◌then◌else◌, List, [], filter, Some, refl, sym, ap, subst, ◌∙◌, true≢false, arith}
-use Rattle.law_intervals.specs.Intervals.{upto, HasNoGap, reach}
-use Rattle.law_intervals.proofs.Intervals.{upto-nil, reach-le}
-use Rattle.pdcp_defs.specs.Senders.{Sender}
-use Rattle.unit_defs.specs.Ways.{report_pdu}
-use Rattle.unit_defs.specs.UpRecords.{Downlink, SourceHop, UpBearer}
-use Rattle.unit_defs.specs.UpBearers.{is_one_of, thawed}
+use Rattle.law_chain.specs.law_intervals.Intervals.{upto, HasNoGap, reach}
+use Rattle.law_chain.proofs.law_intervals.Intervals.{upto-nil, reach-le}
+use Rattle.law_chain.specs.pdcp_defs.Senders.{Sender}
+use Rattle.law_chain.specs.unit_defs.Ways.{report_pdu}
+use Rattle.law_chain.specs.unit_defs.UpRecords.{Downlink, SourceHop, UpBearer}
+use Rattle.law_chain.specs.unit_defs.UpBearers.{is_one_of, thawed}
 use Rattle.law_chain.proofs.Facts.{pairs}
 use Rattle.law_downlink_path.specs.Paths.{Path, frame_on, packets_sent}
 use Rattle.law_downlink_path.specs.Steps.{freezes, resumes, fails, begins_anew, put, anew, sent_anew, after}

@@ -2,9 +2,9 @@
 -- doesn't have, is the place that must have been reached where frame n comes next and no gap is open.
 use Rattle.std.specs.Prelude.{◌≡◌, ℕ, ◌+◌, ◌≤◌, ◌<◌, max, Bool, true, false, List, [], ◌∷◌, Option, Some, None}
 use Rattle.std.specs.List.{AllByRecursion}
-use Rattle.law_intervals.specs.Intervals.{upto, HasNoGap, reach}
-use Rattle.unit_defs.specs.Ways.{Pdu, packet_pdu, report_pdu}
-use Rattle.unit_defs.specs.UpRecords.{Downlink, UpBearer}
+use Rattle.law_chain.specs.law_intervals.Intervals.{upto, HasNoGap, reach}
+use Rattle.law_chain.specs.unit_defs.Ways.{Pdu, packet_pdu, report_pdu}
+use Rattle.law_chain.specs.unit_defs.UpRecords.{Downlink, UpBearer}
 use Rattle.law_chain.proofs.Facts.{pairs}
 use Rattle.law_downlink_path.specs.Paths.{Frame, Path}
 

@@ -2,12 +2,12 @@
 use Rattle.std.proofs.Common.{◌≡◌, ℕ, ◌+◌, ◌-◌, ◌<◌, ◌≤◌, max, Bool, true, false, List, [], ◌∷◌, ◌++◌, length, take, Option, Some, None, sym, ap, subst, ◌∙◌, nat_le, arith}
 use Rattle.std.proofs.lemmas.List.{append_assoc}
 use Rattle.std.specs.List.{AllByRecursion, enumerate_from}
-use Rattle.law_intervals.specs.Intervals.{segment, upto, HasNoGap, reach}
-use Rattle.law_intervals.proofs.Intervals.{upto-length, reach-le, HasNoGap-append}
-use Rattle.pdcp_defs.specs.Receivers.{is_ahead}
-use Rattle.unit_defs.specs.Ways.{Pdu, packet_pdu, report_pdu}
-use Rattle.unit_defs.specs.UpRecords.{Downlink}
-use Rattle.unit_defs.specs.Du.{DuBearer}
+use Rattle.law_chain.specs.law_intervals.Intervals.{segment, upto, HasNoGap, reach}
+use Rattle.law_chain.proofs.law_intervals.Intervals.{upto-length, reach-le, HasNoGap-append}
+use Rattle.law_chain.specs.pdcp_defs.Receivers.{is_ahead}
+use Rattle.law_chain.specs.unit_defs.Ways.{Pdu, packet_pdu, report_pdu}
+use Rattle.law_chain.specs.unit_defs.UpRecords.{Downlink}
+use Rattle.law_chain.specs.unit_defs.Du.{DuBearer}
 use Rattle.law_chain.proofs.Facts.{pairs}
 use Rattle.law_chain.proofs.Runs.{stream}
 use Rattle.law_chain.proofs.Laws.{first_ones}

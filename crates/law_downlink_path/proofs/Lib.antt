@@ -8,3 +8,4 @@ pub mod Runs
 pub mod Laws
 pub mod Lost
 pub mod Rows
+pub use Rattle.law_chain.proofs as law_chain

@@ -1,9 +1,9 @@
 -- What is asked in the worked run is met.
 use Rattle.std.proofs.Common.{◌≡◌, [], ◌∷◌, refl, arith}
-use Rattle.tables.specs.Tables.{find, put}
-use Rattle.pdcp_defs.specs.Senders.{numbered, restored, confirmed_to, confirmed_by}
-use Rattle.pdcp_defs.specs.Receivers.{is_duplicate, stored, deliver}
-use Rattle.unit_defs.specs.UpBearers.{made}
+use Rattle.law_chain.specs.tables.Tables.{find, put}
+use Rattle.law_chain.specs.pdcp_defs.Senders.{numbered, restored, confirmed_to, confirmed_by}
+use Rattle.law_chain.specs.pdcp_defs.Receivers.{is_duplicate, stored, deliver}
+use Rattle.law_chain.specs.unit_defs.UpBearers.{made}
 use Rattle.law_downlink_path.specs.Paths.{packets_sent, start}
 use Rattle.law_downlink_path.specs.Steps.{after, run, IsReady, IsOwed, AreKept}
 use Rattle.law_downlink_path.specs.Lossy.{lossy, downlink_to, du_bearer, a, b, c, d}

@@ -1,9 +1,9 @@
 -- Frames on the tunnel: more are put, any is lost, the first is taken.
 use Rattle.std.proofs.Common.{◌≡◌, ℕ, zero, suc, ◌+◌, ◌-◌, ◌<◌, ◌≤◌, Bool, true, false, not, ◌&&◌, ◌==◌, if◌then◌else◌, List, [], ◌∷◌, ◌++◌, Option, Some, None, refl, sym, subst, ◌∙◌, arith}
 use Rattle.std.proofs.lemmas.List.{append_assoc, append-nil}
-use Rattle.law_intervals.specs.Intervals.{segment, upto}
-use Rattle.unit_defs.specs.Ways.{Pdu, packet_pdu, report_pdu}
-use Rattle.unit_defs.specs.UpRecords.{UpBearer}
+use Rattle.law_chain.specs.law_intervals.Intervals.{segment, upto}
+use Rattle.law_chain.specs.unit_defs.Ways.{Pdu, packet_pdu, report_pdu}
+use Rattle.law_chain.specs.unit_defs.UpRecords.{UpBearer}
 use Rattle.law_chain.proofs.Facts.{pairs}
 use Rattle.law_downlink_path.specs.Paths.{Frame, Sending, frame_on, packets_sent}
 use Rattle.law_downlink_path.proofs.Facts.{View, FitsPacket, Quiet, Fits, Stands, Line, Marked, Speaks}

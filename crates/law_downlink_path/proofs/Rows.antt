@@ -1,17 +1,17 @@
 -- The rows of a CU-UP and of a DU put, and take, the frames of the steps.
 use Rattle.std.proofs.Common.{◌≡◌, ℕ, ◌+◌, Bool, true, false, not, ◌&&◌, ◌||◌, if◌then◌else◌, nat_lt, List, [], ◌∷◌, ◌++◌, Option, Some, None, refl, sym, ap, ◌∙◌}
 use Rattle.std.proofs.lemmas.List.{map-append}
-use Rattle.gnb_types.specs.declared.names.UeId.{UeId}
-use Rattle.gnb_types.specs.declared.names.BearerId.{BearerId}
-use Rattle.gnb_types.specs.declared.names.Dir.TheVariants.{Dl}
-use Rattle.gnb_types.specs.declared.outputs.Tag.{Tag}
-use Rattle.gnb_types.specs.declared.outputs.Tag.TheVariants.{Own, Absent, Same}
-use Rattle.gnb_types.specs.declared.reasons.DropReason.TheVariants.{Gap}
-use Rattle.unit_defs.specs.Ways.{Pdu, packet_pdu, report_pdu, frame, Output, packet, radio, dropped, frame_item, status, Way, Answer, gives, spent, with_outputs, ◌then◌}
-use Rattle.unit_defs.specs.UpRecords.{UpBearer, UpAt, Downlink}
-use Rattle.unit_defs.specs.UpBearers.{framed, framed_on, sent, sent_again as row_sends, last_frame}
-use Rattle.unit_defs.specs.UpItems.{lost_frames}
-use Rattle.unit_defs.specs.Du.{Du, DuBearer, DuContext, frame_came, with_bearer, told, missing, is_missing}
+use Rattle.law_chain.specs.gnb_types.declared.names.UeId.{UeId}
+use Rattle.law_chain.specs.gnb_types.declared.names.BearerId.{BearerId}
+use Rattle.law_chain.specs.gnb_types.declared.names.Dir.TheVariants.{Dl}
+use Rattle.law_chain.specs.gnb_types.declared.outputs.Tag.{Tag}
+use Rattle.law_chain.specs.gnb_types.declared.outputs.Tag.TheVariants.{Own, Absent, Same}
+use Rattle.law_chain.specs.gnb_types.declared.reasons.DropReason.TheVariants.{Gap}
+use Rattle.law_chain.specs.unit_defs.Ways.{Pdu, packet_pdu, report_pdu, frame, Output, packet, radio, dropped, frame_item, status, Way, Answer, gives, spent, with_outputs, ◌then◌}
+use Rattle.law_chain.specs.unit_defs.UpRecords.{UpBearer, UpAt, Downlink}
+use Rattle.law_chain.specs.unit_defs.UpBearers.{framed, framed_on, sent, sent_again as row_sends, last_frame}
+use Rattle.law_chain.specs.unit_defs.UpItems.{lost_frames}
+use Rattle.law_chain.specs.unit_defs.Du.{Du, DuBearer, DuContext, frame_came, with_bearer, told, missing, is_missing}
 use Rattle.law_downlink_path.specs.Paths.{Frame, Sending, frame_on, packets_sent, gap_after, taken_by}
 use Rattle.law_downlink_path.specs.Steps.{sent_again, sent_anew}
 use Rattle.law_downlink_path.specs.Shown.{pdu_written, written, loads_of, PutsFrames, radio_of, goes_on, Carries}

@@ -1,11 +1,11 @@
 -- What holds at the start and is kept by each step holds after every list of steps.
 use Rattle.std.proofs.Common.{◌≡◌, ℕ, suc, ◌+◌, ◌≤◌, Bool, true, false, List, [], ◌∷◌, length, refl, sym, ap, subst, ◌∙◌, arith}
 use Rattle.std.specs.Prelude.{⊤}
-use Rattle.law_intervals.specs.Intervals.{segment, upto, HasNoGap, reach}
-use Rattle.pdcp_defs.specs.Receivers.{Delivery, is_duplicate, stored, deliver}
-use Rattle.unit_defs.specs.UpRecords.{Downlink}
-use Rattle.unit_defs.specs.UpBearers.{made}
-use Rattle.unit_defs.specs.Du.{DuBearer}
+use Rattle.law_chain.specs.law_intervals.Intervals.{segment, upto, HasNoGap, reach}
+use Rattle.law_chain.specs.pdcp_defs.Receivers.{Delivery, is_duplicate, stored, deliver}
+use Rattle.law_chain.specs.unit_defs.UpRecords.{Downlink}
+use Rattle.law_chain.specs.unit_defs.UpBearers.{made}
+use Rattle.law_chain.specs.unit_defs.Du.{DuBearer}
 use Rattle.law_chain.proofs.Runs.{stream}
 use Rattle.law_downlink_path.specs.Paths.{Path, start}
 use Rattle.law_downlink_path.specs.Steps.{Step, numbers, sends, keeps, polls, reports, status, confirms, freezes, resumes, fails, begins_anew, loses, takes, carries, handed, after, run, packets_in, IsReady, IsOwed, AreKept}

@@ -2,13 +2,13 @@
 use Rattle.std.proofs.Common.{◌≡◌, ℕ, zero, suc, ◌+◌, ◌-◌, ◌<◌, ◌≤◌, min, max, Bool, true, false, not, ◌&&◌, ◌==◌, nat_lt, nat_le, List, [], ◌∷◌, ◌++◌, filter, Option, Some, None, refl, sym, ap, subst, ◌∙◌, arith}
 use Rattle.std.proofs.lemmas.List.{append-nil}
 use Rattle.std.specs.List.{list_any}
-use Rattle.law_intervals.specs.Intervals.{segment, upto}
-use Rattle.law_intervals.proofs.Intervals.{upto-nil, upto-snoc, upto-filter}
-use Rattle.pdcp_defs.specs.Senders.{Sender, numbered as with_next, restored, confirmed_to, confirmed_by, is_reported}
-use Rattle.unit_defs.specs.Ways.{report_pdu}
-use Rattle.unit_defs.specs.UpRecords.{UpBearer}
-use Rattle.unit_defs.specs.UpBearers.{is_one_of}
-use Rattle.chain_defs.specs.Orders.{holds}
+use Rattle.law_chain.specs.law_intervals.Intervals.{segment, upto}
+use Rattle.law_chain.proofs.law_intervals.Intervals.{upto-nil, upto-snoc, upto-filter}
+use Rattle.law_chain.specs.pdcp_defs.Senders.{Sender, numbered as with_next, restored, confirmed_to, confirmed_by, is_reported}
+use Rattle.law_chain.specs.unit_defs.Ways.{report_pdu}
+use Rattle.law_chain.specs.unit_defs.UpRecords.{UpBearer}
+use Rattle.law_chain.specs.unit_defs.UpBearers.{is_one_of}
+use Rattle.law_chain.specs.chain_defs.Orders.{holds}
 use Rattle.law_chain.proofs.Facts.{pairs}
 use Rattle.law_chain.proofs.Frames.{apart}
 use Rattle.law_downlink_path.specs.Paths.{Frame, Path, Sending, frame_on, packets_sent}

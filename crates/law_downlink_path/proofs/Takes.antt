@@ -1,9 +1,9 @@
 -- A frame is lost, the DU takes one, the terminal takes a packet: all is kept.
 use Rattle.std.proofs.Common.{◌≡◌, ℕ, ◌+◌, ◌<◌, ◌≤◌, max, Bool, true, false, not, ◌&&◌, ◌||◌, nat_lt, List, [], ◌∷◌, ◌++◌, Option, Some, None, refl, sym, subst, ◌∙◌, true≢false, arith}
 use Rattle.std.proofs.lemmas.List.{append-nil}
-use Rattle.law_intervals.specs.Intervals.{HasNoGap, reach}
-use Rattle.law_intervals.proofs.Intervals.{all_append, reach-le, reach-append, HasNoGap-append}
-use Rattle.unit_defs.specs.Ways.{Pdu, packet_pdu, report_pdu}
+use Rattle.law_chain.specs.law_intervals.Intervals.{HasNoGap, reach}
+use Rattle.law_chain.proofs.law_intervals.Intervals.{all_append, reach-le, reach-append, HasNoGap-append}
+use Rattle.law_chain.specs.unit_defs.Ways.{Pdu, packet_pdu, report_pdu}
 use Rattle.law_chain.proofs.Frames.{apart}
 use Rattle.law_downlink_path.specs.Paths.{Frame, Path, carried_by, gap_after, taken_by}
 use Rattle.law_downlink_path.specs.Steps.{loses, takes, after}

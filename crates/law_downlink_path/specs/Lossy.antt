@@ -1,10 +1,10 @@
 -- A run in which frames are lost: a poll shows one loss, a later frame another, and one is shown while the bearer is frozen.
 use Rattle.std.specs.Prelude.{ℕ, Bool, true, false, List, [], ◌∷◌, Some, None}
-use Rattle.gnb_types.specs.declared.names.Gnb.TheVariants.{A}
-use Rattle.gnb_types.specs.declared.names.NodeId.TheVariants.{CuUp, Du}
-use Rattle.unit_defs.specs.Ways.{packet_pdu, report_pdu}
-use Rattle.unit_defs.specs.UpRecords.{Downlink, SourceHop}
-use Rattle.unit_defs.specs.Du.{DuBearer}
+use Rattle.law_chain.specs.gnb_types.declared.names.Gnb.TheVariants.{A}
+use Rattle.law_chain.specs.gnb_types.declared.names.NodeId.TheVariants.{CuUp, Du}
+use Rattle.law_chain.specs.unit_defs.Ways.{packet_pdu, report_pdu}
+use Rattle.law_chain.specs.unit_defs.UpRecords.{Downlink, SourceHop}
+use Rattle.law_chain.specs.unit_defs.Du.{DuBearer}
 use Rattle.law_downlink_path.specs.Paths.{Frame}
 use Rattle.law_downlink_path.specs.Steps.{Step, numbers, keeps, polls, status, confirms, freezes, resumes, fails, begins_anew, loses, takes, carries}
 

@@ -1,11 +1,11 @@
 -- The way of one bearer's packets down from a CU-UP to the terminal: frames on the F1-U tunnel, any of which may be lost, the DU,
 -- its radio, and the terminal (TS 38.425, 5.4; TS 38.323, 5.2).
 use Rattle.std.specs.Prelude.{ℕ, ◌+◌, Bool, true, false, not, ◌&&◌, ◌||◌, nat_lt, List, [], ◌∷◌, ◌++◌, Option, Some, None}
-use Rattle.pdcp_defs.specs.Receivers.{Receiver, new_receiver}
-use Rattle.unit_defs.specs.Ways.{Pdu, packet_pdu, report_pdu}
-use Rattle.unit_defs.specs.UpRecords.{Downlink, UpBearer}
-use Rattle.unit_defs.specs.UpBearers.{made}
-use Rattle.unit_defs.specs.Du.{DuBearer}
+use Rattle.law_chain.specs.pdcp_defs.Receivers.{Receiver, new_receiver}
+use Rattle.law_chain.specs.unit_defs.Ways.{Pdu, packet_pdu, report_pdu}
+use Rattle.law_chain.specs.unit_defs.UpRecords.{Downlink, UpBearer}
+use Rattle.law_chain.specs.unit_defs.UpBearers.{made}
+use Rattle.law_chain.specs.unit_defs.Du.{DuBearer}
 
 -- an NR-U data frame; one that polls carries nothing
 pub record Frame : Type 0 where

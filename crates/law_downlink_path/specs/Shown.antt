@@ -1,9 +1,9 @@
 -- What rows of a CU-UP and of a DU give to the way down: the frames that are put, the bearer after them, and what goes to the radio.
 use Rattle.std.specs.Prelude.{◌≡◌, Bool, true, false, List, [], ◌∷◌, map, Option, Some, None, ⊤}
-use Rattle.gnb_types.specs.declared.names.SnBits.{SnBits}
-use Rattle.gnb_types.specs.declared.names.Dir.TheVariants.{Dl}
-use Rattle.unit_defs.specs.Ways.{Pdu, Load, frame, Output, packet, radio, Way, Answer, gives, spent}
-use Rattle.unit_defs.specs.UpRecords.{UpBearer}
+use Rattle.law_chain.specs.gnb_types.declared.names.SnBits.{SnBits}
+use Rattle.law_chain.specs.gnb_types.declared.names.Dir.TheVariants.{Dl}
+use Rattle.law_chain.specs.unit_defs.Ways.{Pdu, Load, frame, Output, packet, radio, Way, Answer, gives, spent}
+use Rattle.law_chain.specs.unit_defs.UpRecords.{UpBearer}
 use Rattle.law_downlink_path.specs.Paths.{Frame, Sending}
 
 abbrev pub pdu_written : {M C P : Type 0} → Way M C P → SnBits → Option Pdu → Option P

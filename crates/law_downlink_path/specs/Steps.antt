@@ -1,12 +1,12 @@
 -- What happens on the way, in small orders, and what each asks for. `IsReady` is what the units test themselves, and what stands
 -- where they take from; `IsOwed` is what the rest of the station owes.
 use Rattle.std.specs.Prelude.{◌≡◌, ℕ, ◌+◌, ◌<◌, ◌≤◌, Bool, true, false, not, ◌||◌, if◌then◌else◌, List, [], ◌∷◌, ◌++◌, Option, Some, None, ⊤}
-use Rattle.pdcp_defs.specs.Senders.{numbered as with_next, confirmed_to, confirmed_by}
-use Rattle.pdcp_defs.specs.Receivers.{Delivery, is_duplicate, stored, deliver}
-use Rattle.unit_defs.specs.Ways.{report_pdu}
-use Rattle.unit_defs.specs.UpRecords.{Downlink, SourceHop, UpBearer}
-use Rattle.unit_defs.specs.UpBearers.{owed, thawed}
-use Rattle.chain_defs.specs.Orders.{holds, takes_unless, frozen}
+use Rattle.law_chain.specs.pdcp_defs.Senders.{numbered as with_next, confirmed_to, confirmed_by}
+use Rattle.law_chain.specs.pdcp_defs.Receivers.{Delivery, is_duplicate, stored, deliver}
+use Rattle.law_chain.specs.unit_defs.Ways.{report_pdu}
+use Rattle.law_chain.specs.unit_defs.UpRecords.{Downlink, SourceHop, UpBearer}
+use Rattle.law_chain.specs.unit_defs.UpBearers.{owed, thawed}
+use Rattle.law_chain.specs.chain_defs.Orders.{holds, takes_unless, frozen}
 use Rattle.law_downlink_path.specs.Paths.{Frame, Path, Sending, frame_on, packets_sent, taken_by, gap_after, carried_by}
 
 pub data Step : Type 0 where

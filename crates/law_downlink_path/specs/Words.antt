@@ -1,8 +1,8 @@
 -- What the laws say of the way down, after some steps by which the CU-UP came to hold these packets.
 use Rattle.std.specs.Prelude.{◌≡◌, ℕ, ◌+◌, ◌<◌, ◌≤◌, true, false, List, [], ◌∷◌, ◌++◌, length, take, ⊤}
 use Rattle.std.specs.List.{AllByRecursion, enumerate_from}
-use Rattle.law_intervals.specs.Intervals.{HasNoGap}
-use Rattle.pdcp_defs.specs.Receivers.{is_ahead}
+use Rattle.law_chain.specs.law_intervals.Intervals.{HasNoGap}
+use Rattle.law_chain.specs.pdcp_defs.Receivers.{is_ahead}
 use Rattle.law_downlink_path.specs.Paths.{Frame, Path, packet_of}
 
 -- each packet once, with COUNTs 0, 1, 2 and so on

@@ -3,16 +3,16 @@
 #![tactic(auto)]
 
 ghost use Rattle.std.specs.Prelude.{◌≡◌, ℕ, Bool, false, List, [], ◌∷◌, Option, Some};
-ghost use Rattle.gnb_types.specs.declared.names.UeId.{UeId};
-ghost use Rattle.gnb_types.specs.declared.names.BearerId.{BearerId};
-ghost use Rattle.gnb_types.specs.declared.outputs.Tag.{Tag};
-ghost use Rattle.gnb_types.specs.declared.outputs.Tag.TheVariants.{Absent};
-ghost use Rattle.message_types.specs.declared.rrc.Token.{Token};
-ghost use Rattle.unit_defs.specs.Ways.{Message, Pdu, report_pdu, frame_item, Way, ◌then◌};
-ghost use Rattle.unit_defs.specs.UpRecords.{Downlink, UpBearer, UpAt};
-ghost use Rattle.unit_defs.specs.UpBearers.{framed, sent_again as row_sends};
-ghost use Rattle.unit_defs.specs.UpItems.{lost_frames};
-ghost use Rattle.unit_defs.specs.Du.{Du, DuBearer, DuContext, frame_came, with_bearer};
+ghost use Rattle.law_chain.specs.gnb_types.declared.names.UeId.{UeId};
+ghost use Rattle.law_chain.specs.gnb_types.declared.names.BearerId.{BearerId};
+ghost use Rattle.law_chain.specs.gnb_types.declared.outputs.Tag.{Tag};
+ghost use Rattle.law_chain.specs.gnb_types.declared.outputs.Tag.TheVariants.{Absent};
+ghost use Rattle.law_chain.specs.message_types.declared.rrc.Token.{Token};
+ghost use Rattle.law_chain.specs.unit_defs.Ways.{Message, Pdu, report_pdu, frame_item, Way, ◌then◌};
+ghost use Rattle.law_chain.specs.unit_defs.UpRecords.{Downlink, UpBearer, UpAt};
+ghost use Rattle.law_chain.specs.unit_defs.UpBearers.{framed, sent_again as row_sends};
+ghost use Rattle.law_chain.specs.unit_defs.UpItems.{lost_frames};
+ghost use Rattle.law_chain.specs.unit_defs.Du.{Du, DuBearer, DuContext, frame_came, with_bearer};
 ghost use Rattle.law_downlink_path.specs.Paths.{Frame, start, frame_on, packets_sent, gap_after, taken_by};
 ghost use Rattle.law_downlink_path.specs.Shown.{pdu_written, PutsFrames, goes_on, Carries};
 ghost use Rattle.law_downlink_path.specs.Steps.{Step, sent_again, sent_anew, run, packets_in, AreKept};

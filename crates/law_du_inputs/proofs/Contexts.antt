@@ -2,14 +2,14 @@
 use Rattle.std.proofs.Common.{◌≡◌, ℕ, ◌+◌, Bool, true, false, cond, if◌then◌else◌, List, [], ◌∷◌, Option, Some, None, refl, sym, ap, ◌∙◌}
 use Rattle.std.specs.Ordering.{eq_by_cmp}
 use Rattle.std.specs.Cmp.{Equal-is}
-use Rattle.gnb_types.specs.declared.names.UeId.{UeId}
-use Rattle.gnb_types.specs.declared.names.BearerId.{BearerId}
-use Rattle.gnb_types.specs.Orders.{ue_cmp, bearer_cmp}
-use Rattle.gnb_types.proofs.OrderLemmas.{ue_total, ue_exact, bearer_exact}
-use Rattle.tables.specs.Tables.{find, put, without}
-use Rattle.tables.proofs.TableLaws.{find-put-same, find-put-other, find-without-same, find-without-other}
-use Rattle.unit_defs.specs.Du.{Du, DuBearer, DuContext, bearers_anew}
-use Rattle.unit_defs.specs.Ways.{Output, Answer, gives, spent, with_outputs, ◌then◌}
+use Rattle.law_du_rows.specs.gnb_types.declared.names.UeId.{UeId}
+use Rattle.law_du_rows.specs.gnb_types.declared.names.BearerId.{BearerId}
+use Rattle.law_du_rows.specs.gnb_types.Orders.{ue_cmp, bearer_cmp}
+use Rattle.law_du_rows.proofs.gnb_types.OrderLemmas.{ue_total, ue_exact, bearer_exact}
+use Rattle.law_du_rows.specs.tables.Tables.{find, put, without}
+use Rattle.law_du_rows.proofs.tables.TableLaws.{find-put-same, find-put-other, find-without-same, find-without-other}
+use Rattle.law_du_rows.specs.unit_defs.Du.{Du, DuBearer, DuContext, bearers_anew}
+use Rattle.law_du_rows.specs.unit_defs.Ways.{Output, Answer, gives, spent, with_outputs, ◌then◌}
 use Rattle.law_du_rows.specs.Shown.{Keeps, renewed}
 use Rattle.law_du_inputs.specs.Changes.{DuPart, part_with, part_in, part_of, stays, renews, sets_up, ends, changed, teid_anew, Has}
 

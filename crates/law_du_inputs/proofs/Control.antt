@@ -1,30 +1,30 @@
 -- Control messages: what a request changes, and that the rest changes nothing.
 use Rattle.std.proofs.Common.{◌≡◌, ℕ, ◌==◌, Bool, true, false, not, if◌then◌else◌, List, [], ◌∷◌, ◌++◌, length, map, Option, Some, None, refl, sym, ap, subst, ◌∙◌, append_assoc}
 use Rattle.std.specs.Ordering.{eq_by_cmp}
-use Rattle.gnb_types.specs.declared.names.NodeId.{NodeId}
-use Rattle.gnb_types.specs.declared.names.NodeId.TheVariants.{CuCp, CuUp, Du as du_id, Core, Ue}
-use Rattle.gnb_types.specs.declared.names.UeId.{UeId}
-use Rattle.gnb_types.specs.declared.names.BearerId.{BearerId}
-use Rattle.gnb_types.specs.declared.names.SnBits.{SnBits}
-use Rattle.gnb_types.specs.declared.names.Dir.TheVariants.{Dl, Ul}
-use Rattle.gnb_types.specs.declared.keys.Channel.{Channel}
-use Rattle.gnb_types.specs.declared.plans.Peer.{Peer}
-use Rattle.gnb_types.specs.declared.plans.Tunnel.{Tunnel}
-use Rattle.gnb_types.specs.declared.reasons.DropReason.TheVariants.{Stale, Unexpected}
-use Rattle.gnb_types.specs.declared.inputs.Order.TheVariants as orders
-use Rattle.gnb_types.specs.declared.outputs.Tag.TheVariants.{Same}
-use Rattle.gnb_types.specs.Names.{node_text}
-use Rattle.gnb_types.specs.Orders.{ue_cmp, bearer_cmp}
-use Rattle.tables.specs.Tables.{find, put, without}
-use Rattle.message_types.specs.declared.f1.F1.{F1}
-use Rattle.message_types.specs.declared.f1.F1.TheVariants as f1s
-use Rattle.transaction_defs.specs.Callers.{close, is_awaited}
-use Rattle.transaction_defs.specs.Callees.{Verdict, new, again, stale, verdict, taken, keep, kept_reply}
-use Rattle.unit_defs.specs.Ways.{Message, f1, e1, xn, core, rrc, Pdu, Input, control_input, packet_input, radio_input, confirm_input, offer_input, tick_input, order_input, Output, control, packet, uplink, dropped, opened, closed, Way, Answer, gives, spent, with_outputs, ◌then◌, nothing, puts, drops, teids_spent}
-use Rattle.unit_defs.specs.Messages.{channel, is_same_gnb, bearers_of, are_first_bearers}
-use Rattle.unit_defs.specs.Transactions.{Kind, request, reply, transfer, kind_of, no_instance, Transactions, Asked, ask, advance, replied, request_by, answered_again, on_request, on_reply}
-use Rattle.unit_defs.specs.Teids.{teids_are_left}
-use Rattle.unit_defs.specs.Du.{Du, DuBearer, DuContext, du_node, downlinks_of, context_of, with_transactions, downlink_list, replies, openings, old_downlinks, replaced, replaces, context_with, setup, context_anew, modify_on, modify, released_on, release, relay_up, token_ue, start, set_up, asked, transferred, of_cp, of_terminal, control_came, of_bearer, of_context, pass_up, confirmed, confirm, tick, du_acts}
+use Rattle.law_du_rows.specs.gnb_types.declared.names.NodeId.{NodeId}
+use Rattle.law_du_rows.specs.gnb_types.declared.names.NodeId.TheVariants.{CuCp, CuUp, Du as du_id, Core, Ue}
+use Rattle.law_du_rows.specs.gnb_types.declared.names.UeId.{UeId}
+use Rattle.law_du_rows.specs.gnb_types.declared.names.BearerId.{BearerId}
+use Rattle.law_du_rows.specs.gnb_types.declared.names.SnBits.{SnBits}
+use Rattle.law_du_rows.specs.gnb_types.declared.names.Dir.TheVariants.{Dl, Ul}
+use Rattle.law_du_rows.specs.gnb_types.declared.keys.Channel.{Channel}
+use Rattle.law_du_rows.specs.gnb_types.declared.plans.Peer.{Peer}
+use Rattle.law_du_rows.specs.gnb_types.declared.plans.Tunnel.{Tunnel}
+use Rattle.law_du_rows.specs.gnb_types.declared.reasons.DropReason.TheVariants.{Stale, Unexpected}
+use Rattle.law_du_rows.specs.gnb_types.declared.inputs.Order.TheVariants as orders
+use Rattle.law_du_rows.specs.gnb_types.declared.outputs.Tag.TheVariants.{Same}
+use Rattle.law_du_rows.specs.gnb_types.Names.{node_text}
+use Rattle.law_du_rows.specs.gnb_types.Orders.{ue_cmp, bearer_cmp}
+use Rattle.law_du_rows.specs.tables.Tables.{find, put, without}
+use Rattle.law_du_rows.specs.message_types.declared.f1.F1.{F1}
+use Rattle.law_du_rows.specs.message_types.declared.f1.F1.TheVariants as f1s
+use Rattle.law_du_rows.specs.transaction_defs.Callers.{close, is_awaited}
+use Rattle.law_du_rows.specs.transaction_defs.Callees.{Verdict, new, again, stale, verdict, taken, keep, kept_reply}
+use Rattle.law_du_rows.specs.unit_defs.Ways.{Message, f1, e1, xn, core, rrc, Pdu, Input, control_input, packet_input, radio_input, confirm_input, offer_input, tick_input, order_input, Output, control, packet, uplink, dropped, opened, closed, Way, Answer, gives, spent, with_outputs, ◌then◌, nothing, puts, drops, teids_spent}
+use Rattle.law_du_rows.specs.unit_defs.Messages.{channel, is_same_gnb, bearers_of, are_first_bearers}
+use Rattle.law_du_rows.specs.unit_defs.Transactions.{Kind, request, reply, transfer, kind_of, no_instance, Transactions, Asked, ask, advance, replied, request_by, answered_again, on_request, on_reply}
+use Rattle.law_du_rows.specs.unit_defs.Teids.{teids_are_left}
+use Rattle.law_du_rows.specs.unit_defs.Du.{Du, DuBearer, DuContext, du_node, downlinks_of, context_of, with_transactions, downlink_list, replies, openings, old_downlinks, replaced, replaces, context_with, setup, context_anew, modify_on, modify, released_on, release, relay_up, token_ue, start, set_up, asked, transferred, of_cp, of_terminal, control_came, of_bearer, of_context, pass_up, confirmed, confirm, tick, du_acts}
 use Rattle.law_du_rows.specs.Shown.{Keeps}
 use Rattle.law_du_rows.proofs.Contexts.{relay_down_keeps, relay_up_keeps, tick_keeps}
 use Rattle.law_du_inputs.specs.Changes.{DuPart, teid_anew, part_in, part_of, Change, stays, renews, sets_up, ends, changed, if_own, of_setup, of_modification, of_request, if_new, of_kind, of_letter, change_by, Has}

@@ -1,17 +1,17 @@
 -- A frame changes its own bearer alone.
 use Rattle.std.proofs.Common.{◌≡◌, ℕ, ◌+◌, Bool, true, false, if◌then◌else◌, List, [], ◌∷◌, ◌++◌, Option, Some, None, refl, sym, ap, subst, ◌∙◌}
 use Rattle.std.specs.Ordering.{nat_cmp, eq_by_cmp}
-use Rattle.gnb_types.specs.declared.names.UeId.{UeId}
-use Rattle.gnb_types.specs.declared.names.BearerId.{BearerId}
-use Rattle.gnb_types.specs.declared.names.Dir.TheVariants.{Dl}
-use Rattle.gnb_types.specs.declared.outputs.Tag.TheVariants.{Same}
-use Rattle.gnb_types.specs.declared.reasons.DropReason.TheVariants.{Gap}
-use Rattle.gnb_types.specs.Orders.{ue_cmp, bearer_cmp}
-use Rattle.gnb_types.proofs.OrderLemmas.{bearer_total}
-use Rattle.tables.specs.Tables.{find, put}
-use Rattle.tables.proofs.TableLaws.{find-put-same, find-put-other}
-use Rattle.unit_defs.specs.Ways.{Pdu, Taken, fresh_item, numbered_item, frame_item, uplink_item, status_item, end_item, Output, radio, Way, gives, with_outputs, ◌then◌, dropped, puts, drops}
-use Rattle.unit_defs.specs.Du.{Du, DuBearer, DuContext, DuTunnel, context_of, told, with_bearer, frame_came, taken_in, taken_of, taken_on, take}
+use Rattle.law_du_rows.specs.gnb_types.declared.names.UeId.{UeId}
+use Rattle.law_du_rows.specs.gnb_types.declared.names.BearerId.{BearerId}
+use Rattle.law_du_rows.specs.gnb_types.declared.names.Dir.TheVariants.{Dl}
+use Rattle.law_du_rows.specs.gnb_types.declared.outputs.Tag.TheVariants.{Same}
+use Rattle.law_du_rows.specs.gnb_types.declared.reasons.DropReason.TheVariants.{Gap}
+use Rattle.law_du_rows.specs.gnb_types.Orders.{ue_cmp, bearer_cmp}
+use Rattle.law_du_rows.proofs.gnb_types.OrderLemmas.{bearer_total}
+use Rattle.law_du_rows.specs.tables.Tables.{find, put}
+use Rattle.law_du_rows.proofs.tables.TableLaws.{find-put-same, find-put-other}
+use Rattle.law_du_rows.specs.unit_defs.Ways.{Pdu, Taken, fresh_item, numbered_item, frame_item, uplink_item, status_item, end_item, Output, radio, Way, gives, with_outputs, ◌then◌, dropped, puts, drops}
+use Rattle.law_du_rows.specs.unit_defs.Du.{Du, DuBearer, DuContext, DuTunnel, context_of, told, with_bearer, frame_came, taken_in, taken_of, taken_on, take}
 use Rattle.law_du_rows.specs.law_downlink_path.Paths.{Frame, taken_by, gap_after as shown_gap}
 use Rattle.law_du_inputs.specs.Changes.{DuPart, part_with, part_in, part_of, stays, takes, changed, of_frame, of_tunnel, Has}
 use Rattle.law_du_inputs.proofs.Contexts.{same_ue, same_bearer, stays_is, put_here, put_far}

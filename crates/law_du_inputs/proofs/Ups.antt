@@ -2,16 +2,16 @@
 use Rattle.std.proofs.Common.{◌≡◌, ℕ, Bool, true, false, ◌&&◌, ◌||◌, if◌then◌else◌, List, [], ◌∷◌, ◌++◌, Option, Some, None, refl, sym, ap, subst, ◌∙◌}
 use Rattle.std.proofs.lemmas.List.{append-nil}
 use Rattle.std.specs.Ordering.{nat_cmp, eq_by_cmp}
-use Rattle.gnb_types.specs.declared.names.UeId.{UeId}
-use Rattle.gnb_types.specs.declared.names.BearerId.{BearerId}
-use Rattle.gnb_types.specs.declared.names.Dir.TheVariants.{Dl, Ul}
-use Rattle.gnb_types.specs.declared.reasons.DropReason.{DropReason}
-use Rattle.gnb_types.specs.declared.reasons.DropReason.TheVariants.{NoContext, NoTunnel, Unexpected}
-use Rattle.gnb_types.specs.declared.outputs.Tag.TheVariants.{Absent, Same}
-use Rattle.gnb_types.specs.Orders.{ue_cmp, bearer_cmp}
-use Rattle.tables.specs.Tables.{find}
-use Rattle.unit_defs.specs.Ways.{Pdu, uplink, status, Taken, fresh_item, numbered_item, frame_item, uplink_item, status_item, end_item, Output, packet, Way, Answer, ◌then◌, puts, drops}
-use Rattle.unit_defs.specs.Du.{Du, DuBearer, DuContext, DuTunnel, context_of, missing, is_missing, told, frame_came, taken_in, taken_of, taken_on, take, of_bearer, of_context, pass_up, confirmed, confirm}
+use Rattle.law_du_rows.specs.gnb_types.declared.names.UeId.{UeId}
+use Rattle.law_du_rows.specs.gnb_types.declared.names.BearerId.{BearerId}
+use Rattle.law_du_rows.specs.gnb_types.declared.names.Dir.TheVariants.{Dl, Ul}
+use Rattle.law_du_rows.specs.gnb_types.declared.reasons.DropReason.{DropReason}
+use Rattle.law_du_rows.specs.gnb_types.declared.reasons.DropReason.TheVariants.{NoContext, NoTunnel, Unexpected}
+use Rattle.law_du_rows.specs.gnb_types.declared.outputs.Tag.TheVariants.{Absent, Same}
+use Rattle.law_du_rows.specs.gnb_types.Orders.{ue_cmp, bearer_cmp}
+use Rattle.law_du_rows.specs.tables.Tables.{find}
+use Rattle.law_du_rows.specs.unit_defs.Ways.{Pdu, uplink, status, Taken, fresh_item, numbered_item, frame_item, uplink_item, status_item, end_item, Output, packet, Way, Answer, ◌then◌, puts, drops}
+use Rattle.law_du_rows.specs.unit_defs.Du.{Du, DuBearer, DuContext, DuTunnel, context_of, missing, is_missing, told, frame_came, taken_in, taken_of, taken_on, take, of_bearer, of_context, pass_up, confirmed, confirm}
 use Rattle.law_du_rows.specs.law_downlink_path.Paths.{Frame, gap_after}
 use Rattle.law_du_inputs.specs.Changes.{DuPart, part_with, part_in, part_of, Change, stays, takes, of_frame, of_tunnel}
 use Rattle.law_du_inputs.specs.Puts.{OnTunnel, is_of, tunnels_put, radio_put, on_uplink, of_change, of_number, of_part, carried_if, carried_of, Puts}

@@ -1,21 +1,21 @@
 -- What a DU has of one bearer, and what each of its inputs changes of that.
 use Rattle.std.specs.Prelude.{◌≡◌, ℕ, ◌+◌, Bool, not, if◌then◌else◌, List, [], ◌∷◌, Option, Some, None, ⊤}
 use Rattle.std.specs.Ordering.{nat_cmp, eq_by_cmp}
-use Rattle.gnb_types.specs.declared.names.NodeId.{NodeId}
-use Rattle.gnb_types.specs.declared.names.NodeId.TheVariants.{CuCp}
-use Rattle.gnb_types.specs.declared.names.UeId.{UeId}
-use Rattle.gnb_types.specs.declared.names.BearerId.{BearerId}
-use Rattle.gnb_types.specs.declared.names.SnBits.{SnBits}
-use Rattle.gnb_types.specs.declared.plans.Peer.{Peer}
-use Rattle.gnb_types.specs.declared.plans.Tunnel.{Tunnel}
-use Rattle.gnb_types.specs.Orders.{ue_cmp, bearer_cmp}
-use Rattle.tables.specs.Tables.{find}
-use Rattle.message_types.specs.declared.f1.F1.TheVariants as f1s
-use Rattle.transaction_defs.specs.Callees.{Verdict, new, again, stale, verdict}
-use Rattle.unit_defs.specs.Ways.{Message, f1, Pdu, Taken, frame_item, Input, control_input, packet_input, Way, Answer, gives, spent}
-use Rattle.unit_defs.specs.Messages.{channel, is_same_gnb, bearers_of, are_first_bearers}
-use Rattle.unit_defs.specs.Transactions.{Kind, request, kind_of}
-use Rattle.unit_defs.specs.Du.{Du, DuBearer, DuContext, DuTunnel, context_of, context_with}
+use Rattle.law_du_rows.specs.gnb_types.declared.names.NodeId.{NodeId}
+use Rattle.law_du_rows.specs.gnb_types.declared.names.NodeId.TheVariants.{CuCp}
+use Rattle.law_du_rows.specs.gnb_types.declared.names.UeId.{UeId}
+use Rattle.law_du_rows.specs.gnb_types.declared.names.BearerId.{BearerId}
+use Rattle.law_du_rows.specs.gnb_types.declared.names.SnBits.{SnBits}
+use Rattle.law_du_rows.specs.gnb_types.declared.plans.Peer.{Peer}
+use Rattle.law_du_rows.specs.gnb_types.declared.plans.Tunnel.{Tunnel}
+use Rattle.law_du_rows.specs.gnb_types.Orders.{ue_cmp, bearer_cmp}
+use Rattle.law_du_rows.specs.tables.Tables.{find}
+use Rattle.law_du_rows.specs.message_types.declared.f1.F1.TheVariants as f1s
+use Rattle.law_du_rows.specs.transaction_defs.Callees.{Verdict, new, again, stale, verdict}
+use Rattle.law_du_rows.specs.unit_defs.Ways.{Message, f1, Pdu, Taken, frame_item, Input, control_input, packet_input, Way, Answer, gives, spent}
+use Rattle.law_du_rows.specs.unit_defs.Messages.{channel, is_same_gnb, bearers_of, are_first_bearers}
+use Rattle.law_du_rows.specs.unit_defs.Transactions.{Kind, request, kind_of}
+use Rattle.law_du_rows.specs.unit_defs.Du.{Du, DuBearer, DuContext, DuTunnel, context_of, context_with}
 use Rattle.law_du_rows.specs.law_downlink_path.Paths.{Frame, taken_by}
 use Rattle.law_du_rows.specs.Shown.{renewed}
 

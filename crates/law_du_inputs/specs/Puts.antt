@@ -1,13 +1,13 @@
 -- What a DU puts for one bearer: on uplink tunnels, and on its radio.
 use Rattle.std.specs.Prelude.{◌≡◌, ℕ, Bool, true, false, ◌&&◌, ◌||◌, if◌then◌else◌, List, [], ◌∷◌, ◌++◌, Option, Some, None, ⊤}
 use Rattle.std.specs.Ordering.{eq_by_cmp}
-use Rattle.gnb_types.specs.declared.names.NodeId.{NodeId}
-use Rattle.gnb_types.specs.declared.names.UeId.{UeId}
-use Rattle.gnb_types.specs.declared.names.BearerId.{BearerId}
-use Rattle.gnb_types.specs.declared.names.Dir.TheVariants.{Dl}
-use Rattle.gnb_types.specs.Orders.{ue_cmp, bearer_cmp}
-use Rattle.unit_defs.specs.Ways.{Pdu, Load, status, end_marker, Output, packet, radio, Way, Answer, gives, spent}
-use Rattle.unit_defs.specs.Du.{missing, is_missing}
+use Rattle.law_du_rows.specs.gnb_types.declared.names.NodeId.{NodeId}
+use Rattle.law_du_rows.specs.gnb_types.declared.names.UeId.{UeId}
+use Rattle.law_du_rows.specs.gnb_types.declared.names.BearerId.{BearerId}
+use Rattle.law_du_rows.specs.gnb_types.declared.names.Dir.TheVariants.{Dl}
+use Rattle.law_du_rows.specs.gnb_types.Orders.{ue_cmp, bearer_cmp}
+use Rattle.law_du_rows.specs.unit_defs.Ways.{Pdu, Load, status, end_marker, Output, packet, radio, Way, Answer, gives, spent}
+use Rattle.law_du_rows.specs.unit_defs.Du.{missing, is_missing}
 use Rattle.law_du_rows.specs.law_downlink_path.Paths.{gap_after}
 use Rattle.law_du_inputs.specs.Changes.{DuPart, Change, takes, ends}
 
@@ -33,7 +33,7 @@ radio_put ue bearer (radio other q Dl epoch tag pdu ∷ outputs) =
     (if is_of ue bearer other q then (epoch, pdu) ∷ [] else []) ++ radio_put ue bearer outputs
 radio_put ue bearer (output ∷ outputs) = radio_put ue bearer outputs
 
--- ---- what the rows put. Nothing is put where a context is set up in place of another one: no End Marker tells of its end.
+-- ---- what the rows put. Nothing is put where a context is set up in place of another one: no End Marker says that it ended.
 
 abbrev pub on_uplink : DuPart → Load Pdu → List OnTunnel
 on_uplink d load = record { to = d.bearer.up; teid = d.bearer.uplink; load = load } ∷ []

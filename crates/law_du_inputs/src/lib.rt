@@ -4,16 +4,16 @@
 
 ghost use Rattle.std.specs.Prelude.{ℕ, if◌then◌else◌, List, []};
 ghost use Rattle.std.specs.Ordering.{nat_cmp};
-ghost use Rattle.gnb_types.specs.declared.names.UeId.{UeId};
-ghost use Rattle.gnb_types.specs.declared.names.BearerId.{BearerId};
-ghost use Rattle.gnb_types.specs.declared.names.SnBits.{SnBits};
-ghost use Rattle.gnb_types.specs.declared.keys.Channel.{Channel};
-ghost use Rattle.gnb_types.specs.declared.plans.Peer.{Peer};
-ghost use Rattle.gnb_types.specs.declared.plans.Tunnel.{Tunnel};
-ghost use Rattle.tables.specs.Tables.{find};
-ghost use Rattle.message_types.specs.declared.rrc.Token.{Token};
-ghost use Rattle.unit_defs.specs.Ways.{Message, Pdu, uplink, Taken, Input, Way};
-ghost use Rattle.unit_defs.specs.Du.{Du, start, set_up, take, pass_up, confirm, setup, du_acts};
+ghost use Rattle.law_du_rows.specs.gnb_types.declared.names.UeId.{UeId};
+ghost use Rattle.law_du_rows.specs.gnb_types.declared.names.BearerId.{BearerId};
+ghost use Rattle.law_du_rows.specs.gnb_types.declared.names.SnBits.{SnBits};
+ghost use Rattle.law_du_rows.specs.gnb_types.declared.keys.Channel.{Channel};
+ghost use Rattle.law_du_rows.specs.gnb_types.declared.plans.Peer.{Peer};
+ghost use Rattle.law_du_rows.specs.gnb_types.declared.plans.Tunnel.{Tunnel};
+ghost use Rattle.law_du_rows.specs.tables.Tables.{find};
+ghost use Rattle.law_du_rows.specs.message_types.declared.rrc.Token.{Token};
+ghost use Rattle.law_du_rows.specs.unit_defs.Ways.{Message, Pdu, uplink, Taken, Input, Way};
+ghost use Rattle.law_du_rows.specs.unit_defs.Du.{Du, start, set_up, take, pass_up, confirm, setup, du_acts};
 ghost use Rattle.law_du_rows.specs.Shown.{Keeps};
 ghost use Rattle.law_du_inputs.specs.Changes.{part_of, changed, of_tunnel, change_by, Has};
 ghost use Rattle.law_du_inputs.specs.Changes.{stays};
@@ -50,7 +50,7 @@ pub fn packets_are_put()
         (of_part (carried_of stays) (part_of r ue bearer)) (confirm way other q pdu r) }
 {}
 
-/// A context that is set up in place of another one puts no End Marker on the uplinks of that: no order of the uplink tells that
+/// A context that is set up in place of another one puts no End Marker on the uplinks of that: no order of the uplink says that
 /// nothing more comes there. F1 Setup changes no context.
 pub fn setups_put_no_end_marker()
     ensures setups { (way : Way (Message Token) Token Pdu) (ch : Channel) (other : UeId)

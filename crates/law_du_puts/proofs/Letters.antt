@@ -21,12 +21,12 @@ use Rattle.gnb_types.specs.declared.outputs.Tag.TheVariants.{Absent}
 use Rattle.gnb_types.specs.Orders.{ue_cmp, bearer_cmp}
 use Rattle.tables.specs.Tables.{find, IsSorted}
 use Rattle.message_types.specs.declared.f1.F1.TheVariants as f1s
-use Rattle.transaction_defs.specs.Callers.{is_awaited}
-use Rattle.transaction_defs.specs.Callees.{Verdict, new, again, stale, verdict, taken, keep, kept_reply}
-use Rattle.unit_defs.specs.Ways.{Message, f1, e1, xn, core, rrc, Pdu, end_marker, Input, control_input, packet_input, radio_input, confirm_input, offer_input, tick_input, order_input, Output, control, packet, Way, Answer, with_outputs, ◌then◌, drops}
-use Rattle.unit_defs.specs.Messages.{channel, is_same_gnb, bearers_of, are_first_bearers}
-use Rattle.unit_defs.specs.Transactions.{Kind, request, reply, transfer, kind_of, Transactions, replied, request_by, answered_again, on_request, on_reply}
-use Rattle.unit_defs.specs.Du.{Du, DuBearer, DuContext, context_of, with_transactions, context_with, closings, released_on, release, relay_up, token_ue, set_up, asked, transferred, of_cp, of_terminal, control_came, setup, modify, du_acts}
+use Rattle.law_du_inputs.specs.transaction_defs.Callers.{is_awaited}
+use Rattle.law_du_inputs.specs.transaction_defs.Callees.{Verdict, new, again, stale, verdict, taken, keep, kept_reply}
+use Rattle.law_du_inputs.specs.unit_defs.Ways.{Message, f1, e1, xn, core, rrc, Pdu, end_marker, Input, control_input, packet_input, radio_input, confirm_input, offer_input, tick_input, order_input, Output, control, packet, Way, Answer, with_outputs, ◌then◌, drops}
+use Rattle.law_du_inputs.specs.unit_defs.Messages.{channel, is_same_gnb, bearers_of, are_first_bearers}
+use Rattle.law_du_inputs.specs.unit_defs.Transactions.{Kind, request, reply, transfer, kind_of, Transactions, replied, request_by, answered_again, on_request, on_reply}
+use Rattle.law_du_inputs.specs.unit_defs.Du.{Du, DuBearer, DuContext, context_of, with_transactions, context_with, closings, released_on, release, relay_up, token_ue, set_up, asked, transferred, of_cp, of_terminal, control_came, setup, modify, du_acts}
 use Rattle.law_du_inputs.specs.Changes.{DuPart, part_with, part_in, part_of, Change, stays, sets_up, ends, if_own, of_setup, of_modification, of_request, if_new, of_kind, of_letter, change_by}
 use Rattle.law_du_inputs.specs.Puts.{OnTunnel, tunnels_put, radio_put, of_part, of_change, carried_of, Puts, AreQuiet, IsQuiet}
 use Rattle.law_du_inputs.proofs.Contexts.{same_ue, same_bearer}

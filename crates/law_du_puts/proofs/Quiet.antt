@@ -10,12 +10,12 @@ use Rattle.gnb_types.specs.Names.{node_text}
 use Rattle.message_types.specs.declared.f1.F1.{F1}
 use Rattle.message_types.specs.declared.f1.F1.TheVariants as f1s
 use Rattle.message_types.specs.declared.rrc.Token.{Token}
-use Rattle.transaction_defs.specs.Callers.{Begin, begun, running, spent as begins_no_more, begin, close, is_open, Due, repeats, expires, due}
-use Rattle.unit_defs.specs.Ways.{f1, Pdu, Output, control, packet, radio, deliver, dropped, held, opened, closed, failed, no, Way, Answer, gives, spent, ◌then◌, nothing, teids_spent}
-use Rattle.unit_defs.specs.Messages.{channel}
-use Rattle.unit_defs.specs.Transactions.{no_instance, Transactions, Waiting, Asked, is_empty, waits_at, with_waiting, begun_as, begin_request, ask, advance_with, advance, replied}
-use Rattle.unit_defs.specs.Teids.{teids_are_left}
-use Rattle.unit_defs.specs.Du.{Du, DuContext, du_node, context_of, with_transactions, downlinks_of, downlink_list, replies, closings, openings, old_downlinks, replaced, replaces, context_anew, modify_on, modify, relayed_down, relay_down, relayed_up, relay_up, start, set_up, due_output, tick}
+use Rattle.law_du_inputs.specs.transaction_defs.Callers.{Begin, begun, running, spent as begins_no_more, begin, close, is_open, Due, repeats, expires, due}
+use Rattle.law_du_inputs.specs.unit_defs.Ways.{f1, Pdu, Output, control, packet, radio, deliver, dropped, held, opened, closed, failed, no, Way, Answer, gives, spent, ◌then◌, nothing, teids_spent}
+use Rattle.law_du_inputs.specs.unit_defs.Messages.{channel}
+use Rattle.law_du_inputs.specs.unit_defs.Transactions.{no_instance, Transactions, Waiting, Asked, is_empty, waits_at, with_waiting, begun_as, begin_request, ask, advance_with, advance, replied}
+use Rattle.law_du_inputs.specs.unit_defs.Teids.{teids_are_left}
+use Rattle.law_du_inputs.specs.unit_defs.Du.{Du, DuContext, du_node, context_of, with_transactions, downlinks_of, downlink_list, replies, closings, openings, old_downlinks, replaced, replaces, context_anew, modify_on, modify, relayed_down, relay_down, relayed_up, relay_up, start, set_up, due_output, tick}
 use Rattle.law_du_inputs.specs.Changes.{DuPart, part_of, Change, stays, takes, renews, sets_up, ends}
 use Rattle.law_du_inputs.specs.Puts.{OnTunnel, tunnels_put, radio_put, of_part, of_change, carried_of, Puts, AreQuiet, IsQuiet}
 

@@ -5,8 +5,8 @@ use Rattle.gnb_types.specs.declared.names.BearerId.{BearerId}
 use Rattle.gnb_types.specs.declared.names.Dir.TheVariants.{Dl, Ul}
 use Rattle.gnb_types.specs.Orders.{bearer_cmp}
 use Rattle.tables.specs.Tables.{IsSorted}
-use Rattle.unit_defs.specs.Ways.{Pdu, uplink, Input, radio_input, confirm_input, Way}
-use Rattle.unit_defs.specs.Du.{Du, DuContext, context_of}
+use Rattle.law_du_inputs.specs.unit_defs.Ways.{Pdu, uplink, Input, radio_input, confirm_input, Way}
+use Rattle.law_du_inputs.specs.unit_defs.Du.{Du, DuContext, context_of}
 use Rattle.law_du_inputs.specs.Changes.{part_of, change_by}
 use Rattle.law_du_inputs.specs.Puts.{OnTunnel, is_of, on_uplink, of_number, of_change, of_part}
 

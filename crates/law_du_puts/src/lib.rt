@@ -5,8 +5,8 @@
 ghost use Rattle.gnb_types.specs.declared.names.UeId.{UeId};
 ghost use Rattle.gnb_types.specs.declared.names.BearerId.{BearerId};
 ghost use Rattle.message_types.specs.declared.rrc.Token.{Token};
-ghost use Rattle.unit_defs.specs.Ways.{Message, Pdu, Input, Way};
-ghost use Rattle.unit_defs.specs.Du.{Du, du_acts};
+ghost use Rattle.law_du_inputs.specs.unit_defs.Ways.{Message, Pdu, Input, Way};
+ghost use Rattle.law_du_inputs.specs.unit_defs.Du.{Du, du_acts};
 ghost use Rattle.law_du_inputs.specs.Changes.{part_of, change_by};
 ghost use Rattle.law_du_inputs.specs.Puts.{carried_of, of_part, Puts};
 ghost use Rattle.law_du_puts.specs.Inputs.{ups_by, IsInOrder};

@@ -1,4 +1,4 @@
--- A step of a DU leaves what waits on the radio down, and the frames behind it, as they are to be.
+-- A step of a DU leaves what waits on the radio down, and the frames after it, as they are to be.
 use Rattle.std.proofs.Common.{◌≡◌, ℕ, ◌==◌, Bool, true, false, List, [], ◌∷◌, ◌++◌, map, Option, Some, refl, sym, ap, subst, ◌∙◌, arith}
 use Rattle.std.specs.Prelude.{if◌then◌else◌}
 use Rattle.std.proofs.lemmas.List.{append-nil}
@@ -34,7 +34,7 @@ use Rattle.law_du_puts.specs.Inputs.{IsInOrder}
 use Rattle.law_put_ties.specs.Puts.{IsDuStep}
 use Rattle.law_radio_steps.specs.Radios.{on_air, after_taking, after_puts, moved_to, followed}
 use Rattle.law_radio_steps.proofs.Tracks.{acts_so}
-use Rattle.law_radio_ties.specs.Radio.{RunState, RunCause, OnRadio, packets_on, IsOther, IsBeside}
+use Rattle.law_radio_downs.specs.law_radio_ties.Radio.{RunState, RunCause, OnRadio, packets_on, IsOther, IsBeside}
 use Rattle.law_waiting_frames.specs.Frames.{Fits, IsLine}
 use Rattle.law_waiting_frames.proofs.Frames.{puts_what_fits}
 use Rattle.law_radio_downs.specs.Down.{down_key, IsDown, Puts, packets_down, Stays}

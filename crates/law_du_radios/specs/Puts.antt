@@ -20,7 +20,7 @@ packets_by at change None = []
 packets_by at (takes f) (Some part) = carried_at at f part
 packets_by at change (Some part) = []
 
--- what waits on the radio is so, and the frames behind it on the tunnel of this DU are so
+-- what waits on the radio is so, and the frames after it on the tunnel of this DU are so
 pub record AreDown (a : OnAir (Written Pdu)) (d : Part) (b : DuBearer) (frames : List Frame) (next needed : ℕ) : Type 0 where
   pub radio : IsDown a d
   pub line : IsLine d b frames radio.waits next needed

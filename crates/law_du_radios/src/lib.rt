@@ -12,7 +12,7 @@ ghost use Rattle.law_du_radios.specs.Puts.{AreDown, packets_by};
 ghost use Rattle.law_put_ties.specs.Puts.{IsDuStep};
 ghost use Rattle.law_radio_downs.specs.Down.{down_key, packets_down};
 ghost use Rattle.law_radio_steps.specs.Radios.{on_air};
-ghost use Rattle.law_radio_ties.specs.Radio.{IsBeside, RunCause, RunState};
+ghost use Rattle.law_radio_downs.specs.law_radio_ties.Radio.{IsBeside, RunCause, RunState};
 ghost use Rattle.law_run_units.specs.Happenings.{DuRecord};
 ghost use Rattle.law_steps.specs.Causes.{Stands};
 ghost use Rattle.message_types.specs.declared.rrc.Token.{Token};

@@ -1,32 +1,32 @@
 -- Contexts of a DU: their end, new radios, and the rows that change none.
 use Rattle.std.proofs.Common.{◌≡◌, ℕ, ◌+◌, Bool, true, false, cond, not, if◌then◌else◌, List, [], ◌∷◌, ◌++◌, length, map, Option, Some, None, refl, sym, ap, subst, ◌∙◌}
 use Rattle.std.specs.Ordering.{is_eq}
-use Rattle.gnb_types.specs.declared.names.NodeId.{NodeId}
-use Rattle.gnb_types.specs.declared.names.UeId.{UeId}
-use Rattle.gnb_types.specs.declared.names.BearerId.{BearerId}
-use Rattle.gnb_types.specs.declared.names.SnBits.{SnBits}
-use Rattle.gnb_types.specs.declared.keys.Channel.{Channel}
-use Rattle.gnb_types.specs.declared.plans.Peer.{Peer}
-use Rattle.gnb_types.specs.declared.plans.Tunnel.{Tunnel}
-use Rattle.gnb_types.specs.declared.reasons.DropReason.TheVariants.{Unexpected}
-use Rattle.gnb_types.specs.Orders.{bearer_cmp}
-use Rattle.gnb_types.proofs.OrderLemmas.{ue_total}
-use Rattle.tables.specs.Tables.{find}
-use Rattle.tables.proofs.TableLaws.{find-put-same, find-without-same}
-use Rattle.message_types.specs.declared.f1.F1.{F1}
-use Rattle.message_types.specs.declared.f1.F1.TheVariants as f1s
-use Rattle.message_types.specs.declared.rrc.Token.{Token}
-use Rattle.transaction_defs.specs.Callees.{keep}
-use Rattle.unit_defs.specs.Ways.{f1, Output, control, closed, Way, gives, spent, with_outputs, ◌then◌, drops, teids_spent}
-use Rattle.unit_defs.specs.Messages.{bearers_of, are_first_bearers}
-use Rattle.unit_defs.specs.Teids.{teids_are_left}
-use Rattle.unit_defs.specs.Transactions.{replied}
-use Rattle.unit_defs.specs.Du.{Du, DuBearer, DuContext, context_of, with_transactions, downlink_list, bearers_made, bearers_anew, replies, closings, openings, old_downlinks, replaced, replaces, context_with, setup, context_anew, modify_on, modify, end_markers, released_on, release, relayed_down, relay_down, relayed_up, relay_up, tick}
-use Rattle.unit_defs.specs.UpRecords.{Downlink}
+use Rattle.uplink_defs.specs.gnb_types.declared.names.NodeId.{NodeId}
+use Rattle.uplink_defs.specs.gnb_types.declared.names.UeId.{UeId}
+use Rattle.uplink_defs.specs.gnb_types.declared.names.BearerId.{BearerId}
+use Rattle.uplink_defs.specs.gnb_types.declared.names.SnBits.{SnBits}
+use Rattle.uplink_defs.specs.gnb_types.declared.keys.Channel.{Channel}
+use Rattle.uplink_defs.specs.gnb_types.declared.plans.Peer.{Peer}
+use Rattle.uplink_defs.specs.gnb_types.declared.plans.Tunnel.{Tunnel}
+use Rattle.uplink_defs.specs.gnb_types.declared.reasons.DropReason.TheVariants.{Unexpected}
+use Rattle.uplink_defs.specs.gnb_types.Orders.{bearer_cmp}
+use Rattle.uplink_defs.proofs.gnb_types.OrderLemmas.{ue_total}
+use Rattle.uplink_defs.specs.tables.Tables.{find}
+use Rattle.uplink_defs.proofs.tables.TableLaws.{find-put-same, find-without-same}
+use Rattle.uplink_defs.specs.message_types.declared.f1.F1.{F1}
+use Rattle.uplink_defs.specs.message_types.declared.f1.F1.TheVariants as f1s
+use Rattle.uplink_defs.specs.message_types.declared.rrc.Token.{Token}
+use Rattle.uplink_defs.specs.transaction_defs.Callees.{keep}
+use Rattle.uplink_defs.specs.unit_defs.Ways.{f1, Output, control, closed, Way, gives, spent, with_outputs, ◌then◌, drops, teids_spent}
+use Rattle.uplink_defs.specs.unit_defs.Messages.{bearers_of, are_first_bearers}
+use Rattle.uplink_defs.specs.unit_defs.Teids.{teids_are_left}
+use Rattle.uplink_defs.specs.unit_defs.Transactions.{replied}
+use Rattle.uplink_defs.specs.unit_defs.Du.{Du, DuBearer, DuContext, context_of, with_transactions, downlink_list, bearers_made, bearers_anew, replies, closings, openings, old_downlinks, replaced, replaces, context_with, setup, context_anew, modify_on, modify, end_markers, released_on, release, relayed_down, relay_down, relayed_up, relay_up, tick}
+use Rattle.uplink_defs.specs.unit_defs.UpRecords.{Downlink}
 use Rattle.law_downlink_path.specs.Paths.{Path}
 use Rattle.law_downlink_path.specs.Steps.{begins_anew, after, run}
-use Rattle.law_chain.proofs.Frames.{set_here}
-use Rattle.chain_defs.specs.Parts.{set}
+use Rattle.law_downlink_path.proofs.law_chain.Frames.{set_here}
+use Rattle.uplink_defs.specs.chain_defs.Parts.{set}
 use Rattle.uplink_defs.specs.Parts.{Part, Member, end_marker}
 use Rattle.uplink_defs.specs.Orders as up
 use Rattle.uplink_defs.specs.Guards as up_guards

@@ -1,21 +1,21 @@
 -- A DU takes frames, and passes on what comes up.
 use Rattle.std.proofs.Common.{◌≡◌, ℕ, ◌+◌, ◌-◌, Bool, true, false, not, ◌||◌, if◌then◌else◌, nat_lt, List, [], ◌∷◌, ◌++◌, Option, Some, None, refl, ap, ◌∙◌}
 use Rattle.std.specs.Ordering.{nat_cmp, eq_by_cmp}
-use Rattle.gnb_types.specs.declared.names.UeId.{UeId}
-use Rattle.gnb_types.specs.declared.names.BearerId.{BearerId}
-use Rattle.gnb_types.specs.declared.names.Dir.TheVariants.{Dl, Ul}
-use Rattle.gnb_types.specs.declared.outputs.Tag.TheVariants.{Absent, Same}
-use Rattle.gnb_types.specs.declared.reasons.DropReason.TheVariants.{Gap}
-use Rattle.gnb_types.specs.Orders.{ue_cmp, bearer_cmp}
-use Rattle.gnb_types.proofs.OrderLemmas.{ue_total, bearer_total}
-use Rattle.tables.specs.Tables.{find, put}
-use Rattle.tables.proofs.TableLaws.{find-put-same, find-put-other}
-use Rattle.unit_defs.specs.Ways.{Pdu, uplink, status, Output, packet, radio, Way, Answer, gives, with_outputs, ◌then◌, nothing, puts, drops}
-use Rattle.unit_defs.specs.Du.{Du, DuBearer, DuContext, DuTunnel, context_of, told, with_bearer, frame_came, taken_in, taken_of, taken_on, take, of_bearer, of_context, pass_up, confirmed, confirm}
+use Rattle.uplink_defs.specs.gnb_types.declared.names.UeId.{UeId}
+use Rattle.uplink_defs.specs.gnb_types.declared.names.BearerId.{BearerId}
+use Rattle.uplink_defs.specs.gnb_types.declared.names.Dir.TheVariants.{Dl, Ul}
+use Rattle.uplink_defs.specs.gnb_types.declared.outputs.Tag.TheVariants.{Absent, Same}
+use Rattle.uplink_defs.specs.gnb_types.declared.reasons.DropReason.TheVariants.{Gap}
+use Rattle.uplink_defs.specs.gnb_types.Orders.{ue_cmp, bearer_cmp}
+use Rattle.uplink_defs.proofs.gnb_types.OrderLemmas.{ue_total, bearer_total}
+use Rattle.uplink_defs.specs.tables.Tables.{find, put}
+use Rattle.uplink_defs.proofs.tables.TableLaws.{find-put-same, find-put-other}
+use Rattle.uplink_defs.specs.unit_defs.Ways.{Pdu, uplink, status, Output, packet, radio, Way, Answer, gives, with_outputs, ◌then◌, nothing, puts, drops}
+use Rattle.uplink_defs.specs.unit_defs.Du.{Du, DuBearer, DuContext, DuTunnel, context_of, told, with_bearer, frame_came, taken_in, taken_of, taken_on, take, of_bearer, of_context, pass_up, confirmed, confirm}
 use Rattle.law_downlink_path.specs.Paths.{Frame, Path, gap_after, carried_by, taken_by}
 use Rattle.law_downlink_path.specs.Steps.{takes, after, run, IsReady, IsOwed, AreKept}
-use Rattle.law_chain.proofs.Frames.{set_here}
-use Rattle.chain_defs.specs.Parts.{set}
+use Rattle.law_downlink_path.proofs.law_chain.Frames.{set_here}
+use Rattle.uplink_defs.specs.chain_defs.Parts.{set}
 use Rattle.uplink_defs.specs.Parts.{Part, Member, numbered, uplink_tunnel}
 use Rattle.uplink_defs.specs.Orders as up
 use Rattle.uplink_defs.specs.Guards.{IsOpen, NoEnd}

@@ -1,14 +1,14 @@
 -- What a row of the DU does to one bearer, beside what its orders do.
 use Rattle.std.specs.Prelude.{◌≡◌, ℕ, Bool, true, false, List, [], ◌∷◌, ◌++◌, Option, Some, None, ⊤}
-use Rattle.gnb_types.specs.declared.names.UeId.{UeId}
-use Rattle.gnb_types.specs.declared.names.BearerId.{BearerId}
-use Rattle.gnb_types.specs.declared.names.Dir.TheVariants.{Dl}
-use Rattle.gnb_types.specs.declared.outputs.Tag.TheVariants.{Same}
-use Rattle.gnb_types.specs.declared.reasons.DropReason.TheVariants.{Gap}
-use Rattle.gnb_types.specs.Orders.{bearer_cmp}
-use Rattle.tables.specs.Tables.{find}
-use Rattle.unit_defs.specs.Ways.{Pdu, Taken, frame_item, Output, radio, dropped, Way, Answer, gives, spent}
-use Rattle.unit_defs.specs.Du.{Du, DuBearer, DuContext, context_of, told}
+use Rattle.uplink_defs.specs.gnb_types.declared.names.UeId.{UeId}
+use Rattle.uplink_defs.specs.gnb_types.declared.names.BearerId.{BearerId}
+use Rattle.uplink_defs.specs.gnb_types.declared.names.Dir.TheVariants.{Dl}
+use Rattle.uplink_defs.specs.gnb_types.declared.outputs.Tag.TheVariants.{Same}
+use Rattle.uplink_defs.specs.gnb_types.declared.reasons.DropReason.TheVariants.{Gap}
+use Rattle.uplink_defs.specs.gnb_types.Orders.{bearer_cmp}
+use Rattle.uplink_defs.specs.tables.Tables.{find}
+use Rattle.uplink_defs.specs.unit_defs.Ways.{Pdu, Taken, frame_item, Output, radio, dropped, Way, Answer, gives, spent}
+use Rattle.uplink_defs.specs.unit_defs.Du.{Du, DuBearer, DuContext, context_of, told}
 use Rattle.law_downlink_path.specs.Paths.{Frame, gap_after}
 use Rattle.law_downlink_path.specs.Shown.{pdu_written}
 

@@ -4,27 +4,27 @@
 
 ghost use Rattle.std.specs.Prelude.{◌≡◌, ℕ, ◌-◌, Bool, true, false, not, ◌||◌, nat_lt, List, [], ◌∷◌, ◌++◌, Some, None};
 ghost use Rattle.std.specs.Ordering.{nat_cmp, eq_by_cmp};
-ghost use Rattle.gnb_types.specs.declared.names.NodeId.{NodeId};
-ghost use Rattle.gnb_types.specs.declared.names.UeId.{UeId};
-ghost use Rattle.gnb_types.specs.declared.names.BearerId.{BearerId};
-ghost use Rattle.gnb_types.specs.declared.names.SnBits.{SnBits};
-ghost use Rattle.gnb_types.specs.declared.names.Dir.TheVariants.{Dl, Ul};
-ghost use Rattle.gnb_types.specs.declared.keys.Channel.{Channel};
-ghost use Rattle.gnb_types.specs.declared.plans.Peer.{Peer};
-ghost use Rattle.gnb_types.specs.declared.plans.Tunnel.{Tunnel};
-ghost use Rattle.gnb_types.specs.declared.outputs.Tag.TheVariants.{Absent, Same};
-ghost use Rattle.gnb_types.specs.Orders.{ue_cmp, bearer_cmp};
-ghost use Rattle.tables.specs.Tables.{find, put};
-ghost use Rattle.message_types.specs.declared.f1.F1.TheVariants as f1s;
-ghost use Rattle.message_types.specs.declared.rrc.Token.{Token};
-ghost use Rattle.unit_defs.specs.Ways.{Message, f1, Pdu, Way, uplink, status, packet, control};
-ghost use Rattle.unit_defs.specs.Ways.{gives, nothing, puts};
-ghost use Rattle.unit_defs.specs.Messages.{bearers_of, are_first_bearers};
-ghost use Rattle.unit_defs.specs.UpRecords.{Downlink};
-ghost use Rattle.unit_defs.specs.Du.{Du, DuBearer, DuContext, DuTunnel, context_of, with_bearer, told};
-ghost use Rattle.unit_defs.specs.Du.{bearers_made, context_anew, context_with, end_markers, closings};
-ghost use Rattle.unit_defs.specs.Du.{take, pass_up, confirm, release, modify, setup};
-ghost use Rattle.unit_defs.specs.Du.{relay_down, relay_up, tick};
+ghost use Rattle.uplink_defs.specs.gnb_types.declared.names.NodeId.{NodeId};
+ghost use Rattle.uplink_defs.specs.gnb_types.declared.names.UeId.{UeId};
+ghost use Rattle.uplink_defs.specs.gnb_types.declared.names.BearerId.{BearerId};
+ghost use Rattle.uplink_defs.specs.gnb_types.declared.names.SnBits.{SnBits};
+ghost use Rattle.uplink_defs.specs.gnb_types.declared.names.Dir.TheVariants.{Dl, Ul};
+ghost use Rattle.uplink_defs.specs.gnb_types.declared.keys.Channel.{Channel};
+ghost use Rattle.uplink_defs.specs.gnb_types.declared.plans.Peer.{Peer};
+ghost use Rattle.uplink_defs.specs.gnb_types.declared.plans.Tunnel.{Tunnel};
+ghost use Rattle.uplink_defs.specs.gnb_types.declared.outputs.Tag.TheVariants.{Absent, Same};
+ghost use Rattle.uplink_defs.specs.gnb_types.Orders.{ue_cmp, bearer_cmp};
+ghost use Rattle.uplink_defs.specs.tables.Tables.{find, put};
+ghost use Rattle.uplink_defs.specs.message_types.declared.f1.F1.TheVariants as f1s;
+ghost use Rattle.uplink_defs.specs.message_types.declared.rrc.Token.{Token};
+ghost use Rattle.uplink_defs.specs.unit_defs.Ways.{Message, f1, Pdu, Way, uplink, status, packet, control};
+ghost use Rattle.uplink_defs.specs.unit_defs.Ways.{gives, nothing, puts};
+ghost use Rattle.uplink_defs.specs.unit_defs.Messages.{bearers_of, are_first_bearers};
+ghost use Rattle.uplink_defs.specs.unit_defs.UpRecords.{Downlink};
+ghost use Rattle.uplink_defs.specs.unit_defs.Du.{Du, DuBearer, DuContext, DuTunnel, context_of, with_bearer, told};
+ghost use Rattle.uplink_defs.specs.unit_defs.Du.{bearers_made, context_anew, context_with, end_markers, closings};
+ghost use Rattle.uplink_defs.specs.unit_defs.Du.{take, pass_up, confirm, release, modify, setup};
+ghost use Rattle.uplink_defs.specs.unit_defs.Du.{relay_down, relay_up, tick};
 ghost use Rattle.law_downlink_path.specs.Paths.{Frame, Path, gap_after, carried_by};
 ghost use Rattle.law_downlink_path.specs.Steps.{takes, begins_anew, run, AreKept};
 ghost use Rattle.uplink_defs.specs.Parts.{Part, numbered, end_marker, uplink_tunnel};
@@ -59,7 +59,7 @@ pub fn frames_are_taken()
         → IsHeld (with_bearer way ue bearer c b r) x q e d }
 {}
 
-/// Before a frame's PDU, a delivery status tells what is missing before it, which a step may tell at any time; a poll is
+/// Before a frame's PDU, a delivery status says what is missing before it, which a step may say at any time; a poll is
 /// answered; else nothing is told.
 pub fn losses_are_told()
     ensures missing { (way : Way (Message Token) Token Pdu) (ue : UeId) (bearer : BearerId)

@@ -5,7 +5,7 @@ use Rattle.std.specs.List.{AllByRecursion}
 use Rattle.std.specs.Cmp.{nat_cmp_total, Equal-is}
 use Rattle.std.proofs.lemmas.Map.Lookups.{exact_unsigned}
 use Rattle.tables.proofs.TableLaws.{find-put, find-without, find-put-other, find-without-other}
-use Rattle.unit_defs.specs.Teids.{last_teid}
+use Rattle.law_slices.specs.unit_defs.Teids.{last_teid}
 use Rattle.law_slices.specs.Steps.{IsFor, PutsFor, StaysFor}
 use Rattle.law_slices.proofs.Answers.{all_append, puts_then, puts_if}
 use Rattle.law_slices.proofs.Tables.{apart_numbers, apart_ues}
@@ -28,15 +28,15 @@ use Rattle.gnb_types.specs.declared.reasons.DropReason.TheVariants.{NoTunnel, Un
 use Rattle.gnb_types.specs.Orders.{bearer_cmp}
 use Rattle.gnb_types.proofs.OrderLemmas.{ue_total}
 use Rattle.tables.specs.Tables.{find, put, without}
-use Rattle.transaction_defs.specs.Callers.{close}
-use Rattle.message_types.specs.declared.f1.F1.{F1}
-use Rattle.message_types.specs.declared.f1.F1.TheVariants as f1s
-use Rattle.message_types.specs.declared.rrc.Token.{Token}
-use Rattle.unit_defs.specs.Ways.{Message, f1, rrc, status, end_marker, Load, Taken, frame_item, packet, opened, closed, Input, control_input, packet_input, radio_input, confirm_input, offer_input, tick_input, order_input, Way, Answer, gives, spent, ◌then◌, nothing, drops, teids_spent}
-use Rattle.unit_defs.specs.Messages.{channel, is_same_gnb, bearers_of, are_first_bearers}
-use Rattle.unit_defs.specs.Teids.{teids_are_left, without_each}
-use Rattle.unit_defs.specs.Transactions.{Kind, request, reply, transfer, kind_of, Transactions, advance, replied}
-use Rattle.unit_defs.specs.Du.{DuBearer, DuContext, DuTunnel, Du, context_of, with_transactions, downlinks_of, downlink_list, with_entries, bearers_made, bearers_anew, replies, closings, openings, old_downlinks, replaced, replaces, context_with, setup, context_anew, modify_on, modify, end_markers, released_on, release, relayed_down, relay_down, relayed_up, relay_up, token_ue, start, set_up, asked, transferred, of_cp, of_terminal, control_came, missing, is_missing, told, gap_after, carried, with_bearer, frame_came, taken_in, taken_of, taken_on, take, of_bearer, of_context, pass_up, confirmed, confirm, du_acts}
+use Rattle.law_slices.specs.transaction_defs.Callers.{close}
+use Rattle.law_slices.specs.message_types.declared.f1.F1.{F1}
+use Rattle.law_slices.specs.message_types.declared.f1.F1.TheVariants as f1s
+use Rattle.law_slices.specs.message_types.declared.rrc.Token.{Token}
+use Rattle.law_slices.specs.unit_defs.Ways.{Message, f1, rrc, status, end_marker, Load, Taken, frame_item, packet, opened, closed, Input, control_input, packet_input, radio_input, confirm_input, offer_input, tick_input, order_input, Way, Answer, gives, spent, ◌then◌, nothing, drops, teids_spent}
+use Rattle.law_slices.specs.unit_defs.Messages.{channel, is_same_gnb, bearers_of, are_first_bearers}
+use Rattle.law_slices.specs.unit_defs.Teids.{teids_are_left, without_each}
+use Rattle.law_slices.specs.unit_defs.Transactions.{Kind, request, reply, transfer, kind_of, Transactions, advance, replied}
+use Rattle.law_slices.specs.unit_defs.Du.{DuBearer, DuContext, DuTunnel, Du, context_of, with_transactions, downlinks_of, downlink_list, with_entries, bearers_made, bearers_anew, replies, closings, openings, old_downlinks, replaced, replaces, context_with, setup, context_anew, modify_on, modify, end_markers, released_on, release, relayed_down, relay_down, relayed_up, relay_up, token_ue, start, set_up, asked, transferred, of_cp, of_terminal, control_came, missing, is_missing, told, gap_after, carried, with_bearer, frame_came, taken_in, taken_of, taken_on, take, of_bearer, of_context, pass_up, confirmed, confirm, du_acts}
 use Rattle.law_slices.specs.Slices.{ue_in, message_ue, order_ue}
 
 pub all_then : {X : Type 0} (P Q : X → Type 0) (xs : List X) → ((x : X) → P x → Q x) → AllByRecursion P xs → AllByRecursion Q xs

@@ -22,15 +22,15 @@ use Rattle.gnb_types.specs.Orders.{bearer_cmp}
 use Rattle.gnb_types.proofs.OrderLemmas.{ue_total}
 use Rattle.tables.specs.Tables.{find, put, without}
 use Rattle.tables.proofs.TableLaws.{find-put, find-without}
-use Rattle.transaction_defs.specs.Callers.{close}
-use Rattle.message_types.specs.declared.f1.F1.{F1}
-use Rattle.message_types.specs.declared.f1.F1.TheVariants as f1s
-use Rattle.message_types.specs.declared.rrc.Token.{Token}
-use Rattle.unit_defs.specs.Ways.{Message, f1, rrc, uplink, status, Taken, frame_item, packet, radio, control, closed, dropped, Input, control_input, packet_input, radio_input, confirm_input, offer_input, tick_input, order_input, Output, Way, Answer, gives, ◌then◌, nothing, drops}
-use Rattle.unit_defs.specs.Messages.{channel, is_same_gnb, bearers_of, are_first_bearers}
-use Rattle.unit_defs.specs.Teids.{teids_are_left, teid_after, without_each}
-use Rattle.unit_defs.specs.Transactions.{Kind, request, reply, transfer, kind_of, no_instance, Transactions, Waiting, ask}
-use Rattle.unit_defs.specs.Du.{DuBearer, DuContext, DuTunnel, Du, context_of, with_transactions, downlinks_of, downlink_list, with_entries, bearers_made, bearers_anew, replies, closings, openings, old_downlinks, replaced, replaces, setup, modify_on, modify, end_markers, released_on, release, relayed_down, relay_down, relayed_up, relay_up, token_ue, start, set_up, asked, transferred, of_cp, of_terminal, control_came, told, gap_after, carried, with_bearer, frame_came, taken_in, taken_of, taken_on, take, of_bearer, of_context, pass_up, confirmed, confirm, du_acts}
+use Rattle.law_slices.specs.transaction_defs.Callers.{close}
+use Rattle.law_slices.specs.message_types.declared.f1.F1.{F1}
+use Rattle.law_slices.specs.message_types.declared.f1.F1.TheVariants as f1s
+use Rattle.law_slices.specs.message_types.declared.rrc.Token.{Token}
+use Rattle.law_slices.specs.unit_defs.Ways.{Message, f1, rrc, uplink, status, Taken, frame_item, packet, radio, control, closed, dropped, Input, control_input, packet_input, radio_input, confirm_input, offer_input, tick_input, order_input, Output, Way, Answer, gives, ◌then◌, nothing, drops}
+use Rattle.law_slices.specs.unit_defs.Messages.{channel, is_same_gnb, bearers_of, are_first_bearers}
+use Rattle.law_slices.specs.unit_defs.Teids.{teids_are_left, teid_after, without_each}
+use Rattle.law_slices.specs.unit_defs.Transactions.{Kind, request, reply, transfer, kind_of, no_instance, Transactions, Waiting, ask}
+use Rattle.law_slices.specs.unit_defs.Du.{DuBearer, DuContext, DuTunnel, Du, context_of, with_transactions, downlinks_of, downlink_list, with_entries, bearers_made, bearers_anew, replies, closings, openings, old_downlinks, replaced, replaces, setup, modify_on, modify, end_markers, released_on, release, relayed_down, relay_down, relayed_up, relay_up, token_ue, start, set_up, asked, transferred, of_cp, of_terminal, control_came, told, gap_after, carried, with_bearer, frame_came, taken_in, taken_of, taken_on, take, of_bearer, of_context, pass_up, confirmed, confirm, du_acts}
 use Rattle.law_slices.specs.Slices.{Requests, requests_of, ue_in, message_ue, order_ue}
 use Rattle.law_slices.specs.Steps.{seen}
 use Rattle.law_slices.proofs.Answers.{same_then, same_if}

@@ -6,8 +6,8 @@ use Rattle.gnb_types.specs.declared.names.Gnb.{Gnb}
 use Rattle.gnb_types.specs.declared.names.UeId.{UeId}
 use Rattle.gnb_types.specs.Orders.{ue_cmp}
 use Rattle.tables.specs.Tables.{find}
-use Rattle.unit_defs.specs.Ways.{Input, control_input, packet_input, radio_input, confirm_input, offer_input, tick_input, order_input}
-use Rattle.unit_defs.specs.Du.{DuContext, DuTunnel, Du, downlinks_of}
+use Rattle.law_slices.specs.unit_defs.Ways.{Input, control_input, packet_input, radio_input, confirm_input, offer_input, tick_input, order_input}
+use Rattle.law_slices.specs.unit_defs.Du.{DuContext, DuTunnel, Du, downlinks_of}
 use Rattle.law_slices.specs.Slices.{Requests, requests_of, message_ue, order_ue}
 
 -- its context, which open TEIDs are its, and its requests and replies

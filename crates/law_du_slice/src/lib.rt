@@ -8,8 +8,8 @@ ghost use Rattle.law_slices.specs.Steps.{seen, IsStepOf};
 ghost use Rattle.std.specs.Ordering.{nat_cmp};
 ghost use Rattle.std.specs.Prelude.{ℕ, ◌≡◌, Some, None};
 ghost use Rattle.tables.specs.Tables.{find};
-ghost use Rattle.unit_defs.specs.Du.{du_acts, Du};
-ghost use Rattle.unit_defs.specs.Ways.{drops, packet_input, Input, Taken, Way};
+ghost use Rattle.law_slices.specs.unit_defs.Du.{du_acts, Du};
+ghost use Rattle.law_slices.specs.unit_defs.Ways.{drops, packet_input, Input, Taken, Way};
 
 /// What a DU does with an input that is for a terminal depends on the terminal's slice and on what is shared alone: of two DUs
 /// that have these in common both put out the same, and have them in common then.

@@ -7,17 +7,17 @@ use Rattle.gnb_types.specs.declared.names.SnBits.{SnBits}
 use Rattle.gnb_types.specs.declared.plans.Peer.{Peer}
 use Rattle.gnb_types.specs.declared.plans.Tunnel.{Tunnel}
 use Rattle.gnb_types.specs.Orders.{bearer_cmp}
-use Rattle.tables.specs.Tables.{find}
-use Rattle.unit_defs.specs.Ways.{Pdu, packet_pdu, report_pdu, Load, fresh, numbered as with_count, frame, uplink, status, end_marker, Way}
-use Rattle.unit_defs.specs.UpRecords.{Downlink}
-use Rattle.unit_defs.specs.Du.{Du, DuBearer, DuContext, context_with}
-use Rattle.uplink_defs.specs.Parts as up
-use Rattle.uplink_defs.specs.Orders as ups
-use Rattle.uplink_defs.specs.Guards as up_guards
-use Rattle.law_downlink_path.specs.Paths.{Frame, Path, gap_after, carried_by}
-use Rattle.law_downlink_path.specs.Steps.{takes, begins_anew, fails, after, run, IsReady, IsOwed, AreKept}
-use Rattle.law_du_rows.proofs.Contexts.{made_there, marks_asked, marks_run}
-use Rattle.law_du_rows.proofs.Frames.{carries_asked, carries_run}
+use Rattle.law_du_inputs.specs.tables.Tables.{find}
+use Rattle.law_du_inputs.specs.unit_defs.Ways.{Pdu, packet_pdu, report_pdu, Load, fresh, numbered as with_count, frame, uplink, status, end_marker, Way}
+use Rattle.law_du_inputs.specs.unit_defs.UpRecords.{Downlink}
+use Rattle.law_du_inputs.specs.unit_defs.Du.{Du, DuBearer, DuContext, context_with}
+use Rattle.law_du_inputs.specs.uplink_defs.Parts as up
+use Rattle.law_du_inputs.specs.uplink_defs.Orders as ups
+use Rattle.law_du_inputs.specs.uplink_defs.Guards as up_guards
+use Rattle.law_du_inputs.specs.law_downlink_path.Paths.{Frame, Path, gap_after, carried_by}
+use Rattle.law_du_inputs.specs.law_downlink_path.Steps.{takes, begins_anew, fails, after, run, IsReady, IsOwed, AreKept}
+use Rattle.law_du_inputs.proofs.law_du_rows.Contexts.{made_there, marks_asked, marks_run}
+use Rattle.law_du_inputs.proofs.law_du_rows.Frames.{carries_asked, carries_run}
 use Rattle.law_du_inputs.specs.Changes.{DuPart, part_with, part_in, changed_in, takes as takes_frame}
 use Rattle.law_du_inputs.specs.Puts.{carried_if, carried_of}
 use Rattle.law_du_steps.specs.Steps.{IsOn, IsFresh, Hears, rest_of, loses_all, begins_in, heard, order_of, item_of, place_of}

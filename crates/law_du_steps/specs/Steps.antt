@@ -1,11 +1,11 @@
 -- What a DU's inputs are, as steps of the way down and orders of the uplink.
 use Rattle.std.specs.Prelude.{◌≡◌, ℕ, Bool, false, if◌then◌else◌, List, [], ◌∷◌, ◌++◌}
-use Rattle.unit_defs.specs.Ways.{Pdu, packet_pdu, report_pdu, Load, uplink, end_marker}
-use Rattle.unit_defs.specs.UpRecords.{Downlink}
-use Rattle.uplink_defs.specs.Parts as up
-use Rattle.uplink_defs.specs.Orders as ups
-use Rattle.law_downlink_path.specs.Paths.{Frame, Path}
-use Rattle.law_downlink_path.specs.Steps.{Step, loses, takes, begins_anew, fails}
+use Rattle.law_du_inputs.specs.unit_defs.Ways.{Pdu, packet_pdu, report_pdu, Load, uplink, end_marker}
+use Rattle.law_du_inputs.specs.unit_defs.UpRecords.{Downlink}
+use Rattle.law_du_inputs.specs.uplink_defs.Parts as up
+use Rattle.law_du_inputs.specs.uplink_defs.Orders as ups
+use Rattle.law_du_inputs.specs.law_downlink_path.Paths.{Frame, Path}
+use Rattle.law_du_inputs.specs.law_downlink_path.Steps.{Step, loses, takes, begins_anew, fails}
 use Rattle.law_du_inputs.specs.Changes.{DuPart, Change, takes as takes_frame, stays}
 
 -- The DU's record is that of the way, but for the CU-UP's end: a way goes on where a terminal comes to another DU of its CU-UP.

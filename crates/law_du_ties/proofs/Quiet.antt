@@ -12,14 +12,14 @@ use Rattle.run_defs.specs.Runs.{plain_way}
 use Rattle.law_du_inputs.specs.Changes.{DuPart, Change, takes, renews, sets_up, ends, stays, part_of, change_by}
 use Rattle.law_du_inputs.specs.Puts.{OnTunnel, is_of, on_uplink, of_number, of_part, of_change}
 use Rattle.law_du_puts.specs.Inputs.{ups_by}
-use Rattle.law_tie_facts.specs.law_run_units.Happenings.{DuRecord}
-use Rattle.law_tie_facts.specs.law_run_bearers.Things.{PlainUnits}
-use Rattle.law_tie_facts.specs.law_run_bearers.Bearers.{Numbering}
-use Rattle.law_tie_facts.specs.law_bearer_lists.uplink_defs.Parts.{Part}
-use Rattle.law_tie_facts.specs.law_bearer_lists.uplink_defs.Orders as up
-use Rattle.law_tie_facts.specs.law_bearer_lists.uplink_defs.Guards as guards
-use Rattle.law_tie_facts.specs.Ties.{Owned}
-use Rattle.law_put_ties.specs.Puts.{IsAtStation, order_up, owned_to, orders_up}
+use Rattle.law_tied_runs.specs.law_run_units.Happenings.{DuRecord}
+use Rattle.law_tied_runs.specs.law_run_bearers.Things.{PlainUnits}
+use Rattle.law_tied_runs.specs.law_run_bearers.Bearers.{Numbering}
+use Rattle.law_du_inputs.specs.uplink_defs.Parts.{Part}
+use Rattle.law_du_inputs.specs.uplink_defs.Orders as up
+use Rattle.law_du_inputs.specs.uplink_defs.Guards as guards
+use Rattle.law_tied_runs.specs.law_tie_facts.Ties.{Owned}
+use Rattle.law_tied_runs.specs.law_put_ties.Puts.{IsAtStation, order_up, owned_to, orders_up}
 
 -- no packet goes up
 abbrev pub IsQuietLoad : Load Pdu → Type 0

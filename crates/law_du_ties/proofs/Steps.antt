@@ -49,14 +49,14 @@ use Rattle.law_owner_facts.proofs.Owners.{first_of, second_of}
 use Rattle.law_du_inputs.specs.Changes.{change_by, part_of}
 use Rattle.law_du_inputs.specs.Puts.{OnTunnel, is_of, tunnels_put, of_part, carried_of, Puts}
 use Rattle.law_du_puts.proofs.Letters.{input_puts}
-use Rattle.law_tie_facts.specs.law_bearer_lists.uplink_defs.Orders as up
-use Rattle.law_tie_facts.specs.law_bearer_lists.law_context_orders.Shown.{is_bearer}
-use Rattle.law_tie_facts.specs.law_run_units.Happenings.{DuRecord}
-use Rattle.law_tie_facts.specs.law_run_bearers.Things.{PlainUnits}
-use Rattle.law_tie_facts.specs.law_run_bearers.Bearers.{Numbering}
-use Rattle.law_tie_facts.specs.Ties.{Owned, owned_on}
-use Rattle.law_put_ties.specs.Puts.{IsDuStep, LeadsUp, AllLead, orders_up, puts_of}
-use Rattle.law_put_ties.proofs.Apart.{on_same, IsAt, at_end}
+use Rattle.law_du_inputs.specs.uplink_defs.Orders as up
+use Rattle.law_tied_runs.specs.law_context_orders.Shown.{is_bearer}
+use Rattle.law_tied_runs.specs.law_run_units.Happenings.{DuRecord}
+use Rattle.law_tied_runs.specs.law_run_bearers.Things.{PlainUnits}
+use Rattle.law_tied_runs.specs.law_run_bearers.Bearers.{Numbering}
+use Rattle.law_tied_runs.specs.law_tie_facts.Ties.{Owned, owned_on}
+use Rattle.law_tied_runs.specs.law_put_ties.Puts.{IsDuStep, LeadsUp, AllLead, orders_up, puts_of}
+use Rattle.law_tied_runs.proofs.law_put_ties.Apart.{on_same, IsAt, at_end}
 use Rattle.law_tied_runs.specs.Steps.{Point, IsPassed, DuActs}
 use Rattle.law_radio_ties.specs.Radio.{RunState, RunCause, OnRadio, up_key, Leaves}
 use Rattle.law_du_ties.proofs.Quiet.{IsQuietLoad, AreQuiet, IsNotOurs, puts_quiet, at_quiet, quiet_kept}
@@ -291,7 +291,7 @@ module _ (reading : Reading) (n : Numbering) (ue : UeId) (bearer : BearerId) (sn
       so (confirm_input item.key.ue item.key.bearer item.key.dir item.content.says (content_of item.content.says)) given tt
   not_ours (by_letter k l to) at given stands far = so (control_input l.from l.message) given tt
 
-  quiet : AreQuiet (puts_of ue bearer s.units gnb number input)
+  pub quiet : AreQuiet (puts_of ue bearer s.units gnb number input)
   quiet = puts_quiet ue bearer (du_of s.units gnb number) input (not_ours cause step.node step.given acted.stands leaves)
 
   leads : AllLead n ue bearer s.units p.up.station (puts_of ue bearer s.units gnb number input)

@@ -6,21 +6,21 @@ use Rattle.gnb_types.specs.declared.names.SnBits.TheVariants.{Len12}
 use Rattle.gnb_types.specs.declared.names.UeId.{UeId}
 use Rattle.gnb_types.specs.declared.names.BearerId.{BearerId}
 use Rattle.unit_defs.specs.UpRecords.{Downlink}
-use Rattle.run_defs.specs.Runs.{Reading}
+use Rattle.law_first_ties.specs.run_defs.Runs.{Reading}
 use Rattle.law_chain.specs.Words as down_words
 use Rattle.law_chain.proofs.Laws as chain_laws
-use Rattle.law_uplink.specs.Words as up_words
-use Rattle.law_uplink.proofs.Laws as uplink_laws
-use Rattle.law_tie_facts.specs.law_bearer_lists.chain_defs.Parts as down_parts
-use Rattle.law_tie_facts.specs.law_bearer_lists.chain_defs.Orders as down
-use Rattle.law_tie_facts.specs.law_bearer_lists.chain_defs.Guards as down_guards
-use Rattle.law_tie_facts.specs.law_bearer_lists.uplink_defs.Parts as up_parts
-use Rattle.law_tie_facts.specs.law_bearer_lists.uplink_defs.Orders as up
-use Rattle.law_tie_facts.specs.law_bearer_lists.uplink_defs.Guards as up_guards
-use Rattle.law_tie_facts.specs.law_run_bearers.Bearers.{Numbering}
-use Rattle.law_tied_runs.specs.law_core_ties.law_put_ties.Worked.{terminal, bearer}
-use Rattle.law_tied_runs.specs.Steps.{Point, IsTied, Steps, AreOrders}
-use Rattle.law_tied_runs.proofs.Runs.{steps_then}
+use Rattle.law_first_ties.specs.law_uplink.Words as up_words
+use Rattle.law_first_ties.proofs.law_uplink.Laws as uplink_laws
+use Rattle.law_chain.specs.chain_defs.Parts as down_parts
+use Rattle.law_chain.specs.chain_defs.Orders as down
+use Rattle.law_chain.specs.chain_defs.Guards as down_guards
+use Rattle.law_first_ties.specs.uplink_defs.Parts as up_parts
+use Rattle.law_first_ties.specs.uplink_defs.Orders as up
+use Rattle.law_first_ties.specs.uplink_defs.Guards as up_guards
+use Rattle.law_first_ties.specs.law_run_bearers.Bearers.{Numbering}
+use Rattle.law_first_ties.specs.law_put_ties.Worked.{terminal, bearer}
+use Rattle.law_first_ties.specs.law_tied_runs.Steps.{Point, IsTied, Steps, AreOrders}
+use Rattle.law_first_ties.proofs.law_tied_runs.Runs.{steps_then}
 use Rattle.law_first_ties.specs.First as its
 use Rattle.law_first_ties.proofs.Start.{starts, tied}
 use Rattle.law_first_runs.specs.First.{AreFirst, DeliverInOrder}

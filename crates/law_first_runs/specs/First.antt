@@ -4,15 +4,15 @@ use Rattle.gnb_types.specs.declared.names.SnBits.{SnBits}
 use Rattle.gnb_types.specs.declared.names.UeId.{UeId}
 use Rattle.gnb_types.specs.declared.names.BearerId.{BearerId}
 use Rattle.unit_defs.specs.UpRecords.{Downlink}
-use Rattle.run_defs.specs.Runs.{Reading}
+use Rattle.law_first_ties.specs.run_defs.Runs.{Reading}
 use Rattle.law_chain.specs.Words as down_words
-use Rattle.law_uplink.specs.Words as up_words
-use Rattle.law_tie_facts.specs.law_bearer_lists.chain_defs.Parts as down_parts
-use Rattle.law_tie_facts.specs.law_bearer_lists.chain_defs.Orders as down
-use Rattle.law_tie_facts.specs.law_bearer_lists.uplink_defs.Parts as up_parts
-use Rattle.law_tie_facts.specs.law_bearer_lists.uplink_defs.Orders as up
-use Rattle.law_tie_facts.specs.law_run_bearers.Bearers.{Numbering}
-use Rattle.law_tied_runs.specs.Steps.{Point, AreOrders}
+use Rattle.law_first_ties.specs.law_uplink.Words as up_words
+use Rattle.law_chain.specs.chain_defs.Parts as down_parts
+use Rattle.law_chain.specs.chain_defs.Orders as down
+use Rattle.law_first_ties.specs.uplink_defs.Parts as up_parts
+use Rattle.law_first_ties.specs.uplink_defs.Orders as up
+use Rattle.law_first_ties.specs.law_run_bearers.Bearers.{Numbering}
+use Rattle.law_first_ties.specs.law_tied_runs.Steps.{Point, AreOrders}
 
 pub record AreFirst (first teid : ℕ) (d : Downlink) (p : Point) : Type 0 where
   pub down : p.down ≡ down.run (down_parts.start first teid) (down.switches first d 0 ∷ [])

@@ -7,10 +7,10 @@ ghost use Rattle.gnb_types.specs.declared.names.SnBits.{SnBits};
 ghost use Rattle.gnb_types.specs.declared.names.UeId.{UeId};
 ghost use Rattle.law_first_runs.specs.First.{AreFirst, DeliverInOrder};
 ghost use Rattle.law_first_ties.specs.First.{start};
-ghost use Rattle.law_tie_facts.specs.law_run_bearers.Bearers.{Numbering};
-ghost use Rattle.law_tied_runs.specs.Steps.{IsTied, Point, Steps};
-ghost use Rattle.law_tied_runs.specs.law_core_ties.law_put_ties.Worked.{bearer, terminal};
-ghost use Rattle.run_defs.specs.Runs.{Reading};
+ghost use Rattle.law_first_ties.specs.law_run_bearers.Bearers.{Numbering};
+ghost use Rattle.law_first_ties.specs.law_tied_runs.Steps.{IsTied, Point, Steps};
+ghost use Rattle.law_first_ties.specs.law_put_ties.Worked.{bearer, terminal};
+ghost use Rattle.law_first_ties.specs.run_defs.Runs.{Reading};
 ghost use Rattle.std.specs.Prelude.{ℕ};
 ghost use Rattle.unit_defs.specs.UpRecords.{Downlink};
 

@@ -20,18 +20,18 @@ use Rattle.message_types.specs.declared.rrc.Token.{Token}
 use Rattle.unit_defs.specs.Ways.{Message}
 use Rattle.run_defs.specs.Units.{up_of}
 use Rattle.run_defs.specs.Runs.{Reading, plain_world}
-use Rattle.law_run_facts.proofs.Steps.{found_has}
-use Rattle.law_tie_facts.specs.law_bearer_lists.chain_defs.Parts as down_parts
-use Rattle.law_tie_facts.specs.law_bearer_lists.chain_defs.Parts.{set}
-use Rattle.law_tie_facts.specs.law_bearer_lists.chain_defs.Orders as down
-use Rattle.law_tie_facts.specs.law_bearer_lists.uplink_defs.Parts as up_parts
-use Rattle.law_tie_facts.specs.law_bearer_lists.law_context_orders.Orders.{UpPart, part_in, part_of}
-use Rattle.law_tie_facts.specs.law_bearer_lists.law_bearer_orders.Happenings.{Contexts}
-use Rattle.law_tie_facts.specs.law_bearer_lists.law_bearer_orders.Starts.{only}
-use Rattle.law_tie_facts.proofs.law_bearer_lists.law_bearer_orders.Starts.{set_up_starts}
-use Rattle.law_tie_facts.specs.law_tunnel_steps.Standing.{standing}
-use Rattle.law_tie_facts.specs.law_run_bearers.Bearers.{Place, Numbering, if_of, at_place, contexts_of}
-use Rattle.law_tie_facts.specs.Ties.{RunItem, downs_of, ups_of, IsMirror}
+use Rattle.law_tied_runs.proofs.law_run_facts.Steps.{found_has}
+use Rattle.law_tied_runs.specs.chain_defs.Parts as down_parts
+use Rattle.law_tied_runs.specs.chain_defs.Parts.{set}
+use Rattle.law_tied_runs.specs.chain_defs.Orders as down
+use Rattle.law_tied_runs.specs.uplink_defs.Parts as up_parts
+use Rattle.law_tied_runs.specs.law_context_orders.Orders.{UpPart, part_in, part_of}
+use Rattle.law_tied_runs.specs.law_bearer_orders.Happenings.{Contexts}
+use Rattle.law_tied_runs.specs.law_bearer_orders.Starts.{only}
+use Rattle.law_tied_runs.proofs.law_bearer_orders.Starts.{set_up_starts}
+use Rattle.law_tied_runs.specs.law_tunnel_steps.Standing.{standing}
+use Rattle.law_tied_runs.specs.law_run_bearers.Bearers.{Place, Numbering, if_of, at_place, contexts_of}
+use Rattle.law_tied_runs.specs.law_tie_facts.Ties.{RunItem, downs_of, ups_of, IsMirror}
 use Rattle.law_tied_runs.specs.law_core_ties.law_put_ties.Worked.{terminal, bearer, plan}
 use Rattle.law_first_ties.specs.First.{set_up, first}
 

@@ -40,17 +40,17 @@ use Rattle.run_defs.specs.Conditions.{n3_from}
 use Rattle.run_defs.specs.Lines.{RunLine, put_item, tunnel_link, shown}
 use Rattle.run_defs.specs.States.{entity}
 use Rattle.run_defs.specs.Runs.{Reading, plain_world}
-use Rattle.law_own_events.specs.Passed.{not_yet as same_state}
-use Rattle.law_tie_facts.specs.law_bearer_lists.chain_defs.Parts as down_parts
-use Rattle.law_tie_facts.specs.law_bearer_lists.chain_defs.Orders as down
-use Rattle.law_tie_facts.specs.law_bearer_lists.uplink_defs.Parts as up_parts
-use Rattle.law_tie_facts.specs.law_bearer_lists.law_bearer_orders.Happenings.{Contexts}
-use Rattle.law_tie_facts.specs.law_bearer_lists.law_bearer_orders.Down as downs
-use Rattle.law_tie_facts.specs.law_bearer_lists.law_bearer_orders.Up as ups
-use Rattle.law_tie_facts.specs.law_bearer_lists.law_bearer_orders.Starts.{DownStarts, UpStarts}
-use Rattle.law_tie_facts.proofs.law_bearer_lists.law_bearer_orders.Starts.{set_up_starts}
-use Rattle.law_tie_facts.specs.law_run_bearers.Bearers.{Numbering}
-use Rattle.law_tie_facts.specs.Ties.{RunItem, IsMirror}
+use Rattle.law_tied_runs.specs.law_own_events.Passed.{not_yet as same_state}
+use Rattle.law_tied_runs.specs.chain_defs.Parts as down_parts
+use Rattle.law_tied_runs.specs.chain_defs.Orders as down
+use Rattle.law_tied_runs.specs.uplink_defs.Parts as up_parts
+use Rattle.law_tied_runs.specs.law_bearer_orders.Happenings.{Contexts}
+use Rattle.law_tied_runs.specs.law_bearer_orders.Down as downs
+use Rattle.law_tied_runs.specs.law_bearer_orders.Up as ups
+use Rattle.law_tied_runs.specs.law_bearer_orders.Starts.{DownStarts, UpStarts}
+use Rattle.law_tied_runs.proofs.law_bearer_orders.Starts.{set_up_starts}
+use Rattle.law_tied_runs.specs.law_run_bearers.Bearers.{Numbering}
+use Rattle.law_tied_runs.specs.law_tie_facts.Ties.{RunItem, IsMirror}
 use Rattle.law_tied_runs.specs.law_core_ties.law_put_ties.Worked.{terminal, bearer, plan}
 use Rattle.law_tied_runs.specs.law_core_ties.Core.{PathLeads, IsOffer}
 use Rattle.law_tied_runs.specs.Steps.{Point, IsPassed, IsTied, CoreOffers, Step, an_offer, Steps, not_yet, further as then_step}

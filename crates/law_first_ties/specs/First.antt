@@ -14,11 +14,11 @@ use Rattle.run_defs.specs.States.{new_state, entity}
 use Rattle.run_defs.specs.Conditions.{statically}
 use Rattle.run_defs.specs.Events.{offered}
 use Rattle.run_defs.specs.Runs.{Reading, plain_world}
-use Rattle.law_tie_facts.specs.law_bearer_lists.chain_defs.Parts as down_parts
-use Rattle.law_tie_facts.specs.law_bearer_lists.chain_defs.Orders as down
-use Rattle.law_tie_facts.specs.law_bearer_lists.uplink_defs.Parts as up_parts
-use Rattle.law_tie_facts.specs.law_run_bearers.Bearers.{Numbering}
-use Rattle.law_tie_facts.specs.Ties.{RunState, RunItem}
+use Rattle.law_tied_runs.specs.chain_defs.Parts as down_parts
+use Rattle.law_tied_runs.specs.chain_defs.Orders as down
+use Rattle.law_tied_runs.specs.uplink_defs.Parts as up_parts
+use Rattle.law_tied_runs.specs.law_run_bearers.Bearers.{Numbering}
+use Rattle.law_tied_runs.specs.law_tie_facts.Ties.{RunState, RunItem}
 use Rattle.law_tied_runs.specs.law_core_ties.law_put_ties.Worked.{terminal, bearer, plan}
 use Rattle.law_tied_runs.specs.Steps.{Point}
 

@@ -3,7 +3,7 @@
 
 ghost use Rattle.gnb_types.specs.declared.names.SnBits.TheVariants.{Len12};
 ghost use Rattle.law_first_ties.specs.First.{after, start};
-ghost use Rattle.law_tie_facts.specs.law_run_bearers.Bearers.{Numbering};
+ghost use Rattle.law_tied_runs.specs.law_run_bearers.Bearers.{Numbering};
 ghost use Rattle.law_tied_runs.specs.Steps.{IsTied, Steps};
 ghost use Rattle.law_tied_runs.specs.law_core_ties.law_put_ties.Worked.{bearer, terminal};
 ghost use Rattle.run_defs.specs.Runs.{Reading};

@@ -1,7 +1,7 @@
 -- Frames that go on, one after another.
 use Rattle.std.proofs.Common.{◌≡◌, ℕ, zero, suc, ◌+◌, List, [], ◌∷◌, ◌++◌, length, Option, Some, None, refl, sym, ap, ◌∙◌, subst, arith}
 use Rattle.std.proofs.lemmas.List.{length-append}
-use Rattle.gnb_types.specs.declared.names.NodeId.{NodeId}
+use Rattle.unit_defs.specs.gnb_types.declared.names.NodeId.{NodeId}
 use Rattle.unit_defs.specs.UpRecords.{Downlink}
 use Rattle.law_frames.specs.Numbered.{Frame, frames_from, GoOn}
 

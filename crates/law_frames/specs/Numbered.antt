@@ -1,7 +1,7 @@
 -- The NR-U numbers of the frames that a CU-UP puts for a bearer (TS 38.425, 5.4.1): one after another on its downlink tunnel.
 use Rattle.std.specs.Prelude.{ℕ, ◌≡◌, zero, suc, ◌+◌, List, [], ◌∷◌, length, Option, Some, None}
 use Rattle.std.specs.List.{flat_map}
-use Rattle.gnb_types.specs.declared.names.NodeId.{NodeId}
+use Rattle.unit_defs.specs.gnb_types.declared.names.NodeId.{NodeId}
 use Rattle.unit_defs.specs.Ways.{Load, frame, Output, packet, Answer, gives, spent}
 use Rattle.unit_defs.specs.UpRecords.{Downlink, UpBearer}
 

@@ -1,9 +1,9 @@
 //! A law of the frames of a bearer's downlink. Each function does nothing: its contract is the law.
 #![tactic(auto)]
 
-ghost use Rattle.gnb_types.specs.declared.names.NodeId.{NodeId};
-ghost use Rattle.gnb_types.specs.declared.outputs.Tag.TheVariants.{Absent};
-ghost use Rattle.gnb_types.specs.declared.plans.SnStatus.{SnStatus};
+ghost use Rattle.unit_defs.specs.gnb_types.declared.names.NodeId.{NodeId};
+ghost use Rattle.unit_defs.specs.gnb_types.declared.outputs.Tag.TheVariants.{Absent};
+ghost use Rattle.unit_defs.specs.gnb_types.declared.plans.SnStatus.{SnStatus};
 ghost use Rattle.law_frames.specs.Numbered.{NumbersFrom};
 ghost use Rattle.std.specs.Prelude.{false, None, Some, true, ℕ};
 ghost use Rattle.unit_defs.specs.UpBearers.{framed, frozen_to, resumed, switched, with_status, with_uplink};

@@ -3,11 +3,11 @@ use Rattle.std.proofs.Common.{◌≡◌, ◌==◌, ℕ, Bool, true, false, [], �
 use Rattle.std.specs.Prelude.{if◌then◌else◌}
 use Rattle.unit_defs.specs.UpRecords.{Downlink}
 use Rattle.unit_defs.specs.UpBearers.{made}
-use Rattle.law_tie_facts.specs.law_bearer_lists.chain_defs.Parts as down_parts
-use Rattle.law_tie_facts.specs.law_bearer_lists.chain_defs.Orders as down
-use Rattle.law_tie_facts.specs.law_bearer_lists.uplink_defs.Parts as up_parts
-use Rattle.law_tie_facts.specs.law_bearer_lists.law_down_orders.Down.{without_end}
-use Rattle.law_tie_facts.proofs.Ends.{clash}
+use Rattle.law_core_rows.specs.chain_defs.Parts as down_parts
+use Rattle.law_core_rows.specs.chain_defs.Orders as down
+use Rattle.law_first_runs.specs.uplink_defs.Parts as up_parts
+use Rattle.law_first_runs.specs.law_down_orders.Down.{without_end}
+use Rattle.law_first_runs.proofs.law_tie_facts.Ends.{clash}
 
 -- no hop, and neither frozen nor released
 pub record IsPlain (m : down_parts.Member) : Type 0 where

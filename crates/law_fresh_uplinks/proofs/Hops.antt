@@ -6,18 +6,18 @@ use Rattle.gnb_types.specs.declared.names.UeId.{UeId}
 use Rattle.gnb_types.specs.declared.names.BearerId.{BearerId}
 use Rattle.pdcp_defs.specs.Receivers.{Delivery, is_duplicate, stored, deliver}
 use Rattle.unit_defs.specs.Ways.{Pdu, packet_pdu, report_pdu, Load, numbered, fresh, frame, uplink, status, end_marker}
-use Rattle.law_tie_facts.specs.law_bearer_lists.chain_defs.Parts as down_parts
-use Rattle.law_tie_facts.specs.law_bearer_lists.chain_defs.Parts.{set}
-use Rattle.law_tie_facts.specs.law_bearer_lists.chain_defs.Orders as down
-use Rattle.law_tie_facts.specs.law_bearer_lists.uplink_defs.Parts as up_parts
-use Rattle.law_tie_facts.specs.law_bearer_lists.uplink_defs.Orders as up
-use Rattle.law_tie_facts.specs.law_bearer_lists.law_context_orders.Shown.{is_bearer}
-use Rattle.law_tie_facts.specs.law_run_bearers.Things.{PlainUnits}
-use Rattle.law_tie_facts.specs.law_run_bearers.Bearers.{Numbering}
-use Rattle.law_tie_facts.specs.Ties.{Owned}
-use Rattle.law_put_ties.specs.Puts.{orders_up, order_up, owned_to}
-use Rattle.law_du_inputs.specs.Puts.{OnTunnel}
-use Rattle.law_du_steps.specs.Steps.{order_of}
+use Rattle.law_core_rows.specs.chain_defs.Parts as down_parts
+use Rattle.law_core_rows.specs.chain_defs.Parts.{set}
+use Rattle.law_core_rows.specs.chain_defs.Orders as down
+use Rattle.law_first_runs.specs.uplink_defs.Parts as up_parts
+use Rattle.law_first_runs.specs.uplink_defs.Orders as up
+use Rattle.law_first_runs.specs.law_context_orders.Shown.{is_bearer}
+use Rattle.law_first_runs.specs.law_run_bearers.Things.{PlainUnits}
+use Rattle.law_first_runs.specs.law_run_bearers.Bearers.{Numbering}
+use Rattle.law_first_runs.specs.law_tie_facts.Ties.{Owned}
+use Rattle.law_first_runs.specs.law_put_ties.Puts.{orders_up, order_up, owned_to}
+use Rattle.law_first_runs.specs.law_du_inputs.Puts.{OnTunnel}
+use Rattle.law_first_runs.specs.law_du_steps.Steps.{order_of}
 use Rattle.law_core_rows.specs.Shown.{Places, Goal, to_first, orders_to}
 use Rattle.law_first_runs.specs.law_tied_runs.law_core_ties.Core.{orders_offered}
 use Rattle.law_first_runs.specs.law_tied_runs.Steps.{IsOfRadio, IsOfTerminal}

@@ -3,13 +3,13 @@ use Rattle.std.proofs.Common.{◌≡◌, ◌==◌, ℕ, Bool, true, false, List,
 use Rattle.std.specs.Prelude.{if◌then◌else◌, nat_lt}
 use Rattle.std.specs.List.{AllByRecursion}
 use Rattle.pdcp_defs.specs.Receivers.{Delivery, is_duplicate, stored, deliver}
-use Rattle.law_tie_facts.specs.law_bearer_lists.chain_defs.Parts.{set}
-use Rattle.law_tie_facts.specs.law_bearer_lists.chain_defs.Orders.{frozen}
+use Rattle.law_core_rows.specs.chain_defs.Parts.{set}
+use Rattle.law_core_rows.specs.chain_defs.Orders.{frozen}
 use Rattle.unit_defs.specs.UpRecords.{SourceHop}
 use Rattle.unit_defs.specs.UpBearers.{thawed}
-use Rattle.law_tie_facts.specs.law_bearer_lists.uplink_defs.Parts.{Item, numbered, end_marker, Source, uplink_tunnel, forwarding, Member, Part, new_member, no_member, items_at, with_rest}
-use Rattle.law_tie_facts.specs.law_bearer_lists.uplink_defs.Orders.{Order, offers, numbers, connects, leaves, arrives, carries, acknowledges, reports, marks, makes, adds, freezes, knows, switches, resumes, releases, closes, discards, takes, ends_uplink, ends_hop, late, changed, put_on, passed, handed, stored_at, new_at, late_at, taken_at, stores, without_uplink, is_up_over, with_ended, ended_if, ended_at, after, run}
-use Rattle.law_tie_facts.specs.law_bearer_lists.uplink_defs.Guards.{IsReady, AreKept}
+use Rattle.law_first_runs.specs.uplink_defs.Parts.{Item, numbered, end_marker, Source, uplink_tunnel, forwarding, Member, Part, new_member, no_member, items_at, with_rest}
+use Rattle.law_first_runs.specs.uplink_defs.Orders.{Order, offers, numbers, connects, leaves, arrives, carries, acknowledges, reports, marks, makes, adds, freezes, knows, switches, resumes, releases, closes, discards, takes, ends_uplink, ends_hop, late, changed, put_on, passed, handed, stored_at, new_at, late_at, taken_at, stores, without_uplink, is_up_over, with_ended, ended_if, ended_at, after, run}
+use Rattle.law_first_runs.specs.uplink_defs.Guards.{IsReady, AreKept}
 
 clash : {b : Bool} {X : Type 0} → b ≡ true → b ≡ false → X
 clash h k = absurd (let bad : true ≡ false = sym h ∙ k in cc)

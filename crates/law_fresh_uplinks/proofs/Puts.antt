@@ -9,20 +9,20 @@ use Rattle.unit_defs.specs.UpRecords.{TunnelKind, n3, f1u_uplink, forwarding_dow
 use Rattle.run_defs.specs.Units.{up_of}
 use Rattle.run_defs.specs.Runs.{plain_way}
 use Rattle.law_teids.specs.Given.{below}
-use Rattle.law_tie_facts.specs.law_owner_facts.Owned.{AreOwned}
-use Rattle.law_tie_facts.specs.law_bearer_lists.uplink_defs.Parts as up_parts
-use Rattle.law_tie_facts.specs.law_bearer_lists.uplink_defs.Orders as up
-use Rattle.law_tie_facts.specs.law_bearer_lists.law_context_orders.Orders.{UpPart, UpOrder, makes, adds, switches, freezes, knows, resumes, releases, closes, takes, polls}
-use Rattle.law_tie_facts.specs.law_bearer_lists.law_up_orders.Up as up_rows
-use Rattle.law_tie_facts.specs.law_bearer_lists.law_bearer_orders.Happenings.{Beside, asks, Contexts, context_after}
-use Rattle.law_tie_facts.specs.law_bearer_lists.law_bearer_orders.Up as ups
-use Rattle.law_tie_facts.specs.law_run_bearers.Things.{PlainUnits}
-use Rattle.law_tie_facts.specs.law_run_bearers.Bearers.{Place, Numbering}
-use Rattle.law_tie_facts.specs.Ties.{Owned}
-use Rattle.law_put_ties.specs.Puts.{AllLead, LeadsUp, orders_up, order_up, owned_to}
-use Rattle.law_put_ties.proofs.Apart.{place, IsAt, at_end}
-use Rattle.law_du_inputs.specs.Puts.{OnTunnel}
-use Rattle.law_du_steps.specs.Steps.{order_of}
+use Rattle.law_first_runs.specs.law_owner_facts.Owned.{AreOwned}
+use Rattle.law_first_runs.specs.uplink_defs.Parts as up_parts
+use Rattle.law_first_runs.specs.uplink_defs.Orders as up
+use Rattle.law_first_runs.specs.law_context_orders.Orders.{UpPart, UpOrder, makes, adds, switches, freezes, knows, resumes, releases, closes, takes, polls}
+use Rattle.law_first_runs.specs.law_up_orders.Up as up_rows
+use Rattle.law_first_runs.specs.law_bearer_orders.Happenings.{Beside, asks, Contexts, context_after}
+use Rattle.law_first_runs.specs.law_bearer_orders.Up as ups
+use Rattle.law_first_runs.specs.law_run_bearers.Things.{PlainUnits}
+use Rattle.law_first_runs.specs.law_run_bearers.Bearers.{Place, Numbering}
+use Rattle.law_first_runs.specs.law_tie_facts.Ties.{Owned}
+use Rattle.law_first_runs.specs.law_put_ties.Puts.{AllLead, LeadsUp, orders_up, order_up, owned_to}
+use Rattle.law_first_runs.proofs.law_put_ties.Apart.{place, IsAt, at_end}
+use Rattle.law_first_runs.specs.law_du_inputs.Puts.{OnTunnel}
+use Rattle.law_first_runs.specs.law_du_steps.Steps.{order_of}
 use Rattle.law_fresh_uplinks.proofs.Orders.{IsEmpty, PutsNone, put_empty}
 
 -- ---- a CU-UP

@@ -18,17 +18,17 @@ use Rattle.law_steps.proofs.Frames.{made_relates}
 use Rattle.law_teids.specs.Given.{below, GiveOnce}
 use Rattle.law_teids.proofs.Runs.{give_same, give_then, placed_gives, answer_gives}
 use Rattle.law_first_runs.specs.law_tied_runs.law_own_events.Passed.{Passes, not_yet, further}
-use Rattle.law_tie_facts.specs.law_bearer_lists.uplink_defs.Parts as up_parts
-use Rattle.law_tie_facts.specs.law_bearer_lists.uplink_defs.Orders as up
-use Rattle.law_tie_facts.specs.law_bearer_lists.law_context_orders.Inputs.{orders_of}
-use Rattle.law_tie_facts.specs.law_bearer_lists.law_bearer_orders.Happenings.{Contexts, Happening}
-use Rattle.law_tie_facts.specs.law_bearer_lists.law_bearer_orders.Up as ups
-use Rattle.law_tie_facts.specs.law_run_bearers.Bearers.{Place, Numbering, contexts_of}
-use Rattle.law_tie_facts.specs.Ties.{RunState}
-use Rattle.law_tie_facts.specs.Asked.{AreSound, context_at, beside_of, step_asks}
-use Rattle.law_put_ties.specs.Puts.{puts_of}
-use Rattle.law_run_ties.proofs.Runs.{up_runs}
-use Rattle.law_up_ties.proofs.Ups as of_cu_ups
+use Rattle.law_first_runs.specs.uplink_defs.Parts as up_parts
+use Rattle.law_first_runs.specs.uplink_defs.Orders as up
+use Rattle.law_first_runs.specs.law_context_orders.Inputs.{orders_of}
+use Rattle.law_first_runs.specs.law_bearer_orders.Happenings.{Contexts, Happening}
+use Rattle.law_first_runs.specs.law_bearer_orders.Up as ups
+use Rattle.law_first_runs.specs.law_run_bearers.Bearers.{Place, Numbering, contexts_of}
+use Rattle.law_first_runs.specs.law_tie_facts.Ties.{RunState}
+use Rattle.law_first_runs.specs.law_tie_facts.Asked.{AreSound, context_at, beside_of, step_asks}
+use Rattle.law_first_runs.specs.law_put_ties.Puts.{puts_of}
+use Rattle.law_first_runs.proofs.law_run_ties.Runs.{up_runs}
+use Rattle.law_first_runs.proofs.law_up_ties.Ups as of_cu_ups
 use Rattle.law_first_runs.specs.law_tied_runs.law_core_ties.law_put_ties.Worked.{terminal, bearer as its_bearer}
 use Rattle.law_first_runs.specs.law_tied_runs.Steps as tied
 use Rattle.law_first_runs.specs.law_tied_runs.Steps.{Point, IsPassed, IsTied, IsOfTerminal}

@@ -13,12 +13,12 @@ use Rattle.run_defs.specs.Units.{up_of}
 use Rattle.run_defs.specs.Runs.{Reading, plain_world}
 use Rattle.law_teids.specs.Given.{below}
 use Rattle.law_first_runs.specs.law_tied_runs.law_own_events.Passed.{Passes}
-use Rattle.law_tie_facts.specs.law_bearer_lists.uplink_defs.Parts as up_parts
-use Rattle.law_tie_facts.specs.law_bearer_lists.law_bearer_orders.Happenings.{Beside}
-use Rattle.law_tie_facts.specs.law_run_units.Happenings.{UpRecord}
-use Rattle.law_tie_facts.specs.law_run_bearers.Bearers.{Place, Numbering, contexts_of}
-use Rattle.law_tie_facts.specs.Ties.{RunState}
-use Rattle.law_tie_facts.specs.Asked.{RunCause, IsUpStep, AllAsk, down_after, up_after, step_asks}
+use Rattle.law_first_runs.specs.uplink_defs.Parts as up_parts
+use Rattle.law_first_runs.specs.law_bearer_orders.Happenings.{Beside}
+use Rattle.law_first_runs.specs.law_run_units.Happenings.{UpRecord}
+use Rattle.law_first_runs.specs.law_run_bearers.Bearers.{Place, Numbering, contexts_of}
+use Rattle.law_first_runs.specs.law_tie_facts.Ties.{RunState}
+use Rattle.law_first_runs.specs.law_tie_facts.Asked.{RunCause, IsUpStep, AllAsk, down_after, up_after, step_asks}
 use Rattle.law_first_runs.specs.law_tied_runs.Steps.{Point, IsPassed, DuActs, CoreOffers, CoreTakes, StaysBeside}
 
 -- on an uplink whose TEID its CU-UP has not given yet no context has anything

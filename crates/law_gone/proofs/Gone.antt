@@ -1,17 +1,17 @@
 -- Where nothing more is delivered, what was delivered stays a prefix of what is offered.
 use Rattle.std.proofs.Common.{◌≡◌, ℕ, zero, suc, ◌+◌, Bool, true, false, ◌||◌, nat_lt, List, [], ◌∷◌, ◌++◌, length, take, Option, Some, None, refl, sym, ap, subst, ◌∙◌, true≢false, arith}
 use Rattle.std.specs.List.{enumerate_from}
-use Rattle.gnb_types.specs.declared.names.SnBits.{SnBits}
-use Rattle.pdcp_defs.specs.Receivers.{is_duplicate}
-use Rattle.unit_defs.specs.UpRecords.{SourceHop}
-use Rattle.chain_defs.specs.Parts as down_parts
-use Rattle.chain_defs.specs.Orders as down
-use Rattle.chain_defs.specs.Guards as down_guards
-use Rattle.uplink_defs.specs.Parts.{Part, Member, start, uplink_tunnel, forwarding, with_rest}
-use Rattle.uplink_defs.specs.Orders as up
-use Rattle.uplink_defs.specs.Guards.{AreKept}
-use Rattle.law_chain.specs.Words as down_words
-use Rattle.law_chain.proofs.Laws as down_laws
+use Rattle.law_uplink.specs.gnb_types.declared.names.SnBits.{SnBits}
+use Rattle.law_uplink.specs.pdcp_defs.Receivers.{is_duplicate}
+use Rattle.law_uplink.specs.unit_defs.UpRecords.{SourceHop}
+use Rattle.law_uplink.specs.chain_defs.Parts as down_parts
+use Rattle.law_uplink.specs.chain_defs.Orders as down
+use Rattle.law_uplink.specs.chain_defs.Guards as down_guards
+use Rattle.law_uplink.specs.uplink_defs.Parts.{Part, Member, start, uplink_tunnel, forwarding, with_rest}
+use Rattle.law_uplink.specs.uplink_defs.Orders as up
+use Rattle.law_uplink.specs.uplink_defs.Guards.{AreKept}
+use Rattle.law_uplink.specs.law_chain.Words as down_words
+use Rattle.law_uplink.proofs.law_chain.Laws as down_laws
 use Rattle.law_uplink.specs.Words.{DeliversInOrder}
 use Rattle.law_uplink.proofs.Laws.{delivers_in_order}
 use Rattle.law_gone.specs.Silent.{TakesNone, TakeNone, IsSilent, AreSilent}

@@ -1,1 +1,2 @@
 pub mod Gone
+pub use Rattle.law_uplink.proofs as law_uplink

@@ -1,1 +1,2 @@
 pub mod Silent
+pub use Rattle.law_uplink.specs as law_uplink

@@ -1,8 +1,8 @@
 -- Orders by which nothing is delivered, down and up: those after a terminal is released.
 use Rattle.std.specs.Prelude.{◌≡◌, true, ◌||◌, List, [], ◌∷◌, ⊤}
-use Rattle.chain_defs.specs.Orders as down
-use Rattle.uplink_defs.specs.Parts.{Part}
-use Rattle.uplink_defs.specs.Orders as up
+use Rattle.law_uplink.specs.chain_defs.Orders as down
+use Rattle.law_uplink.specs.uplink_defs.Parts.{Part}
+use Rattle.law_uplink.specs.uplink_defs.Orders as up
 
 -- the terminal takes nothing from its radio
 abbrev pub TakesNone : down.Order → Type 0

@@ -3,14 +3,14 @@
 #![tactic(auto)]
 
 ghost use Rattle.std.specs.Prelude.{◌≡◌, ℕ, List, ◌++◌};
-ghost use Rattle.gnb_types.specs.declared.names.SnBits.{SnBits};
-ghost use Rattle.chain_defs.specs.Parts as down_parts;
-ghost use Rattle.chain_defs.specs.Orders as down;
-ghost use Rattle.chain_defs.specs.Guards as down_guards;
-ghost use Rattle.law_chain.specs.Words as down_words;
-ghost use Rattle.uplink_defs.specs.Parts.{start};
-ghost use Rattle.uplink_defs.specs.Orders as up;
-ghost use Rattle.uplink_defs.specs.Guards.{AreKept};
+ghost use Rattle.law_uplink.specs.gnb_types.declared.names.SnBits.{SnBits};
+ghost use Rattle.law_uplink.specs.chain_defs.Parts as down_parts;
+ghost use Rattle.law_uplink.specs.chain_defs.Orders as down;
+ghost use Rattle.law_uplink.specs.chain_defs.Guards as down_guards;
+ghost use Rattle.law_uplink.specs.law_chain.Words as down_words;
+ghost use Rattle.law_uplink.specs.uplink_defs.Parts.{start};
+ghost use Rattle.law_uplink.specs.uplink_defs.Orders as up;
+ghost use Rattle.law_uplink.specs.uplink_defs.Guards.{AreKept};
 ghost use Rattle.law_uplink.specs.Words.{DeliversInOrder};
 ghost use Rattle.law_gone.specs.Silent.{TakeNone, AreSilent};
 

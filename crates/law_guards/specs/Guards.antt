@@ -24,8 +24,8 @@ module _ (n : Numbering) (ue : UeId) (bearer : BearerId) (sn : SnBits) (quota : 
   pub record OfCuUp (gnb : Gnb) (number : ℕ) (cause : RunCause) (input : Input Token Pdu) (beside : Beside) : Type 0 where
     -- Control (`Owes` of `law_owed_orders`): a context is made as a target, a freeze leads from the context that the terminal is at to an
     -- untouched one, by the forwarding tunnels of that one, an SN status says what the source had, switch, resume, release and closing come
-    -- where they belong, and End Markers and COUNTs to a bearer that takes them. Not shown yet: that what confirms a COUNT, or reports one,
-    -- tells of what was received (`ItemOwes`).
+    -- where they belong, and End Markers and COUNTs to a bearer that takes them. That what confirms a COUNT, or reports
+    -- one, says only what was received (`ItemOwes`) stands among them, as `law_path_ties` asks it; over runs `law_report_runs` shows it.
     pub owes : AllOwe n ue bearer p.state.units sn quota p.down p.up (contexts_of n ue bearer p.state.units)
         (final_asks n ue bearer p.state gnb number cause input beside)
 

@@ -1,4 +1,4 @@
-//! Laws that tell all that is owed of the steps of a run, for one bearer. Each function does nothing: its contract is the law.
+//! Laws that say all that is owed of the steps of a run, for one bearer. Each function does nothing: its contract is the law.
 #![tactic(auto)]
 
 ghost use Rattle.gnb_types.specs.declared.names.BearerId.{BearerId};
@@ -23,7 +23,7 @@ ghost use Rattle.std.specs.Prelude.{List, ◌≡◌, ℕ};
 ghost use Rattle.unit_defs.specs.Core.{CorePath, CoreRecord};
 ghost use Rattle.unit_defs.specs.Ways.{Input, Message, Output, Pdu};
 
-/// A step of a CU-UP or the core in a run is one of those of which `law_path_ties` speaks, where what `Guards` tells of it is so, and the
+/// A step of a CU-UP or the core in a run is one of those of which `law_path_ties` speaks, where what `Guards` says of it is so, and the
 /// parts go on by its orders: nothing else is owed.
 pub fn nothing_else_is_owed()
     ensures cu_up { (reading : Reading) (n : Numbering) (ue : UeId) (bearer : BearerId) (sn : SnBits)

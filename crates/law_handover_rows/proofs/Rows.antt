@@ -1,20 +1,20 @@
 -- The rows of a handover, by what their orders do.
 use Rattle.std.proofs.Common.{◌≡◌, ℕ, ◌+◌, Bool, true, false, not, ◌&&◌, ◌||◌, if◌then◌else◌, nat_lt, List, [], ◌∷◌, ◌++◌, Option, Some, None, refl, sym, ap, subst, ◌∙◌, true≢false}
 use Rattle.std.proofs.lemmas.List.{append-nil, map-append}
-use Rattle.pdcp.specs.Near.{last_count}
-use Rattle.pdcp_defs.specs.Senders.{numbered as with_next, has_room}
-use Rattle.pdcp_defs.specs.Receivers.{deliver, received_bits}
-use Rattle.gnb_types.specs.declared.names.NodeId.{NodeId}
-use Rattle.gnb_types.specs.declared.names.Dir.TheVariants.{Dl}
-use Rattle.gnb_types.specs.declared.plans.SnStatus.{SnStatus}
-use Rattle.gnb_types.specs.declared.outputs.Tag.{Tag}
-use Rattle.gnb_types.specs.declared.outputs.Tag.TheVariants.{Absent, Own}
-use Rattle.unit_defs.specs.Ways.{Pdu, packet_pdu, report_pdu, frame, packet, Way, Answer, gives, spent, with_outputs, ◌then◌, nothing, puts, frames_spent, counts_spent}
-use Rattle.unit_defs.specs.UpRecords.{UpBearer, Downlink, UpAt}
-use Rattle.unit_defs.specs.UpBearers.{number_waiting, number_each, sent, sent_again, framed, framed_on, has_downlink, last_frame, deliver_stored, delivered, switched, with_status, resumed, begin_downlink, begin_where_known, thawed, owed, bits_in}
-use Rattle.chain_defs.specs.Orders.{known, on_downlink}
-use Rattle.law_chain_rows.specs.Shown.{items_of, pdus_of, plain, without_number, numbers_all, still_waits, numbered_pdus}
-use Rattle.law_chain_rows.proofs.Rows.{items-append as down-append, pdus-append}
+use Rattle.law_uplink_rows.specs.pdcp.Near.{last_count}
+use Rattle.law_uplink_rows.specs.pdcp_defs.Senders.{numbered as with_next, has_room}
+use Rattle.law_uplink_rows.specs.pdcp_defs.Receivers.{deliver, received_bits}
+use Rattle.law_uplink_rows.specs.gnb_types.declared.names.NodeId.{NodeId}
+use Rattle.law_uplink_rows.specs.gnb_types.declared.names.Dir.TheVariants.{Dl}
+use Rattle.law_uplink_rows.specs.gnb_types.declared.plans.SnStatus.{SnStatus}
+use Rattle.law_uplink_rows.specs.gnb_types.declared.outputs.Tag.{Tag}
+use Rattle.law_uplink_rows.specs.gnb_types.declared.outputs.Tag.TheVariants.{Absent, Own}
+use Rattle.law_uplink_rows.specs.unit_defs.Ways.{Pdu, packet_pdu, report_pdu, frame, packet, Way, Answer, gives, spent, with_outputs, ◌then◌, nothing, puts, frames_spent, counts_spent}
+use Rattle.law_uplink_rows.specs.unit_defs.UpRecords.{UpBearer, Downlink, UpAt}
+use Rattle.law_uplink_rows.specs.unit_defs.UpBearers.{number_waiting, number_each, sent, sent_again, framed, framed_on, has_downlink, last_frame, deliver_stored, delivered, switched, with_status, resumed, begin_downlink, begin_where_known, thawed, owed, bits_in}
+use Rattle.law_uplink_rows.specs.chain_defs.Orders.{known, on_downlink}
+use Rattle.law_uplink_rows.specs.law_chain_rows.Shown.{items_of, pdus_of, plain, without_number, numbers_all, still_waits, numbered_pdus}
+use Rattle.law_uplink_rows.proofs.law_chain_rows.Rows.{items-append as down-append, pdus-append}
 use Rattle.law_uplink_rows.specs.Shown.{items_of as items_up, delivered_in}
 use Rattle.law_uplink_rows.proofs.Rows.{items-append as up-append, delivered-append, none_goes_on, all_delivered}
 use Rattle.law_handover_rows.specs.Shown.{Does, again, handed_up, numbered_all, with_numbered, begun}

@@ -1,10 +1,10 @@
 -- What a row of a handover does to its bearer: what it gives to the downlink and to the uplink, and the bearer.
 use Rattle.std.specs.Prelude.{◌≡◌, ℕ, Bool, List, [], ◌∷◌, ◌++◌, map, ⊤}
-use Rattle.gnb_types.specs.declared.names.SnBits.{SnBits}
-use Rattle.pdcp_defs.specs.Receivers.{deliver}
-use Rattle.unit_defs.specs.Ways.{Pdu, packet_pdu, report_pdu, Way, Answer, gives, spent}
-use Rattle.unit_defs.specs.UpRecords.{UpBearer}
-use Rattle.law_chain_rows.specs.Shown.{items_of, pdus_of, plain, numbers_all, still_waits, numbered_pdus}
+use Rattle.law_uplink_rows.specs.gnb_types.declared.names.SnBits.{SnBits}
+use Rattle.law_uplink_rows.specs.pdcp_defs.Receivers.{deliver}
+use Rattle.law_uplink_rows.specs.unit_defs.Ways.{Pdu, packet_pdu, report_pdu, Way, Answer, gives, spent}
+use Rattle.law_uplink_rows.specs.unit_defs.UpRecords.{UpBearer}
+use Rattle.law_uplink_rows.specs.law_chain_rows.Shown.{items_of, pdus_of, plain, numbers_all, still_waits, numbered_pdus}
 use Rattle.law_uplink_rows.specs.Shown.{items_of as items_up, delivered_in}
 
 -- Nothing goes on to another context; these PDUs go to the radio, these packets are delivered, and this is the bearer, but for the

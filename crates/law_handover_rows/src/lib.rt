@@ -3,14 +3,14 @@
 #![tactic(auto)]
 
 ghost use Rattle.std.specs.Prelude.{◌≡◌, ℕ, true, false, [], Some};
-ghost use Rattle.gnb_types.specs.declared.names.NodeId.{NodeId};
-ghost use Rattle.gnb_types.specs.declared.plans.SnStatus.{SnStatus};
-ghost use Rattle.message_types.specs.declared.rrc.Token.{Token};
-ghost use Rattle.pdcp_defs.specs.Receivers.{deliver, received_bits};
-ghost use Rattle.unit_defs.specs.Ways.{Message, Pdu, Way};
-ghost use Rattle.unit_defs.specs.UpRecords.{UpBearer, UpAt};
-ghost use Rattle.unit_defs.specs.UpBearers.{has_downlink, thawed, owed, switched, with_status, resumed, bits_in};
-ghost use Rattle.chain_defs.specs.Orders.{known, on_downlink};
+ghost use Rattle.law_uplink_rows.specs.gnb_types.declared.names.NodeId.{NodeId};
+ghost use Rattle.law_uplink_rows.specs.gnb_types.declared.plans.SnStatus.{SnStatus};
+ghost use Rattle.law_uplink_rows.specs.message_types.declared.rrc.Token.{Token};
+ghost use Rattle.law_uplink_rows.specs.pdcp_defs.Receivers.{deliver, received_bits};
+ghost use Rattle.law_uplink_rows.specs.unit_defs.Ways.{Message, Pdu, Way};
+ghost use Rattle.law_uplink_rows.specs.unit_defs.UpRecords.{UpBearer, UpAt};
+ghost use Rattle.law_uplink_rows.specs.unit_defs.UpBearers.{has_downlink, thawed, owed, switched, with_status, resumed, bits_in};
+ghost use Rattle.law_uplink_rows.specs.chain_defs.Orders.{known, on_downlink};
 ghost use Rattle.law_handover_rows.specs.Shown.{Does, handed_up, numbered_all, with_numbered, begun};
 
 /// A switch delivers what the receiver hands up, and begins the downlink: a status report, all that nothing confirmed, and

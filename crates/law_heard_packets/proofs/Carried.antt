@@ -4,10 +4,10 @@ use Rattle.std.specs.List.{AllByRecursion}
 use Rattle.gnb_types.specs.declared.names.SnBits.{SnBits}
 use Rattle.tables.specs.Tables.{find}
 use Rattle.law_intervals.specs.Intervals.{HasNoGap}
-use Rattle.pdcp_defs.specs.Receivers.{Receiver, is_duplicate, stored, deliver}
-use Rattle.chain_defs.specs.Parts.{Part}
-use Rattle.chain_defs.specs.Orders.{carries, handed, after, run}
-use Rattle.chain_defs.specs.Guards.{IsReady, IsOwed, AreKept}
+use Rattle.law_chain.specs.pdcp_defs.Receivers.{Receiver, is_duplicate, stored, deliver}
+use Rattle.law_chain.specs.chain_defs.Parts.{Part}
+use Rattle.law_chain.specs.chain_defs.Orders.{carries, handed, after, run}
+use Rattle.law_chain.specs.chain_defs.Guards.{IsReady, IsOwed, AreKept}
 use Rattle.law_heard_packets.specs.Heard.{StandsAmong, carried_to, left_after}
 
 pub late : (r : Receiver (List ℕ)) (count : ℕ) → count < r.deliv → is_duplicate r count ≡ true

@@ -3,12 +3,12 @@ use Rattle.std.proofs.Common.{◌≡◌, ℕ, ◌+◌, ◌<◌, ◌≤◌, max, 
 use Rattle.gnb_types.specs.declared.names.SnBits.{SnBits}
 use Rattle.tables.specs.Tables.{find, put}
 use Rattle.law_intervals.specs.Intervals.{HasNoGap}
-use Rattle.pdcp_defs.specs.Senders.{window, numbered, restored}
-use Rattle.pdcp_defs.specs.Receivers.{Receiver, is_duplicate, stored, deliver}
-use Rattle.chain_defs.specs.unit_defs.UpBearers.{made, owed}
-use Rattle.chain_defs.specs.Parts.{Part, Member, start}
-use Rattle.chain_defs.specs.Orders.{Order, switches, resumes, sends, numbers, sends_again, arrives, fails, carries, handed, after, run, offers_in}
-use Rattle.chain_defs.specs.Guards.{AreKept}
+use Rattle.law_chain.specs.pdcp_defs.Senders.{window, numbered, restored}
+use Rattle.law_chain.specs.pdcp_defs.Receivers.{Receiver, is_duplicate, stored, deliver}
+use Rattle.law_chain.specs.unit_defs.UpBearers.{made, owed}
+use Rattle.law_chain.specs.chain_defs.Parts.{Part, Member, start}
+use Rattle.law_chain.specs.chain_defs.Orders.{Order, switches, resumes, sends, numbers, sends_again, arrives, fails, carries, handed, after, run, offers_in}
+use Rattle.law_chain.specs.chain_defs.Guards.{AreKept}
 use Rattle.law_chain.proofs.Facts.{Good, RadioOf}
 use Rattle.law_chain.proofs.Runs.{stream, agrees, kept_run, good_start}
 use Rattle.law_heard_packets.specs.Heard.{StandsAmong, WasPut, carried_to, left_after, hears, taken, LeavesRadio, a, b, put_twice, one_more, after_one}

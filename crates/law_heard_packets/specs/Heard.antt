@@ -1,9 +1,9 @@
 -- What the terminal takes of its radio down where frames of F1-U may have been lost, in orders of the chain of contexts. The chain's radio
 -- has all that was put for the present one: so before the packet that is taken others may stand there that never came.
 use Rattle.std.specs.Prelude.{◌≡◌, ◌==◌, ℕ, ◌<◌, if◌then◌else◌, List, [], ◌∷◌, ◌⊎◌, ⊤}
-use Rattle.pdcp_defs.specs.Receivers.{is_duplicate, stored, deliver}
-use Rattle.chain_defs.specs.Parts.{Part, start}
-use Rattle.chain_defs.specs.Orders.{Order, offers, keeps_n3, numbers, tells_loss, sends_again, arrives, fails, carries, handed, run}
+use Rattle.law_chain.specs.pdcp_defs.Receivers.{is_duplicate, stored, deliver}
+use Rattle.law_chain.specs.chain_defs.Parts.{Part, start}
+use Rattle.law_chain.specs.chain_defs.Orders.{Order, offers, keeps_n3, numbers, tells_loss, sends_again, arrives, fails, carries, handed, run}
 
 -- this packet stands there with this COUNT
 unfoldable pub StandsAmong : ℕ → List ℕ → List (ℕ × List ℕ) → Type 0

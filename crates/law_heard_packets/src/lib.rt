@@ -4,9 +4,9 @@
 
 ghost use Rattle.std.specs.Prelude.{max, ◌≡◌, ◌+◌, ◌≤◌, ℕ, List, [], ◌∷◌};
 ghost use Rattle.gnb_types.specs.declared.names.SnBits.{SnBits};
-ghost use Rattle.chain_defs.specs.Parts.{Part, start};
-ghost use Rattle.chain_defs.specs.Orders.{Order, after, carries, run};
-ghost use Rattle.chain_defs.specs.Guards.{AreKept};
+ghost use Rattle.law_chain.specs.chain_defs.Parts.{Part, start};
+ghost use Rattle.law_chain.specs.chain_defs.Orders.{Order, after, carries, run};
+ghost use Rattle.law_chain.specs.chain_defs.Guards.{AreKept};
 ghost use Rattle.law_heard_packets.specs.Heard.{LeavesRadio, WasPut, hears, taken};
 ghost use Rattle.law_heard_packets.specs.Heard.{a, after_one, b};
 

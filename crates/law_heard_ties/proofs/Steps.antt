@@ -17,21 +17,21 @@ use Rattle.run_defs.specs.Units.{with_ue}
 use Rattle.run_defs.specs.Written.{written_put}
 use Rattle.run_defs.specs.States.{sn_of}
 use Rattle.run_defs.specs.Runs.{Reading, plain_world, plain_way}
-use Rattle.law_tie_facts.specs.law_bearer_lists.chain_defs.Parts as down_parts
-use Rattle.law_tie_facts.specs.law_bearer_lists.chain_defs.Orders as down
-use Rattle.law_tie_facts.specs.law_bearer_lists.chain_defs.Guards as down_guards
-use Rattle.law_tie_facts.specs.law_bearer_lists.uplink_defs.Orders as up
-use Rattle.law_tie_facts.specs.law_bearer_lists.uplink_defs.Guards as up_guards
-use Rattle.law_tie_facts.specs.law_run_bearers.Bearers.{Numbering}
+use Rattle.law_heard_packets.specs.chain_defs.Parts as down_parts
+use Rattle.law_heard_packets.specs.chain_defs.Orders as down
+use Rattle.law_heard_packets.specs.chain_defs.Guards as down_guards
+use Rattle.law_terminal_inputs.specs.uplink_defs.Orders as up
+use Rattle.law_terminal_inputs.specs.uplink_defs.Guards as up_guards
+use Rattle.law_terminal_ties.specs.law_run_bearers.Bearers.{Numbering}
 use Rattle.law_terminal_inputs.specs.Inputs.{Parts, Orders, none, carried_out, rest_of, orders_by}
-use Rattle.law_own_events.specs.law_own_steps.Own.{IsActed}
-use Rattle.law_own_events.specs.law_own_steps.law_run_links.Own.{HoldTheirOwn}
-use Rattle.law_own_events.proofs.Passed.{sound_past}
+use Rattle.law_terminal_ties.specs.law_own_steps.Own.{IsActed}
+use Rattle.law_radio_downs.specs.law_run_links.Own.{HoldTheirOwn}
+use Rattle.law_terminal_ties.proofs.law_own_events.Passed.{sound_past}
 use Rattle.law_terminal_ties.specs.law_tied_runs.Steps.{Point, IsPassed, IsOfRadio, IsLeft, StaysBeside}
 use Rattle.law_terminal_ties.specs.law_rest_ties.Nodes.{PutsNoItem}
 use Rattle.law_terminal_ties.proofs.law_rest_ties.Rest.{bearer_is_left}
-use Rattle.law_radio_ties.specs.Radio.{RunCause, RunState, IsAtTerminal, IsUeStep}
-use Rattle.law_radio_ties.proofs.Terminals.{terminal_then}
+use Rattle.law_radio_downs.specs.law_radio_ties.Radio.{RunCause, RunState, IsAtTerminal, IsUeStep}
+use Rattle.law_radio_downs.proofs.law_radio_ties.Terminals.{terminal_then}
 use Rattle.law_terminal_ties.specs.Owed.{both, OwedStill}
 use Rattle.law_terminal_ties.proofs.Steps.{stays, tied}
 use Rattle.law_heard_packets.specs.Heard.{WasPut, carried_to, hears, taken}

@@ -42,14 +42,14 @@ use Rattle.law_tie_facts.specs.law_run_bearers.Things.{PlainUnits}
 use Rattle.law_tie_facts.specs.law_run_bearers.Bearers.{Place, Numbering, if_of, at_place, contexts_of}
 use Rattle.law_tie_facts.specs.Ties.{Owned, owned_on}
 use Rattle.law_tie_facts.proofs.Ends.{IsOwner, owner_is}
-use Rattle.law_put_ties.specs.Puts.{IsDuStep, LeadsUp, IsAtStation, order_up, AllLead, orders_up, owned_to, puts_of}
-use Rattle.law_put_ties.proofs.Apart.{place, IsAt, at_end}
-use Rattle.law_own_events.specs.law_own_steps.Own.{IsActed}
-use Rattle.law_own_events.proofs.Passed.{sound_past}
-use Rattle.law_own_events.proofs.law_own_steps.Steps.{Sound}
+use Rattle.law_beside_ties.specs.law_put_ties.Puts.{IsDuStep, LeadsUp, IsAtStation, order_up, AllLead, orders_up, owned_to, puts_of}
+use Rattle.law_beside_ties.proofs.law_put_ties.Apart.{place, IsAt, at_end}
+use Rattle.law_beside_ties.specs.law_own_steps.Own.{IsActed}
+use Rattle.law_beside_ties.proofs.law_own_events.Passed.{sound_past}
+use Rattle.law_beside_ties.proofs.law_own_steps.Steps.{Sound}
 use Rattle.law_terminal_ties.specs.law_tied_runs.Steps.{Point, IsPassed, IsTied, DuActs}
-use Rattle.law_radio_ties.specs.Radio.{OnRadio, up_key, IsAtTerminal, StandsNext, IsBeside}
-use Rattle.law_radio_ties.proofs.Others.{stands_next, carried_then}
+use Rattle.law_beside_ties.specs.law_radio_ties.Radio.{OnRadio, up_key, IsAtTerminal, StandsNext, IsBeside}
+use Rattle.law_beside_ties.proofs.law_radio_ties.Others.{stands_next, carried_then}
 use Rattle.law_beside_ties.proofs.Beside.{is_beside}
 use Rattle.law_terminal_inputs.specs.Inputs.{Parts}
 use Rattle.law_terminal_ties.specs.Owed.{both}

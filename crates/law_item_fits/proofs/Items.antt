@@ -13,11 +13,11 @@ use Rattle.scenario_text.specs.declared.event.Event.{Event}
 use Rattle.unit_defs.specs.Ways.{Message, Pdu, packet_pdu, report_pdu, Load, fresh, numbered, frame, uplink, status, end_marker}
 use Rattle.unit_defs.specs.UpRecords.{TunnelKind, n3, f1u_uplink, forwarding_down, forwarding_up, UpTunnel}
 use Rattle.transport_defs.specs.declared.Item.{Item}
-use Rattle.run_defs.specs.Units.{up_of}
-use Rattle.run_defs.specs.Written.{Written}
-use Rattle.run_defs.specs.States.{State, new_state}
-use Rattle.run_defs.specs.Runs.{Reading, plain_world, taken_of}
-use Rattle.law_steps.specs.Reached.{reached}
+use Rattle.law_run_tunnels.specs.run_defs.Units.{up_of}
+use Rattle.law_run_tunnels.specs.run_defs.Written.{Written}
+use Rattle.law_run_tunnels.specs.run_defs.States.{State, new_state}
+use Rattle.law_run_tunnels.specs.run_defs.Runs.{Reading, plain_world, taken_of}
+use Rattle.law_run_tunnels.specs.law_steps.Reached.{reached}
 use Rattle.law_context_orders.specs.Orders.{UpPart}
 use Rattle.law_run_tunnels.specs.Own.{IsOfKind, IsOwnAt}
 use Rattle.law_run_tunnels.proofs.Runs.{own_in_runs}

@@ -25,7 +25,7 @@ use Rattle.json_defs.specs.Named.{Name, Named}
 use Rattle.json_defs.specs.Members.{Text, same_text, dots}
 use Rattle.json_defs.specs.Shown.{names_of}
 use Rattle.json_shown_defs.specs.Names.{AreKeys, IsApart, ArePartsApart, AreRowsApart, AreProceduresApart, IsOutcomeApart}
-use Rattle.json_type_defs.specs.Types.{parts_with, rows_with, outcome_with, procedures_with, referred_with, definition_with, named_by, named}
+use Rattle.json_proof_modules.specs.json_type_defs.Types.{parts_with, rows_with, outcome_with, procedures_with, referred_with, definition_with, named_by, named}
 use Rattle.law_json_modules.proofs.Words.{IsWord, HasWords, AllWords, items_words, module_words}
 
 -- ---- names that differ

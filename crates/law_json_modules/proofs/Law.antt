@@ -6,13 +6,13 @@ use Rattle.asn1_module.specs.asn1_assignments.declared.assignment.Syntax.{Syntax
 use Rattle.asn1_module.specs.asn1_defs.Modules.{IsModule}
 use Rattle.aper_defs.specs.Values.{Value}
 use Rattle.aper_defs.specs.Membership.{Has}
-use Rattle.aper_types.specs.Types.{tree}
+use Rattle.json_proof_modules.specs.aper_types.Types.{tree}
 use Rattle.json_defs.specs.Named.{tree_of}
 use Rattle.json_defs.specs.Json.{Json}
 use Rattle.json_defs.specs.Readings.{value_of}
 use Rattle.json_defs.specs.Demands.{demands, first_fault}
 use Rattle.json_shown_defs.specs.Printed.{shown_as}
-use Rattle.json_type_defs.specs.Types.{named}
+use Rattle.json_proof_modules.specs.json_type_defs.Types.{named}
 use Rattle.law_json_shown.proofs.Law.{printed_is, read_again}
 use Rattle.law_json_trees.proofs.Depth.{never_too_deep, printed_depth}
 use Rattle.json_proof_modules.proofs.Forgotten.{forgotten}

@@ -27,7 +27,7 @@ use Rattle.asn1_proof_ranks.proofs.Steps.{among_left, among_right}
 use Rattle.asn1_proof_ranks.proofs.Inside.{each_more, range_has, name_step, Among, each_reached}
 use Rattle.json_defs.specs.Named.{Named}
 use Rattle.json_shown_defs.specs.Levels.{levels, part_levels, row_levels, procedure_levels, outcome_levels}
-use Rattle.json_type_defs.specs.Types.{parts_with, rows_with, outcome_with, procedures_with, referred_with, definition_with, named_by, named}
+use Rattle.json_proof_modules.specs.json_type_defs.Types.{parts_with, rows_with, outcome_with, procedures_with, referred_with, definition_with, named_by, named}
 
 -- ---- each type of a module stands in an assignment
 

@@ -9,14 +9,14 @@ ghost use Rattle.asn1_module.specs.asn1_assignments.declared.assignment.Syntax.{
 ghost use Rattle.asn1_module.specs.asn1_defs.Modules.{IsModule};
 ghost use Rattle.aper_defs.specs.Values.{Value};
 ghost use Rattle.aper_defs.specs.Membership.{Has};
-ghost use Rattle.aper_types.specs.Types.{tree};
+ghost use Rattle.json_proof_modules.specs.aper_types.Types.{tree};
 ghost use Rattle.json_defs.specs.Json.{Json};
 ghost use Rattle.json_defs.specs.Readings.{value_of};
 ghost use Rattle.json_defs.specs.Demands.{demands, first_fault};
 ghost use Rattle.json_shown_defs.specs.Names.{IsApart};
 ghost use Rattle.json_shown_defs.specs.Levels.{levels};
 ghost use Rattle.json_shown_defs.specs.Printed.{shown_as};
-ghost use Rattle.json_type_defs.specs.Types.{named};
+ghost use Rattle.json_proof_modules.specs.json_type_defs.Types.{named};
 
 /// The names of an ENUMERATED of a module differ; so do the keys of the object of a SEQUENCE or CHOICE, and none of them is `...`.
 pub fn names_of_a_module_can_be_told_apart()

@@ -1,24 +1,24 @@
 -- An item that a node may put has the octets of the link between the two nodes; so in every run what is put is laid out.
 use Rattle.std.proofs.Common.{◌≡◌, ℕ, List, Option, Some, None, ◌⊎◌, inl, inr, refl, sym, subst}
-use Rattle.gnb_types.specs.declared.names.NodeId.{NodeId}
-use Rattle.gnb_types.specs.declared.names.NodeId.TheVariants.{CuUp, Du, Core, Ue}
-use Rattle.gnb_types.specs.declared.names.Dir.{Dir}
-use Rattle.gnb_types.specs.declared.names.Dir.TheVariants.{Dl, Ul}
-use Rattle.gnb_types.specs.declared.names.SnBits.{SnBits}
-use Rattle.gnb_types.specs.declared.keys.TunnelEnd.{TunnelEnd}
-use Rattle.gnb_types.specs.declared.keys.EntityKey.{EntityKey}
-use Rattle.message_types.specs.declared.rrc.Token.{Token}
-use Rattle.scenario_text.specs.declared.event.Event.{Event}
-use Rattle.scenario_text.specs.declared.line.Link.{Link}
-use Rattle.scenario_text.specs.declared.line.Item.{Item as ShownItem}
-use Rattle.unit_defs.specs.Ways.{Message, Pdu, packet_pdu, report_pdu, Load, fresh, numbered, uplink, status, end_marker}
-use Rattle.unit_octet_defs.specs.Writing.{pdu_octets, load_octets, written_load}
-use Rattle.transport_defs.specs.declared.Item.{Item}
-use Rattle.run_defs.specs.Lines.{RunLine, put_item, got_item, put_message, got_message, delivers, lost_items, lost_message, drops_input, held_at, procedure_failed, is_quiet, is_busy, has_settled, has_not_settled, was_refused, tunnel_link, radio_link, shown}
-use Rattle.run_defs.specs.Carried.{IsRadioData, IsRadioReport, IsOnRadio as IsLaidOnRadio, IsLaidOut, layout_between}
-use Rattle.run_defs.specs.Written.{Written}
-use Rattle.run_defs.specs.States.{new_state, World}
-use Rattle.run_defs.specs.Runs.{Reading, Happened, plain_world, Run, run}
+use Rattle.law_link_items.specs.gnb_types.declared.names.NodeId.{NodeId}
+use Rattle.law_link_items.specs.gnb_types.declared.names.NodeId.TheVariants.{CuUp, Du, Core, Ue}
+use Rattle.law_link_items.specs.gnb_types.declared.names.Dir.{Dir}
+use Rattle.law_link_items.specs.gnb_types.declared.names.Dir.TheVariants.{Dl, Ul}
+use Rattle.law_link_items.specs.gnb_types.declared.names.SnBits.{SnBits}
+use Rattle.law_link_items.specs.gnb_types.declared.keys.TunnelEnd.{TunnelEnd}
+use Rattle.law_link_items.specs.gnb_types.declared.keys.EntityKey.{EntityKey}
+use Rattle.law_link_items.specs.message_types.declared.rrc.Token.{Token}
+use Rattle.law_link_items.specs.scenario_text.declared.event.Event.{Event}
+use Rattle.law_link_items.specs.scenario_text.declared.line.Link.{Link}
+use Rattle.law_link_items.specs.scenario_text.declared.line.Item.{Item as ShownItem}
+use Rattle.law_link_items.specs.unit_defs.Ways.{Message, Pdu, packet_pdu, report_pdu, Load, fresh, numbered, uplink, status, end_marker}
+use Rattle.law_link_items.specs.unit_octet_defs.Writing.{pdu_octets, load_octets, written_load}
+use Rattle.law_link_items.specs.transport_defs.declared.Item.{Item}
+use Rattle.law_link_items.specs.run_defs.Lines.{RunLine, put_item, got_item, put_message, got_message, delivers, lost_items, lost_message, drops_input, held_at, procedure_failed, is_quiet, is_busy, has_settled, has_not_settled, was_refused, tunnel_link, radio_link, shown}
+use Rattle.law_link_items.specs.run_defs.Carried.{IsRadioData, IsRadioReport, IsOnRadio as IsLaidOnRadio, IsLaidOut, layout_between}
+use Rattle.law_link_items.specs.run_defs.Written.{Written}
+use Rattle.law_link_items.specs.run_defs.States.{new_state, World}
+use Rattle.law_link_items.specs.run_defs.Runs.{Reading, Happened, plain_world, Run, run}
 use Rattle.law_link_items.specs.law_run_facts.Facts.{Facts}
 use Rattle.law_link_items.specs.law_run_facts.UnitFacts.{said_item, HasOctets, HasPduOctets, written_facts}
 use Rattle.law_link_items.specs.law_run_facts.TellFacts.{TellsTunnel, TellsRadio, Tells, TellsBy, StepTells}

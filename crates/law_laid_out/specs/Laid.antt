@@ -1,13 +1,13 @@
 -- What a unit puts has the octets of its link, and control messages are the unit's own: told of the steps of any run.
 use Rattle.std.specs.Prelude.{◌≡◌, false, List, Option, Some, None}
 use Rattle.std.specs.List.{AllByRecursion, list_any}
-use Rattle.gnb_types.specs.declared.names.NodeId.{NodeId}
-use Rattle.gnb_types.specs.declared.names.SnBits.{SnBits}
-use Rattle.run_defs.specs.Lines.{RunLine, put_item, put_message}
-use Rattle.run_defs.specs.States.{RunStep}
-use Rattle.run_defs.specs.Runs.{Happened}
-use Rattle.run_defs.specs.Carried.{IsLaidOut}
-use Rattle.run_defs.specs.Local.{puts_something}
+use Rattle.law_link_items.specs.gnb_types.declared.names.NodeId.{NodeId}
+use Rattle.law_link_items.specs.gnb_types.declared.names.SnBits.{SnBits}
+use Rattle.law_link_items.specs.run_defs.Lines.{RunLine, put_item, put_message}
+use Rattle.law_link_items.specs.run_defs.States.{RunStep}
+use Rattle.law_link_items.specs.run_defs.Runs.{Happened}
+use Rattle.law_link_items.specs.run_defs.Carried.{IsLaidOut}
+use Rattle.law_link_items.specs.run_defs.Local.{puts_something}
 
 -- with numbers of one of the two lengths
 abbrev pub IsLaidLine : {M : Type 0} → NodeId → RunLine M → Type 0

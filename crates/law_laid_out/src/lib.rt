@@ -2,8 +2,8 @@
 #![tactic(auto)]
 
 ghost use Rattle.law_laid_out.specs.Laid.{AreLaid};
-ghost use Rattle.run_defs.specs.Runs.{Reading, Run};
-ghost use Rattle.scenario_text.specs.declared.event.Event.{Event};
+ghost use Rattle.law_link_items.specs.run_defs.Runs.{Reading, Run};
+ghost use Rattle.law_link_items.specs.scenario_text.declared.event.Event.{Event};
 ghost use Rattle.std.specs.Prelude.{List};
 
 /// In every run, for every list of events: what a unit puts on a tunnel or a radio has the octets of the link between the two

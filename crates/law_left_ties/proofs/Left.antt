@@ -23,11 +23,11 @@ use Rattle.run_defs.specs.Events.{is_lossy}
 use Rattle.run_defs.specs.Runs.{Reading, plain_world, fault_of}
 use Rattle.law_tunnel_steps.specs.Standing.{standing, after_puts}
 use Rattle.law_tunnel_steps.proofs.Tracks.{puts_so}
-use Rattle.law_run_bearers.specs.Things.{PlainUnits}
-use Rattle.law_run_bearers.specs.Bearers.{Numbering}
-use Rattle.law_tie_facts.specs.Ties.{RunState, RunItem, Owned, owned_on, owned_at}
-use Rattle.law_put_ties.proofs.Apart.{on_same, contexts_same}
-use Rattle.law_put_ties.proofs.Stands.{units_put}
+use Rattle.law_tied_runs.specs.law_run_bearers.Things.{PlainUnits}
+use Rattle.law_tied_runs.specs.law_run_bearers.Bearers.{Numbering}
+use Rattle.law_tied_runs.specs.law_tie_facts.Ties.{RunState, RunItem, Owned, owned_on, owned_at}
+use Rattle.law_tied_runs.proofs.law_put_ties.Apart.{on_same, contexts_same}
+use Rattle.law_tied_runs.proofs.law_put_ties.Stands.{units_put}
 use Rattle.law_tied_runs.specs.Steps.{IsLeft}
 use Rattle.law_left_ties.specs.Left.{IsAlike, LosesItem}
 

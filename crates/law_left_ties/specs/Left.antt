@@ -5,7 +5,7 @@ use Rattle.gnb_types.specs.Orders.{tunnel_cmp}
 use Rattle.tables.specs.Tables.{put}
 use Rattle.run_defs.specs.Events.{is_lossy}
 use Rattle.run_defs.specs.Runs.{Reading, plain_world}
-use Rattle.law_tie_facts.specs.Ties.{RunState, RunItem}
+use Rattle.law_tied_runs.specs.law_tie_facts.Ties.{RunState, RunItem}
 
 -- a control message lands or is lost, the run begins, lines are printed
 pub record IsAlike (s t : RunState) : Type 0 where

@@ -6,16 +6,16 @@ use Rattle.gnb_types.specs.declared.names.UeId.{UeId}
 use Rattle.gnb_types.specs.declared.keys.Channel.{Channel}
 use Rattle.gnb_types.specs.declared.inputs.Order.TheVariants as orders
 use Rattle.gnb_types.specs.declared.reasons.DropReason.TheVariants.{Unexpected}
-use Rattle.transaction_defs.specs.Callers.{due, Due, repeats, expires, after_tick}
-use Rattle.message_types.specs.declared.f1.F1.TheVariants as f1s
-use Rattle.message_types.specs.declared.e1.E1Message.TheVariants as e1s
-use Rattle.message_types.specs.declared.xn.XnMessage.TheVariants as xns
-use Rattle.message_types.specs.declared.rrc.Token.{Token}
-use Rattle.unit_defs.specs.Ways.{Message, f1, e1, xn, Pdu, Input, control_input, packet_input, radio_input, confirm_input, offer_input, tick_input, order_input, Answer, ◌then◌, nothing, drops}
-use Rattle.unit_defs.specs.Messages.{channel, shares_interface}
-use Rattle.unit_defs.specs.Transactions.{Kind, request, reply, transfer, kind_of, ask, ask_at_once, advance, replied, replied_late}
-use Rattle.unit_defs.specs.CpRecords.{CuCpRecord, terminal_of, with_terminal, with_transactions, waiting_of, after_asked, noted, Say, asks, cancels, replies, replies_late, sends, fails, ignores, refuses, forgets, say_one, say_all, Row, row, row_spent, carry_out}
-use Rattle.unit_defs.specs.CuCp.{at_of, Answered, answers_none, answers_with, answer, put_next, closed_at, answered_by, reply_came, with_unit, set_up, asked, token_came, transferred, control_by, control_came, due_one, due_each, command_on, command_each, ues_of, tick, cu_cp_acts}
+use Rattle.law_receivers.specs.transaction_defs.Callers.{due, Due, repeats, expires, after_tick}
+use Rattle.law_receivers.specs.message_types.declared.f1.F1.TheVariants as f1s
+use Rattle.law_receivers.specs.message_types.declared.e1.E1Message.TheVariants as e1s
+use Rattle.law_receivers.specs.message_types.declared.xn.XnMessage.TheVariants as xns
+use Rattle.law_receivers.specs.message_types.declared.rrc.Token.{Token}
+use Rattle.law_receivers.specs.unit_defs.Ways.{Message, f1, e1, xn, Pdu, Input, control_input, packet_input, radio_input, confirm_input, offer_input, tick_input, order_input, Answer, ◌then◌, nothing, drops}
+use Rattle.law_receivers.specs.unit_defs.Messages.{channel, shares_interface}
+use Rattle.law_receivers.specs.unit_defs.Transactions.{Kind, request, reply, transfer, kind_of, ask, ask_at_once, advance, replied, replied_late}
+use Rattle.law_receivers.specs.unit_defs.CpRecords.{CuCpRecord, terminal_of, with_terminal, with_transactions, waiting_of, after_asked, noted, Say, asks, cancels, replies, replies_late, sends, fails, ignores, refuses, forgets, say_one, say_all, Row, row, row_spent, carry_out}
+use Rattle.law_receivers.specs.unit_defs.CuCp.{at_of, Answered, answers_none, answers_with, answer, put_next, closed_at, answered_by, reply_came, with_unit, set_up, asked, token_came, transferred, control_by, control_came, due_one, due_each, command_on, command_each, ues_of, tick, cu_cp_acts}
 use Rattle.gnb_types.specs.declared.names.NodeId.TheVariants.{CuCp as cp_node}
 use Rattle.law_run_facts.specs.run_defs.Runs.{plain_way}
 use Rattle.law_run_facts.proofs.Fits.{FitsAny, fits_if, any_then, ask_fits, at_once_fits, advance_fits, replied_fits, late_fits, fits_request, fits_reply}

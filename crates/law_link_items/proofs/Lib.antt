@@ -7,3 +7,4 @@ pub mod CuCps
 pub mod Octets
 pub mod Links
 pub use Rattle.law_run_facts.proofs as law_run_facts
+pub use Rattle.law_run_facts.proofs.law_teids as law_teids

@@ -7,15 +7,15 @@ use Rattle.gnb_types.specs.declared.keys.Channel.{Channel}
 use Rattle.gnb_types.specs.declared.plans.Peer.{Peer}
 use Rattle.gnb_types.specs.declared.plans.Tunnel.{Tunnel}
 use Rattle.gnb_types.specs.Orders.{ue_cmp}
-use Rattle.message_types.specs.declared.rrc.Token.{Token}
-use Rattle.message_types.specs.declared.xn.CoreMessage.TheVariants as cores
-use Rattle.scenario_text.specs.declared.event.Event.{Event}
-use Rattle.tables.specs.Tables.{find}
-use Rattle.unit_defs.specs.Ways.{Message, core, Pdu, Load, fresh, end_marker, Answer}
-use Rattle.unit_defs.specs.Messages.{channel}
-use Rattle.unit_defs.specs.Transactions.{Kind, request, reply, transfer, kind_of, replied}
-use Rattle.unit_defs.specs.Core.{CorePath, CoreRecord, end_of, old_ends, new_path, moved, switch_path, asked, came, core_acts}
-use Rattle.transport_defs.specs.declared.Item.{Item}
+use Rattle.law_receivers.specs.message_types.declared.rrc.Token.{Token}
+use Rattle.law_receivers.specs.message_types.declared.xn.CoreMessage.TheVariants as cores
+use Rattle.law_run_facts.specs.scenario_text.declared.event.Event.{Event}
+use Rattle.law_receivers.specs.tables.Tables.{find}
+use Rattle.law_receivers.specs.unit_defs.Ways.{Message, core, Pdu, Load, fresh, end_marker, Answer}
+use Rattle.law_receivers.specs.unit_defs.Messages.{channel}
+use Rattle.law_receivers.specs.unit_defs.Transactions.{Kind, request, reply, transfer, kind_of, replied}
+use Rattle.law_receivers.specs.unit_defs.Core.{CorePath, CoreRecord, end_of, old_ends, new_path, moved, switch_path, asked, came, core_acts}
+use Rattle.law_run_facts.specs.transport_defs.declared.Item.{Item}
 use Rattle.law_run_facts.specs.run_defs.Written.{Written}
 use Rattle.law_run_facts.specs.run_defs.States.{State, new_state, radio_of}
 use Rattle.law_run_facts.specs.run_defs.Runs.{Reading, plain_way, plain_world}

@@ -7,15 +7,15 @@ use Rattle.gnb_types.specs.declared.names.BearerId.{BearerId}
 use Rattle.gnb_types.specs.declared.names.Dir.TheVariants.{Dl, Ul}
 use Rattle.gnb_types.specs.declared.names.Dir.{Dir}
 use Rattle.gnb_types.specs.declared.keys.EntityKey.{EntityKey}
-use Rattle.transport_defs.specs.declared.Item.{Item}
+use Rattle.law_run_facts.specs.transport_defs.declared.Item.{Item}
 use Rattle.gnb_types.specs.Orders.{ue_cmp}
-use Rattle.message_types.specs.declared.rrc.Token.{Token}
-use Rattle.tables.specs.Tables.{find}
+use Rattle.law_receivers.specs.message_types.declared.rrc.Token.{Token}
+use Rattle.law_receivers.specs.tables.Tables.{find}
 use Rattle.std.specs.List.{AllByRecursion}
-use Rattle.unit_defs.specs.Ways.{Message, Pdu, packet_pdu, report_pdu, Load, fresh, numbered, frame, uplink, status, end_marker, packet_content, Taken, numbered_item, uplink_item}
-use Rattle.unit_defs.specs.UpRecords.{Downlink, SourceHop, UpBearer, UpContext, CuUp}
-use Rattle.unit_defs.specs.Du.{DuBearer, DuContext, Du}
-use Rattle.unit_defs.specs.Core.{CorePath, CoreRecord}
+use Rattle.law_receivers.specs.unit_defs.Ways.{Message, Pdu, packet_pdu, report_pdu, Load, fresh, numbered, frame, uplink, status, end_marker, packet_content, Taken, numbered_item, uplink_item}
+use Rattle.law_receivers.specs.unit_defs.UpRecords.{Downlink, SourceHop, UpBearer, UpContext, CuUp}
+use Rattle.law_receivers.specs.unit_defs.Du.{DuBearer, DuContext, Du}
+use Rattle.law_receivers.specs.unit_defs.Core.{CorePath, CoreRecord}
 use Rattle.law_run_facts.specs.run_defs.Runs.{taken_of}
 use Rattle.law_run_facts.specs.UnitFacts.{UnitFacts}
 use Rattle.law_link_items.specs.Items.{count_of_pdu, count_of_load, GoesDown, GoesUp, GoesToDu, IsOfN3, IsForwardedDown, IsForwardedUp, IsStatus, IsOfUplink, MayPut, IsPutOnTunnel, IsPutOnRadio, MayStand, IsOnTunnel, IsOnRadio}

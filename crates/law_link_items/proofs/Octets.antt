@@ -7,11 +7,11 @@ use Rattle.gnb_types.specs.declared.names.Dir.{Dir}
 use Rattle.gnb_types.specs.declared.names.Dir.TheVariants.{Dl, Ul}
 use Rattle.gnb_types.specs.declared.names.SnBits.{SnBits}
 use Rattle.gnb_types.specs.declared.keys.TunnelEnd.{TunnelEnd}
-use Rattle.message_types.specs.declared.rrc.Token.{Token}
-use Rattle.link_defs.specs.Layouts.{f1u_downlink_packet, f1u_downlink_report, f1u_downlink_poll}
-use Rattle.unit_defs.specs.Ways.{Message, Pdu, packet_pdu, report_pdu, Load, fresh, numbered, frame, uplink, status, end_marker}
+use Rattle.law_receivers.specs.message_types.declared.rrc.Token.{Token}
+use Rattle.law_run_facts.specs.link_defs.Layouts.{f1u_downlink_packet, f1u_downlink_report, f1u_downlink_poll}
+use Rattle.law_receivers.specs.unit_defs.Ways.{Message, Pdu, packet_pdu, report_pdu, Load, fresh, numbered, frame, uplink, status, end_marker}
 use Rattle.law_run_facts.specs.unit_octet_defs.Writing.{pdu_octets, load_octets, written_load}
-use Rattle.transport_defs.specs.declared.Item.{Item}
+use Rattle.law_run_facts.specs.transport_defs.declared.Item.{Item}
 use Rattle.law_run_facts.specs.run_defs.Carried.{ForwardingDown, ForwardingUp, F1uDownlink, F1uUplink, IsDeliveryStatus, IsRadioData, IsRadioReport}
 use Rattle.law_run_facts.specs.run_defs.Written.{Written}
 use Rattle.law_run_facts.specs.run_defs.States.{State, radio_of}

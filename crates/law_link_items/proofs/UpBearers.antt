@@ -6,14 +6,14 @@ use Rattle.gnb_types.specs.declared.outputs.Tag.{Tag}
 use Rattle.gnb_types.specs.declared.outputs.Tag.TheVariants.{Absent, Own, Same}
 use Rattle.gnb_types.specs.declared.plans.SnStatus.{SnStatus}
 use Rattle.gnb_types.specs.declared.reasons.DropReason.TheVariants.{Unexpected, Duplicate}
-use Rattle.message_types.specs.declared.rrc.Token.{Token}
-use Rattle.pdcp.specs.Near.{last_count}
-use Rattle.pdcp_defs.specs.Senders.{numbered as with_next, has_room, may_restore, restored, confirmed_by}
-use Rattle.pdcp_defs.specs.Receivers.{deliver as handed_up, received_bits, is_duplicate, stored}
-use Rattle.unit_defs.specs.Ways.{Message, Pdu, packet_pdu, report_pdu, Content, packet_content, report_content, Load, fresh, numbered, frame, end_marker, Taken, fresh_item, numbered_item, uplink_item, status_item, end_item, Answer, spent, ◌then◌, nothing, puts, drops, closed, counts_spent, frames_spent}
-use Rattle.unit_defs.specs.UpRecords.{Downlink, SourceHop, UpBearer, TunnelKind, n3, f1u_uplink, forwarding_down, forwarding_up, UpAt}
-use Rattle.unit_defs.specs.UpBearers.{last_frame, has_downlink, owed, thawed, no_uplink, bits_in, framed_on, framed, sent, sent_again, number_each, number_waiting, delivered, deliver_stored, put_down, forwarded_down, put_up, forwarded_up, begin_downlink, begin_where_known, switched, forward_numbered, forward_fresh, forward_late, frozen_to, with_status, resumed}
-use Rattle.unit_defs.specs.UpItems.{took_fresh, closed_n3, n3_ended, restored_at, took_numbered, stored_at, passed_up, took_uplink, took_report, took_content, confirmed_if, lost_frames, took_delivery_status, up_hop_ends_if, uplink_ended, up_ended, took}
+use Rattle.law_receivers.specs.message_types.declared.rrc.Token.{Token}
+use Rattle.law_receivers.specs.pdcp.Near.{last_count}
+use Rattle.law_receivers.specs.pdcp_defs.Senders.{numbered as with_next, has_room, may_restore, restored, confirmed_by}
+use Rattle.law_receivers.specs.pdcp_defs.Receivers.{deliver as handed_up, received_bits, is_duplicate, stored}
+use Rattle.law_receivers.specs.unit_defs.Ways.{Message, Pdu, packet_pdu, report_pdu, Content, packet_content, report_content, Load, fresh, numbered, frame, end_marker, Taken, fresh_item, numbered_item, uplink_item, status_item, end_item, Answer, spent, ◌then◌, nothing, puts, drops, closed, counts_spent, frames_spent}
+use Rattle.law_receivers.specs.unit_defs.UpRecords.{Downlink, SourceHop, UpBearer, TunnelKind, n3, f1u_uplink, forwarding_down, forwarding_up, UpAt}
+use Rattle.law_receivers.specs.unit_defs.UpBearers.{last_frame, has_downlink, owed, thawed, no_uplink, bits_in, framed_on, framed, sent, sent_again, number_each, number_waiting, delivered, deliver_stored, put_down, forwarded_down, put_up, forwarded_up, begin_downlink, begin_where_known, switched, forward_numbered, forward_fresh, forward_late, frozen_to, with_status, resumed}
+use Rattle.law_receivers.specs.unit_defs.UpItems.{took_fresh, closed_n3, n3_ended, restored_at, took_numbered, stored_at, passed_up, took_uplink, took_report, took_content, confirmed_if, lost_frames, took_delivery_status, up_hop_ends_if, uplink_ended, up_ended, took}
 use Rattle.law_run_facts.specs.run_defs.Steps.{count_beside}
 use Rattle.law_run_facts.specs.run_defs.Runs.{plain_way}
 use Rattle.law_run_facts.specs.Facts.{PutsFit}

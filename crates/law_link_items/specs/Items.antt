@@ -8,10 +8,10 @@ use Rattle.gnb_types.specs.declared.names.Dir.TheVariants.{Dl, Ul}
 use Rattle.gnb_types.specs.declared.keys.TunnelEnd.{TunnelEnd}
 use Rattle.gnb_types.specs.declared.keys.EntityKey.{EntityKey}
 use Rattle.gnb_types.specs.Orders.{tunnel_cmp}
-use Rattle.message_types.specs.declared.rrc.Token.{Token}
-use Rattle.tables.specs.Tables.{find}
-use Rattle.unit_defs.specs.Ways.{Message, Pdu, packet_pdu, report_pdu, Load, fresh, numbered, frame, uplink, status, end_marker}
-use Rattle.transport_defs.specs.declared.Item.{Item}
+use Rattle.law_receivers.specs.message_types.declared.rrc.Token.{Token}
+use Rattle.law_receivers.specs.tables.Tables.{find}
+use Rattle.law_receivers.specs.unit_defs.Ways.{Message, Pdu, packet_pdu, report_pdu, Load, fresh, numbered, frame, uplink, status, end_marker}
+use Rattle.law_run_facts.specs.transport_defs.declared.Item.{Item}
 use Rattle.law_run_facts.specs.run_defs.Written.{Written}
 use Rattle.law_run_facts.specs.run_defs.States.{State, radio_of}
 use Rattle.law_run_facts.specs.UnitFacts.{said_item}

@@ -4,13 +4,13 @@
 ghost use Rattle.law_link_items.specs.Items.{ItemsShow};
 ghost use Rattle.law_link_items.specs.Octets.{ItemsAreLaid};
 ghost use Rattle.law_run_facts.specs.law_steps.Reached.{reached};
-ghost use Rattle.message_types.specs.declared.rrc.Token.{Token};
+ghost use Rattle.law_receivers.specs.message_types.declared.rrc.Token.{Token};
 ghost use Rattle.law_run_facts.specs.run_defs.Runs.{plain_world, Reading};
 ghost use Rattle.law_run_facts.specs.run_defs.States.{new_state, State};
 ghost use Rattle.law_run_facts.specs.run_defs.Written.{Written};
-ghost use Rattle.scenario_text.specs.declared.event.Event.{Event};
+ghost use Rattle.law_run_facts.specs.scenario_text.declared.event.Event.{Event};
 ghost use Rattle.std.specs.Prelude.{List, Some, ◌≡◌};
-ghost use Rattle.unit_defs.specs.Ways.{Load, Message, Pdu};
+ghost use Rattle.law_receivers.specs.unit_defs.Ways.{Load, Message, Pdu};
 
 /// In every run each item of a tunnel is one that may stand there, by the node at the tunnel's end and by its direction: frames
 /// alone go to a DU; packets, End Markers and delivery statuses go down to a CU-UP, PDUs, packets with a COUNT and End Markers

@@ -18,8 +18,8 @@ use Rattle.link_defs.proofs.Pdus.{data_carried}
 use Rattle.unit_defs.specs.Ways.{Pdu, packet_pdu, report_pdu, Load, fresh, numbered, frame, uplink, status, end_marker}
 use Rattle.unit_octet_defs.specs.Writing.{pdu_octets, load_octets, written_load, on_option}
 use Rattle.pdcp_defs.specs.Counts.{number_of}
-use Rattle.run_defs.specs.Carried.{kinds_to, packet_of}
-use Rattle.law_link_items.specs.Items.{MayStand, GoesDown, GoesUp, GoesToDu}
+use Rattle.law_run_facts.specs.run_defs.Carried.{kinds_to, packet_of}
+use Rattle.law_local_lengths.specs.law_link_items.Items.{MayStand, GoesDown, GoesUp, GoesToDu}
 use Rattle.law_local_lengths.specs.law_run_lengths.Lengths.{IsNumberedBy}
 use Rattle.law_local_lengths.specs.law_local_packets.Says.{packet_of_pdu as said_of_pdu, packet_of_load}
 use Rattle.law_local.proofs.Packets.{same_teid, same_frame, plain_read, end_read, with_read, carried_data, carried_report, PduHas, IsDown, IsUp, down_plain, down_numbered, down_frame, down_end, up_plain, up_numbered, up_end, to_du, none_of}

@@ -20,14 +20,14 @@ use Rattle.unit_defs.specs.Messages.{teid_of}
 use Rattle.unit_defs.specs.Core.{CorePath}
 use Rattle.unit_defs.specs.Ue.{largest_packet}
 use Rattle.transport_defs.specs.declared.Item.{Item}
-use Rattle.run_defs.specs.Local.{Act, acts_of_event, acts_of}
-use Rattle.run_defs.specs.Said.{is_refusal, lines_in}
-use Rattle.run_defs.specs.Written.{Written, WrittenStepped}
-use Rattle.run_defs.specs.States.{Lengths, RunStep, offer_for, stepped, step_spent, goes, stops, ◌next◌, Within, as_step, goes_on, entity, sn_of, has_bearer, spent_counter}
-use Rattle.run_defs.specs.Steps.{check_spans, put_on_tunnel, letters_spent, too_many_letters, is_done, carried_out, done_with, does, ordered_by}
-use Rattle.run_defs.specs.Events.{offered, offer_on_path, offer}
-use Rattle.run_defs.specs.Runs.{Reading, happens, run_on, run_from}
-use Rattle.law_steps.specs.Causes.{by_offer}
+use Rattle.law_run_facts.specs.run_defs.Local.{Act, acts_of_event, acts_of}
+use Rattle.law_run_facts.specs.run_defs.Said.{is_refusal, lines_in}
+use Rattle.law_run_facts.specs.run_defs.Written.{Written, WrittenStepped}
+use Rattle.law_run_facts.specs.run_defs.States.{Lengths, RunStep, offer_for, stepped, step_spent, goes, stops, ◌next◌, Within, as_step, goes_on, entity, sn_of, has_bearer, spent_counter}
+use Rattle.law_run_facts.specs.run_defs.Steps.{check_spans, put_on_tunnel, letters_spent, too_many_letters, is_done, carried_out, done_with, does, ordered_by}
+use Rattle.law_run_facts.specs.run_defs.Events.{offered, offer_on_path, offer}
+use Rattle.law_run_facts.specs.run_defs.Runs.{Reading, happens, run_on, run_from}
+use Rattle.law_run_facts.specs.law_steps.Causes.{by_offer}
 use Rattle.law_run_facts.proofs.Within.{all_both}
 use Rattle.law_local_lengths.proofs.law_local_packets.Lines.{lines_of, then_lines, checked_lines, tunnel_lines, step_lines}
 use Rattle.law_local_lengths.proofs.law_local_packets.Runs.{IsRefused}

@@ -18,7 +18,7 @@ use Rattle.pdcp.specs.Pdus.{Content, data_pdu, status_report, Pdcp, radio_data, 
 use Rattle.link_defs.specs.GPdus.{plain_pdu, pdu_with, end_packet}
 use Rattle.link_defs.specs.Layouts.{frame_header}
 use Rattle.link_defs.specs.Decoding.{Link, n3, f1u_downlink, f1u_uplink, forwarding_down, forwarding_up, Item, fresh, numbered, pdu, framed, poll, status, end_of_tunnel, CarriesPdu, HasHeader, number_code, Says}
-use Rattle.run_defs.specs.Carried.{packet_of_pdu, packet_of}
+use Rattle.law_run_facts.specs.run_defs.Carried.{packet_of_pdu, packet_of}
 
 -- ---- TEIDs of 32 bits and frame numbers of 24 bits are written
 

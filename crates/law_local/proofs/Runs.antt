@@ -5,13 +5,13 @@ use Rattle.tables.specs.Tables.{find, at}
 use Rattle.scenario_text.specs.declared.event.Event.{Event}
 use Rattle.link_defs.specs.Decoding.{IsSized}
 use Rattle.unit_defs.specs.Ways.{Message}
-use Rattle.run_defs.specs.Local.{acts_of, sn_in}
-use Rattle.run_defs.specs.States.{Lengths, new_state}
-use Rattle.run_defs.specs.Runs.{Reading, run, Run}
-use Rattle.law_run_plans.specs.Plans.{Plans}
+use Rattle.law_run_facts.specs.run_defs.Local.{acts_of, sn_in}
+use Rattle.law_run_facts.specs.run_defs.States.{Lengths, new_state}
+use Rattle.law_run_facts.specs.run_defs.Runs.{Reading, run, Run}
+use Rattle.law_local_lengths.specs.law_run_plans.Plans.{Plans}
 use Rattle.law_run_facts.specs.Facts.{Hold}
-use Rattle.law_plan_facts.specs.Along.{AreKeptAlong}
-use Rattle.law_plan_facts.proofs.Constant.{both_by, both_along}
+use Rattle.law_local_lengths.specs.law_plan_facts.Along.{AreKeptAlong}
+use Rattle.law_local_lengths.proofs.law_plan_facts.Constant.{both_by, both_along}
 use Rattle.law_local_lengths.specs.law_local_packets.Says.{Saying}
 use Rattle.law_local_lengths.specs.law_local_packets.Local.{IfAny, WasAt, LocalFrom}
 use Rattle.law_local_lengths.proofs.law_local_packets.Settled.{first_settled}

@@ -18,12 +18,12 @@ use Rattle.tables.specs.Tables.{find, at}
 use Rattle.link_defs.specs.Decoding.{IsSized}
 use Rattle.unit_defs.specs.Ways.{Message, Pdu, Load, Put, control, packet, radio, deliver, dropped, held, opened, closed, failed, no, offer_input, packet_input, radio_input, puts}
 use Rattle.unit_defs.specs.Ue.{UeBearer, UeNode, largest_packet, offered, offer, ue_acts}
-use Rattle.run_defs.specs.Units.{ue_of}
-use Rattle.run_defs.specs.Written.{Written, WrittenStepped}
-use Rattle.run_defs.specs.States.{new_state, order_for, letter_for, item_for, carried_for, confirmed_for, offer_for, tick_for, octets_from, octets_on, stepped, step_spent}
-use Rattle.run_defs.specs.Runs.{Reading, PlainGiven, Plain, plain_way, plain_by, input_of, acts_on, ue_stepped, content_of, taken_of}
+use Rattle.law_run_facts.specs.run_defs.Units.{ue_of}
+use Rattle.law_run_facts.specs.run_defs.Written.{Written, WrittenStepped}
+use Rattle.law_run_facts.specs.run_defs.States.{new_state, order_for, letter_for, item_for, carried_for, confirmed_for, offer_for, tick_for, octets_from, octets_on, stepped, step_spent}
+use Rattle.law_run_facts.specs.run_defs.Runs.{Reading, PlainGiven, Plain, plain_way, plain_by, input_of, acts_on, ue_stepped, content_of, taken_of}
 use Rattle.law_run_facts.specs.Facts.{Facts, Hold, PutFits, PutsFit, GivenFits}
-use Rattle.law_plan_facts.specs.Along.{lengths_by, Allowed, Brings as BringsIn, AreKeptAlong}
+use Rattle.law_local_lengths.specs.law_plan_facts.Along.{lengths_by, Allowed, Brings as BringsIn, AreKeptAlong}
 use Rattle.law_local_lengths.proofs.law_run_lengths.Answers.{allows}
 use Rattle.law_unit_packets.specs.Packets.{of, dir_of, AnswerHas, UeHas}
 use Rattle.law_local_lengths.specs.law_local_packets.Says.{packet_of_pdu, packet_of_load}

@@ -16,15 +16,15 @@ use Rattle.scenario_text.specs.declared.line.Item.{Item as ShownItem}
 use Rattle.link_defs.specs.Decoding.{CarriesPdu}
 use Rattle.pdcp.specs.Pdus.{data_pdu}
 use Rattle.unit_defs.specs.Ways.{Message}
-use Rattle.run_defs.specs.Lines.{RunLine, put_item, got_item, put_message, got_message, delivers, lost_items, lost_message, drops_input, held_at, procedure_failed, is_quiet, is_busy, has_settled, has_not_settled, was_refused}
-use Rattle.run_defs.specs.Carried.{Carries, kinds_to}
-use Rattle.run_defs.specs.Said.{same_entity, offered_by}
-use Rattle.run_defs.specs.Local.{item_key, Act, WasOffered, IsGotWith, WasGot, WasAt, IsLocalLine, IsLocalBy, LocalFrom, acts_of_event, acts_of, sn_in, Local}
-use Rattle.run_defs.specs.States.{Lengths, RunStep, new_state}
-use Rattle.run_defs.specs.Runs.{Reading, Happened, run, Run}
+use Rattle.law_run_facts.specs.run_defs.Lines.{RunLine, put_item, got_item, put_message, got_message, delivers, lost_items, lost_message, drops_input, held_at, procedure_failed, is_quiet, is_busy, has_settled, has_not_settled, was_refused}
+use Rattle.law_run_facts.specs.run_defs.Carried.{Carries, kinds_to}
+use Rattle.law_run_facts.specs.run_defs.Said.{same_entity, offered_by}
+use Rattle.law_run_facts.specs.run_defs.Local.{item_key, Act, WasOffered, IsGotWith, WasGot, WasAt, IsLocalLine, IsLocalBy, LocalFrom, acts_of_event, acts_of, sn_in, Local}
+use Rattle.law_run_facts.specs.run_defs.States.{Lengths, RunStep, new_state}
+use Rattle.law_run_facts.specs.run_defs.Runs.{Reading, Happened, run, Run}
 use Rattle.law_run_facts.proofs.Within.{all_both}
-use Rattle.law_laid_out.specs.Laid.{IsLaidLine, AreLaidBy, IsLaidStep, AreLaid}
-use Rattle.law_laid_out.proofs.Laid.{run_is_laid}
+use Rattle.law_local_lengths.specs.law_laid_out.Laid.{IsLaidLine, AreLaidBy, IsLaidStep, AreLaid}
+use Rattle.law_local_lengths.proofs.law_laid_out.Laid.{run_is_laid}
 use Rattle.law_local_lengths.specs.law_local_packets.Local.{OneOf, IfAny, IsOffered, WasOffered as WasOfferedTo, IsGotWith as IsGotSaying, WasGot as WasGotSaying, WasAt as WasAtSaying, IsLocalLine as IsLineSaying, IsLocalBy as IsBySaying, LocalFrom as LocalSaying}
 use Rattle.law_local_lengths.specs.Long.{SaysLong, PutsLong}
 use Rattle.law_local.specs.Offered.{OffersHaveOctets}

@@ -7,9 +7,9 @@ use Rattle.gnb_types.specs.declared.keys.EntityKey.{EntityKey}
 use Rattle.message_types.specs.declared.rrc.Token.{Token}
 use Rattle.scenario_text.specs.declared.event.Event.TheVariants as events
 use Rattle.unit_defs.specs.Ways.{Message}
-use Rattle.run_defs.specs.Lines.{put_item, tunnel_link, shown}
-use Rattle.run_defs.specs.States.{step_of}
-use Rattle.run_defs.specs.Local.{Act}
+use Rattle.law_run_facts.specs.run_defs.Lines.{put_item, tunnel_link, shown}
+use Rattle.law_run_facts.specs.run_defs.States.{step_of}
+use Rattle.law_run_facts.specs.run_defs.Local.{Act}
 
 abbrev pub downlink : EntityKey
 downlink = record { ue = record { 0 = 1 }; bearer = record { 0 = 1 }; dir = Dl }

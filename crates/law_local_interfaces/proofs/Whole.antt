@@ -12,7 +12,7 @@ use Rattle.run_defs.specs.Local.{Act, IsLocalLine, IsLocalBy, LocalFrom, acts_of
 use Rattle.law_intervals.proofs.Intervals.{all_append}
 use Rattle.law_local.specs.Offered.{OffersHaveOctets}
 use Rattle.law_local.proofs.Whole.{all_of, whole_local}
-use Rattle.law_cp_interfaces.specs.Interfaces.{IsOf}
+use Rattle.law_run_interfaces.specs.law_cp_interfaces.Interfaces.{IsOf}
 use Rattle.law_run_interfaces.specs.Lines.{IsLineOf, IsStepOf, AreOf}
 use Rattle.law_run_interfaces.proofs.Runs.{run_is_of}
 

@@ -3,7 +3,7 @@
 #![tactic(auto)]
 
 ghost use Rattle.gnb_types.specs.declared.names.NodeId.{NodeId};
-ghost use Rattle.law_cp_interfaces.specs.Interfaces.{IsOf};
+ghost use Rattle.law_run_interfaces.specs.law_cp_interfaces.Interfaces.{IsOf};
 ghost use Rattle.law_local.specs.Offered.{OffersHaveOctets};
 ghost use Rattle.law_local_interfaces.specs.Example.{to_the_core};
 ghost use Rattle.message_types.specs.declared.rrc.Token.{Token};

@@ -26,19 +26,19 @@ use Rattle.unit_defs.specs.CpRecords.{Say, asks, refuses, Row, row, row_spent, C
 use Rattle.unit_defs.specs.CpRows.{CpAt, own_up, own_du, bearer_setup, attach_context, attach as attach_row, attach_on, attach_begins}
 use Rattle.unit_defs.specs.CuCp.{cu_cp_acts}
 use Rattle.unit_defs.specs.Static.{up_has_room, up_has_teids, du_has_teids}
-use Rattle.run_defs.specs.Lines.{RunLine, put_item, got_item, put_message, got_message, delivers, lost_items, lost_message, drops_input, held_at, procedure_failed, is_quiet, is_busy, has_settled, has_not_settled, was_refused}
-use Rattle.run_defs.specs.Said.{is_refusal, lines_in}
-use Rattle.run_defs.specs.Units.{Units, cp_of, with_cp, up_of, du_of}
-use Rattle.run_defs.specs.Written.{Written, written_put, WrittenStepped, written_step}
-use Rattle.run_defs.specs.States.{State, Lengths, World, order_for, stepped, step_spent, goes, stops, Within, Outcome, as_step, refused, sn_of, was_attached, spent_counter}
-use Rattle.run_defs.specs.Steps.{letters_spent, too_many_letters, is_done, carried_out, done_with, does, ordered_by}
-use Rattle.run_defs.specs.Conditions.{is_held_by_units, has_started}
-use Rattle.run_defs.specs.Events.{static, with_terminal as comes, attach}
-use Rattle.run_defs.specs.Runs.{Reading, Plain, plain_way, stepped_with, plain_world, happens}
+use Rattle.law_steps.specs.run_defs.Lines.{RunLine, put_item, got_item, put_message, got_message, delivers, lost_items, lost_message, drops_input, held_at, procedure_failed, is_quiet, is_busy, has_settled, has_not_settled, was_refused}
+use Rattle.law_steps.specs.run_defs.Said.{is_refusal, lines_in}
+use Rattle.law_steps.specs.run_defs.Units.{Units, cp_of, with_cp, up_of, du_of}
+use Rattle.law_steps.specs.run_defs.Written.{Written, written_put, WrittenStepped, written_step}
+use Rattle.law_steps.specs.run_defs.States.{State, Lengths, World, order_for, stepped, step_spent, goes, stops, Within, Outcome, as_step, refused, sn_of, was_attached, spent_counter}
+use Rattle.law_steps.specs.run_defs.Steps.{letters_spent, too_many_letters, is_done, carried_out, done_with, does, ordered_by}
+use Rattle.law_steps.specs.run_defs.Conditions.{is_held_by_units, has_started}
+use Rattle.law_steps.specs.run_defs.Events.{static, with_terminal as comes, attach}
+use Rattle.law_steps.specs.run_defs.Runs.{Reading, Plain, plain_way, stepped_with, plain_world, happens}
 use Rattle.law_steps.specs.Causes.{by_attach}
-use Rattle.law_run_plans.specs.Plans.{Plans}
-use Rattle.law_run_plans.proofs.Frames.{HasPlans, act_plans}
-use Rattle.law_run_facts.proofs.Within.{all_both}
+use Rattle.law_run_lengths.specs.law_run_plans.Plans.{Plans}
+use Rattle.law_run_lengths.proofs.law_run_plans.Frames.{HasPlans, act_plans}
+use Rattle.law_run_lengths.proofs.law_run_facts.Within.{all_both}
 use Rattle.law_local_packets.proofs.Lines.{IsOther, lines_of, PutShows, step_lines}
 
 abbrev pub Here : Type 0

@@ -14,14 +14,14 @@ use Rattle.tables.specs.Tables.{find}
 use Rattle.scenario_text.specs.declared.event.Event.{Event}
 use Rattle.scenario_text.specs.declared.event.Event.TheVariants as events
 use Rattle.unit_defs.specs.Ways.{Message}
-use Rattle.run_defs.specs.Local.{sn_by, sn_or, sn_in}
-use Rattle.run_defs.specs.Said.{is_refusal, lines_in}
-use Rattle.run_defs.specs.States.{Lengths, RunStep, goes, stops, refused}
-use Rattle.run_defs.specs.Runs.{Reading, Happened, happens, run_on, run_from}
+use Rattle.law_steps.specs.run_defs.Local.{sn_by, sn_or, sn_in}
+use Rattle.law_steps.specs.run_defs.Said.{is_refusal, lines_in}
+use Rattle.law_steps.specs.run_defs.States.{Lengths, RunStep, goes, stops, refused}
+use Rattle.law_steps.specs.run_defs.Runs.{Reading, Happened, happens, run_on, run_from}
 use Rattle.law_steps.proofs.Runs.{made_of_steps}
-use Rattle.law_run_plans.specs.Plans.{PlansStay}
-use Rattle.law_run_plans.proofs.Runs.{StaysFrom, made_stays}
-use Rattle.law_plan_facts.specs.Along.{IsNew, Allowed, IsAllowed}
+use Rattle.law_run_lengths.specs.law_run_plans.Plans.{PlansStay}
+use Rattle.law_run_lengths.proofs.law_run_plans.Runs.{StaysFrom, made_stays}
+use Rattle.law_run_lengths.specs.law_plan_facts.Along.{IsNew, Allowed, IsAllowed}
 use Rattle.law_run_lengths.proofs.Answers.{allows}
 use Rattle.law_local_packets.proofs.Runs.{IsRefused, ComeSo}
 use Rattle.law_local_lengths.proofs.Attach.{Here, Happens, W, brings, CameIf, it_came}

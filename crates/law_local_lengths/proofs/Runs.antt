@@ -6,16 +6,16 @@ use Rattle.message_types.specs.declared.rrc.Token.{Token}
 use Rattle.tables.specs.Tables.{find, at}
 use Rattle.scenario_text.specs.declared.event.Event.{Event}
 use Rattle.unit_defs.specs.Ways.{Message}
-use Rattle.run_defs.specs.Local.{acts_of, sn_in}
-use Rattle.run_defs.specs.States.{Lengths, new_state}
-use Rattle.run_defs.specs.Runs.{Reading, run, Run}
-use Rattle.law_run_facts.specs.UnitFacts.{written_facts}
-use Rattle.law_run_facts.specs.Facts.{Hold}
-use Rattle.law_run_facts.proofs.Plain.{plain_kept, first_holds}
-use Rattle.law_plan_facts.specs.Along.{AreKeptAlong}
-use Rattle.law_plan_facts.proofs.Constant.{always_along, both_along}
-use Rattle.law_link_items.proofs.Names.{link_items}
-use Rattle.law_link_items.proofs.Links.{items_keep}
+use Rattle.law_steps.specs.run_defs.Local.{acts_of, sn_in}
+use Rattle.law_steps.specs.run_defs.States.{Lengths, new_state}
+use Rattle.law_steps.specs.run_defs.Runs.{Reading, run, Run}
+use Rattle.law_run_lengths.specs.law_run_facts.UnitFacts.{written_facts}
+use Rattle.law_run_lengths.specs.law_run_facts.Facts.{Hold}
+use Rattle.law_run_lengths.proofs.law_run_facts.Plain.{plain_kept, first_holds}
+use Rattle.law_run_lengths.specs.law_plan_facts.Along.{AreKeptAlong}
+use Rattle.law_run_lengths.proofs.law_plan_facts.Constant.{always_along, both_along}
+use Rattle.law_run_lengths.proofs.law_link_items.Names.{link_items}
+use Rattle.law_run_lengths.proofs.law_link_items.Links.{items_keep}
 use Rattle.law_run_lengths.proofs.Answers.{lengths, lengths_kept}
 use Rattle.law_run_lengths.proofs.Runs.{first_lengths}
 use Rattle.law_local_packets.specs.Local.{WasAt, LocalFrom}

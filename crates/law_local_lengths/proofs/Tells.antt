@@ -13,19 +13,19 @@ use Rattle.link_defs.specs.Layouts.{forwarded_numbered}
 use Rattle.unit_defs.specs.Ways.{Message, Pdu, packet_pdu, report_pdu, Load, fresh, numbered, frame, uplink, status, end_marker}
 use Rattle.unit_octet_defs.specs.Writing.{pdu_octets, load_octets, written_load}
 use Rattle.transport_defs.specs.declared.Item.{Item}
-use Rattle.run_defs.specs.Lines.{tunnel_link, radio_link, shown}
-use Rattle.run_defs.specs.Carried.{IsRadioData, IsRadioReport, IsOnRadio as IsLaidOnRadio, IsLaidOut, layout_between}
-use Rattle.run_defs.specs.Written.{Written}
-use Rattle.run_defs.specs.States.{Lengths}
-use Rattle.run_defs.specs.Runs.{Reading}
-use Rattle.law_run_plans.specs.Plans.{Plans}
-use Rattle.law_run_facts.specs.Facts.{Facts}
-use Rattle.law_run_facts.specs.UnitFacts.{said_item, written_facts}
-use Rattle.law_plan_facts.specs.Along.{lengths_by}
-use Rattle.law_plan_facts.proofs.Constant.{both_by}
-use Rattle.law_link_items.specs.Items.{count_of_pdu, count_of_load, MayPut, IsPutOnTunnel, IsPutOnRadio}
-use Rattle.law_link_items.proofs.Octets.{to_du_laid, pdu_laid}
-use Rattle.law_link_items.proofs.Names.{link_items}
+use Rattle.law_steps.specs.run_defs.Lines.{tunnel_link, radio_link, shown}
+use Rattle.law_steps.specs.run_defs.Carried.{IsRadioData, IsRadioReport, IsOnRadio as IsLaidOnRadio, IsLaidOut, layout_between}
+use Rattle.law_steps.specs.run_defs.Written.{Written}
+use Rattle.law_steps.specs.run_defs.States.{Lengths}
+use Rattle.law_steps.specs.run_defs.Runs.{Reading}
+use Rattle.law_run_lengths.specs.law_run_plans.Plans.{Plans}
+use Rattle.law_run_lengths.specs.law_run_facts.Facts.{Facts}
+use Rattle.law_run_lengths.specs.law_run_facts.UnitFacts.{said_item, written_facts}
+use Rattle.law_run_lengths.specs.law_plan_facts.Along.{lengths_by}
+use Rattle.law_run_lengths.proofs.law_plan_facts.Constant.{both_by}
+use Rattle.law_run_lengths.specs.law_link_items.Items.{count_of_pdu, count_of_load, MayPut, IsPutOnTunnel, IsPutOnRadio}
+use Rattle.law_run_lengths.proofs.law_link_items.Octets.{to_du_laid, pdu_laid}
+use Rattle.law_run_lengths.proofs.law_link_items.Names.{link_items}
 use Rattle.law_tunnel_names.specs.Names.{LoadNames}
 use Rattle.law_run_lengths.specs.Lengths.{IsNumberedBy}
 use Rattle.law_run_lengths.proofs.Known.{Owns, length_is}

@@ -4,9 +4,9 @@ use Rattle.gnb_types.specs.declared.names.NodeId.{NodeId}
 use Rattle.scenario_text.specs.declared.line.Link.TheVariants.{Tunnel, Radio}
 use Rattle.unit_defs.specs.Ways.{Pdu, Load}
 use Rattle.unit_octet_defs.specs.Writing.{pdu_octets, load_octets, written_load}
-use Rattle.run_defs.specs.Carried.{IsLaidOut}
-use Rattle.run_defs.specs.States.{Lengths}
-use Rattle.law_link_items.specs.Items.{count_of_pdu, count_of_load, MayStand}
+use Rattle.law_steps.specs.run_defs.Carried.{IsLaidOut}
+use Rattle.law_steps.specs.run_defs.States.{Lengths}
+use Rattle.law_run_lengths.specs.law_link_items.Items.{count_of_pdu, count_of_load, MayStand}
 use Rattle.law_run_lengths.specs.Lengths.{IsNumberedBy}
 use Rattle.law_local_packets.specs.Says.{packet_of_pdu, packet_of_load, Saying}
 

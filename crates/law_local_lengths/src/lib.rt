@@ -3,8 +3,8 @@
 
 ghost use Rattle.law_local_lengths.specs.Long.{PutsLong, SaysLong};
 ghost use Rattle.law_local_packets.specs.Local.{LocalFrom};
-ghost use Rattle.run_defs.specs.Local.{acts_of, sn_in};
-ghost use Rattle.run_defs.specs.Runs.{Reading, Run};
+ghost use Rattle.law_steps.specs.run_defs.Local.{acts_of, sn_in};
+ghost use Rattle.law_steps.specs.run_defs.Runs.{Reading, Run};
 ghost use Rattle.scenario_text.specs.declared.event.Event.{Event};
 ghost use Rattle.std.specs.Prelude.{List, []};
 

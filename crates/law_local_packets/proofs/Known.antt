@@ -24,15 +24,15 @@ use Rattle.unit_defs.specs.CpRecords.{CuCpRecord}
 use Rattle.unit_defs.specs.CuCp.{cu_cp_acts}
 use Rattle.unit_defs.specs.Core.{CoreRecord, core_acts}
 use Rattle.transport_defs.specs.declared.Item.{Item}
-use Rattle.run_defs.specs.Units.{Units, new_units, cp_of, with_cp, up_of, with_up, du_of, with_du, ue_of, with_ue}
-use Rattle.run_defs.specs.Written.{Written, written_put, PlainStepped, WrittenStepped, WrittenCoreStepped, written_step}
-use Rattle.run_defs.specs.States.{Lengths, letter_for, item_for, carried_for, confirmed_for, offer_for, tick_for, order_for, octets_from, octets_on, stepped, step_spent, core_stepped, entity}
-use Rattle.run_defs.specs.Conditions.{units_placed, all_set_up}
-use Rattle.run_defs.specs.Runs.{Reading, PlainGiven, Plain, plain_way, content_of, taken_of, input_of, stepped_with, ue_stepped, acts_on, plain_by, plain_answer, core_done, plain_core}
-use Rattle.law_run_facts.specs.UnitFacts.{UnitFacts, OfUnits}
-use Rattle.law_run_facts.proofs.Alone.{alone}
-use Rattle.law_run_facts.proofs.Units.{with_up_holds, with_du_holds, with_cp_holds, with_ue_holds, units_set_up, first_hold}
-use Rattle.law_link_items.proofs.Octets.{map_all}
+use Rattle.law_steps.specs.run_defs.Units.{Units, new_units, cp_of, with_cp, up_of, with_up, du_of, with_du, ue_of, with_ue}
+use Rattle.law_steps.specs.run_defs.Written.{Written, written_put, PlainStepped, WrittenStepped, WrittenCoreStepped, written_step}
+use Rattle.law_steps.specs.run_defs.States.{Lengths, letter_for, item_for, carried_for, confirmed_for, offer_for, tick_for, order_for, octets_from, octets_on, stepped, step_spent, core_stepped, entity}
+use Rattle.law_steps.specs.run_defs.Conditions.{units_placed, all_set_up}
+use Rattle.law_steps.specs.run_defs.Runs.{Reading, PlainGiven, Plain, plain_way, content_of, taken_of, input_of, stepped_with, ue_stepped, acts_on, plain_by, plain_answer, core_done, plain_core}
+use Rattle.law_plan_facts.specs.law_run_facts.UnitFacts.{UnitFacts, OfUnits}
+use Rattle.law_plan_facts.proofs.law_run_facts.Alone.{alone}
+use Rattle.law_plan_facts.proofs.law_run_facts.Units.{with_up_holds, with_du_holds, with_cp_holds, with_ue_holds, units_set_up, first_hold}
+use Rattle.law_run_tunnels.proofs.law_link_items.Octets.{map_all}
 use Rattle.law_unit_packets.specs.Packets.{of, dir_of, Property, ContentHas, TakenHas, UpInputHas, DuInputHas, UeInputHas, LoadHas, OutputHas, CountedHave, BearerHas, BearersHave, UpHas, UeHas, AnswerHas}
 use Rattle.law_unit_packets.proofs.CuUps.{cu_up_has, placed_has}
 use Rattle.law_node_packets.proofs.Terminals.{terminal_has, new_has}

@@ -12,9 +12,9 @@ use Rattle.tables.specs.Tables.{find, at}
 use Rattle.unit_defs.specs.Ways.{Put, control, packet, radio, deliver, dropped, held, opened, closed, failed, no}
 use Rattle.transport_defs.specs.declared.Item.{Item}
 use Rattle.transport_defs.specs.Links.{is_epoch, emptied}
-use Rattle.run_defs.specs.Lines.{RunLine, put_item, delivers, lost_items, was_refused, tunnel_link, radio_link, shown}
-use Rattle.run_defs.specs.States.{State, World, Stop, goes, stops, told_before, ◌next◌, goes_on, Within, entity, radio_of, with_radio}
-use Rattle.run_defs.specs.Steps.{first_outstanding, entities_of, checked_by, check_spans, noted, count_beside, item_of, on_tunnel, put_on_tunnel, put_on_connected, put_on_radio, put_control, opens, closes, lost_if, radio_lost, lose_each, lose_radios_of, lose_radios, radios_of, same_epoch, epoch_now, connect_in, reconnect, reconnect_node, put_out, put_out_all}
+use Rattle.law_steps.specs.run_defs.Lines.{RunLine, put_item, delivers, lost_items, was_refused, tunnel_link, radio_link, shown}
+use Rattle.law_steps.specs.run_defs.States.{State, World, Stop, goes, stops, told_before, ◌next◌, goes_on, Within, entity, radio_of, with_radio}
+use Rattle.law_steps.specs.run_defs.Steps.{first_outstanding, entities_of, checked_by, check_spans, noted, count_beside, item_of, on_tunnel, put_on_tunnel, put_on_connected, put_on_radio, put_control, opens, closes, lost_if, radio_lost, lose_each, lose_radios_of, lose_radios, radios_of, same_epoch, epoch_now, connect_in, reconnect, reconnect_node, put_out, put_out_all}
 use Rattle.law_intervals.proofs.Intervals.{all_append}
 use Rattle.law_steps.specs.Causes.{Cause, by_order, by_tick, by_octets, by_octets_on, by_attach, by_release, by_offer, by_item, by_air, by_ack, by_letter, node_of, count_of, first_of}
 use Rattle.law_local_packets.specs.Local.{OneOf}

@@ -8,23 +8,23 @@ use Rattle.gnb_types.specs.declared.names.NodeId.TheVariants.{Core}
 use Rattle.gnb_types.specs.declared.reasons.RefuseReason.{RefuseReason}
 use Rattle.tables.specs.Tables.{find, at}
 use Rattle.unit_defs.specs.Ways.{Message, Pdu, Load, Put, control, packet, radio, deliver, dropped, held, opened, closed, failed, no}
-use Rattle.run_defs.specs.Local.{acts_of}
-use Rattle.run_defs.specs.Said.{is_refusal, lines_in}
-use Rattle.run_defs.specs.Written.{Written}
-use Rattle.run_defs.specs.Lines.{was_refused}
-use Rattle.run_defs.specs.Units.{new_units}
-use Rattle.run_defs.specs.States.{State, new_state, RunStep, goes, stops, Outcome, refused, World as WorldOf}
-use Rattle.run_defs.specs.Runs.{Reading, happens, run_on, run_from, run, Run}
+use Rattle.law_steps.specs.run_defs.Local.{acts_of}
+use Rattle.law_steps.specs.run_defs.Said.{is_refusal, lines_in}
+use Rattle.law_steps.specs.run_defs.Written.{Written}
+use Rattle.law_steps.specs.run_defs.Lines.{was_refused}
+use Rattle.law_steps.specs.run_defs.Units.{new_units}
+use Rattle.law_steps.specs.run_defs.States.{State, new_state, RunStep, goes, stops, Outcome, refused, World as WorldOf}
+use Rattle.law_steps.specs.run_defs.Runs.{Reading, happens, run_on, run_from, run, Run}
 use Rattle.law_steps.proofs.Runs.{made_of_steps}
-use Rattle.law_run_facts.specs.Facts.{Facts, Hold, PutFits, PutsFit, AreKept}
-use Rattle.law_run_facts.specs.UnitFacts.{written_facts}
-use Rattle.law_run_facts.proofs.Plain.{plain_kept, first_holds}
-use Rattle.law_run_plans.specs.Plans.{Plans}
+use Rattle.law_plan_facts.specs.law_run_facts.Facts.{Facts, Hold, PutFits, PutsFit, AreKept}
+use Rattle.law_plan_facts.specs.law_run_facts.UnitFacts.{written_facts}
+use Rattle.law_plan_facts.proofs.law_run_facts.Plain.{plain_kept, first_holds}
+use Rattle.law_plan_facts.specs.law_run_plans.Plans.{Plans}
 use Rattle.law_plan_facts.specs.Along.{Allowed, anything, IsAllowed, AreKeptAlong, HoldsNow}
 use Rattle.law_plan_facts.proofs.Along.{made_along}
 use Rattle.law_plan_facts.proofs.Constant.{always_along}
-use Rattle.law_link_items.proofs.Names.{link_items}
-use Rattle.law_link_items.proofs.Links.{items_keep}
+use Rattle.law_run_tunnels.proofs.law_link_items.Names.{link_items}
+use Rattle.law_run_tunnels.proofs.law_link_items.Links.{items_keep}
 use Rattle.law_local_packets.specs.Says.{packet_of_pdu, packet_of_load, Saying, SaysInOctets, shown_alone, SaysAlone, showing_packets}
 use Rattle.law_local_packets.specs.Local.{WasAt, LocalFrom}
 use Rattle.law_local_packets.proofs.Settled.{Settled, first_settled, OutcomeSettled, made_settled}

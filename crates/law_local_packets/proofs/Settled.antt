@@ -6,19 +6,19 @@ use Rattle.message_types.specs.declared.rrc.Token.{Token}
 use Rattle.scenario_text.specs.declared.event.Event.{Event}
 use Rattle.unit_defs.specs.Ways.{Message, Pdu, Load}
 use Rattle.transport_defs.specs.declared.Item.{Item}
-use Rattle.run_defs.specs.Units.{Units, new_units}
-use Rattle.run_defs.specs.Written.{Written}
-use Rattle.run_defs.specs.States.{State, new_state, radio_of, World, goes, stops, Outcome}
-use Rattle.run_defs.specs.Runs.{Reading}
+use Rattle.law_steps.specs.run_defs.Units.{Units, new_units}
+use Rattle.law_steps.specs.run_defs.Written.{Written}
+use Rattle.law_steps.specs.run_defs.States.{State, new_state, radio_of, World, goes, stops, Outcome}
+use Rattle.law_steps.specs.run_defs.Runs.{Reading}
 use Rattle.law_steps.specs.Made.{Made}
 use Rattle.law_steps.proofs.Frames.{Relates, made_relates}
 use Rattle.law_teids.specs.Given.{GiveOnce}
 use Rattle.law_teids.proofs.Runs.{give_same, give_then, placed_gives, answer_gives}
-use Rattle.law_tunnel_owners.proofs.Placed.{first_owned}
-use Rattle.law_run_facts.specs.Facts.{Hold}
-use Rattle.law_run_facts.specs.Later.{AreKeptTo}
-use Rattle.law_run_facts.proofs.Within.{HoldsWith, same_links}
-use Rattle.law_run_facts.proofs.Later.{LaterAt, made_later}
+use Rattle.law_run_tunnels.proofs.law_tunnel_owners.Placed.{first_owned}
+use Rattle.law_plan_facts.specs.law_run_facts.Facts.{Hold}
+use Rattle.law_plan_facts.specs.law_run_facts.Later.{AreKeptTo}
+use Rattle.law_plan_facts.proofs.law_run_facts.Within.{HoldsWith, same_links}
+use Rattle.law_plan_facts.proofs.law_run_facts.Later.{LaterAt, made_later}
 use Rattle.law_tunnel_names.specs.Names.{by_book}
 use Rattle.law_unit_tunnels.specs.Units.{NoneIsFree}
 use Rattle.law_run_tunnels.specs.law_tunnel_book.Book.{book_of, Keeps}

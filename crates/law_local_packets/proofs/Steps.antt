@@ -16,24 +16,24 @@ use Rattle.unit_defs.specs.Ways.{Message, Pdu, Load, Put, control, packet, radio
 use Rattle.unit_defs.specs.Messages.{teid_of}
 use Rattle.transport_defs.specs.declared.Item.{Item}
 use Rattle.transport_defs.specs.Links.{letter, landed}
-use Rattle.run_defs.specs.Lines.{RunLine, put_item, got_message, delivers, lost_items, lost_message, held_at, was_refused, tunnel_link, radio_link, shown}
-use Rattle.run_defs.specs.Local.{Act}
-use Rattle.run_defs.specs.Units.{Units}
-use Rattle.run_defs.specs.Written.{Written}
-use Rattle.run_defs.specs.States.{State, radio_of, World, RunStep, step_of, goes, stops, told_before, ◌next◌, Within, Outcome, as_step, entity, sn_of, stepped, letter_for, octets_from}
-use Rattle.run_defs.specs.Steps.{check_spans, count_beside, put_on_tunnel, put_out_all, carried_out}
-use Rattle.run_defs.specs.Conditions.{receiver_by, receiver_of, epoch_of}
-use Rattle.run_defs.specs.Events.{landed_as, offered}
-use Rattle.run_defs.specs.Runs.{Reading}
+use Rattle.law_steps.specs.run_defs.Lines.{RunLine, put_item, got_message, delivers, lost_items, lost_message, held_at, was_refused, tunnel_link, radio_link, shown}
+use Rattle.law_steps.specs.run_defs.Local.{Act}
+use Rattle.law_steps.specs.run_defs.Units.{Units}
+use Rattle.law_steps.specs.run_defs.Written.{Written}
+use Rattle.law_steps.specs.run_defs.States.{State, radio_of, World, RunStep, step_of, goes, stops, told_before, ◌next◌, Within, Outcome, as_step, entity, sn_of, stepped, letter_for, octets_from}
+use Rattle.law_steps.specs.run_defs.Steps.{check_spans, count_beside, put_on_tunnel, put_out_all, carried_out}
+use Rattle.law_steps.specs.run_defs.Conditions.{receiver_by, receiver_of, epoch_of}
+use Rattle.law_steps.specs.run_defs.Events.{landed_as, offered}
+use Rattle.law_steps.specs.run_defs.Runs.{Reading}
 use Rattle.law_steps.specs.Causes.{Cause, by_order, by_tick, by_octets, by_octets_on, by_attach, by_release, by_offer, by_item, by_air, by_ack, by_letter, node_of, given_of, count_of, first_of, Stands}
 use Rattle.law_steps.specs.Made.{Made, stays, ends, then_made, sets_up, starts, acts, holds_item, holds_pdu, offers, core_takes, core_reads, lands, loses_letter, loses_item, remarks}
 use Rattle.law_steps.proofs.Frames.{HasUnits, then_units, keep_checked, keep_put_on_tunnel, keep_put_all, units_by, act_units}
-use Rattle.law_run_plans.specs.Plans.{Plans, PlansStay}
-use Rattle.law_run_plans.proofs.Frames.{plans_by}
-use Rattle.law_run_plans.proofs.Runs.{StaysFrom, made_stays}
-use Rattle.law_run_facts.specs.Facts.{Facts, Hold, PutFits, PutsFit}
-use Rattle.law_run_facts.proofs.Within.{same_links}
-use Rattle.law_run_facts.proofs.Steps.{nth_has, found_has}
+use Rattle.law_plan_facts.specs.law_run_plans.Plans.{Plans, PlansStay}
+use Rattle.law_plan_facts.proofs.law_run_plans.Frames.{plans_by}
+use Rattle.law_plan_facts.proofs.law_run_plans.Runs.{StaysFrom, made_stays}
+use Rattle.law_plan_facts.specs.law_run_facts.Facts.{Facts, Hold, PutFits, PutsFit}
+use Rattle.law_plan_facts.proofs.law_run_facts.Within.{same_links}
+use Rattle.law_plan_facts.proofs.law_run_facts.Steps.{nth_has, found_has}
 use Rattle.law_plan_facts.specs.Along.{Allowed, IsAllowed, AreKeptAlong, HoldsNow}
 use Rattle.law_plan_facts.proofs.Along.{answered, may_later, made_along}
 use Rattle.law_local_packets.specs.Says.{packet_of_pdu, packet_of_load, Saying, showing}

@@ -9,9 +9,9 @@ use Rattle.message_types.specs.declared.rrc.Token.{Token}
 use Rattle.scenario_text.specs.declared.event.Event.{Event}
 use Rattle.scenario_text.specs.declared.event.Event.TheVariants as events
 use Rattle.unit_defs.specs.Ways.{Message}
-use Rattle.run_defs.specs.Lines.{got_item, delivers, tunnel_link, shown}
-use Rattle.run_defs.specs.States.{step_of}
-use Rattle.run_defs.specs.Local.{Act}
+use Rattle.law_steps.specs.run_defs.Lines.{got_item, delivers, tunnel_link, shown}
+use Rattle.law_steps.specs.run_defs.States.{step_of}
+use Rattle.law_steps.specs.run_defs.Local.{Act}
 
 abbrev pub uplink : EntityKey
 uplink = record { ue = record { 0 = 1 }; bearer = record { 0 = 1 }; dir = Ul }

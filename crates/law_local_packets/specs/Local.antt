@@ -6,9 +6,9 @@ use Rattle.gnb_types.specs.declared.names.NodeId.{NodeId}
 use Rattle.gnb_types.specs.declared.keys.EntityKey.{EntityKey}
 use Rattle.scenario_text.specs.declared.event.Event.{Event}
 use Rattle.scenario_text.specs.declared.event.Event.TheVariants as events
-use Rattle.run_defs.specs.Lines.{RunLine, put_item, got_item, delivers}
-use Rattle.run_defs.specs.Local.{Act, item_key}
-use Rattle.run_defs.specs.States.{entity}
+use Rattle.law_steps.specs.run_defs.Lines.{RunLine, put_item, got_item, delivers}
+use Rattle.law_steps.specs.run_defs.Local.{Act, item_key}
+use Rattle.law_steps.specs.run_defs.States.{entity}
 use Rattle.law_local_packets.specs.Says.{Saying}
 
 -- P holds of one of them

@@ -6,11 +6,11 @@ use Rattle.scenario_text.specs.declared.line.Link.{Link}
 use Rattle.scenario_text.specs.declared.line.Link.TheVariants.{Tunnel, Radio}
 use Rattle.scenario_text.specs.declared.line.Item.{Item as ShownItem}
 use Rattle.unit_defs.specs.Ways.{Message, Pdu, packet_pdu, report_pdu, Load, fresh, numbered, frame, uplink, status, end_marker}
-use Rattle.unit_octet_defs.specs.Writing.{pdu_octets, load_octets, written_load}
-use Rattle.run_defs.specs.States.{World}
-use Rattle.run_defs.specs.Written.{Written}
-use Rattle.run_defs.specs.Runs.{Reading, plain_world}
-use Rattle.law_link_items.specs.Items.{count_of_pdu, count_of_load, MayStand}
+use Rattle.law_steps.specs.unit_octet_defs.Writing.{pdu_octets, load_octets, written_load}
+use Rattle.law_steps.specs.run_defs.States.{World}
+use Rattle.law_steps.specs.run_defs.Written.{Written}
+use Rattle.law_steps.specs.run_defs.Runs.{Reading, plain_world}
+use Rattle.law_run_tunnels.specs.law_link_items.Items.{count_of_pdu, count_of_load, MayStand}
 
 -- ---- the packet in it, if one is
 

@@ -4,9 +4,9 @@
 ghost use Rattle.law_local_packets.specs.Example.{from_another, from_nowhere, packet_up, uplink};
 ghost use Rattle.law_local_packets.specs.Local.{LocalFrom};
 ghost use Rattle.law_local_packets.specs.Says.{SaysAlone, SaysInOctets, showing_packets};
-ghost use Rattle.run_defs.specs.Local.{acts_of};
-ghost use Rattle.run_defs.specs.Runs.{Reading, Run, run};
-ghost use Rattle.run_defs.specs.Said.{Delivered};
+ghost use Rattle.law_steps.specs.run_defs.Local.{acts_of};
+ghost use Rattle.law_steps.specs.run_defs.Runs.{Reading, Run, run};
+ghost use Rattle.law_steps.specs.run_defs.Said.{Delivered};
 ghost use Rattle.scenario_text.specs.declared.event.Event.{Event};
 ghost use Rattle.std.specs.Prelude.{List, [], ◌∷◌, ◌≡◌};
 

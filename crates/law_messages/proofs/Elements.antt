@@ -3,8 +3,8 @@ use Rattle.std.proofs.Common.{◌≡◌, ℕ, ◌==◌, Bool, true, false, cond,
 use Rattle.std.specs.Prelude.{not, ◌&&◌, ◌||◌, if◌then◌else◌}
 use Rattle.aper_defs.specs.Values.{Value, Ies}
 use Rattle.aper_proof_answers.proofs.NumberFacts.{same}
-use Rattle.profile_defs.specs.Elements.{Element}
-use Rattle.profile_defs.specs.Tables.{Use}
+use Rattle.message_defs.specs.profile_defs.Elements.{Element}
+use Rattle.message_defs.specs.profile_defs.Tables.{Use}
 use Rattle.message_defs.specs.Places.{Field, content_of, put_element, written_elements, element_of}
 use Rattle.message_defs.specs.Heard.{is_used, first_rejected}
 

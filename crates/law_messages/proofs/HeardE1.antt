@@ -9,8 +9,8 @@ use Rattle.message_types.specs.declared.e1.E1Message.TheVariants as e1s
 use Rattle.message_types.specs.declared.e1.E1Message.{E1Message}
 use Rattle.message_defs.specs.Fields.{from_peer, to_peer, from_tunnels, to_tunnels, from_statuses, to_statuses, from_ue, from_number, to_number, to_index}
 use Rattle.aper_defs.specs.Values.{Value, enumeral}
-use Rattle.profile_defs.specs.Elements as ies
-use Rattle.profile_defs.specs.Messages.{bearer_context_modification_request}
+use Rattle.message_defs.specs.profile_defs.Elements as ies
+use Rattle.message_defs.specs.profile_defs.Messages.{bearer_context_modification_request}
 use Rattle.message_defs.specs.Places.{Field, has, may_have, written_elements, element_of, or_empty}
 use Rattle.message_defs.specs.Heard.{Cause, first_rejected, unless_rejected}
 use Rattle.law_messages.proofs.Elements.{found, accepted}

@@ -5,11 +5,11 @@ use Rattle.gnb_types.specs.declared.plans.Tunnel.{Tunnel}
 use Rattle.gnb_types.specs.declared.plans.SnStatus.{SnStatus}
 use Rattle.aper_defs.specs.Trees.{Rows, Slot, slots, has_slot}
 use Rattle.aper_defs.specs.Values.{Value, Values, Ies, components, list, elements, message, value, no_options, present, ie}
-use Rattle.profile_defs.specs.Forms.{tree, parts, rows}
-use Rattle.profile_defs.specs.Elements.{Element}
-use Rattle.profile_defs.specs.BaseTypes as types
-use Rattle.profile_defs.specs.Compounds as compounds
-use Rattle.profile_defs.specs.Tables.{Use, Message, element_rows}
+use Rattle.message_defs.specs.profile_defs.Forms.{tree, parts, rows}
+use Rattle.message_defs.specs.profile_defs.Elements.{Element}
+use Rattle.message_defs.specs.profile_defs.BaseTypes as types
+use Rattle.message_defs.specs.profile_defs.Compounds as compounds
+use Rattle.message_defs.specs.profile_defs.Tables.{Use, Message, element_rows}
 use Rattle.message_defs.specs.Known.{known, known_components, known_additions, known_row, each_value, known_elements}
 use Rattle.message_defs.specs.Fields.{from_number, from_peer, from_tunnel, from_each, from_tunnels, from_status, from_statuses}
 use Rattle.message_defs.specs.Places.{Field, content_of, put_element, written_elements}

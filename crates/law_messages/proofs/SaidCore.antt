@@ -2,10 +2,10 @@
 use Rattle.std.proofs.Common.{◌≡◌, [], ◌∷◌, Some, refl, ap}
 use Rattle.message_types.specs.declared.xn.CoreMessage.TheVariants as cores
 use Rattle.message_types.specs.declared.xn.CoreMessage.{CoreMessage}
-use Rattle.profile_defs.specs.Forms.{tree, parts, rows, procedures, outcome_tree}
-use Rattle.profile_defs.specs.Elements as ies
-use Rattle.profile_defs.specs.Messages.{path_switch_request}
-use Rattle.profile_defs.specs.Profile.{core_type}
+use Rattle.message_defs.specs.profile_defs.Forms.{tree, parts, rows, procedures, outcome_tree}
+use Rattle.message_defs.specs.profile_defs.Elements as ies
+use Rattle.message_defs.specs.profile_defs.Messages.{path_switch_request}
+use Rattle.message_defs.specs.profile_defs.Profile.{core_type}
 use Rattle.message_defs.specs.Fields.{from_number, from_ue, from_peer, from_tunnels}
 use Rattle.message_defs.specs.Places.{has}
 use Rattle.message_defs.specs.Known.{known, known_components, known_additions, known_row, known_body, known_message}

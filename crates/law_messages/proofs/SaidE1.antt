@@ -3,10 +3,10 @@ use Rattle.std.proofs.Common.{◌≡◌, [], ◌∷◌, Some, refl, ap}
 use Rattle.message_types.specs.declared.e1.E1Message.TheVariants as e1s
 use Rattle.message_types.specs.declared.e1.E1Message.{E1Message}
 use Rattle.aper_defs.specs.Values.{enumeral}
-use Rattle.profile_defs.specs.Forms.{tree, parts, rows, procedures, outcome_tree}
-use Rattle.profile_defs.specs.Elements as ies
-use Rattle.profile_defs.specs.Messages.{bearer_context_setup_response, bearer_context_modification_request, bearer_context_modification_response}
-use Rattle.profile_defs.specs.Profile.{e1_type}
+use Rattle.message_defs.specs.profile_defs.Forms.{tree, parts, rows, procedures, outcome_tree}
+use Rattle.message_defs.specs.profile_defs.Elements as ies
+use Rattle.message_defs.specs.profile_defs.Messages.{bearer_context_setup_response, bearer_context_modification_request, bearer_context_modification_response}
+use Rattle.message_defs.specs.profile_defs.Profile.{e1_type}
 use Rattle.message_defs.specs.Fields.{from_number, from_ue, from_peer, from_tunnels, from_statuses}
 use Rattle.message_defs.specs.Places.{has, may_have}
 use Rattle.message_defs.specs.Known.{known, known_components, known_additions, known_row, known_body, known_message}

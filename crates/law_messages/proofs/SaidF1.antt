@@ -1,10 +1,10 @@
 -- What is written for a message says it: F1.
 use Rattle.std.proofs.Common.{◌≡◌, [], ◌∷◌, Some, refl, ap}
 use Rattle.message_types.specs.declared.f1.F1.TheVariants as f1s
-use Rattle.profile_defs.specs.Forms.{tree, parts, rows, procedures, outcome_tree}
-use Rattle.profile_defs.specs.Elements as ies
-use Rattle.profile_defs.specs.Messages.{ue_context_setup_request, ue_context_setup_response, ue_context_modification_response}
-use Rattle.profile_defs.specs.Profile.{f1_type}
+use Rattle.message_defs.specs.profile_defs.Forms.{tree, parts, rows, procedures, outcome_tree}
+use Rattle.message_defs.specs.profile_defs.Elements as ies
+use Rattle.message_defs.specs.profile_defs.Messages.{ue_context_setup_request, ue_context_setup_response, ue_context_modification_response}
+use Rattle.message_defs.specs.profile_defs.Profile.{f1_type}
 use Rattle.message_defs.specs.Fields.{from_number, from_ue, from_sn, from_peer, from_tunnels}
 use Rattle.message_defs.specs.Places.{has}
 use Rattle.message_defs.specs.Known.{known, known_components, known_additions, known_row, known_body, known_message}

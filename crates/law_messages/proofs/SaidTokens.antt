@@ -2,8 +2,8 @@
 use Rattle.std.proofs.Common.{◌≡◌, refl}
 use Rattle.message_types.specs.declared.rrc.Token.{Token}
 use Rattle.message_types.specs.declared.rrc.Token.TheVariants as tokens
-use Rattle.profile_defs.specs.Forms.{tree, parts}
-use Rattle.profile_defs.specs.Profile.{token_type}
+use Rattle.message_defs.specs.profile_defs.Forms.{tree, parts}
+use Rattle.message_defs.specs.profile_defs.Profile.{token_type}
 use Rattle.message_defs.specs.Known.{known, known_components, known_additions, known_part}
 use Rattle.message_defs.specs.Tokens.{written_token}
 

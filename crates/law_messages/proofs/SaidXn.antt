@@ -9,11 +9,11 @@ use Rattle.message_types.specs.declared.xn.XnMessage.{XnMessage}
 use Rattle.aper_defs.specs.Values.{Value, Options, text, no_options, present}
 use Rattle.aper_defs.specs.Fields.{Path}
 use Rattle.aper_defs.specs.Membership.{Has, HasComponents, HasAdditions, HasRow, HasBody, HasOutcome}
-use Rattle.profile_defs.specs.Forms.{Components, no_components, component, tree, parts, rows, procedures, outcome_tree}
-use Rattle.profile_defs.specs.BaseTypes as types
-use Rattle.profile_defs.specs.Elements as ies
-use Rattle.profile_defs.specs.Messages.{handover_request, handover_request_acknowledge, sn_status_transfer}
-use Rattle.profile_defs.specs.Profile.{xn_type}
+use Rattle.message_defs.specs.profile_defs.Forms.{Components, no_components, component, tree, parts, rows, procedures, outcome_tree}
+use Rattle.message_defs.specs.profile_defs.BaseTypes as types
+use Rattle.message_defs.specs.profile_defs.Elements as ies
+use Rattle.message_defs.specs.profile_defs.Messages.{handover_request, handover_request_acknowledge, sn_status_transfer}
+use Rattle.message_defs.specs.profile_defs.Profile.{xn_type}
 use Rattle.message_defs.specs.Fields.{from_number, from_ue, from_sn, from_peer, from_tunnels, from_statuses}
 use Rattle.message_defs.specs.Places.{has, written_message}
 use Rattle.message_defs.specs.Known.{if_some, known, known_components, known_additions, known_row, known_body, known_message}

@@ -8,7 +8,7 @@ ghost use Rattle.message_types.specs.declared.xn.CoreMessage.{CoreMessage};
 ghost use Rattle.message_types.specs.declared.rrc.Token.{Token};
 ghost use Rattle.aper_defs.specs.Values.{Value};
 ghost use Rattle.aper_defs.specs.Membership.{Has};
-ghost use Rattle.profile_defs.specs.Profile.{f1_type, e1_type, xn_type, core_type, token_type};
+ghost use Rattle.message_defs.specs.profile_defs.Profile.{f1_type, e1_type, xn_type, core_type, token_type};
 ghost use Rattle.message_defs.specs.F1.{F1Message, written_f1, heard_f1, SaysF1};
 ghost use Rattle.message_defs.specs.E1.{written_e1, heard_e1, SaysE1};
 ghost use Rattle.message_defs.specs.Xn.{written_xn, heard_xn, SaysXn};

@@ -29,17 +29,17 @@ use Rattle.unit_defs.specs.Accessors.{ue_home}
 use Rattle.transport_defs.specs.declared.Item.{Item}
 use Rattle.transport_defs.specs.declared.Letter.{Letter}
 use Rattle.transport_defs.specs.Links.{letter, nth}
-use Rattle.run_defs.specs.Lines.{was_refused, is_quiet, is_busy}
-use Rattle.run_defs.specs.Units.{Units, ue_of, is_source, epoch_at}
-use Rattle.run_defs.specs.Written.{Written, WrittenStepped, WrittenCoreStepped}
+use Rattle.law_own_events.specs.run_defs.Lines.{was_refused, is_quiet, is_busy}
+use Rattle.law_own_events.specs.run_defs.Units.{Units, ue_of, is_source, epoch_at}
+use Rattle.law_own_events.specs.run_defs.Written.{Written, WrittenStepped, WrittenCoreStepped}
 use Rattle.law_slices.specs.Slices.{message_ue}
-use Rattle.run_defs.specs.States.{item_for, carried_for, confirmed_for, stepped, step_spent, core_stepped, letter_for, offer_for, order_for, spent_counter, stops, goes_on, as_step, refused, prints, sn_of, entity, is_attached, was_attached, has_bearer, radio_of}
-use Rattle.run_defs.specs.Steps.{letters_spent, too_many_letters, Done, is_done, is_held, is_refused, carried_out, done_with, does, ordered_by, step}
-use Rattle.run_defs.specs.Conditions.{same_epoch, ready_home, ready_at, ready_of, receiver_by, sender_by, takes_letters, serving_gnb, serving_place, goal_of, rests, has_started, state_at, is_same_place, is_other_up, is_busy_with}
-use Rattle.run_defs.specs.Events.{with_terminal, attach, offered, offer_on_path, offer_by, offer, get_done, got_by, get_on, get, carry_done, carried_by, air_item, air_at, air, confirm_done, ack_items, ack_at, ack, landed_as, core_put, give_to, give_on, give, poll_at, poll, fail, arrive, come_back, handover_to, handover, cancel, leaves, release, ask}
-use Rattle.run_defs.specs.Runs.{Reading, plain_world, happens, tunnel_end}
-use Rattle.law_steps.specs.Causes.{Cause, by_order, by_attach, by_release, by_offer, by_item, by_air, by_ack, by_letter, node_of, given_of, count_of, first_of, IsNoAttach, Stands}
-use Rattle.law_steps.specs.Made.{IsDone, Made, stays, ends, acts, holds_item, holds_pdu, offers, core_takes, lands, remarks}
+use Rattle.law_own_events.specs.run_defs.States.{item_for, carried_for, confirmed_for, stepped, step_spent, core_stepped, letter_for, offer_for, order_for, spent_counter, stops, goes_on, as_step, refused, prints, sn_of, entity, is_attached, was_attached, has_bearer, radio_of}
+use Rattle.law_own_events.specs.run_defs.Steps.{letters_spent, too_many_letters, Done, is_done, is_held, is_refused, carried_out, done_with, does, ordered_by, step}
+use Rattle.law_own_events.specs.run_defs.Conditions.{same_epoch, ready_home, ready_at, ready_of, receiver_by, sender_by, takes_letters, serving_gnb, serving_place, goal_of, rests, has_started, state_at, is_same_place, is_other_up, is_busy_with}
+use Rattle.law_own_events.specs.run_defs.Events.{with_terminal, attach, offered, offer_on_path, offer_by, offer, get_done, got_by, get_on, get, carry_done, carried_by, air_item, air_at, air, confirm_done, ack_items, ack_at, ack, landed_as, core_put, give_to, give_on, give, poll_at, poll, fail, arrive, come_back, handover_to, handover, cancel, leaves, release, ask}
+use Rattle.law_own_events.specs.run_defs.Runs.{Reading, plain_world, happens, tunnel_end}
+use Rattle.law_own_events.specs.law_steps.Causes.{Cause, by_order, by_attach, by_release, by_offer, by_item, by_air, by_ack, by_letter, node_of, given_of, count_of, first_of, IsNoAttach, Stands}
+use Rattle.law_own_events.specs.law_steps.Made.{IsDone, Made, stays, ends, acts, holds_item, holds_pdu, offers, core_takes, lands, remarks}
 use Rattle.law_own_events.proofs.law_run_facts.Steps.{nth_has}
 use Rattle.law_own_events.specs.law_run_slices.Units.{given_ue}
 use Rattle.law_own_events.proofs.law_own_steps.Steps.{Sound}

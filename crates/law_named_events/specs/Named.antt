@@ -13,7 +13,7 @@ use Rattle.scenario_text.specs.declared.event.Event.TheVariants as events
 use Rattle.unit_defs.specs.Ways.{Message}
 use Rattle.transport_defs.specs.declared.Letter.{Letter}
 use Rattle.transport_defs.specs.Links.{letter}
-use Rattle.run_defs.specs.Units.{Units, up_of, du_of}
+use Rattle.law_own_events.specs.run_defs.Units.{Units, up_of, du_of}
 use Rattle.law_slices.specs.Slices.{message_ue}
 use Rattle.law_up_slice.specs.CuUps.{tunnel_ue as up_tunnel_ue}
 use Rattle.law_du_slice.specs.Dus.{tunnel_ue as du_tunnel_ue}

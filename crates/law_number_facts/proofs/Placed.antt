@@ -33,7 +33,7 @@ use Rattle.law_tunnel_frames.specs.OneTunnel.{OwnedTunnel, is_tunnel, Leads, Nex
 use Rattle.law_tunnel_frames.proofs.Contexts.{found_all}
 use Rattle.law_taken_requests.specs.Taken.{WasTaken}
 use Rattle.law_downlink_names.specs.Places.{DownlinkTeid}
-use Rattle.law_downlink_grants.proofs.Lists.{left_before, is_left}
+use Rattle.law_run_switches.proofs.law_downlink_grants.Lists.{left_before, is_left}
 use Rattle.law_run_switches.proofs.Runs.{IsPlaced}
 use Rattle.law_number_facts.proofs.Units.{Records, clash, Phase, owns, seen_at, Ups, free_ups, with_up_counts}
 use Rattle.law_number_facts.proofs.Links.{Keeps, keeps_then, keeps_up, IsEnd}

@@ -25,7 +25,7 @@ use Rattle.transport_defs.specs.Links.{Bag, Radio, letter, is_of, in_flight_of, 
 use Rattle.run_defs.specs.Written.{Written}
 use Rattle.run_defs.specs.Units.{ue_of, has_attempt, requests_rest}
 use Rattle.run_defs.specs.Conditions.{is_quiet_with, rests}
-use Rattle.law_octet_rows.specs.Octets.{up_again}
+use Rattle.law_octet_runs.specs.law_octet_rows.Octets.{up_again}
 use Rattle.law_octet_runs.specs.Again.{PlainState, PlainUnits, OctetState, items_again, radio_again, units_again, letter_again, bag_again, state_again}
 use Rattle.law_octet_runs.specs.Faithful.{RestsAlike}
 

@@ -18,15 +18,15 @@ use Rattle.run_defs.specs.States.{entity}
 use Rattle.run_defs.specs.UnitRuns.{Meaning, Records, tables, UnitRun, unit_world}
 use Rattle.plain_defs.specs.Plain.{IsPlain, KeepRange}
 use Rattle.law_plain_units.proofs.Alike.{plain_alike}
-use Rattle.law_steady_runs.specs.Scripts.{IsSteady, DeliversInOrder}
-use Rattle.law_steady_runs.proofs.Runs.{runs_deliver}
+use Rattle.law_steady_lines.specs.law_steady_runs.Scripts.{IsSteady, DeliversInOrder}
+use Rattle.law_steady_lines.proofs.law_steady_runs.Runs.{runs_deliver}
 use Rattle.law_steady_lines.proofs.Runs.{counts_mean}
 use Rattle.law_wires.proofs.Runs.{wires}
-use Rattle.law_octet_steady.specs.law_octet_runs.Printed.{printed}
-use Rattle.law_octet_steady.specs.law_octet_facts.Ranges.{IsDownWith, IsDown, IsConfirmedDown}
-use Rattle.law_octet_steady.specs.Near.{StatusesAreNear}
-use Rattle.law_octet_steady.proofs.Runs.{downs_print, confirmed_print}
-use Rattle.law_local_interfaces.specs.law_cp_interfaces.Interfaces.{IsOf}
+use Rattle.law_octet_local.specs.law_octet_runs.Printed.{printed}
+use Rattle.law_octet_local.specs.law_octet_facts.Ranges.{IsDownWith, IsDown, IsConfirmedDown}
+use Rattle.law_octet_local.specs.law_octet_steady.Near.{StatusesAreNear}
+use Rattle.law_octet_local.proofs.law_octet_steady.Runs.{downs_print, confirmed_print}
+use Rattle.law_octet_local.specs.law_cp_interfaces.Interfaces.{IsOf}
 use Rattle.law_octet_local.specs.Spelt.{Spelt}
 use Rattle.law_octet_local.proofs.Retold.{told_so}
 use Rattle.law_octet_local.proofs.Runs.{downs_local, confirmed_local}

@@ -9,8 +9,8 @@ use Rattle.run_defs.specs.Local.{Local, CountMeans}
 use Rattle.run_defs.specs.Runs.{Happened}
 use Rattle.run_defs.specs.Said.{all_lines, Wires}
 use Rattle.run_defs.specs.States.{entity}
-use Rattle.law_steady_runs.specs.Scripts.{DeliversInOrder}
-use Rattle.law_local_interfaces.specs.law_cp_interfaces.Interfaces.{IsOf}
+use Rattle.law_steady_lines.specs.law_steady_runs.Scripts.{DeliversInOrder}
+use Rattle.law_octet_local.specs.law_cp_interfaces.Interfaces.{IsOf}
 use Rattle.law_octet_local.specs.Spelt.{Spelt}
 
 pub record KeepsPromise (codec : Codec) (happened : List (Happened (List ℕ))) : Type 0 where

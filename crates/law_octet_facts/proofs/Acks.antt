@@ -24,12 +24,12 @@ use Rattle.run_defs.specs.Conditions.{ready_home, sender_of}
 use Rattle.run_defs.specs.Events.{confirm_done, ack_items, ack_at, ack}
 use Rattle.run_defs.specs.Runs.{Reading, plain_way, plain_world, content_of, stepped_with}
 use Rattle.law_steps.specs.Causes.{by_ack}
-use Rattle.law_owner_facts.specs.Owned.{AreOwned}
+use Rattle.law_steady_runs.specs.law_owner_facts.Owned.{AreOwned}
 use Rattle.law_run_facts.specs.Facts.{Hold}
 use Rattle.law_run_facts.proofs.Units.{with_du_holds}
 use Rattle.law_steady_rows.proofs.Dus.{confirms}
-use Rattle.law_steady_facts.proofs.Views.{PlainState, OnRadio, View, Sees, Stage, comes, lacks, stands, AllStand}
-use Rattle.law_steady_facts.proofs.Keys.{DuFound, du_found}
+use Rattle.law_steady_runs.proofs.law_steady_facts.Views.{PlainState, OnRadio, View, Sees, Stage, comes, lacks, stands, AllStand}
+use Rattle.law_steady_runs.proofs.law_steady_facts.Keys.{DuFound, du_found}
 use Rattle.law_steady_runs.proofs.law_steady_events.Airs.{silent_up}
 use Rattle.law_steady_runs.proofs.law_steady_events.Acks.{at_the_du}
 use Rattle.law_octet_facts.specs.Ranges.{IsPduInRange}

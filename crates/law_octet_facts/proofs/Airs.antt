@@ -27,8 +27,8 @@ use Rattle.law_run_facts.specs.Facts.{Hold, PutsFit}
 use Rattle.law_run_facts.proofs.Units.{with_ue_holds}
 use Rattle.law_steady_rows.specs.Steady.{UeTakes}
 use Rattle.law_steady_rows.proofs.Ues.{ue_takes}
-use Rattle.law_steady_facts.proofs.Views.{PlainState, OnRadio, View, pdu_of, pdus_from, Sees, IsInOrder, Stage, comes, lacks, stands, AllStand}
-use Rattle.law_steady_steps.proofs.Ues.{nth_after}
+use Rattle.law_steady_runs.proofs.law_steady_facts.Views.{PlainState, OnRadio, View, pdu_of, pdus_from, Sees, IsInOrder, Stage, comes, lacks, stands, AllStand}
+use Rattle.law_steady_runs.proofs.law_steady_steps.Ues.{nth_after}
 use Rattle.law_steady_runs.proofs.law_steady_events.Airs.{silent_up}
 use Rattle.law_octet_facts.proofs.Facts.{Parts, ranges}
 use Rattle.law_octet_facts.proofs.Does.{PlainDone, Answers, Keeps, DoneKeeps, does_keeps}

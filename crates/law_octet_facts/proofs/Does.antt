@@ -16,9 +16,9 @@ use Rattle.law_run_facts.specs.UnitFacts.{OfUnits}
 use Rattle.law_run_facts.proofs.Within.{HoldsWith}
 use Rattle.law_run_facts.proofs.Steps.{act_holds}
 use Rattle.law_run_facts.proofs.Runs.{step_holds}
-use Rattle.law_steady_facts.proofs.Views.{PlainState, PlainUnits}
-use Rattle.law_steady_facts.proofs.Moves.{PlainOutcome}
-use Rattle.law_steady_facts.proofs.Puts.{PlainPut}
+use Rattle.law_steady_runs.proofs.law_steady_facts.Views.{PlainState, PlainUnits}
+use Rattle.law_steady_runs.proofs.law_steady_facts.Moves.{PlainOutcome}
+use Rattle.law_steady_runs.proofs.law_steady_facts.Puts.{PlainPut}
 use Rattle.law_octet_facts.proofs.Facts.{Parts, ranges}
 
 abbrev pub PlainCause : Type 0

@@ -34,8 +34,8 @@ use Rattle.law_steps.specs.Causes.{by_item}
 use Rattle.law_steps.specs.Made.{IsDone}
 use Rattle.law_teids.specs.Given.{GivesTeids}
 use Rattle.law_teids.proofs.CuUps.{cu_up_gives}
-use Rattle.law_open_tunnels.specs.Open.{is_open_in, StandWhereOpen}
-use Rattle.law_owner_facts.specs.Owned.{ends_of as teids_of, AreOwned}
+use Rattle.law_steady_runs.specs.law_open_tunnels.Open.{is_open_in, StandWhereOpen}
+use Rattle.law_steady_runs.specs.law_owner_facts.Owned.{ends_of as teids_of, AreOwned}
 use Rattle.law_link_items.specs.Items.{ItemsShow}
 use Rattle.law_context_orders.specs.Orders.{UpPart, part_of as up_part_of}
 use Rattle.law_count_ranges.specs.Ranges.{CountsInRange, IsNextFrame}
@@ -45,10 +45,10 @@ use Rattle.law_run_facts.proofs.Within.{all_and}
 use Rattle.law_steady_rows.specs.Steady.{TheEnds, serving, IsNumbered, UpTakes}
 use Rattle.law_steady_rows.proofs.Takes.{takes_fresh, takes_status}
 use Rattle.law_steady_rows.proofs.Dus.{passes}
-use Rattle.law_steady_facts.specs.law_du_inputs.Changes.{DuPart, part_of as du_part_of}
-use Rattle.law_steady_facts.proofs.Views.{PlainState, OnTunnel, View, load_of, fresh_ones, frames_from, IsCalm, n3_end, uplink_end, downlink_end, Sees, IsFit, IsInOrder, Stage, comes, lacks, stands, AllStand}
-use Rattle.law_steady_facts.proofs.Keys.{UpFound, up_found, DuFound, du_found}
-use Rattle.law_steady_facts.proofs.Ends.{n3_open, uplink_open, downlink_open, UpNamed, up_named, DuNamed, du_named}
+use Rattle.law_steady_runs.specs.law_du_inputs.Changes.{DuPart, part_of as du_part_of}
+use Rattle.law_steady_runs.proofs.law_steady_facts.Views.{PlainState, OnTunnel, View, load_of, fresh_ones, frames_from, IsCalm, n3_end, uplink_end, downlink_end, Sees, IsFit, IsInOrder, Stage, comes, lacks, stands, AllStand}
+use Rattle.law_steady_runs.proofs.law_steady_facts.Keys.{UpFound, up_found, DuFound, du_found}
+use Rattle.law_steady_runs.proofs.law_steady_facts.Ends.{n3_open, uplink_open, downlink_open, UpNamed, up_named, DuNamed, du_named}
 use Rattle.law_steady_runs.proofs.law_steady_events.Gets.{among_one}
 use Rattle.law_octet_facts.proofs.Facts.{IsOnLink, IsGood, UpIn, Parts, ranges, next_fits, teids_fit, good_put}
 use Rattle.law_octet_facts.proofs.Ups.{Counts, fresh_counts, status_counts, sends_fit}

@@ -28,11 +28,11 @@ use Rattle.law_steps.specs.Reached.{reached_by, reached}
 use Rattle.law_open_tunnels.specs.Open.{StandWhereOpen}
 use Rattle.law_open_tunnels.proofs.Runs.{stand_where_open, first_stands}
 use Rattle.law_owner_facts.specs.Owned.{AreOwned}
-use Rattle.law_tunnel_owners.proofs.Placed.{first_owned}
-use Rattle.law_tunnel_owners.proofs.Runs.{owned_later}
+use Rattle.law_octet_facts.proofs.law_tunnel_owners.Placed.{first_owned}
+use Rattle.law_octet_facts.proofs.law_tunnel_owners.Runs.{owned_later}
 use Rattle.law_octet_facts.specs.law_link_items.Items.{ItemsShow}
 use Rattle.law_octet_facts.proofs.law_link_items.Links.{items_in_run}
-use Rattle.law_plan_facts.proofs.Along.{holds_along}
+use Rattle.law_run_lengths.proofs.law_plan_facts.Along.{holds_along}
 use Rattle.law_octet_facts.specs.law_run_facts.Facts.{Hold}
 use Rattle.law_octet_facts.proofs.law_run_facts.Units.{first_hold}
 use Rattle.law_run_lengths.specs.Lengths.{IsWrittenBy, IsWrittenOnAirBy, NumbersAreOfPlans}

@@ -2,7 +2,7 @@
 use Rattle.std.proofs.Common.{◌≡◌, ℕ, Bool, true, false, List, map, refl, sym, ap, ◌∙◌}
 use Rattle.std.specs.Prelude.{if◌then◌else◌}
 use Rattle.std.proofs.lemmas.List.{map-append}
-use Rattle.unit_defs.specs.Ways.{Pdu, Output, Answer, gives, spent, with_outputs, ◌then◌}
+use Rattle.run_defs.specs.unit_defs.Ways.{Pdu, Output, Answer, gives, spent, with_outputs, ◌then◌}
 use Rattle.run_defs.specs.States.{Lengths}
 use Rattle.law_octet_rows.specs.Octets.{put_again, answer_again}
 

@@ -18,12 +18,12 @@ use Rattle.link_defs.specs.Layouts.{f1u_downlink_packet}
 use Rattle.link_defs.specs.Decoding as on
 use Rattle.link_defs.proofs.Pdus.{data_carried}
 use Rattle.link_defs.proofs.Written.{f1u_downlink_packet_decodes}
-use Rattle.unit_defs.specs.Ways.{Message, Pdu, packet_pdu, frame, status, packet, radio, Taken, frame_item, packet_input, confirm_input, Way, Answer, gives, ◌then◌, puts, drops}
-use Rattle.unit_defs.specs.Du.{Du, DuBearer, DuContext, DuTunnel, context_of, missing, is_missing, gap_after, with_bearer, frame_came, taken_in, taken_of, taken_on, take, of_bearer, of_context, confirmed, confirm, du_acts}
-use Rattle.unit_octet_defs.specs.Codec.{Codec, number_in, octet_way}
-use Rattle.unit_octet_defs.specs.Writing.{pdu_octets, load_octets, written_load}
-use Rattle.unit_octet_defs.specs.Reading.{du_item_read, read_du_context, read_du_item, pdu_read, read_du_pdu, content_by, no_count, read_at_du}
-use Rattle.unit_octet_defs.specs.Units.{acts_on, du_steps}
+use Rattle.run_defs.specs.unit_defs.Ways.{Message, Pdu, packet_pdu, frame, status, packet, radio, Taken, frame_item, packet_input, confirm_input, Way, Answer, gives, ◌then◌, puts, drops}
+use Rattle.run_defs.specs.unit_defs.Du.{Du, DuBearer, DuContext, DuTunnel, context_of, missing, is_missing, gap_after, with_bearer, frame_came, taken_in, taken_of, taken_on, take, of_bearer, of_context, confirmed, confirm, du_acts}
+use Rattle.run_defs.specs.unit_octet_defs.Codec.{Codec, number_in, octet_way}
+use Rattle.run_defs.specs.unit_octet_defs.Writing.{pdu_octets, load_octets, written_load}
+use Rattle.run_defs.specs.unit_octet_defs.Reading.{du_item_read, read_du_context, read_du_item, pdu_read, read_du_pdu, content_by, no_count, read_at_du}
+use Rattle.run_defs.specs.unit_octet_defs.Units.{acts_on, du_steps}
 use Rattle.codec_defs.specs.Reading.{ReadsItems, ReadsPdus}
 use Rattle.run_defs.specs.States.{Lengths}
 use Rattle.run_defs.specs.Runs.{plain_way, content_of}

@@ -15,12 +15,12 @@ use Rattle.pdcp_defs.specs.Counts.{number_of, near_count}
 use Rattle.pdcp_defs.specs.Receivers.{is_duplicate, is_ahead, stored, deliver as handed_up}
 use Rattle.link_defs.specs.Decoding as on
 use Rattle.link_defs.proofs.Pdus.{data_carried}
-use Rattle.unit_defs.specs.Ways.{Message, packet_pdu, packet_content, radio_input, held, deliver, Way, gives, ◌then◌, nothing, puts, drops}
-use Rattle.unit_defs.specs.Ue.{UeNode, UeBearer, with_bearer, of_bearer, handed, took_data, took, take, ue_acts}
-use Rattle.unit_octet_defs.specs.Codec.{Codec, octet_way}
-use Rattle.unit_octet_defs.specs.Writing.{pdu_octets}
-use Rattle.unit_octet_defs.specs.Reading.{pdu_read, content_by, count_received_in, bearer_at, read_at_ue}
-use Rattle.unit_octet_defs.specs.Units.{acts_on, ue_steps}
+use Rattle.run_defs.specs.unit_defs.Ways.{Message, packet_pdu, packet_content, radio_input, held, deliver, Way, gives, ◌then◌, nothing, puts, drops}
+use Rattle.run_defs.specs.unit_defs.Ue.{UeNode, UeBearer, with_bearer, of_bearer, handed, took_data, took, take, ue_acts}
+use Rattle.run_defs.specs.unit_octet_defs.Codec.{Codec, octet_way}
+use Rattle.run_defs.specs.unit_octet_defs.Writing.{pdu_octets}
+use Rattle.run_defs.specs.unit_octet_defs.Reading.{pdu_read, content_by, count_received_in, bearer_at, read_at_ue}
+use Rattle.run_defs.specs.unit_octet_defs.Units.{acts_on, ue_steps}
 use Rattle.codec_defs.specs.Reading.{ReadsPdus}
 use Rattle.run_defs.specs.States.{Lengths}
 use Rattle.run_defs.specs.Runs.{plain_way, content_of}

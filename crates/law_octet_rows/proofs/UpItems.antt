@@ -10,13 +10,13 @@ use Rattle.gnb_types.specs.declared.reasons.HeldReason.{HeldReason}
 use Rattle.gnb_types.specs.Orders.{ue_cmp, bearer_cmp}
 use Rattle.message_types.specs.declared.rrc.Token.{Token}
 use Rattle.tables.specs.Tables.{find, put, without}
-use Rattle.unit_defs.specs.Ways.{Message, Pdu, Taken, packet_input, Output, control, packet, radio, deliver, dropped, held, opened, closed, failed, no, Way, Answer, gives, spent, ◌then◌, nothing}
-use Rattle.unit_defs.specs.Teids.{without_each}
-use Rattle.unit_defs.specs.UpRecords.{UpBearer, UpContext, UpTunnel, CuUp, UpAt, up_at}
-use Rattle.unit_defs.specs.UpBearers.{is_over, open_teids}
-use Rattle.unit_defs.specs.UpItems.{held_reason, took}
-use Rattle.unit_defs.specs.CuUp.{context_of, closed_in, ended, ended_if_over, end_where_over, with_context, with_bearer, taken_by, taken_in, taken_of, taken_on, take, cu_up_acts}
-use Rattle.unit_octet_defs.specs.Codec.{Codec, octet_way}
+use Rattle.run_defs.specs.unit_defs.Ways.{Message, Pdu, Taken, packet_input, Output, control, packet, radio, deliver, dropped, held, opened, closed, failed, no, Way, Answer, gives, spent, ◌then◌, nothing}
+use Rattle.run_defs.specs.unit_defs.Teids.{without_each}
+use Rattle.run_defs.specs.unit_defs.UpRecords.{UpBearer, UpContext, UpTunnel, CuUp, UpAt, up_at}
+use Rattle.run_defs.specs.unit_defs.UpBearers.{is_over, open_teids}
+use Rattle.run_defs.specs.unit_defs.UpItems.{held_reason, took}
+use Rattle.run_defs.specs.unit_defs.CuUp.{context_of, closed_in, ended, ended_if_over, end_where_over, with_context, with_bearer, taken_by, taken_in, taken_of, taken_on, take, cu_up_acts}
+use Rattle.run_defs.specs.unit_octet_defs.Codec.{Codec, octet_way}
 use Rattle.run_defs.specs.States.{Lengths}
 use Rattle.run_defs.specs.Runs.{plain_way}
 use Rattle.law_octet_rows.specs.Octets.{up_again, put_again, answer_again}

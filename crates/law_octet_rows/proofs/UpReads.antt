@@ -12,14 +12,14 @@ use Rattle.pdcp_defs.specs.Counts.{number_of}
 use Rattle.link_defs.specs.Layouts.{desired_buffer_size, delivery_status, forwarded_fresh}
 use Rattle.link_defs.specs.Decoding as on
 use Rattle.link_defs.proofs.Written.{forwarded_fresh_decodes, delivery_status_decodes}
-use Rattle.unit_defs.specs.Ways.{Message, Pdu, Taken, fresh_item, status_item, packet_input}
-use Rattle.unit_defs.specs.UpRecords.{UpBearer, UpContext, TunnelKind, n3, f1u_uplink, forwarding_down, forwarding_up, UpTunnel, CuUp, UpAt, up_at}
-use Rattle.unit_defs.specs.UpItems.{held_reason, took}
-use Rattle.unit_defs.specs.CuUp.{context_of, cu_up_acts}
-use Rattle.unit_octet_defs.specs.Codec.{Codec, octet_way}
-use Rattle.unit_octet_defs.specs.Writing.{on_option}
-use Rattle.unit_octet_defs.specs.Reading.{link_of, count_confirmed, up_item_read, read_up_bearer, read_up_context, read_up_item, read_at_cu_up}
-use Rattle.unit_octet_defs.specs.Units.{acts_on, cu_up_steps}
+use Rattle.run_defs.specs.unit_defs.Ways.{Message, Pdu, Taken, fresh_item, status_item, packet_input}
+use Rattle.run_defs.specs.unit_defs.UpRecords.{UpBearer, UpContext, TunnelKind, n3, f1u_uplink, forwarding_down, forwarding_up, UpTunnel, CuUp, UpAt, up_at}
+use Rattle.run_defs.specs.unit_defs.UpItems.{held_reason, took}
+use Rattle.run_defs.specs.unit_defs.CuUp.{context_of, cu_up_acts}
+use Rattle.run_defs.specs.unit_octet_defs.Codec.{Codec, octet_way}
+use Rattle.run_defs.specs.unit_octet_defs.Writing.{on_option}
+use Rattle.run_defs.specs.unit_octet_defs.Reading.{link_of, count_confirmed, up_item_read, read_up_bearer, read_up_context, read_up_item, read_at_cu_up}
+use Rattle.run_defs.specs.unit_octet_defs.Units.{acts_on, cu_up_steps}
 use Rattle.codec_defs.specs.Reading.{ReadsItems}
 use Rattle.run_defs.specs.States.{Lengths}
 use Rattle.run_defs.specs.Runs.{plain_way}

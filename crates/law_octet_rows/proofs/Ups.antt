@@ -8,12 +8,12 @@ use Rattle.gnb_types.specs.declared.outputs.Tag.TheVariants.{Absent, Own}
 use Rattle.message_types.specs.declared.rrc.Token.{Token}
 use Rattle.pdcp.specs.Near.{last_count}
 use Rattle.pdcp_defs.specs.Senders.{numbered as with_next, has_room, confirmed_to}
-use Rattle.unit_defs.specs.Ways.{Message, Pdu, fresh, frame, packet, packet_pdu, Answer, ◌then◌, nothing, puts, spent, counts_spent, frames_spent}
-use Rattle.unit_defs.specs.UpRecords.{Downlink, SourceHop, UpBearer, UpAt}
-use Rattle.unit_defs.specs.UpBearers.{last_frame, has_downlink, framed_on, framed, sent, sent_again, number_each, number_waiting, put_down, forwarded_down}
-use Rattle.unit_defs.specs.UpItems.{lost_frames, took_fresh, took_delivery_status}
-use Rattle.unit_octet_defs.specs.Codec.{Codec, octet_way}
-use Rattle.unit_octet_defs.specs.Writing.{on_option, pdu_octets}
+use Rattle.run_defs.specs.unit_defs.Ways.{Message, Pdu, fresh, frame, packet, packet_pdu, Answer, ◌then◌, nothing, puts, spent, counts_spent, frames_spent}
+use Rattle.run_defs.specs.unit_defs.UpRecords.{Downlink, SourceHop, UpBearer, UpAt}
+use Rattle.run_defs.specs.unit_defs.UpBearers.{last_frame, has_downlink, framed_on, framed, sent, sent_again, number_each, number_waiting, put_down, forwarded_down}
+use Rattle.run_defs.specs.unit_defs.UpItems.{lost_frames, took_fresh, took_delivery_status}
+use Rattle.run_defs.specs.unit_octet_defs.Codec.{Codec, octet_way}
+use Rattle.run_defs.specs.unit_octet_defs.Writing.{on_option, pdu_octets}
 use Rattle.run_defs.specs.States.{Lengths}
 use Rattle.run_defs.specs.Runs.{plain_way}
 use Rattle.law_octet_rows.specs.Octets.{answer_again}

@@ -1,10 +1,10 @@
 -- Units over octets beside units that are told what is said: the same records, without requests, and the same outputs, in octets.
 use Rattle.std.specs.Prelude.{ℕ, List, map}
-use Rattle.unit_defs.specs.Transactions.{no_transactions}
-use Rattle.unit_defs.specs.Ways.{Pdu, Output, control, packet, radio, deliver, dropped, held, opened, closed, failed, no, Answer, gives, spent}
-use Rattle.unit_defs.specs.UpRecords.{CuUp}
-use Rattle.unit_defs.specs.Du.{Du}
-use Rattle.unit_octet_defs.specs.Writing.{pdu_octets, written_load}
+use Rattle.run_defs.specs.unit_defs.Transactions.{no_transactions}
+use Rattle.run_defs.specs.unit_defs.Ways.{Pdu, Output, control, packet, radio, deliver, dropped, held, opened, closed, failed, no, Answer, gives, spent}
+use Rattle.run_defs.specs.unit_defs.UpRecords.{CuUp}
+use Rattle.run_defs.specs.unit_defs.Du.{Du}
+use Rattle.run_defs.specs.unit_octet_defs.Writing.{pdu_octets, written_load}
 use Rattle.run_defs.specs.States.{Lengths}
 
 -- ---- records: no row of packets looks at requests

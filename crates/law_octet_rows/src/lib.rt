@@ -19,15 +19,15 @@ ghost use Rattle.pdcp_defs.specs.Counts.{near_count, number_of};
 ghost use Rattle.run_defs.specs.Runs.{content_of, plain_way};
 ghost use Rattle.run_defs.specs.States.{Lengths};
 ghost use Rattle.tables.specs.Tables.{find};
-ghost use Rattle.unit_defs.specs.CuUp.{context_of as up_context_of, cu_up_acts};
-ghost use Rattle.unit_defs.specs.Du.{context_of as du_context_of, Du, DuBearer, DuContext, DuTunnel, du_acts};
-ghost use Rattle.unit_defs.specs.Ue.{UeBearer, UeNode, ue_acts};
-ghost use Rattle.unit_defs.specs.UpRecords.{CuUp, f1u_uplink, n3, UpBearer, UpContext, UpTunnel};
-ghost use Rattle.unit_defs.specs.Ways.{confirm_input, frame, frame_item, fresh_item, Message, packet_input, packet_pdu, radio_input, status_item};
-ghost use Rattle.unit_octet_defs.specs.Codec.{Codec};
-ghost use Rattle.unit_octet_defs.specs.Reading.{count_confirmed};
-ghost use Rattle.unit_octet_defs.specs.Units.{cu_up_steps, du_steps, ue_steps};
-ghost use Rattle.unit_octet_defs.specs.Writing.{load_octets, on_option, pdu_octets, written_load};
+ghost use Rattle.run_defs.specs.unit_defs.CuUp.{context_of as up_context_of, cu_up_acts};
+ghost use Rattle.run_defs.specs.unit_defs.Du.{context_of as du_context_of, Du, DuBearer, DuContext, DuTunnel, du_acts};
+ghost use Rattle.run_defs.specs.unit_defs.Ue.{UeBearer, UeNode, ue_acts};
+ghost use Rattle.run_defs.specs.unit_defs.UpRecords.{CuUp, f1u_uplink, n3, UpBearer, UpContext, UpTunnel};
+ghost use Rattle.run_defs.specs.unit_defs.Ways.{confirm_input, frame, frame_item, fresh_item, Message, packet_input, packet_pdu, radio_input, status_item};
+ghost use Rattle.run_defs.specs.unit_octet_defs.Codec.{Codec};
+ghost use Rattle.run_defs.specs.unit_octet_defs.Reading.{count_confirmed};
+ghost use Rattle.run_defs.specs.unit_octet_defs.Units.{cu_up_steps, du_steps, ue_steps};
+ghost use Rattle.run_defs.specs.unit_octet_defs.Writing.{load_octets, on_option, pdu_octets, written_load};
 
 /// A CU-UP that reads by a lawful codec makes of the octets of a packet on N3, and of those of a delivery status on an uplink
 /// tunnel, what it makes of what they say: the same outputs, in octets, and the same record. The COUNT that a status confirms is

@@ -4,13 +4,13 @@ use Rattle.std.specs.Prelude.{if◌then◌else◌}
 use Rattle.std.proofs.lemmas.List.{map-append}
 use Rattle.gnb_types.specs.declared.names.NodeId.{NodeId}
 use Rattle.message_types.specs.declared.rrc.Token.{Token}
-use Rattle.unit_defs.specs.Ways.{Message, Pdu, Load}
-use Rattle.unit_octet_defs.specs.Codec.{Codec}
-use Rattle.unit_octet_defs.specs.Spelling.{spelled}
-use Rattle.run_defs.specs.Lines.{RunLine, put_item, got_item, put_message, got_message, delivers, lost_items, lost_message, drops_input, held_at, procedure_failed, is_quiet, is_busy, has_settled, has_not_settled, was_refused}
-use Rattle.run_defs.specs.Written.{Written}
-use Rattle.run_defs.specs.States.{RunStep, Ending, goes, stops, told_before, ◌next◌, as_step, step_of}
-use Rattle.run_defs.specs.Steps.{Done, is_done, is_held, is_refused}
+use Rattle.law_octet_rows.specs.unit_defs.Ways.{Message, Pdu, Load}
+use Rattle.law_octet_rows.specs.unit_octet_defs.Codec.{Codec}
+use Rattle.law_octet_rows.specs.unit_octet_defs.Spelling.{spelled}
+use Rattle.law_octet_rows.specs.run_defs.Lines.{RunLine, put_item, got_item, put_message, got_message, delivers, lost_items, lost_message, drops_input, held_at, procedure_failed, is_quiet, is_busy, has_settled, has_not_settled, was_refused}
+use Rattle.law_octet_rows.specs.run_defs.Written.{Written}
+use Rattle.law_octet_rows.specs.run_defs.States.{RunStep, Ending, goes, stops, told_before, ◌next◌, as_step, step_of}
+use Rattle.law_octet_rows.specs.run_defs.Steps.{Done, is_done, is_held, is_refused}
 use Rattle.law_octet_runs.specs.Again.{PlainState, OctetState, letter_again, state_again}
 
 abbrev pub PlainLine : Type 0

@@ -15,24 +15,24 @@ use Rattle.gnb_types.specs.Orders.{ue_cmp, tunnel_cmp, node_cmp}
 use Rattle.message_types.specs.declared.rrc.Token.{Token}
 use Rattle.tables.specs.Tables.{find, at}
 use Rattle.tables.proofs.TableLaws.{find-mapped, put-mapped}
-use Rattle.unit_defs.specs.Messages.{teid_of}
-use Rattle.unit_defs.specs.Ways.{Message, Pdu, Load}
-use Rattle.unit_defs.specs.UpRecords.{CuUp}
-use Rattle.unit_defs.specs.CuUp.{new_cu_up}
-use Rattle.unit_defs.specs.Du.{Du, new_du}
-use Rattle.unit_defs.specs.Core.{CorePath}
-use Rattle.unit_defs.specs.Ue.{UeNode, is_connected, largest_packet}
-use Rattle.unit_octet_defs.specs.Codec.{Codec}
+use Rattle.law_octet_rows.specs.unit_defs.Messages.{teid_of}
+use Rattle.law_octet_rows.specs.unit_defs.Ways.{Message, Pdu, Load}
+use Rattle.law_octet_rows.specs.unit_defs.UpRecords.{CuUp}
+use Rattle.law_octet_rows.specs.unit_defs.CuUp.{new_cu_up}
+use Rattle.law_octet_rows.specs.unit_defs.Du.{Du, new_du}
+use Rattle.law_octet_rows.specs.unit_defs.Core.{CorePath}
+use Rattle.law_octet_rows.specs.unit_defs.Ue.{UeNode, is_connected, largest_packet}
+use Rattle.law_octet_rows.specs.unit_octet_defs.Codec.{Codec}
 use Rattle.transport_defs.specs.Links.{nth, Radio}
-use Rattle.run_defs.specs.Lines.{got_item, is_quiet, is_busy, tunnel_link, radio_link, shown}
-use Rattle.run_defs.specs.Units.{up_of, du_of, ue_of, epoch_at}
-use Rattle.run_defs.specs.Written.{Written}
-use Rattle.unit_defs.specs.Accessors.{du_epoch}
-use Rattle.run_defs.specs.States.{World, item_for, carried_for, confirmed_for, goes, ◌next◌, goes_on, as_step, prints, refused, entity, has_bearer, book_of, radio_of, with_radio}
-use Rattle.run_defs.specs.Steps.{put_on_tunnel, check_spans, is_done, is_held, is_refused, ordered_by}
-use Rattle.run_defs.specs.Conditions.{same_epoch, ready_at, ready_of, ready_home, receiver_of, sender_of, epoch_of, rests, ask_line}
-use Rattle.run_defs.specs.Events.{offered, offer_on_path, offer_down, offer, taken_off, get_done, got_by, get_on, get, carried_off, carry_done, carried_by, air_item, air_at, air, confirmed_off, confirm_done, ack_items, ack_at, ack, ask}
-use Rattle.run_defs.specs.Runs.{Reading}
+use Rattle.law_octet_rows.specs.run_defs.Lines.{got_item, is_quiet, is_busy, tunnel_link, radio_link, shown}
+use Rattle.law_octet_rows.specs.run_defs.Units.{up_of, du_of, ue_of, epoch_at}
+use Rattle.law_octet_rows.specs.run_defs.Written.{Written}
+use Rattle.law_octet_rows.specs.unit_defs.Accessors.{du_epoch}
+use Rattle.law_octet_rows.specs.run_defs.States.{World, item_for, carried_for, confirmed_for, goes, ◌next◌, goes_on, as_step, prints, refused, entity, has_bearer, book_of, radio_of, with_radio}
+use Rattle.law_octet_rows.specs.run_defs.Steps.{put_on_tunnel, check_spans, is_done, is_held, is_refused, ordered_by}
+use Rattle.law_octet_rows.specs.run_defs.Conditions.{same_epoch, ready_at, ready_of, ready_home, receiver_of, sender_of, epoch_of, rests, ask_line}
+use Rattle.law_octet_rows.specs.run_defs.Events.{offered, offer_on_path, offer_down, offer, taken_off, get_done, got_by, get_on, get, carried_off, carry_done, carried_by, air_item, air_at, air, confirmed_off, confirm_done, ack_items, ack_at, ack, ask}
+use Rattle.law_octet_rows.specs.run_defs.Runs.{Reading}
 use Rattle.law_octet_rows.specs.Octets.{up_again, du_again}
 use Rattle.law_octet_runs.specs.Again.{PlainState, PlainUnits, item_again, items_again, units_again}
 use Rattle.law_octet_runs.specs.Faithful.{ReadsAlike, RestsAlike}

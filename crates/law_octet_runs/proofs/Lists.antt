@@ -7,10 +7,10 @@ use Rattle.gnb_types.specs.declared.names.UeId.{UeId}
 use Rattle.gnb_types.specs.declared.keys.TunnelEnd.{TunnelEnd}
 use Rattle.gnb_types.specs.declared.keys.EntityKey.{EntityKey}
 use Rattle.tables.specs.Tables.{map_values}
-use Rattle.unit_defs.specs.Ways.{Pdu, Load}
+use Rattle.law_octet_rows.specs.unit_defs.Ways.{Pdu, Load}
 use Rattle.transport_defs.specs.declared.Item.{Item}
 use Rattle.transport_defs.specs.Links.{nth, counts_of, tunnel_counts, radio_counts, Radio}
-use Rattle.run_defs.specs.Written.{Written}
+use Rattle.law_octet_rows.specs.run_defs.Written.{Written}
 use Rattle.law_octet_runs.specs.Again.{items_again, radio_again}
 
 pub length-values : {K X Y : Type 0} (f : X → Y) (es : List (K × X)) → length (map_values f es) ≡ length es

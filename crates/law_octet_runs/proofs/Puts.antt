@@ -14,17 +14,17 @@ use Rattle.gnb_types.specs.Orders.{ue_cmp, tunnel_cmp, entity_cmp}
 use Rattle.message_types.specs.declared.rrc.Token.{Token}
 use Rattle.tables.specs.Tables.{find, put, at, map_values}
 use Rattle.tables.proofs.TableLaws.{find-mapped, put-mapped, without-mapped}
-use Rattle.unit_defs.specs.Ways.{Message, Pdu, Load, Put, control, packet, radio, deliver, dropped, held, opened, closed, failed, no}
-use Rattle.unit_octet_defs.specs.Codec.{Codec}
+use Rattle.law_octet_rows.specs.unit_defs.Ways.{Message, Pdu, Load, Put, control, packet, radio, deliver, dropped, held, opened, closed, failed, no}
+use Rattle.law_octet_rows.specs.unit_octet_defs.Codec.{Codec}
 use Rattle.transport_defs.specs.declared.Item.{Item}
 use Rattle.transport_defs.specs.Links.{put_letter, is_epoch, Radio, silent, emptied}
-use Rattle.run_defs.specs.Lines.{Letter, put_item, put_message, lost_items, tunnel_link, radio_link, shown}
-use Rattle.run_defs.specs.Written.{Written}
-use Rattle.run_defs.specs.States.{goes, ◌next◌, goes_on, entity, radio_of, with_radio}
-use Rattle.run_defs.specs.Steps.{with_tunnel, count_beside, noted, on_tunnel, put_on_tunnel, put_on_connected, put_on_radio, letter_of, put_control, lost_if, opens, closes, radio_lost, lose_each, radios_of, lose_radios_of, lose_radios, epoch_now, same_epoch, connect_in, reconnect, reconnect_node, item_of, put_out, put_out_all}
-use Rattle.run_defs.specs.Runs.{Reading, plain_world}
-use Rattle.run_defs.specs.UnitRuns.{unit_world, tables}
-use Rattle.run_defs.specs.States.{World}
+use Rattle.law_octet_rows.specs.run_defs.Lines.{Letter, put_item, put_message, lost_items, tunnel_link, radio_link, shown}
+use Rattle.law_octet_rows.specs.run_defs.Written.{Written}
+use Rattle.law_octet_rows.specs.run_defs.States.{goes, ◌next◌, goes_on, entity, radio_of, with_radio}
+use Rattle.law_octet_rows.specs.run_defs.Steps.{with_tunnel, count_beside, noted, on_tunnel, put_on_tunnel, put_on_connected, put_on_radio, letter_of, put_control, lost_if, opens, closes, radio_lost, lose_each, radios_of, lose_radios_of, lose_radios, epoch_now, same_epoch, connect_in, reconnect, reconnect_node, item_of, put_out, put_out_all}
+use Rattle.law_octet_rows.specs.run_defs.Runs.{Reading, plain_world}
+use Rattle.law_octet_rows.specs.run_defs.UnitRuns.{unit_world, tables}
+use Rattle.law_octet_rows.specs.run_defs.States.{World}
 use Rattle.law_octet_runs.specs.Again.{PlainState, item_again, items_again, radio_again, letter_again, put_again}
 use Rattle.law_octet_runs.proofs.Lists.{length-values, values-append, radios_same}
 use Rattle.law_octet_runs.proofs.Endings.{PlainWithin, OctetWithin, spell, over, line_again, within_again, next_again, choice}

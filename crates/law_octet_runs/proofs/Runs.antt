@@ -4,15 +4,15 @@ use Rattle.std.specs.List.{AllByRecursion}
 use Rattle.gnb_types.specs.declared.names.Dir.TheVariants.{Dl, Ul}
 use Rattle.message_types.specs.declared.rrc.Token.{Token}
 use Rattle.tables.specs.Tables.{map_values}
-use Rattle.unit_defs.specs.Ways.{Message}
-use Rattle.unit_octet_defs.specs.Codec.{Codec}
+use Rattle.law_octet_rows.specs.unit_defs.Ways.{Message}
+use Rattle.law_octet_rows.specs.unit_octet_defs.Codec.{Codec}
 use Rattle.scenario_text.specs.declared.event.Event.{Event}
 use Rattle.scenario_text.specs.declared.event.Event.TheVariants as events
-use Rattle.run_defs.specs.Lines.{put_item, got_item, put_message, got_message, delivers, lost_items, lost_message, drops_input, held_at, procedure_failed, is_quiet, is_busy, has_settled, has_not_settled, was_refused}
-use Rattle.run_defs.specs.Printing.{out_line, out_lines}
-use Rattle.run_defs.specs.States.{RunStep, new_state, goes, stops, entity}
-use Rattle.run_defs.specs.Runs.{Reading, Happened, Transcript, event_before, tunnel_end, happens, run_on, run_from, run, Run}
-use Rattle.run_defs.specs.UnitRuns.{UnitRun, tables}
+use Rattle.law_octet_rows.specs.run_defs.Lines.{put_item, got_item, put_message, got_message, delivers, lost_items, lost_message, drops_input, held_at, procedure_failed, is_quiet, is_busy, has_settled, has_not_settled, was_refused}
+use Rattle.law_octet_rows.specs.run_defs.Printing.{out_line, out_lines}
+use Rattle.law_octet_rows.specs.run_defs.States.{RunStep, new_state, goes, stops, entity}
+use Rattle.law_octet_rows.specs.run_defs.Runs.{Reading, Happened, Transcript, event_before, tunnel_end, happens, run_on, run_from, run, Run}
+use Rattle.law_octet_rows.specs.run_defs.UnitRuns.{UnitRun, tables}
 use Rattle.law_octet_runs.specs.Again.{PlainState}
 use Rattle.law_octet_runs.specs.Printed.{printed_step, printed_event, printed}
 use Rattle.law_octet_runs.specs.Faithful.{IsOfPackets, IsFaithful}

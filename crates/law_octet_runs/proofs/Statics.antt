@@ -12,20 +12,20 @@ use Rattle.gnb_types.specs.Orders.{ue_cmp, node_cmp}
 use Rattle.message_types.specs.declared.rrc.Token.{Token}
 use Rattle.tables.specs.Tables.{put, map_values}
 use Rattle.tables.proofs.TableLaws.{put-mapped}
-use Rattle.unit_defs.specs.Accessors.{place_of, up_has_context, du_epoch}
-use Rattle.unit_defs.specs.CpRecords.{CuCpRecord}
-use Rattle.unit_defs.specs.Du.{Du}
-use Rattle.unit_defs.specs.Static.{up_has_room, up_has_teids, du_has_teids, up_placed, du_placed, cp_placed, cp_set_up, up_set_up, du_set_up}
-use Rattle.unit_defs.specs.Ue.{new_ue, placed}
-use Rattle.unit_defs.specs.UpRecords.{CuUp}
-use Rattle.unit_defs.specs.Ways.{Message, teids_spent}
-use Rattle.unit_octet_defs.specs.Codec.{Codec}
-use Rattle.run_defs.specs.Units.{cp_of, with_cp, up_of, with_up, du_of, with_du, with_ue}
-use Rattle.run_defs.specs.States.{spent_counter, stops, goes_on, refused, was_attached}
-use Rattle.run_defs.specs.Steps.{with_tunnel}
-use Rattle.run_defs.specs.Conditions.{all_set_up, units_placed, n3_from, tunnels_from, seated, statically, is_held_by_units}
-use Rattle.run_defs.specs.Events.{static}
-use Rattle.run_defs.specs.Runs.{Reading}
+use Rattle.law_octet_rows.specs.unit_defs.Accessors.{place_of, up_has_context, du_epoch}
+use Rattle.law_octet_rows.specs.unit_defs.CpRecords.{CuCpRecord}
+use Rattle.law_octet_rows.specs.unit_defs.Du.{Du}
+use Rattle.law_octet_rows.specs.unit_defs.Static.{up_has_room, up_has_teids, du_has_teids, up_placed, du_placed, cp_placed, cp_set_up, up_set_up, du_set_up}
+use Rattle.law_octet_rows.specs.unit_defs.Ue.{new_ue, placed}
+use Rattle.law_octet_rows.specs.unit_defs.UpRecords.{CuUp}
+use Rattle.law_octet_rows.specs.unit_defs.Ways.{Message, teids_spent}
+use Rattle.law_octet_rows.specs.unit_octet_defs.Codec.{Codec}
+use Rattle.law_octet_rows.specs.run_defs.Units.{cp_of, with_cp, up_of, with_up, du_of, with_du, with_ue}
+use Rattle.law_octet_rows.specs.run_defs.States.{spent_counter, stops, goes_on, refused, was_attached}
+use Rattle.law_octet_rows.specs.run_defs.Steps.{with_tunnel}
+use Rattle.law_octet_rows.specs.run_defs.Conditions.{all_set_up, units_placed, n3_from, tunnels_from, seated, statically, is_held_by_units}
+use Rattle.law_octet_rows.specs.run_defs.Events.{static}
+use Rattle.law_octet_rows.specs.run_defs.Runs.{Reading}
 use Rattle.law_octet_rows.specs.Octets.{up_again, du_again}
 use Rattle.law_octet_runs.specs.Again.{PlainState, PlainUnits, OctetUnits, cp_again, items_again, units_again}
 use Rattle.law_octet_runs.proofs.Lists.{values-twice}

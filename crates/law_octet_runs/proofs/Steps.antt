@@ -6,14 +6,14 @@ use Rattle.gnb_types.specs.declared.names.NodeId.{NodeId}
 use Rattle.gnb_types.specs.declared.keys.EntityKey.{EntityKey}
 use Rattle.message_types.specs.declared.rrc.Token.{Token}
 use Rattle.pdcp.specs.Numbers.{half}
-use Rattle.unit_defs.specs.Ways.{Message, Pdu, Load, Put, control, packet, radio, deliver, dropped, held, opened, closed, failed, no}
-use Rattle.unit_octet_defs.specs.Codec.{Codec}
+use Rattle.law_octet_rows.specs.unit_defs.Ways.{Message, Pdu, Load, Put, control, packet, radio, deliver, dropped, held, opened, closed, failed, no}
+use Rattle.law_octet_rows.specs.unit_octet_defs.Codec.{Codec}
 use Rattle.transport_defs.specs.Links.{most_letters, least}
-use Rattle.run_defs.specs.Written.{Written}
-use Rattle.run_defs.specs.States.{World, Given, Stepped, stepped, step_spent, Stop, outstanding, spent_counter, stops, ◌next◌, as_step, sn_of, book_of}
-use Rattle.run_defs.specs.Steps.{span, entities_of, first_outstanding, checked_by, check_spans, letters_spent, reconnect_node, put_out_all, count_letters, too_many_letters, carried_out, is_done, done_with, does}
-use Rattle.run_defs.specs.Runs.{Reading}
-use Rattle.run_defs.specs.UnitRuns.{OctetPut}
+use Rattle.law_octet_rows.specs.run_defs.Written.{Written}
+use Rattle.law_octet_rows.specs.run_defs.States.{World, Given, Stepped, stepped, step_spent, Stop, outstanding, spent_counter, stops, ◌next◌, as_step, sn_of, book_of}
+use Rattle.law_octet_rows.specs.run_defs.Steps.{span, entities_of, first_outstanding, checked_by, check_spans, letters_spent, reconnect_node, put_out_all, count_letters, too_many_letters, carried_out, is_done, done_with, does}
+use Rattle.law_octet_rows.specs.run_defs.Runs.{Reading}
+use Rattle.law_octet_rows.specs.run_defs.UnitRuns.{OctetPut}
 use Rattle.law_octet_runs.specs.Again.{PlainState, OctetState, PlainUnits, units_again, letter_again, put_again, given_again, stepped_again}
 use Rattle.law_octet_runs.specs.Faithful.{ReadsAlike}
 use Rattle.law_octet_runs.proofs.Lists.{length-values, tunnels_count, radios_count}

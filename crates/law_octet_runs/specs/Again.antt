@@ -3,17 +3,17 @@
 use Rattle.std.specs.Prelude.{ℕ, List, map}
 use Rattle.tables.specs.Tables.{map_values}
 use Rattle.message_types.specs.declared.rrc.Token.{Token}
-use Rattle.unit_defs.specs.Transactions.{no_transactions}
-use Rattle.unit_defs.specs.Ways.{Message, Pdu, Load, Put, control, packet, radio, deliver, dropped, held, opened, closed, failed, no}
-use Rattle.unit_defs.specs.CpRecords.{CuCpRecord}
-use Rattle.unit_defs.specs.Core.{CoreRecord}
+use Rattle.law_octet_rows.specs.unit_defs.Transactions.{no_transactions}
+use Rattle.law_octet_rows.specs.unit_defs.Ways.{Message, Pdu, Load, Put, control, packet, radio, deliver, dropped, held, opened, closed, failed, no}
+use Rattle.law_octet_rows.specs.unit_defs.CpRecords.{CuCpRecord}
+use Rattle.law_octet_rows.specs.unit_defs.Core.{CoreRecord}
 use Rattle.transport_defs.specs.declared.Item.{Item}
 use Rattle.transport_defs.specs.declared.Letter.{Letter}
 use Rattle.transport_defs.specs.Links.{Bag, Radio}
-use Rattle.run_defs.specs.Units.{Units}
-use Rattle.run_defs.specs.Written.{Written}
-use Rattle.run_defs.specs.States.{State, Given, letter_for, item_for, carried_for, confirmed_for, offer_for, tick_for, order_for, octets_from, octets_on, Stepped, stepped, step_spent}
-use Rattle.run_defs.specs.UnitRuns.{OctetGiven, OctetPut, OctetStepped}
+use Rattle.law_octet_rows.specs.run_defs.Units.{Units}
+use Rattle.law_octet_rows.specs.run_defs.Written.{Written}
+use Rattle.law_octet_rows.specs.run_defs.States.{State, Given, letter_for, item_for, carried_for, confirmed_for, offer_for, tick_for, order_for, octets_from, octets_on, Stepped, stepped, step_spent}
+use Rattle.law_octet_rows.specs.run_defs.UnitRuns.{OctetGiven, OctetPut, OctetStepped}
 use Rattle.law_octet_rows.specs.Octets.{up_again, du_again}
 
 abbrev pub PlainState : Type 0

@@ -9,18 +9,18 @@ use Rattle.gnb_types.specs.declared.names.Dir.TheVariants.{Dl}
 use Rattle.gnb_types.specs.Orders.{tunnel_cmp}
 use Rattle.message_types.specs.declared.rrc.Token.{Token}
 use Rattle.tables.specs.Tables.{find}
-use Rattle.unit_defs.specs.Ways.{Message, Pdu, Load}
-use Rattle.unit_octet_defs.specs.Codec.{Codec}
-use Rattle.unit_octet_defs.specs.Spelling.{spelled}
+use Rattle.law_octet_rows.specs.unit_defs.Ways.{Message, Pdu, Load}
+use Rattle.law_octet_rows.specs.unit_octet_defs.Codec.{Codec}
+use Rattle.law_octet_rows.specs.unit_octet_defs.Spelling.{spelled}
 use Rattle.scenario_text.specs.declared.event.Event.{Event}
 use Rattle.scenario_text.specs.declared.event.Event.TheVariants as events
 use Rattle.transport_defs.specs.declared.Item.{Item}
 use Rattle.transport_defs.specs.Links.{nth}
-use Rattle.run_defs.specs.Written.{Written}
-use Rattle.run_defs.specs.States.{RunStep, Given, item_for, carried_for, confirmed_for, new_state, goes, entity, radio_of, sn_of}
-use Rattle.run_defs.specs.Conditions.{ready_home, receiver_of, sender_of, rests}
-use Rattle.run_defs.specs.Runs.{Reading, plain_world, happens}
-use Rattle.run_defs.specs.UnitRuns.{unit_world, tables}
+use Rattle.law_octet_rows.specs.run_defs.Written.{Written}
+use Rattle.law_octet_rows.specs.run_defs.States.{RunStep, Given, item_for, carried_for, confirmed_for, new_state, goes, entity, radio_of, sn_of}
+use Rattle.law_octet_rows.specs.run_defs.Conditions.{ready_home, receiver_of, sender_of, rests}
+use Rattle.law_octet_rows.specs.run_defs.Runs.{Reading, plain_world, happens}
+use Rattle.law_octet_rows.specs.run_defs.UnitRuns.{unit_world, tables}
 use Rattle.law_octet_runs.specs.Again.{PlainState, units_again, state_again, given_again, stepped_again}
 
 -- terminals that are set up without messages, packets that are offered down, items that are got, carried and confirmed, and questions

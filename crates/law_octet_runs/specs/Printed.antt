@@ -4,9 +4,9 @@ use Rattle.std.specs.Prelude.{ℕ, List, map, Option}
 use Rattle.gnb_types.specs.declared.names.NodeId.{NodeId}
 use Rattle.scenario_text.specs.declared.event.Event.{Event}
 use Rattle.scenario_text.specs.declared.line.OutLine.{OutLine}
-use Rattle.run_defs.specs.Printing.{out_lines}
-use Rattle.run_defs.specs.States.{RunStep, Stop}
-use Rattle.run_defs.specs.Runs.{Happened, Transcript}
+use Rattle.law_octet_rows.specs.run_defs.Printing.{out_lines}
+use Rattle.law_octet_rows.specs.run_defs.States.{RunStep, Stop}
+use Rattle.law_octet_rows.specs.run_defs.Runs.{Happened, Transcript}
 
 pub record PrintedStep : Type 0 where
   pub actor : Option NodeId

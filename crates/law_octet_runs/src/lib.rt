@@ -4,13 +4,13 @@
 ghost use Rattle.law_octet_runs.specs.Again.{PlainState};
 ghost use Rattle.law_octet_runs.specs.Faithful.{IsFaithful};
 ghost use Rattle.law_octet_runs.specs.Printed.{printed};
-ghost use Rattle.run_defs.specs.Runs.{Reading, Run};
-ghost use Rattle.run_defs.specs.UnitRuns.{tables, UnitRun};
+ghost use Rattle.law_octet_rows.specs.run_defs.Runs.{Reading, Run};
+ghost use Rattle.law_octet_rows.specs.run_defs.UnitRuns.{tables, UnitRun};
 ghost use Rattle.scenario_text.specs.declared.event.Event.{Event};
 ghost use Rattle.std.specs.List.{AllByRecursion};
 ghost use Rattle.std.specs.Prelude.{List, ◌≡◌};
-ghost use Rattle.unit_octet_defs.specs.Codec.{Codec};
-ghost use Rattle.unit_octet_defs.specs.Spelling.{spelled};
+ghost use Rattle.law_octet_rows.specs.unit_octet_defs.Codec.{Codec};
+ghost use Rattle.law_octet_rows.specs.unit_octet_defs.Spelling.{spelled};
 
 /// Scripts, by their events, and what holds of each state that a run of what is said comes to on them.
 pub trait Scripts {

@@ -27,7 +27,7 @@ use Rattle.run_defs.specs.States.{item_for, sn_of}
 use Rattle.run_defs.specs.Runs.{Reading}
 use Rattle.law_open_tunnels.specs.Open.{is_open_in, StandWhereOpen}
 use Rattle.law_owner_facts.specs.Owned.{ends_of as teids_of, AreOwned}
-use Rattle.law_run_tunnels.specs.Own.{IsOfKind, IsOwnAt, TunnelsHoldTheirOwn}
+use Rattle.law_octet_ranges.specs.law_run_tunnels.Own.{IsOfKind, IsOwnAt, TunnelsHoldTheirOwn}
 use Rattle.law_context_orders.specs.Orders.{UpPart, part_of as up_part_of}
 use Rattle.law_steady_rows.specs.Steady.{TheEnds}
 use Rattle.law_octet_ranges.proofs.law_steady_facts.Views.{PlainState, OnTunnel, Stage, comes, lacks, stands, AllStand}

@@ -16,7 +16,7 @@ use Rattle.law_owner_facts.specs.Owned.{AreOwned}
 use Rattle.law_octet_ranges.proofs.law_steady_facts.Views.{PlainState}
 use Rattle.law_octet_ranges.proofs.law_tunnel_owners.Placed.{first_owned}
 use Rattle.law_octet_ranges.proofs.law_tunnel_owners.Runs.{owned_later}
-use Rattle.law_run_tunnels.proofs.Runs.{own_in_runs}
+use Rattle.law_octet_ranges.proofs.law_run_tunnels.Runs.{own_in_runs}
 use Rattle.law_octet_ranges.specs.law_octet_runs.Printed.{printed}
 use Rattle.law_octet_ranges.specs.law_octet_runs.Faithful.{IsOfPackets, IsFaithful}
 use Rattle.law_octet_ranges.proofs.law_octet_runs.Runs.{runs_print}

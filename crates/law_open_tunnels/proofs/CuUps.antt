@@ -20,10 +20,10 @@ use Rattle.gnb_types.specs.declared.reasons.DropReason.TheVariants.{NoContext, N
 use Rattle.gnb_types.specs.declared.reasons.RefuseReason.TheVariants.{Empty, NoRadio}
 use Rattle.gnb_types.specs.Names.{node_text}
 use Rattle.gnb_types.specs.Orders.{bearer_cmp}
-use Rattle.tables.specs.Tables.{find, put}
-use Rattle.transaction_defs.specs.Callers.{close, due}
-use Rattle.message_types.specs.declared.e1.E1Message.{E1Message}
-use Rattle.message_types.specs.declared.e1.E1Message.TheVariants as e1s
+use Rattle.law_teids.specs.tables.Tables.{find, put}
+use Rattle.law_teids.specs.transaction_defs.Callers.{close, due}
+use Rattle.law_teids.specs.message_types.declared.e1.E1Message.{E1Message}
+use Rattle.law_teids.specs.message_types.declared.e1.E1Message.TheVariants as e1s
 use Rattle.law_teids.specs.unit_defs.Ways.{Message, e1, Taken, closed, no, Input, control_input, packet_input, tick_input, order_input, Way, Answer, gives, spent, ◌then◌, nothing, puts, drops, teids_spent, Load, opened}
 use Rattle.law_teids.specs.unit_defs.Messages.{cause_busy, cause_quota, mode_uplinks, mode_switch, mode_freeze, mode_status, mode_resume, channel, are_bearers, bearers_of, statuses_of, teid_of}
 use Rattle.law_teids.specs.unit_defs.Teids.{teids_are_left}

@@ -17,11 +17,11 @@ use Rattle.gnb_types.specs.declared.reasons.DropReason.{DropReason}
 use Rattle.gnb_types.specs.declared.reasons.DropReason.TheVariants.{NoContext, NoTunnel, Unexpected}
 use Rattle.gnb_types.specs.Names.{node_text}
 use Rattle.gnb_types.specs.Orders.{bearer_cmp}
-use Rattle.tables.specs.Tables.{find, put}
-use Rattle.transaction_defs.specs.Callers.{close, due}
-use Rattle.message_types.specs.declared.f1.F1.{F1}
-use Rattle.message_types.specs.declared.f1.F1.TheVariants as f1s
-use Rattle.message_types.specs.declared.rrc.Token.{Token}
+use Rattle.law_teids.specs.tables.Tables.{find, put}
+use Rattle.law_teids.specs.transaction_defs.Callers.{close, due}
+use Rattle.law_teids.specs.message_types.declared.f1.F1.{F1}
+use Rattle.law_teids.specs.message_types.declared.f1.F1.TheVariants as f1s
+use Rattle.law_teids.specs.message_types.declared.rrc.Token.{Token}
 use Rattle.law_teids.specs.unit_defs.Ways.{Message, f1, rrc, uplink, status, end_marker, Taken, frame_item, packet, closed, Input, control_input, packet_input, radio_input, confirm_input, offer_input, tick_input, order_input, Way, Answer, gives, spent, ◌then◌, nothing, puts, drops, teids_spent, Load}
 use Rattle.law_teids.specs.unit_defs.Messages.{channel, is_same_gnb, bearers_of, are_first_bearers}
 use Rattle.law_teids.specs.unit_defs.Teids.{teids_are_left, without_each}

@@ -8,3 +8,4 @@ pub mod Runs
 pub mod UnitRuns
 pub use Rattle.law_teids.proofs as law_teids
 pub use Rattle.law_teids.proofs.law_steps as law_steps
+pub use Rattle.law_teids.proofs.tables as tables

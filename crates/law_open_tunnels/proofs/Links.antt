@@ -14,17 +14,17 @@ use Rattle.gnb_types.specs.declared.outputs.Tag.{Tag}
 use Rattle.gnb_types.specs.declared.outputs.Tag.TheVariants.{Absent, Own, Same}
 use Rattle.gnb_types.specs.Orders.{ue_cmp, node_cmp, tunnel_cmp}
 use Rattle.gnb_types.proofs.OrderLemmas.{node_total, node_exact, tunnel_total, tunnel_exact}
-use Rattle.tables.specs.Tables.{find, put, without, at}
-use Rattle.tables.proofs.TableLaws.{find-put, find-without}
+use Rattle.law_teids.specs.tables.Tables.{find, put, without, at}
+use Rattle.law_teids.proofs.tables.TableLaws.{find-put, find-without}
 use Rattle.law_teids.specs.unit_defs.Ways.{Put, control, packet, radio, deliver, dropped, held, opened, closed, failed, no}
-use Rattle.transport_defs.specs.declared.Item.{Item}
-use Rattle.transport_defs.specs.Links.{is_epoch, emptied}
+use Rattle.law_teids.specs.transport_defs.declared.Item.{Item}
+use Rattle.law_teids.specs.transport_defs.Links.{is_epoch, emptied}
 use Rattle.law_teids.specs.run_defs.Lines.{RunLine, put_item, lost_items, tunnel_link, radio_link, shown}
 use Rattle.law_teids.specs.run_defs.Units.{Units}
 use Rattle.law_teids.specs.run_defs.States.{State, World, Stop, goes, stops, told_before, ◌next◌, goes_on, Ending, Within, entity, radio_of, with_radio}
 use Rattle.law_teids.specs.run_defs.Steps.{first_outstanding, entities_of, checked_by, check_spans, noted, count_beside, item_of, on_tunnel, put_on_tunnel, put_on_connected, put_on_radio, put_control, opens, closes, radio_lost, lose_each, lose_radios_of, lose_radios, radios_of, same_epoch, epoch_now, connect_in, reconnect, reconnect_node, put_out, put_out_all, carried_out}
 use Rattle.law_teids.specs.run_defs.Events.{leaves}
-use Rattle.scenario_text.specs.declared.event.Event.{Event}
+use Rattle.law_teids.specs.scenario_text.declared.event.Event.{Event}
 use Rattle.law_teids.specs.law_steps.Causes.{Cause, by_order, by_tick, by_octets, by_octets_on, by_attach, by_release, by_offer, by_item, by_air, by_ack, by_letter, node_of, count_of, first_of, Stands}
 use Rattle.law_open_tunnels.specs.Open.{open_after, stands}
 use Rattle.law_open_tunnels.proofs.Opened.{open_append}

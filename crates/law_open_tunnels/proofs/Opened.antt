@@ -4,8 +4,8 @@ use Rattle.std.specs.Prelude.{is_some}
 use Rattle.std.specs.Ordering.{nat_cmp, eq_by_cmp, is_eq}
 use Rattle.std.specs.Cmp.{nat_cmp_total, tied_itself, Equal-is}
 use Rattle.std.proofs.lemmas.Map.Lookups.{exact_unsigned}
-use Rattle.tables.specs.Tables.{find, put, without}
-use Rattle.tables.proofs.TableLaws.{find-put, find-without}
+use Rattle.law_teids.specs.tables.Tables.{find, put, without}
+use Rattle.law_teids.proofs.tables.TableLaws.{find-put, find-without}
 use Rattle.law_teids.specs.unit_defs.Ways.{Put, Output, control, packet, radio, deliver, dropped, held, opened, closed, failed, no}
 use Rattle.law_teids.specs.unit_defs.Teids.{without_each}
 use Rattle.law_teids.specs.Given.{opened_by}

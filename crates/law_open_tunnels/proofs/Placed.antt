@@ -16,8 +16,8 @@ use Rattle.gnb_types.specs.declared.plans.Plan.{Plan}
 use Rattle.gnb_types.specs.declared.plans.Tunnel.{Tunnel}
 use Rattle.gnb_types.specs.Orders.{node_cmp, tunnel_cmp}
 use Rattle.gnb_types.proofs.OrderLemmas.{node_total, node_exact}
-use Rattle.tables.specs.Tables.{find, at}
-use Rattle.tables.proofs.TableLaws.{at-put}
+use Rattle.law_teids.specs.tables.Tables.{find, at}
+use Rattle.law_teids.proofs.tables.TableLaws.{at-put}
 use Rattle.law_teids.specs.unit_defs.CpRecords.{CuCpRecord}
 use Rattle.law_teids.specs.unit_defs.UpRecords.{CuUp}
 use Rattle.law_teids.specs.unit_defs.UpBearers.{made}
@@ -25,7 +25,7 @@ use Rattle.law_teids.specs.unit_defs.CuUp.{new_cu_up, bearers_from, bearers_made
 use Rattle.law_teids.specs.unit_defs.Du.{Du, new_du, bearers_made as du_bearers}
 use Rattle.law_teids.specs.unit_defs.Static.{with_downlinks, up_context, up_placed, cp_placed, uplinks_from, du_context, du_placed, up_set_up, du_set_up}
 use Rattle.law_teids.specs.unit_defs.Ue.{new_ue, placed}
-use Rattle.transport_defs.specs.declared.Item.{Item}
+use Rattle.law_teids.specs.transport_defs.declared.Item.{Item}
 use Rattle.law_teids.specs.run_defs.Units.{Units, cp_of, up_of, with_up, du_of, with_du, with_ue, with_cp}
 use Rattle.law_teids.specs.run_defs.States.{State}
 use Rattle.law_teids.specs.run_defs.Steps.{with_tunnel}

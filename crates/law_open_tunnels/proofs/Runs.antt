@@ -8,9 +8,9 @@ use Rattle.gnb_types.specs.declared.names.NodeId.{NodeId}
 use Rattle.gnb_types.specs.declared.names.NodeId.TheVariants.{CuCp, CuUp as up_id, Du as du_id, Core, Ue}
 use Rattle.gnb_types.specs.Orders.{node_cmp}
 use Rattle.std.specs.BTreeMap.{is_at}
-use Rattle.tables.specs.Tables.{find, at}
-use Rattle.message_types.specs.declared.rrc.Token.{Token}
-use Rattle.scenario_text.specs.declared.event.Event.{Event}
+use Rattle.law_teids.specs.tables.Tables.{find, at}
+use Rattle.law_teids.specs.message_types.declared.rrc.Token.{Token}
+use Rattle.law_teids.specs.scenario_text.declared.event.Event.{Event}
 use Rattle.law_teids.specs.unit_defs.Ways.{Message, Pdu, Load, Put, control, packet, radio, deliver, dropped, held, opened, closed, failed, no, Input, gives, spent}
 use Rattle.law_teids.specs.unit_defs.Ue.{UeNode, ue_acts}
 use Rattle.law_teids.specs.unit_defs.UpRecords.{CuUp}

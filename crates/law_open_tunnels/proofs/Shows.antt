@@ -3,8 +3,8 @@ use Rattle.std.proofs.Common.{◌≡◌, ℕ, Bool, true, false, not, ◌||◌, 
 use Rattle.std.specs.Prelude.{if◌then◌else◌}
 use Rattle.std.specs.List.{flat_map}
 use Rattle.gnb_types.specs.declared.keys.Channel.{Channel}
-use Rattle.transaction_defs.specs.Callers.{Begin, begun, running, spent as begins_no_more, begin, is_open, is_awaited, Due, repeats, expires}
-use Rattle.transaction_defs.specs.Callees.{Verdict, new, again, stale, verdict, taken, kept_reply}
+use Rattle.law_teids.specs.transaction_defs.Callers.{Begin, begun, running, spent as begins_no_more, begin, is_open, is_awaited, Due, repeats, expires}
+use Rattle.law_teids.specs.transaction_defs.Callees.{Verdict, new, again, stale, verdict, taken, kept_reply}
 use Rattle.law_teids.specs.unit_defs.Ways.{Message, control, Output, Way, Answer, gives, spent, with_outputs, ◌then◌, nothing}
 use Rattle.law_teids.specs.unit_defs.Transactions.{Transactions, Waiting, is_empty, waits_at, with_waiting, begun_as, begin_request, ask, advance_with, advance, replied, answered_again, request_by, on_request, on_reply}
 use Rattle.law_open_tunnels.specs.Open.{open_after, is_open_in, ShowsFrom}

@@ -7,7 +7,7 @@ use Rattle.gnb_types.specs.declared.names.NodeId.{NodeId}
 use Rattle.gnb_types.specs.declared.names.NodeId.TheVariants.{CuCp, CuUp as up_id, Du as du_id, Core, Ue}
 use Rattle.gnb_types.specs.declared.inputs.Input.{Input as OctetInput}
 use Rattle.gnb_types.specs.Orders.{node_cmp}
-use Rattle.scenario_text.specs.declared.event.Event.{Event}
+use Rattle.law_teids.specs.scenario_text.declared.event.Event.{Event}
 use Rattle.law_teids.specs.unit_defs.Ways.{Put, Load, control, packet, radio, deliver, dropped, held, opened, closed, failed, no, gives, spent}
 use Rattle.law_teids.specs.unit_defs.Ue.{UeNode}
 use Rattle.law_teids.specs.unit_defs.UpRecords.{CuUp}

@@ -5,7 +5,7 @@ use Rattle.gnb_types.specs.declared.names.Gnb.{Gnb}
 use Rattle.gnb_types.specs.declared.names.NodeId.{NodeId}
 use Rattle.gnb_types.specs.declared.names.NodeId.TheVariants.{CuUp, Du}
 use Rattle.gnb_types.specs.Orders.{tunnel_cmp}
-use Rattle.tables.specs.Tables.{find}
+use Rattle.law_teids.specs.tables.Tables.{find}
 use Rattle.law_teids.specs.unit_defs.Ways.{Put, opened, closed, Answer, gives, spent}
 use Rattle.law_teids.specs.run_defs.Units.{up_of, du_of}
 use Rattle.law_teids.specs.run_defs.States.{State}

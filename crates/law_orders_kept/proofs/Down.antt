@@ -1,24 +1,24 @@
 -- What the orders of a row ask of the unit is so where the row does them.
 use Rattle.std.proofs.Common.{◌≡◌, ℕ, Bool, true, false, not, ◌||◌, if◌then◌else◌, List, [], ◌∷◌, ◌++◌, Option, Some, None, refl, sym, ap, subst, ◌∙◌, true≢false}
 use Rattle.std.specs.Prelude.{is_some}
-use Rattle.gnb_types.specs.declared.names.NodeId.{NodeId}
-use Rattle.gnb_types.specs.declared.names.SnBits.{SnBits}
-use Rattle.gnb_types.specs.declared.plans.SnStatus.{SnStatus}
-use Rattle.gnb_types.specs.declared.reasons.HeldReason.{HeldReason}
-use Rattle.gnb_types.specs.declared.reasons.HeldReason.TheVariants.{NoStatus, NotArrived, Early}
-use Rattle.pdcp_defs.specs.Senders.{may_restore, confirmed_to, confirmed_by}
-use Rattle.unit_defs.specs.Ways.{report_content, Taken, fresh_item, numbered_item, uplink_item, status_item, end_item}
-use Rattle.unit_defs.specs.UpRecords.{UpBearer, UpFlags, Downlink, SourceHop, TunnelKind, n3, f1u_uplink, forwarding_down, UpAt}
-use Rattle.unit_defs.specs.UpBearers.{thawed}
-use Rattle.unit_defs.specs.UpItems.{first_held, held_as_target, held_by_room, held_reason}
-use Rattle.chain_defs.specs.Parts.{Item, numbered, fresh, end_marker, Member, Part, no_member}
-use Rattle.chain_defs.specs.Orders.{Order, keeps_n3, keeps_fresh, passes_n3, passes_fresh, sends, passes_numbered, drops, switches, freezes, knows, resumes, closes, tells_loss, sends_again, waits, known, on_downlink, changed, after, run}
-use Rattle.chain_defs.specs.Guards.{IsTaken, IsReady, IsOwed, AreKept}
-use Rattle.law_chain.proofs.Frames.{set_here, set_far}
-use Rattle.law_chain_rows.specs.Shown.{number_orders}
-use Rattle.law_chain_rows.proofs.Numbering.{numbering_kept}
-use Rattle.law_context_orders.specs.Orders.{UpPart, UpOrder, on_switch, on_status, on_resume}
-use Rattle.law_context_orders.specs.Orders as ups
+use Rattle.law_context_tests.specs.gnb_types.declared.names.NodeId.{NodeId}
+use Rattle.law_context_tests.specs.gnb_types.declared.names.SnBits.{SnBits}
+use Rattle.law_context_tests.specs.gnb_types.declared.plans.SnStatus.{SnStatus}
+use Rattle.law_context_tests.specs.gnb_types.declared.reasons.HeldReason.{HeldReason}
+use Rattle.law_context_tests.specs.gnb_types.declared.reasons.HeldReason.TheVariants.{NoStatus, NotArrived, Early}
+use Rattle.law_context_tests.specs.pdcp_defs.Senders.{may_restore, confirmed_to, confirmed_by}
+use Rattle.law_context_tests.specs.unit_defs.Ways.{report_content, Taken, fresh_item, numbered_item, uplink_item, status_item, end_item}
+use Rattle.law_context_tests.specs.unit_defs.UpRecords.{UpBearer, UpFlags, Downlink, SourceHop, TunnelKind, n3, f1u_uplink, forwarding_down, UpAt}
+use Rattle.law_context_tests.specs.unit_defs.UpBearers.{thawed}
+use Rattle.law_context_tests.specs.unit_defs.UpItems.{first_held, held_as_target, held_by_room, held_reason}
+use Rattle.law_down_orders.specs.chain_defs.Parts.{Item, numbered, fresh, end_marker, Member, Part, no_member}
+use Rattle.law_down_orders.specs.chain_defs.Orders.{Order, keeps_n3, keeps_fresh, passes_n3, passes_fresh, sends, passes_numbered, drops, switches, freezes, knows, resumes, closes, tells_loss, sends_again, waits, known, on_downlink, changed, after, run}
+use Rattle.law_down_orders.specs.chain_defs.Guards.{IsTaken, IsReady, IsOwed, AreKept}
+use Rattle.law_down_orders.proofs.law_chain.Frames.{set_here, set_far}
+use Rattle.law_down_orders.specs.law_chain_rows.Shown.{number_orders}
+use Rattle.law_down_orders.proofs.law_chain_rows.Numbering.{numbering_kept}
+use Rattle.law_context_tests.specs.law_context_orders.Orders.{UpPart, UpOrder, on_switch, on_status, on_resume}
+use Rattle.law_context_tests.specs.law_context_orders.Orders as ups
 use Rattle.law_context_tests.specs.Tests.{IsTested}
 use Rattle.law_down_orders.specs.Down.{without_end, down_of, IsDown, serves_none, numbers_if, fresh_orders, numbered_order, confirms_if, confirmed_if, losses, item_orders, switch_orders, status_orders, control_orders, Stands, IsFit, IsAsked}
 use Rattle.law_orders_kept.specs.Down.{StandsFirst, ItemOwes, ControlOwes, Ended}

@@ -1,22 +1,22 @@
 -- What a released bearer is still given delivers nothing.
 use Rattle.std.proofs.Common.{◌≡◌, ℕ, Bool, true, false, ◌||◌, if◌then◌else◌, List, [], ◌∷◌, ◌++◌, Option, Some, None, refl, sym, ap, ◌∙◌, true≢false}
-use Rattle.gnb_types.specs.declared.names.SnBits.{SnBits}
-use Rattle.gnb_types.specs.declared.plans.SnStatus.{SnStatus}
-use Rattle.pdcp_defs.specs.Senders.{Sender, numbered as with_next, has_room, may_restore, confirmed_by}
-use Rattle.unit_defs.specs.Ways.{packet_content, report_content, Taken, fresh_item, numbered_item, uplink_item, status_item, end_item}
-use Rattle.unit_defs.specs.UpRecords.{UpBearer, TunnelKind, n3, f1u_uplink, forwarding_down, forwarding_up, UpAt}
-use Rattle.unit_defs.specs.UpBearers.{thawed}
-use Rattle.chain_defs.specs.Parts as down_parts
-use Rattle.chain_defs.specs.Orders as down
-use Rattle.uplink_defs.specs.Parts.{Item, Part, start}
-use Rattle.uplink_defs.specs.Orders.{Order, after, run, knows, resumes, offers_in}
-use Rattle.uplink_defs.specs.Guards.{AreKept}
-use Rattle.law_uplink.specs.Words.{DeliversInOrder}
+use Rattle.law_context_tests.specs.gnb_types.declared.names.SnBits.{SnBits}
+use Rattle.law_context_tests.specs.gnb_types.declared.plans.SnStatus.{SnStatus}
+use Rattle.law_context_tests.specs.pdcp_defs.Senders.{Sender, numbered as with_next, has_room, may_restore, confirmed_by}
+use Rattle.law_context_tests.specs.unit_defs.Ways.{packet_content, report_content, Taken, fresh_item, numbered_item, uplink_item, status_item, end_item}
+use Rattle.law_context_tests.specs.unit_defs.UpRecords.{UpBearer, TunnelKind, n3, f1u_uplink, forwarding_down, forwarding_up, UpAt}
+use Rattle.law_context_tests.specs.unit_defs.UpBearers.{thawed}
+use Rattle.law_down_orders.specs.chain_defs.Parts as down_parts
+use Rattle.law_down_orders.specs.chain_defs.Orders as down
+use Rattle.law_down_orders.specs.uplink_defs.Parts.{Item, Part, start}
+use Rattle.law_down_orders.specs.uplink_defs.Orders.{Order, after, run, knows, resumes, offers_in}
+use Rattle.law_down_orders.specs.uplink_defs.Guards.{AreKept}
+use Rattle.law_gone.specs.law_uplink.Words.{DeliversInOrder}
 use Rattle.law_gone.specs.Silent.{TakeNone, AreSilent}
 use Rattle.law_gone.proofs.Gone.{up_prefix}
-use Rattle.law_chain_rows.specs.Shown.{number_orders}
-use Rattle.law_context_orders.specs.Orders.{UpPart, UpOrder, on_switch, on_status, on_resume}
-use Rattle.law_context_orders.specs.Orders as ups
+use Rattle.law_down_orders.specs.law_chain_rows.Shown.{number_orders}
+use Rattle.law_context_tests.specs.law_context_orders.Orders.{UpPart, UpOrder, on_switch, on_status, on_resume}
+use Rattle.law_context_tests.specs.law_context_orders.Orders as ups
 use Rattle.law_context_tests.specs.Tests.{IsTested}
 use Rattle.law_down_orders.specs.Down as down_rows
 use Rattle.law_down_orders.specs.Down.{serves_none, numbers_if, losses, confirms_if}

@@ -1,18 +1,18 @@
 -- What the orders of a row ask of the unit is so where the row does them.
 use Rattle.std.proofs.Common.{◌≡◌, ℕ, Bool, true, false, not, ◌&&◌, ◌||◌, if◌then◌else◌, List, [], ◌∷◌, ◌++◌, Some, None, refl, ap, ◌∙◌}
-use Rattle.gnb_types.specs.declared.plans.SnStatus.{SnStatus}
-use Rattle.gnb_types.specs.declared.reasons.HeldReason.{HeldReason}
-use Rattle.gnb_types.specs.declared.reasons.HeldReason.TheVariants.{NoStatus, NotArrived, Early}
-use Rattle.unit_defs.specs.Ways.{packet_content, Taken, numbered_item, uplink_item, end_item}
-use Rattle.unit_defs.specs.UpRecords.{UpBearer, UpFlags, SourceHop, TunnelKind, f1u_uplink, forwarding_up}
-use Rattle.unit_defs.specs.UpBearers.{is_closed, no_uplink}
-use Rattle.unit_defs.specs.UpItems.{first_held, held_as_target, held_by_room, held_reason}
-use Rattle.uplink_defs.specs.Parts.{Item, numbered, end_marker, uplink_tunnel, forwarding, Member, Part, no_member}
-use Rattle.uplink_defs.specs.Orders.{freezes, knows, resumes, closes, discards, is_hop_up_done, after, run}
-use Rattle.uplink_defs.specs.Guards.{IsOpen, IsTaken, IsReady, IsOwed, AreKept}
-use Rattle.law_chain.proofs.Frames.{set_here, set_far}
-use Rattle.law_context_orders.specs.Orders.{UpPart, UpOrder}
-use Rattle.law_context_orders.specs.Orders as ups
+use Rattle.law_context_tests.specs.gnb_types.declared.plans.SnStatus.{SnStatus}
+use Rattle.law_context_tests.specs.gnb_types.declared.reasons.HeldReason.{HeldReason}
+use Rattle.law_context_tests.specs.gnb_types.declared.reasons.HeldReason.TheVariants.{NoStatus, NotArrived, Early}
+use Rattle.law_context_tests.specs.unit_defs.Ways.{packet_content, Taken, numbered_item, uplink_item, end_item}
+use Rattle.law_context_tests.specs.unit_defs.UpRecords.{UpBearer, UpFlags, SourceHop, TunnelKind, f1u_uplink, forwarding_up}
+use Rattle.law_context_tests.specs.unit_defs.UpBearers.{is_closed, no_uplink}
+use Rattle.law_context_tests.specs.unit_defs.UpItems.{first_held, held_as_target, held_by_room, held_reason}
+use Rattle.law_down_orders.specs.uplink_defs.Parts.{Item, numbered, end_marker, uplink_tunnel, forwarding, Member, Part, no_member}
+use Rattle.law_down_orders.specs.uplink_defs.Orders.{freezes, knows, resumes, closes, discards, is_hop_up_done, after, run}
+use Rattle.law_down_orders.specs.uplink_defs.Guards.{IsOpen, IsTaken, IsReady, IsOwed, AreKept}
+use Rattle.law_down_orders.proofs.law_chain.Frames.{set_here, set_far}
+use Rattle.law_context_tests.specs.law_context_orders.Orders.{UpPart, UpOrder}
+use Rattle.law_context_tests.specs.law_context_orders.Orders as ups
 use Rattle.law_context_tests.specs.Tests.{IsOver, IsTested}
 use Rattle.law_up_orders.specs.Up.{IsUp, item_orders, status_orders, control_orders, IsFit}
 use Rattle.law_orders_kept.specs.Up.{StandsFirst, ControlOwes, Ended}

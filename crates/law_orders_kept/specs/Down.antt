@@ -1,13 +1,13 @@
 -- What the orders of a bearer's downlink ask that a CU-UP doesn't test of its own: that items stand first where they are taken
 -- from, and what control owes.
 use Rattle.std.specs.Prelude.{◌≡◌, ◌≢◌, ℕ, true, List, ◌∷◌, Some}
-use Rattle.unit_defs.specs.Ways.{report_content, Taken, fresh_item, numbered_item, uplink_item, status_item, end_item}
-use Rattle.unit_defs.specs.UpRecords.{TunnelKind, n3, f1u_uplink, forwarding_down}
-use Rattle.chain_defs.specs.Parts.{Item, numbered, fresh, end_marker, Member, Part, is_open, no_member}
-use Rattle.chain_defs.specs.Orders.{switches, knows, resumes, releases, confirms, reports}
-use Rattle.chain_defs.specs.Guards.{IsOwed}
-use Rattle.law_context_orders.specs.Orders.{UpOrder}
-use Rattle.law_context_orders.specs.Orders as ups
+use Rattle.law_context_tests.specs.unit_defs.Ways.{report_content, Taken, fresh_item, numbered_item, uplink_item, status_item, end_item}
+use Rattle.law_context_tests.specs.unit_defs.UpRecords.{TunnelKind, n3, f1u_uplink, forwarding_down}
+use Rattle.law_down_orders.specs.chain_defs.Parts.{Item, numbered, fresh, end_marker, Member, Part, is_open, no_member}
+use Rattle.law_down_orders.specs.chain_defs.Orders.{switches, knows, resumes, releases, confirms, reports}
+use Rattle.law_down_orders.specs.chain_defs.Guards.{IsOwed}
+use Rattle.law_context_tests.specs.law_context_orders.Orders.{UpOrder}
+use Rattle.law_context_tests.specs.law_context_orders.Orders as ups
 
 -- the item stands first on the tunnel that it is of, which is open
 abbrev pub StandsFirst : {P : Type 0} → Member → List Item → TunnelKind → Taken P → Type 0

@@ -1,14 +1,14 @@
 -- What the orders of a bearer's uplink ask that a CU-UP doesn't test of its own: that items stand first where they are taken from, and
 -- what control owes.
 use Rattle.std.specs.Prelude.{◌≡◌, ◌≢◌, ℕ, true, List, ◌∷◌, Some}
-use Rattle.unit_defs.specs.Ways.{packet_content, Taken, numbered_item, uplink_item, end_item}
-use Rattle.unit_defs.specs.UpRecords.{TunnelKind, f1u_uplink, forwarding_up}
-use Rattle.unit_defs.specs.UpBearers.{is_one_of}
-use Rattle.uplink_defs.specs.Parts.{Item, numbered, end_marker, Member, Part, no_member}
-use Rattle.uplink_defs.specs.Orders.{adds, switches, knows, resumes, releases}
-use Rattle.uplink_defs.specs.Guards.{IsOwed}
-use Rattle.law_context_orders.specs.Orders.{UpPart, UpOrder}
-use Rattle.law_context_orders.specs.Orders as ups
+use Rattle.law_context_tests.specs.unit_defs.Ways.{packet_content, Taken, numbered_item, uplink_item, end_item}
+use Rattle.law_context_tests.specs.unit_defs.UpRecords.{TunnelKind, f1u_uplink, forwarding_up}
+use Rattle.law_context_tests.specs.unit_defs.UpBearers.{is_one_of}
+use Rattle.law_down_orders.specs.uplink_defs.Parts.{Item, numbered, end_marker, Member, Part, no_member}
+use Rattle.law_down_orders.specs.uplink_defs.Orders.{adds, switches, knows, resumes, releases}
+use Rattle.law_down_orders.specs.uplink_defs.Guards.{IsOwed}
+use Rattle.law_context_tests.specs.law_context_orders.Orders.{UpPart, UpOrder}
+use Rattle.law_context_tests.specs.law_context_orders.Orders as ups
 
 -- the item stands first on the tunnel that it is of, which is open
 abbrev pub StandsFirst : {P : Type 0} → Member → List Item → TunnelKind → ℕ → Taken P → Type 0

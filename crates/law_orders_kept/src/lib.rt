@@ -3,20 +3,20 @@
 #![tactic(auto)]
 
 ghost use Rattle.std.specs.Prelude.{◌≡◌, ℕ, Bool, true, List, [], ◌∷◌, ◌++◌, None};
-ghost use Rattle.gnb_types.specs.declared.names.NodeId.{NodeId};
-ghost use Rattle.gnb_types.specs.declared.names.SnBits.{SnBits};
-ghost use Rattle.unit_defs.specs.UpItems.{held_reason};
-ghost use Rattle.unit_defs.specs.UpRecords.{TunnelKind, SourceHop};
-ghost use Rattle.unit_defs.specs.Ways.{Taken, Way, nothing};
-ghost use Rattle.chain_defs.specs.Guards as down_guards;
-ghost use Rattle.chain_defs.specs.Orders as down;
-ghost use Rattle.chain_defs.specs.Parts as down_parts;
-ghost use Rattle.uplink_defs.specs.Guards as up_guards;
-ghost use Rattle.uplink_defs.specs.Orders as up;
-ghost use Rattle.uplink_defs.specs.Parts as up_parts;
-ghost use Rattle.law_uplink.specs.Words.{DeliversInOrder};
+ghost use Rattle.law_context_tests.specs.gnb_types.declared.names.NodeId.{NodeId};
+ghost use Rattle.law_context_tests.specs.gnb_types.declared.names.SnBits.{SnBits};
+ghost use Rattle.law_context_tests.specs.unit_defs.UpItems.{held_reason};
+ghost use Rattle.law_context_tests.specs.unit_defs.UpRecords.{TunnelKind, SourceHop};
+ghost use Rattle.law_context_tests.specs.unit_defs.Ways.{Taken, Way, nothing};
+ghost use Rattle.law_down_orders.specs.chain_defs.Guards as down_guards;
+ghost use Rattle.law_down_orders.specs.chain_defs.Orders as down;
+ghost use Rattle.law_down_orders.specs.chain_defs.Parts as down_parts;
+ghost use Rattle.law_down_orders.specs.uplink_defs.Guards as up_guards;
+ghost use Rattle.law_down_orders.specs.uplink_defs.Orders as up;
+ghost use Rattle.law_down_orders.specs.uplink_defs.Parts as up_parts;
+ghost use Rattle.law_gone.specs.law_uplink.Words.{DeliversInOrder};
 ghost use Rattle.law_gone.specs.Silent.{AreSilent, TakeNone};
-ghost use Rattle.law_context_orders.specs.Orders.{UpPart, UpOrder, closes, done, freezes};
+ghost use Rattle.law_context_tests.specs.law_context_orders.Orders.{UpPart, UpOrder, closes, done, freezes};
 ghost use Rattle.law_context_tests.specs.Tests.{IsOver, IsTested};
 ghost use Rattle.law_down_orders.specs.Down as down_rows;
 ghost use Rattle.law_up_orders.specs.Up as up_rows;

@@ -16,14 +16,14 @@ use Rattle.gnb_types.specs.Orders.{ue_cmp, entity_cmp, tunnel_cmp}
 use Rattle.gnb_types.proofs.OrderLemmas.{entity_total, entity_exact, ue_total, tunnel_total, tunnel_exact}
 use Rattle.tables.specs.Tables.{find, put, without, at}
 use Rattle.tables.proofs.TableLaws.{find-put-other, find-without-other, at-put, at-without, other_key}
-use Rattle.unit_defs.specs.Ways.{Put, control, packet, radio, deliver, dropped, held, opened, closed, failed, no}
+use Rattle.law_steps.specs.unit_defs.Ways.{Put, control, packet, radio, deliver, dropped, held, opened, closed, failed, no}
 use Rattle.transport_defs.specs.declared.Item.{Item}
 use Rattle.transport_defs.specs.declared.Letter.{Letter}
 use Rattle.transport_defs.specs.Links.{Radio, items_of, put_letter, landed, is_epoch, emptied, connect}
-use Rattle.run_defs.specs.Lines.{RunLine, put_item, lost_items, tunnel_link, radio_link, shown}
-use Rattle.run_defs.specs.Units.{Units}
-use Rattle.run_defs.specs.States.{State, Book, new_book, World, Stop, goes, stops, told_before, ◌next◌, goes_on, Within, entity, book_of, with_book, radio_of, with_radio}
-use Rattle.run_defs.specs.Steps.{first_outstanding, entities_of, checked_by, check_spans, noted, count_beside, item_of, on_tunnel, put_on_tunnel, put_on_connected, put_on_radio, put_control, opens, closes, radio_lost, lose_each, lose_radios_of, lose_radios, radios_of, same_epoch, epoch_now, connect_in, reconnect, reconnect_node, put_out, put_out_all, carried_out}
+use Rattle.law_steps.specs.run_defs.Lines.{RunLine, put_item, lost_items, tunnel_link, radio_link, shown}
+use Rattle.law_steps.specs.run_defs.Units.{Units}
+use Rattle.law_steps.specs.run_defs.States.{State, Book, new_book, World, Stop, goes, stops, told_before, ◌next◌, goes_on, Within, entity, book_of, with_book, radio_of, with_radio}
+use Rattle.law_steps.specs.run_defs.Steps.{first_outstanding, entities_of, checked_by, check_spans, noted, count_beside, item_of, on_tunnel, put_on_tunnel, put_on_connected, put_on_radio, put_control, opens, closes, radio_lost, lose_each, lose_radios_of, lose_radios, radios_of, same_epoch, epoch_now, connect_in, reconnect, reconnect_node, put_out, put_out_all, carried_out}
 use Rattle.law_steps.specs.Causes.{Cause, by_order, by_tick, by_octets, by_octets_on, by_attach, by_release, by_offer, by_item, by_air, by_ack, by_letter, node_of, count_of, first_of}
 use Rattle.law_slices.proofs.Tables.{apart_ues}
 use Rattle.law_others_stay.specs.Others.{letters_of, items_on, OthersStay, IsNodeFor, IsCauseFor, IsStepFor, IsOutputFor}

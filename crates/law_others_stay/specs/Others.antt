@@ -9,11 +9,11 @@ use Rattle.gnb_types.specs.declared.keys.TunnelEnd.{TunnelEnd}
 use Rattle.gnb_types.specs.declared.keys.EntityKey.{EntityKey}
 use Rattle.gnb_types.specs.Orders.{ue_cmp, tunnel_cmp}
 use Rattle.tables.specs.Tables.{find, at}
-use Rattle.unit_defs.specs.Ways.{Put, closed}
+use Rattle.law_steps.specs.unit_defs.Ways.{Put, closed}
 use Rattle.transport_defs.specs.declared.Item.{Item}
 use Rattle.transport_defs.specs.declared.Letter.{Letter}
 use Rattle.transport_defs.specs.Links.{items_of}
-use Rattle.run_defs.specs.States.{State, radio_of, book_of}
+use Rattle.law_steps.specs.run_defs.States.{State, radio_of, book_of}
 use Rattle.law_steps.specs.Causes.{Cause, by_attach, by_release, by_offer, by_item, by_air, by_ack, node_of}
 use Rattle.law_slices.specs.Steps.{IsFor}
 

@@ -4,13 +4,13 @@
 ghost use Rattle.gnb_types.specs.declared.names.UeId.{UeId};
 ghost use Rattle.law_others_stay.specs.Others.{IsOutputFor, IsStepFor, OthersStay};
 ghost use Rattle.law_steps.specs.Causes.{Cause, count_of, first_of, node_of};
-ghost use Rattle.run_defs.specs.Lines.{RunLine};
-ghost use Rattle.run_defs.specs.States.{goes, State, World};
-ghost use Rattle.run_defs.specs.Steps.{carried_out};
-ghost use Rattle.run_defs.specs.Units.{Units};
+ghost use Rattle.law_steps.specs.run_defs.Lines.{RunLine};
+ghost use Rattle.law_steps.specs.run_defs.States.{goes, State, World};
+ghost use Rattle.law_steps.specs.run_defs.Steps.{carried_out};
+ghost use Rattle.law_steps.specs.run_defs.Units.{Units};
 ghost use Rattle.std.specs.List.{AllByRecursion};
 ghost use Rattle.std.specs.Prelude.{List, ◌≡◌};
-ghost use Rattle.unit_defs.specs.Ways.{Put};
+ghost use Rattle.law_steps.specs.unit_defs.Ways.{Put};
 
 /// Whatever units and the core answer, and from every state: where a step of a unit is a terminal's, and all that it puts out is
 /// the terminal's (`law_step_slices` says when), and it closes no tunnel on which another one's items stand, all that is kept beside

@@ -6,22 +6,22 @@ use Rattle.gnb_types.specs.declared.names.BearerId.{BearerId}
 use Rattle.unit_defs.specs.Ways.{Pdu, packet_content, report_content, Taken, fresh_item, numbered_item, frame_item, uplink_item, status_item, end_item}
 use Rattle.unit_defs.specs.UpRecords.{TunnelKind, n3, f1u_uplink, forwarding_down, forwarding_up, SourceHop}
 use Rattle.law_context_tests.specs.Tests.{IsTested}
-use Rattle.law_context_stands.proofs.Enough.{has_hop, serves}
+use Rattle.law_up_ties.proofs.law_context_stands.Enough.{has_hop, serves}
 use Rattle.law_item_fits.specs.Fits as fits
-use Rattle.law_tie_facts.specs.law_bearer_lists.chain_defs.Parts as down_parts
-use Rattle.law_tie_facts.specs.law_bearer_lists.chain_defs.Orders as down
-use Rattle.law_tie_facts.specs.law_bearer_lists.chain_defs.Guards as down_guards
-use Rattle.law_tie_facts.specs.law_bearer_lists.uplink_defs.Parts as up_parts
-use Rattle.law_tie_facts.specs.law_bearer_lists.law_context_orders.Orders.{UpPart, UpOrder, makes, adds, switches, freezes, knows, resumes, releases, closes, takes, polls}
-use Rattle.law_tie_facts.specs.law_bearer_lists.law_down_orders.Down as down_rows
-use Rattle.law_tie_facts.specs.law_bearer_lists.law_up_orders.Up as up_rows
-use Rattle.law_tie_facts.specs.law_bearer_lists.law_bearer_orders.Happenings.{Beside}
-use Rattle.law_tie_facts.specs.law_bearer_lists.law_bearer_orders.Down as downs
-use Rattle.law_tie_facts.specs.law_owner_facts.Owned.{AreOwned}
-use Rattle.law_tie_facts.specs.law_run_bearers.Things.{PlainUnits}
-use Rattle.law_tie_facts.specs.law_run_bearers.Bearers.{Numbering}
-use Rattle.law_tie_facts.specs.Asked.{Asks}
-use Rattle.law_tie_facts.proofs.Ends.{clash}
+use Rattle.law_item_fits.specs.chain_defs.Parts as down_parts
+use Rattle.law_item_fits.specs.chain_defs.Orders as down
+use Rattle.law_item_fits.specs.chain_defs.Guards as down_guards
+use Rattle.law_item_fits.specs.uplink_defs.Parts as up_parts
+use Rattle.law_context_tests.specs.law_context_orders.Orders.{UpPart, UpOrder, makes, adds, switches, freezes, knows, resumes, releases, closes, takes, polls}
+use Rattle.law_item_fits.specs.law_down_orders.Down as down_rows
+use Rattle.law_item_fits.specs.law_up_orders.Up as up_rows
+use Rattle.law_up_ties.specs.law_bearer_orders.Happenings.{Beside}
+use Rattle.law_up_ties.specs.law_bearer_orders.Down as downs
+use Rattle.law_item_fits.specs.law_owner_facts.Owned.{AreOwned}
+use Rattle.law_up_ties.specs.law_run_bearers.Things.{PlainUnits}
+use Rattle.law_up_ties.specs.law_run_bearers.Bearers.{Numbering}
+use Rattle.law_up_ties.specs.law_tie_facts.Asked.{Asks}
+use Rattle.law_up_ties.proofs.law_tie_facts.Ends.{clash}
 use Rattle.law_owed_orders.specs.Steady.{IsSteady}
 use Rattle.law_owed_orders.specs.Owed.{OfItem, Owes}
 use Rattle.law_owed_orders.proofs.Hops.{freeze_leads}

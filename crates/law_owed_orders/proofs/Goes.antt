@@ -4,30 +4,30 @@ use Rattle.gnb_types.specs.declared.names.SnBits.{SnBits}
 use Rattle.gnb_types.specs.declared.names.UeId.{UeId}
 use Rattle.gnb_types.specs.declared.names.BearerId.{BearerId}
 use Rattle.unit_defs.specs.Ways.{Pdu, gives}
-use Rattle.run_defs.specs.Runs.{plain_way}
+use Rattle.law_teids.specs.run_defs.Runs.{plain_way}
 use Rattle.law_context_tests.specs.Tests.{IsTested}
-use Rattle.law_tie_facts.specs.law_bearer_lists.chain_defs.Parts as down_parts
-use Rattle.law_tie_facts.specs.law_bearer_lists.chain_defs.Orders as down
-use Rattle.law_tie_facts.specs.law_bearer_lists.uplink_defs.Parts as up_parts
-use Rattle.law_tie_facts.specs.law_bearer_lists.uplink_defs.Orders as up
-use Rattle.law_tie_facts.specs.law_bearer_lists.law_chain_rows.Shown.{items_of}
-use Rattle.law_tie_facts.specs.law_bearer_lists.law_uplink_rows.Shown as up_shown
-use Rattle.law_tie_facts.specs.law_bearer_lists.law_context_orders.Orders.{UpPart, UpOrder, makes, adds, switches, freezes, knows, resumes, releases, closes, takes, polls, done}
-use Rattle.law_tie_facts.specs.law_bearer_lists.law_down_orders.Down as down_rows
-use Rattle.law_tie_facts.specs.law_bearer_lists.law_up_orders.Up as up_rows
-use Rattle.law_tie_facts.specs.law_bearer_lists.law_bearer_orders.Happenings.{Beside}
-use Rattle.law_tie_facts.specs.law_bearer_lists.law_bearer_orders.Down as downs
-use Rattle.law_tie_facts.specs.law_bearer_lists.law_bearer_orders.Up as ups
-use Rattle.law_tie_facts.specs.law_bearer_lists.Puts.{HopEnds, ends_of, hop_after, PutsOwn}
-use Rattle.law_tie_facts.specs.law_bearer_lists.Down as down_lists
-use Rattle.law_tie_facts.specs.law_bearer_lists.Up as up_lists
-use Rattle.law_tie_facts.proofs.law_bearer_lists.Hops.{order_puts}
-use Rattle.law_tie_facts.proofs.law_bearer_lists.Down.{moves_down}
-use Rattle.law_tie_facts.proofs.law_bearer_lists.Up.{moves_up}
-use Rattle.law_tie_facts.specs.law_run_bearers.Things.{PlainUnits}
-use Rattle.law_tie_facts.specs.law_run_bearers.Bearers.{Numbering}
-use Rattle.law_tie_facts.specs.Asked.{AsksDown, AsksUp, Asks, HopLeads}
-use Rattle.law_tie_facts.proofs.Puts.{Outs}
+use Rattle.law_item_fits.specs.chain_defs.Parts as down_parts
+use Rattle.law_item_fits.specs.chain_defs.Orders as down
+use Rattle.law_item_fits.specs.uplink_defs.Parts as up_parts
+use Rattle.law_item_fits.specs.uplink_defs.Orders as up
+use Rattle.law_item_fits.specs.law_chain_rows.Shown.{items_of}
+use Rattle.law_item_fits.specs.law_uplink_rows.Shown as up_shown
+use Rattle.law_context_tests.specs.law_context_orders.Orders.{UpPart, UpOrder, makes, adds, switches, freezes, knows, resumes, releases, closes, takes, polls, done}
+use Rattle.law_item_fits.specs.law_down_orders.Down as down_rows
+use Rattle.law_item_fits.specs.law_up_orders.Up as up_rows
+use Rattle.law_up_ties.specs.law_bearer_orders.Happenings.{Beside}
+use Rattle.law_up_ties.specs.law_bearer_orders.Down as downs
+use Rattle.law_up_ties.specs.law_bearer_orders.Up as ups
+use Rattle.law_up_ties.specs.law_bearer_lists.Puts.{HopEnds, ends_of, hop_after, PutsOwn}
+use Rattle.law_up_ties.specs.law_bearer_lists.Down as down_lists
+use Rattle.law_up_ties.specs.law_bearer_lists.Up as up_lists
+use Rattle.law_up_ties.proofs.law_bearer_lists.Hops.{order_puts}
+use Rattle.law_up_ties.proofs.law_bearer_lists.Down.{moves_down}
+use Rattle.law_up_ties.proofs.law_bearer_lists.Up.{moves_up}
+use Rattle.law_up_ties.specs.law_run_bearers.Things.{PlainUnits}
+use Rattle.law_up_ties.specs.law_run_bearers.Bearers.{Numbering}
+use Rattle.law_up_ties.specs.law_tie_facts.Asked.{AsksDown, AsksUp, Asks, HopLeads}
+use Rattle.law_up_ties.proofs.law_tie_facts.Puts.{Outs}
 
 fit_of : {X Y Z : Type 0} → X ⊎ (Y × Z) → X ⊎ Y
 fit_of (inl h) = inl h

@@ -12,19 +12,19 @@ use Rattle.gnb_types.proofs.OrderLemmas.{tunnel_total}
 use Rattle.tables.specs.Tables.{find}
 use Rattle.unit_defs.specs.UpRecords.{TunnelKind, n3, f1u_uplink, forwarding_down, forwarding_up}
 use Rattle.unit_defs.specs.UpBearers.{is_one_of}
-use Rattle.run_defs.specs.Units.{up_of}
-use Rattle.law_tie_facts.specs.law_bearer_lists.law_context_orders.Orders.{UpPart}
-use Rattle.law_tie_facts.specs.law_owner_facts.Owned.{ends_of, AreOwned}
-use Rattle.law_tie_facts.specs.law_run_tunnels.law_tunnel_book.Book.{is_kind}
-use Rattle.law_tie_facts.specs.law_tunnel_steps.Standing.{is_end}
-use Rattle.law_tie_facts.specs.law_run_units.Happenings.{UpRecord}
-use Rattle.law_tie_facts.specs.law_run_bearers.Things.{PlainUnits}
-use Rattle.law_tie_facts.specs.law_run_bearers.Bearers.{Place, Numbering}
-use Rattle.law_tie_facts.specs.Ties.{Owned, owned_on, owned_at}
-use Rattle.law_tie_facts.specs.Asked.{HopLeads}
-use Rattle.law_tie_facts.proofs.Ends.{clash, IsOwner, owner_is, Differs, they_differ}
-use Rattle.law_tie_facts.proofs.law_open_tunnels.Links.{end_of}
-use Rattle.law_put_ties.proofs.Apart.{place, IsAt, at_end, owned_same}
+use Rattle.law_teids.specs.run_defs.Units.{up_of}
+use Rattle.law_context_tests.specs.law_context_orders.Orders.{UpPart}
+use Rattle.law_item_fits.specs.law_owner_facts.Owned.{ends_of, AreOwned}
+use Rattle.law_item_fits.specs.law_tunnel_book.Book.{is_kind}
+use Rattle.law_up_ties.specs.law_tunnel_steps.Standing.{is_end}
+use Rattle.law_up_ties.specs.law_run_units.Happenings.{UpRecord}
+use Rattle.law_up_ties.specs.law_run_bearers.Things.{PlainUnits}
+use Rattle.law_up_ties.specs.law_run_bearers.Bearers.{Place, Numbering}
+use Rattle.law_up_ties.specs.law_tie_facts.Ties.{Owned, owned_on, owned_at}
+use Rattle.law_up_ties.specs.law_tie_facts.Asked.{HopLeads}
+use Rattle.law_up_ties.proofs.law_tie_facts.Ends.{clash, IsOwner, owner_is, Differs, they_differ}
+use Rattle.law_item_fits.proofs.law_open_tunnels.Links.{end_of}
+use Rattle.law_up_ties.proofs.law_put_ties.Apart.{place, IsAt, at_end, owned_same}
 use Rattle.law_owed_orders.specs.Owed.{FreezeLeads}
 
 number_same : (a : ℕ) → (a == a) ≡ true

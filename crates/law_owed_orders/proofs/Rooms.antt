@@ -19,23 +19,23 @@ use Rattle.unit_defs.specs.UpRecords.{UpBearer, UpContext, UpTunnel, TunnelKind,
 use Rattle.unit_defs.specs.UpBearers.{is_one_of, made}
 use Rattle.unit_defs.specs.Teids.{teids_are_left, teid_after}
 use Rattle.unit_defs.specs.CuUp.{new_cu_up}
-use Rattle.run_defs.specs.Units.{up_of, with_up}
-use Rattle.run_defs.specs.Runs.{Reading, plain_world, plain_way}
+use Rattle.law_teids.specs.run_defs.Units.{up_of, with_up}
+use Rattle.law_teids.specs.run_defs.Runs.{Reading, plain_world, plain_way}
 use Rattle.law_teids.specs.Given.{below, opened_by, GivesTeids}
 use Rattle.law_teids.proofs.CuUps.{cu_up_gives}
 use Rattle.law_teids.proofs.Grows.{below_left}
-use Rattle.law_tie_facts.specs.law_bearer_lists.law_context_orders.Orders.{UpPart, part_with, part_of_bearer, part_in, part_of}
-use Rattle.law_tie_facts.specs.law_bearer_lists.law_context_orders.Shown.{is_bearer}
-use Rattle.law_tie_facts.specs.law_owner_facts.Owned.{ends_of, has_end, up_context_names, up_names, UpOwns}
-use Rattle.law_tie_facts.specs.law_run_units.Happenings.{UpRecord}
-use Rattle.law_tie_facts.specs.law_run_bearers.Things.{PlainUnits}
-use Rattle.law_tie_facts.specs.law_run_bearers.Bearers.{Numbering}
-use Rattle.law_tie_facts.specs.Ties.{RunState, Owned, owned_by, owned_on}
-use Rattle.law_tie_facts.specs.Asked.{RunCause, IsUpStep, AreSound}
-use Rattle.law_tie_facts.proofs.Ends.{owner_is}
-use Rattle.law_tie_facts.proofs.Puts.{Outs}
-use Rattle.law_put_ties.proofs.Apart.{place, found_on}
-use Rattle.law_put_ties.proofs.Stands.{ups_stay}
+use Rattle.law_context_tests.specs.law_context_orders.Orders.{UpPart, part_with, part_of_bearer, part_in, part_of}
+use Rattle.law_context_tests.specs.law_context_orders.Shown.{is_bearer}
+use Rattle.law_item_fits.specs.law_owner_facts.Owned.{ends_of, has_end, up_context_names, up_names, UpOwns}
+use Rattle.law_up_ties.specs.law_run_units.Happenings.{UpRecord}
+use Rattle.law_up_ties.specs.law_run_bearers.Things.{PlainUnits}
+use Rattle.law_up_ties.specs.law_run_bearers.Bearers.{Numbering}
+use Rattle.law_up_ties.specs.law_tie_facts.Ties.{RunState, Owned, owned_by, owned_on}
+use Rattle.law_up_ties.specs.law_tie_facts.Asked.{RunCause, IsUpStep, AreSound}
+use Rattle.law_up_ties.proofs.law_tie_facts.Ends.{owner_is}
+use Rattle.law_up_ties.proofs.law_tie_facts.Puts.{Outs}
+use Rattle.law_up_ties.proofs.law_put_ties.Apart.{place, found_on}
+use Rattle.law_up_ties.proofs.law_put_ties.Stands.{ups_stay}
 use Rattle.law_up_ties.proofs.Opened.{IsOpened, opened_here, number_same, units_then}
 
 itself : (ue : UeId) (bearer : BearerId) → is_bearer ue bearer ue bearer ≡ true

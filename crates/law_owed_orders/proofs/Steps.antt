@@ -13,43 +13,43 @@ use Rattle.unit_defs.specs.Ways.{Message, Pdu, Taken, fresh_item, numbered_item,
 use Rattle.unit_defs.specs.UpRecords.{TunnelKind, n3, f1u_uplink, forwarding_down, forwarding_up}
 use Rattle.unit_defs.specs.UpBearers.{teid_in, is_one_of}
 use Rattle.unit_defs.specs.CuUp.{cu_up_acts}
-use Rattle.run_defs.specs.Units.{up_of}
-use Rattle.run_defs.specs.Runs.{Reading, plain_way, input_of, taken_of}
+use Rattle.law_teids.specs.run_defs.Units.{up_of}
+use Rattle.law_teids.specs.run_defs.Runs.{Reading, plain_way, input_of, taken_of}
 use Rattle.law_teids.specs.Given.{below}
 use Rattle.law_context_tests.specs.Tests.{is_final, EndsAfter, AreTested}
 use Rattle.law_context_tests.proofs.Tests.{orders_tested}
-use Rattle.law_context_rows.proofs.Rows.{all_does, follows}
+use Rattle.law_up_ties.proofs.law_context_rows.Rows.{all_does, follows}
 use Rattle.law_item_fits.specs.Fits as fit_specs
 use Rattle.law_item_fits.proofs.Items.{fits}
-use Rattle.law_tie_facts.specs.law_tunnel_steps.law_steps.Causes.{by_order, by_tick, by_octets, by_octets_on, by_attach, by_release, by_offer, by_item, by_air, by_ack, by_letter, node_of, given_of}
-use Rattle.law_tie_facts.specs.law_tunnel_steps.Standing.{standing}
-use Rattle.law_tie_facts.specs.law_bearer_lists.chain_defs.Parts as down_parts
-use Rattle.law_tie_facts.specs.law_bearer_lists.chain_defs.Orders as down
-use Rattle.law_tie_facts.specs.law_bearer_lists.chain_defs.Guards as down_guards
-use Rattle.law_tie_facts.specs.law_bearer_lists.uplink_defs.Parts as up_parts
-use Rattle.law_tie_facts.specs.law_bearer_lists.uplink_defs.Orders as up
-use Rattle.law_tie_facts.specs.law_bearer_lists.uplink_defs.Guards as up_guards
-use Rattle.law_tie_facts.proofs.law_bearer_lists.law_chain.Frames.{set_here}
-use Rattle.law_tie_facts.specs.law_bearer_lists.law_context_orders.Orders.{UpPart, part_of, UpOrder, makes, adds, switches, freezes, knows, resumes, releases, closes, takes, polls, begun, done, carried, carried_out}
-use Rattle.law_tie_facts.specs.law_bearer_lists.law_context_orders.Inputs.{orders_of}
-use Rattle.law_tie_facts.specs.law_bearer_lists.law_context_orders.Shown.{Comes, Follows}
-use Rattle.law_tie_facts.specs.law_bearer_lists.law_down_orders.Down as down_rows
-use Rattle.law_tie_facts.specs.law_bearer_lists.law_up_orders.Up as up_rows
-use Rattle.law_tie_facts.specs.law_bearer_lists.law_bearer_orders.Happenings.{Beside, Happening, asks, Contexts, kept_of, context_after}
-use Rattle.law_tie_facts.specs.law_bearer_lists.law_bearer_orders.Down as downs
-use Rattle.law_tie_facts.specs.law_bearer_lists.law_bearer_orders.Up as ups
-use Rattle.law_tie_facts.specs.law_bearer_lists.Puts.{ends_of}
-use Rattle.law_tie_facts.specs.law_owner_facts.Owned.{ends_of as ends_at}
-use Rattle.law_tie_facts.specs.law_run_tunnels.Own.{TunnelsHoldTheirOwn}
-use Rattle.law_tie_facts.specs.law_run_units.Happenings.{UpRecord}
-use Rattle.law_tie_facts.specs.law_run_bearers.Bearers.{Numbering, if_of, at_place, contexts_of, instance_in}
-use Rattle.law_tie_facts.specs.Ties.{RunState, RunItem}
-use Rattle.law_tie_facts.specs.Asked.{RunCause, TakesThere, IsUpStep, context_at, beside_of, Asks, AsksIn, AllAsk, AreTied, AreSound, HopLeads}
-use Rattle.law_tie_facts.proofs.law_open_tunnels.Links.{end_of}
-use Rattle.law_tie_facts.proofs.Ends.{clash, IsOwner, owner_is}
-use Rattle.law_tie_facts.proofs.Puts.{Outs}
-use Rattle.law_tie_facts.proofs.Takes.{TakesGiven, orders_take}
-use Rattle.law_put_ties.proofs.Apart.{place}
+use Rattle.law_teids.specs.law_steps.Causes.{by_order, by_tick, by_octets, by_octets_on, by_attach, by_release, by_offer, by_item, by_air, by_ack, by_letter, node_of, given_of}
+use Rattle.law_up_ties.specs.law_tunnel_steps.Standing.{standing}
+use Rattle.law_item_fits.specs.chain_defs.Parts as down_parts
+use Rattle.law_item_fits.specs.chain_defs.Orders as down
+use Rattle.law_item_fits.specs.chain_defs.Guards as down_guards
+use Rattle.law_item_fits.specs.uplink_defs.Parts as up_parts
+use Rattle.law_item_fits.specs.uplink_defs.Orders as up
+use Rattle.law_item_fits.specs.uplink_defs.Guards as up_guards
+use Rattle.law_item_fits.proofs.law_chain.Frames.{set_here}
+use Rattle.law_context_tests.specs.law_context_orders.Orders.{UpPart, part_of, UpOrder, makes, adds, switches, freezes, knows, resumes, releases, closes, takes, polls, begun, done, carried, carried_out}
+use Rattle.law_context_tests.specs.law_context_orders.Inputs.{orders_of}
+use Rattle.law_context_tests.specs.law_context_orders.Shown.{Comes, Follows}
+use Rattle.law_item_fits.specs.law_down_orders.Down as down_rows
+use Rattle.law_item_fits.specs.law_up_orders.Up as up_rows
+use Rattle.law_up_ties.specs.law_bearer_orders.Happenings.{Beside, Happening, asks, Contexts, kept_of, context_after}
+use Rattle.law_up_ties.specs.law_bearer_orders.Down as downs
+use Rattle.law_up_ties.specs.law_bearer_orders.Up as ups
+use Rattle.law_up_ties.specs.law_bearer_lists.Puts.{ends_of}
+use Rattle.law_item_fits.specs.law_owner_facts.Owned.{ends_of as ends_at}
+use Rattle.law_item_fits.specs.law_run_tunnels.Own.{TunnelsHoldTheirOwn}
+use Rattle.law_up_ties.specs.law_run_units.Happenings.{UpRecord}
+use Rattle.law_up_ties.specs.law_run_bearers.Bearers.{Numbering, if_of, at_place, contexts_of, instance_in}
+use Rattle.law_up_ties.specs.law_tie_facts.Ties.{RunState, RunItem}
+use Rattle.law_up_ties.specs.law_tie_facts.Asked.{RunCause, TakesThere, IsUpStep, context_at, beside_of, Asks, AsksIn, AllAsk, AreTied, AreSound, HopLeads}
+use Rattle.law_item_fits.proofs.law_open_tunnels.Links.{end_of}
+use Rattle.law_up_ties.proofs.law_tie_facts.Ends.{clash, IsOwner, owner_is}
+use Rattle.law_up_ties.proofs.law_tie_facts.Puts.{Outs}
+use Rattle.law_up_ties.proofs.law_tie_facts.Takes.{TakesGiven, orders_take}
+use Rattle.law_up_ties.proofs.law_put_ties.Apart.{place}
 use Rattle.law_up_ties.proofs.Opened.{number_same}
 use Rattle.law_owed_orders.specs.Steady.{IsSteady, AreSteady}
 use Rattle.law_owed_orders.specs.Owed.{OfItem, OwesAnew, OwesIn, AllOwe, final_asks}

@@ -19,22 +19,22 @@ use Rattle.unit_defs.specs.Ue.{new_ue, placed, number_each, number_waiting, conn
 use Rattle.unit_defs.specs.UpBearers.{made, framed, sent, sent_again, number_each as number_each_2, number_waiting as number_waiting_2, deliver_stored, forwarded_down, forwarded_up, with_uplink, begin_downlink, switched, frozen_to, with_status, resumed}
 use Rattle.unit_defs.specs.UpItems.{held_reason, took_fresh, took_numbered, took_uplink, took_report, took_delivery_status, uplink_ended, up_ended, took}
 use Rattle.unit_defs.specs.UpRecords.{reserved}
-use Rattle.law_tie_facts.specs.law_tunnel_steps.run_defs.transport_defs.Links.{put_letter, letter, landed, in_flight_of}
-use Rattle.law_tie_facts.specs.law_tunnel_steps.run_defs.Conditions.{rests as rests_2}
-use Rattle.law_tie_facts.specs.law_tunnel_steps.run_defs.Events.{static, start as start_3, attach as attach_2, offer as offer_3, get, air, ack, give, lose_message, lose_item, pump, tick as tick_4, poll as poll_2, fail as fail_2, arrive as arrive_2, come_back as come_back_2, handover as handover_2, cancel as cancel_2, release as release_4, ask as ask_2, inject_message, inject_item}
-use Rattle.law_tie_facts.specs.law_tunnel_steps.run_defs.Home.{reach, fits as fits_2, is_at_home}
-use Rattle.law_tie_facts.specs.law_tunnel_steps.run_defs.Runs.{happens, run_from, run, Run}
-use Rattle.law_tie_facts.specs.law_tunnel_steps.run_defs.Settling.{round, settle}
-use Rattle.law_tie_facts.specs.law_tunnel_steps.run_defs.Steps.{span, check_spans, put_on_tunnel, put_on_radio, put_control, opens, closes, lose_radios, put_out_all, does, step}
+use Rattle.law_item_fits.specs.transport_defs.Links.{put_letter, letter, landed, in_flight_of}
+use Rattle.law_teids.specs.run_defs.Conditions.{rests as rests_2}
+use Rattle.law_teids.specs.run_defs.Events.{static, start as start_3, attach as attach_2, offer as offer_3, get, air, ack, give, lose_message, lose_item, pump, tick as tick_4, poll as poll_2, fail as fail_2, arrive as arrive_2, come_back as come_back_2, handover as handover_2, cancel as cancel_2, release as release_4, ask as ask_2, inject_message, inject_item}
+use Rattle.law_teids.specs.run_defs.Home.{reach, fits as fits_2, is_at_home}
+use Rattle.law_teids.specs.run_defs.Runs.{happens, run_from, run, Run}
+use Rattle.law_teids.specs.run_defs.Settling.{round, settle}
+use Rattle.law_teids.specs.run_defs.Steps.{span, check_spans, put_on_tunnel, put_on_radio, put_control, opens, closes, lose_radios, put_out_all, does, step}
 use Rattle.gnb_types.specs.declared.names.Gnb.TheVariants.{B}
 use Rattle.gnb_types.specs.declared.names.NodeId.TheVariants.{CuUp}
 use Rattle.unit_defs.specs.UpRecords.{forwarding_down, forwarding_up}
-use Rattle.run_defs.specs.Runs.{Reading, plain_world}
-use Rattle.run_defs.specs.States.{new_state}
-use Rattle.law_run_ties.specs.Worked.{terminal, bearer, frozen_run}
-use Rattle.law_tie_facts.specs.law_tunnel_steps.law_steps.Reached.{reached}
-use Rattle.law_tie_facts.specs.law_run_bearers.Bearers.{Numbering}
-use Rattle.law_tie_facts.specs.Ties.{RunState, Owned, owned_on}
+use Rattle.law_teids.specs.run_defs.Runs.{Reading, plain_world}
+use Rattle.law_teids.specs.run_defs.States.{new_state}
+use Rattle.law_up_ties.specs.law_run_ties.Worked.{terminal, bearer, frozen_run}
+use Rattle.law_teids.specs.law_steps.Reached.{reached}
+use Rattle.law_up_ties.specs.law_run_bearers.Bearers.{Numbering}
+use Rattle.law_up_ties.specs.law_tie_facts.Ties.{RunState, Owned, owned_on}
 use Rattle.law_owed_orders.specs.Worked.{LeadsThere}
 
 -- whose they are in a state

@@ -9,27 +9,27 @@ use Rattle.gnb_types.specs.declared.names.BearerId.{BearerId}
 use Rattle.message_types.specs.declared.rrc.Token.{Token}
 use Rattle.unit_defs.specs.Ways.{Pdu, Taken, end_item, Input}
 use Rattle.unit_defs.specs.UpRecords.{TunnelKind, n3, forwarding_down, forwarding_up}
-use Rattle.run_defs.specs.Runs.{plain_way}
+use Rattle.law_teids.specs.run_defs.Runs.{plain_way}
 use Rattle.law_context_tests.specs.Tests.{is_final}
 use Rattle.law_item_fits.specs.Fits as fits
-use Rattle.law_tie_facts.specs.law_bearer_lists.chain_defs.Parts as down_parts
-use Rattle.law_tie_facts.specs.law_bearer_lists.chain_defs.Orders as down
-use Rattle.law_tie_facts.specs.law_bearer_lists.chain_defs.Guards as down_guards
-use Rattle.law_tie_facts.specs.law_bearer_lists.uplink_defs.Parts as up_parts
-use Rattle.law_tie_facts.specs.law_bearer_lists.uplink_defs.Orders as up
-use Rattle.law_tie_facts.specs.law_bearer_lists.uplink_defs.Guards as up_guards
-use Rattle.law_tie_facts.specs.law_bearer_lists.law_context_orders.Orders.{UpPart, UpOrder, makes, freezes, closes, takes, polls}
-use Rattle.law_tie_facts.specs.law_bearer_lists.law_down_orders.Down as down_rows
-use Rattle.law_tie_facts.specs.law_bearer_lists.law_up_orders.Up as up_rows
-use Rattle.law_tie_facts.specs.law_orders_kept.Down as down_kept
-use Rattle.law_tie_facts.specs.law_orders_kept.Up as up_kept
-use Rattle.law_tie_facts.specs.law_bearer_lists.law_bearer_orders.Happenings.{Beside, Happening, asks, Contexts, context_after}
-use Rattle.law_tie_facts.specs.law_bearer_lists.law_bearer_orders.Down as downs
-use Rattle.law_tie_facts.specs.law_bearer_lists.law_bearer_orders.Up as ups
-use Rattle.law_tie_facts.specs.law_run_bearers.Things.{PlainUnits}
-use Rattle.law_tie_facts.specs.law_run_bearers.Bearers.{Numbering}
-use Rattle.law_tie_facts.specs.Ties.{RunState, owned_on}
-use Rattle.law_tie_facts.specs.Asked.{RunCause, step_asks}
+use Rattle.law_item_fits.specs.chain_defs.Parts as down_parts
+use Rattle.law_item_fits.specs.chain_defs.Orders as down
+use Rattle.law_item_fits.specs.chain_defs.Guards as down_guards
+use Rattle.law_item_fits.specs.uplink_defs.Parts as up_parts
+use Rattle.law_item_fits.specs.uplink_defs.Orders as up
+use Rattle.law_item_fits.specs.uplink_defs.Guards as up_guards
+use Rattle.law_context_tests.specs.law_context_orders.Orders.{UpPart, UpOrder, makes, freezes, closes, takes, polls}
+use Rattle.law_item_fits.specs.law_down_orders.Down as down_rows
+use Rattle.law_item_fits.specs.law_up_orders.Up as up_rows
+use Rattle.law_up_ties.specs.law_orders_kept.Down as down_kept
+use Rattle.law_up_ties.specs.law_orders_kept.Up as up_kept
+use Rattle.law_up_ties.specs.law_bearer_orders.Happenings.{Beside, Happening, asks, Contexts, context_after}
+use Rattle.law_up_ties.specs.law_bearer_orders.Down as downs
+use Rattle.law_up_ties.specs.law_bearer_orders.Up as ups
+use Rattle.law_up_ties.specs.law_run_bearers.Things.{PlainUnits}
+use Rattle.law_up_ties.specs.law_run_bearers.Bearers.{Numbering}
+use Rattle.law_up_ties.specs.law_tie_facts.Ties.{RunState, owned_on}
+use Rattle.law_up_ties.specs.law_tie_facts.Asked.{RunCause, step_asks}
 
 -- the End Marker of N3 comes to a frozen bearer; that N3 is open is shown
 abbrev pub OfItem : UpPart → TunnelKind → Taken Pdu → Type 0

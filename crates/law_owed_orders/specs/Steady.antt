@@ -5,17 +5,17 @@ use Rattle.gnb_types.specs.declared.names.NodeId.{NodeId}
 use Rattle.gnb_types.specs.declared.names.NodeId.TheVariants.{CuUp as up_id}
 use Rattle.gnb_types.specs.declared.names.UeId.{UeId}
 use Rattle.gnb_types.specs.declared.names.BearerId.{BearerId}
-use Rattle.run_defs.specs.Units.{up_of}
+use Rattle.law_teids.specs.run_defs.Units.{up_of}
 use Rattle.law_teids.specs.Given.{below}
-use Rattle.law_context_stands.specs.Stands.{Stands}
-use Rattle.law_tie_facts.specs.law_bearer_lists.chain_defs.Parts as down_parts
-use Rattle.law_tie_facts.specs.law_bearer_lists.uplink_defs.Parts as up_parts
-use Rattle.law_tie_facts.specs.law_bearer_lists.law_context_orders.Orders.{UpPart}
-use Rattle.law_tie_facts.specs.law_bearer_lists.law_bearer_orders.Happenings.{Contexts}
-use Rattle.law_tie_facts.specs.law_bearer_lists.Puts.{HopEnds, ends_of}
-use Rattle.law_tie_facts.specs.law_run_bearers.Things.{PlainUnits}
-use Rattle.law_tie_facts.specs.law_run_bearers.Bearers.{Place, Numbering}
-use Rattle.law_tie_facts.specs.Asked.{HopLeads}
+use Rattle.law_up_ties.specs.law_context_stands.Stands.{Stands}
+use Rattle.law_item_fits.specs.chain_defs.Parts as down_parts
+use Rattle.law_item_fits.specs.uplink_defs.Parts as up_parts
+use Rattle.law_context_tests.specs.law_context_orders.Orders.{UpPart}
+use Rattle.law_up_ties.specs.law_bearer_orders.Happenings.{Contexts}
+use Rattle.law_up_ties.specs.law_bearer_lists.Puts.{HopEnds, ends_of}
+use Rattle.law_up_ties.specs.law_run_bearers.Things.{PlainUnits}
+use Rattle.law_up_ties.specs.law_run_bearers.Bearers.{Place, Numbering}
+use Rattle.law_up_ties.specs.law_tie_facts.Asked.{HopLeads}
 
 module _ (n : Numbering) (ue : UeId) (bearer : BearerId) (units : PlainUnits) where
   -- a context of this number, if there is one, has an instance that its CU-UP gave

@@ -2,9 +2,9 @@
 use Rattle.std.specs.Prelude.{Option, Some, None}
 use Rattle.gnb_types.specs.declared.names.Gnb.TheVariants.{B}
 use Rattle.gnb_types.specs.declared.names.NodeId.TheVariants.{CuUp}
-use Rattle.law_run_ties.specs.Worked.{terminal, bearer}
-use Rattle.law_tie_facts.specs.law_run_bearers.Bearers.{Numbering}
-use Rattle.law_tie_facts.specs.Ties.{RunState}
+use Rattle.law_up_ties.specs.law_run_ties.Worked.{terminal, bearer}
+use Rattle.law_up_ties.specs.law_run_bearers.Bearers.{Numbering}
+use Rattle.law_up_ties.specs.law_tie_facts.Ties.{RunState}
 use Rattle.law_owed_orders.specs.Owed.{FreezeLeads}
 
 abbrev pub LeadsThere : Numbering → Option RunState → Type 0

@@ -19,23 +19,23 @@ use Rattle.unit_defs.specs.CuUp.{new_cu_up}
 use Rattle.run_defs.specs.Units.{up_of, with_up}
 use Rattle.run_defs.specs.Runs.{Reading, plain_world}
 use Rattle.law_teids.specs.Given.{GiveOnce}
-use Rattle.law_tie_facts.specs.law_bearer_lists.chain_defs.Parts as down_parts
-use Rattle.law_tie_facts.specs.law_bearer_lists.uplink_defs.Parts as up_parts
-use Rattle.law_tie_facts.specs.law_bearer_lists.law_context_orders.Orders.{UpPart}
-use Rattle.law_tie_facts.specs.law_bearer_lists.Puts.{HopEnds, ends_of}
-use Rattle.law_tie_facts.specs.law_run_tunnels.law_tunnel_book.Book.{is_kind}
-use Rattle.law_tie_facts.specs.law_tunnel_steps.Standing.{is_end}
-use Rattle.law_tie_facts.specs.law_run_units.Happenings.{UpRecord}
-use Rattle.law_tie_facts.specs.law_run_bearers.Things.{PlainUnits}
-use Rattle.law_tie_facts.specs.law_run_bearers.Bearers.{Place, Numbering}
-use Rattle.law_tie_facts.specs.Ties.{RunState, Owned, owned_by, owned_on, owned_at}
-use Rattle.law_tie_facts.specs.Asked.{RunCause, IsUpStep, AreSound, LeadsTo, HopLeads}
-use Rattle.law_tie_facts.proofs.law_open_tunnels.Links.{end_of}
-use Rattle.law_tie_facts.proofs.Ends.{clash}
-use Rattle.law_tie_facts.proofs.Puts.{Outs}
-use Rattle.law_put_ties.proofs.Apart.{place, end_same}
-use Rattle.law_put_ties.proofs.Stands.{ups_stay}
-use Rattle.law_up_ties.proofs.Opened.{units_then, owners_stay, IsOpened, opened_here, IsMade, IsAdded, result}
+use Rattle.law_core_rows.specs.chain_defs.Parts as down_parts
+use Rattle.law_owed_orders.specs.uplink_defs.Parts as up_parts
+use Rattle.law_context_tests.specs.law_context_orders.Orders.{UpPart}
+use Rattle.law_owed_orders.specs.law_bearer_lists.Puts.{HopEnds, ends_of}
+use Rattle.law_owed_orders.specs.law_tunnel_book.Book.{is_kind}
+use Rattle.law_owed_orders.specs.law_tunnel_steps.Standing.{is_end}
+use Rattle.law_owed_orders.specs.law_run_units.Happenings.{UpRecord}
+use Rattle.law_owed_orders.specs.law_run_bearers.Things.{PlainUnits}
+use Rattle.law_owed_orders.specs.law_run_bearers.Bearers.{Place, Numbering}
+use Rattle.law_owed_orders.specs.law_tie_facts.Ties.{RunState, Owned, owned_by, owned_on, owned_at}
+use Rattle.law_owed_orders.specs.law_tie_facts.Asked.{RunCause, IsUpStep, AreSound, LeadsTo, HopLeads}
+use Rattle.law_owed_orders.proofs.law_open_tunnels.Links.{end_of}
+use Rattle.law_owed_orders.proofs.law_tie_facts.Ends.{clash}
+use Rattle.law_owed_orders.proofs.law_tie_facts.Puts.{Outs}
+use Rattle.law_owed_orders.proofs.law_put_ties.Apart.{place, end_same}
+use Rattle.law_owed_orders.proofs.law_put_ties.Stands.{ups_stay}
+use Rattle.law_owed_orders.proofs.law_up_ties.Opened.{units_then, owners_stay, IsOpened, opened_here, IsMade, IsAdded, result}
 use Rattle.law_owed_orders.specs.Steady.{IsOld, WasGiven, EndsWereGiven, IsSteady}
 use Rattle.law_owed_orders.proofs.Rooms.{HasRoom, room}
 use Rattle.law_owed_runs.specs.Owing.{NoneIsZero}

@@ -18,20 +18,20 @@ use Rattle.run_defs.specs.Steps.{check_spans, put_on_tunnel, put_out_all}
 use Rattle.run_defs.specs.Events.{offered}
 use Rattle.run_defs.specs.Runs.{Reading, plain_world}
 use Rattle.law_teids.specs.Given.{GiveOnce}
-use Rattle.law_put_ties.specs.law_tie_facts.law_tunnel_steps.run_defs.transport_defs.Links.{landed}
-use Rattle.law_put_ties.proofs.law_tie_facts.law_tunnel_steps.law_steps.Frames.{HasUnits, units_by, act_units}
-use Rattle.law_tie_facts.specs.law_bearer_lists.chain_defs.Parts as down_parts
-use Rattle.law_tie_facts.specs.law_bearer_lists.chain_defs.Orders as down
-use Rattle.law_tie_facts.specs.law_bearer_lists.uplink_defs.Parts as up_parts
-use Rattle.law_tie_facts.specs.law_bearer_lists.uplink_defs.Orders as up
-use Rattle.law_tie_facts.specs.law_bearer_lists.law_bearer_orders.Happenings.{Contexts}
-use Rattle.law_tie_facts.specs.law_run_bearers.Things.{PlainUnits}
-use Rattle.law_tie_facts.specs.law_run_bearers.Bearers.{Numbering, contexts_of}
-use Rattle.law_tie_facts.specs.Ties.{RunState, owned_at}
-use Rattle.law_tie_facts.proofs.Puts.{Outs}
-use Rattle.law_put_ties.specs.Puts.{orders_up, puts_of}
-use Rattle.law_put_ties.proofs.Apart.{on_same, contexts_same}
-use Rattle.law_put_ties.proofs.Stands.{Ends, after_told, and_no_more, units_put, ups_stay}
+use Rattle.run_defs.specs.transport_defs.Links.{landed}
+use Rattle.law_teids.proofs.law_steps.Frames.{HasUnits, units_by, act_units}
+use Rattle.law_core_rows.specs.chain_defs.Parts as down_parts
+use Rattle.law_core_rows.specs.chain_defs.Orders as down
+use Rattle.law_owed_orders.specs.uplink_defs.Parts as up_parts
+use Rattle.law_owed_orders.specs.uplink_defs.Orders as up
+use Rattle.law_owed_orders.specs.law_bearer_orders.Happenings.{Contexts}
+use Rattle.law_owed_orders.specs.law_run_bearers.Things.{PlainUnits}
+use Rattle.law_owed_orders.specs.law_run_bearers.Bearers.{Numbering, contexts_of}
+use Rattle.law_owed_orders.specs.law_tie_facts.Ties.{RunState, owned_at}
+use Rattle.law_owed_orders.proofs.law_tie_facts.Puts.{Outs}
+use Rattle.law_owed_orders.specs.law_put_ties.Puts.{orders_up, puts_of}
+use Rattle.law_owed_orders.proofs.law_put_ties.Apart.{on_same, contexts_same}
+use Rattle.law_owed_orders.proofs.law_put_ties.Stands.{Ends, after_told, and_no_more, units_put, ups_stay}
 use Rattle.law_core_rows.specs.Shown.{goal_by}
 use Rattle.law_fresh_uplinks.specs.law_tied_runs.law_core_ties.Core.{orders_offered, places_of, orders_told}
 use Rattle.law_fresh_uplinks.specs.law_tied_runs.Steps.{Point, DuActs, CoreOffers, CoreTakes, StaysBeside}

@@ -15,17 +15,17 @@ use Rattle.run_defs.specs.Units.{up_of}
 use Rattle.run_defs.specs.Runs.{Reading}
 use Rattle.law_teids.specs.Given.{below, GiveOnce}
 use Rattle.law_context_tests.specs.Tests.{is_final}
-use Rattle.law_tie_facts.specs.law_bearer_lists.chain_defs.Parts as down_parts
-use Rattle.law_tie_facts.specs.law_bearer_lists.uplink_defs.Parts as up_parts
-use Rattle.law_tie_facts.specs.law_bearer_lists.law_context_orders.Orders.{UpPart}
-use Rattle.law_tie_facts.specs.law_bearer_lists.law_down_orders.Down.{IsDown, without_end}
-use Rattle.law_tie_facts.specs.law_bearer_lists.law_bearer_orders.Happenings.{Contexts, Happening}
-use Rattle.law_tie_facts.specs.law_bearer_lists.law_bearer_orders.Down as downs
-use Rattle.law_tie_facts.specs.law_bearer_lists.Puts.{ends_of}
-use Rattle.law_tie_facts.specs.law_run_bearers.Bearers.{Place, Numbering, at_place, contexts_of}
-use Rattle.law_tie_facts.specs.Asked.{AreSound, HopLeads, down_after}
-use Rattle.law_tie_facts.proofs.Ends.{clash}
-use Rattle.law_put_ties.proofs.Apart.{place}
+use Rattle.law_core_rows.specs.chain_defs.Parts as down_parts
+use Rattle.law_owed_orders.specs.uplink_defs.Parts as up_parts
+use Rattle.law_context_tests.specs.law_context_orders.Orders.{UpPart}
+use Rattle.law_owed_orders.specs.law_down_orders.Down.{IsDown, without_end}
+use Rattle.law_owed_orders.specs.law_bearer_orders.Happenings.{Contexts, Happening}
+use Rattle.law_owed_orders.specs.law_bearer_orders.Down as downs
+use Rattle.law_owed_orders.specs.law_bearer_lists.Puts.{ends_of}
+use Rattle.law_owed_orders.specs.law_run_bearers.Bearers.{Place, Numbering, at_place, contexts_of}
+use Rattle.law_owed_orders.specs.law_tie_facts.Asked.{AreSound, HopLeads, down_after}
+use Rattle.law_owed_orders.proofs.law_tie_facts.Ends.{clash}
+use Rattle.law_owed_orders.proofs.law_put_ties.Apart.{place}
 use Rattle.law_fresh_uplinks.specs.law_tied_runs.law_core_ties.law_put_ties.Worked.{terminal, bearer as its_bearer}
 use Rattle.law_fresh_uplinks.specs.law_tied_runs.Steps.{Point, IsPassed, IsTied}
 use Rattle.law_fresh_uplinks.proofs.law_tied_runs.Sound.{passed_sound}

@@ -18,38 +18,38 @@ use Rattle.run_defs.specs.Runs.{Reading, Plain, plain_world, plain_way}
 use Rattle.law_teids.specs.Given.{below, GiveOnce}
 use Rattle.law_context_tests.specs.Tests.{is_final, EndsAfter, IsTested, AreTested}
 use Rattle.law_context_tests.proofs.Tests.{orders_tested}
-use Rattle.law_context_stands.specs.Stands.{Stands, StandsAfter}
-use Rattle.law_context_stands.proofs.Stands.{stand}
-use Rattle.law_tie_facts.specs.law_bearer_lists.chain_defs.Parts as down_parts
-use Rattle.law_tie_facts.specs.law_bearer_lists.chain_defs.Orders as down
-use Rattle.law_tie_facts.specs.law_bearer_lists.chain_defs.Guards as down_guards
-use Rattle.law_tie_facts.specs.law_bearer_lists.uplink_defs.Parts as up_parts
-use Rattle.law_tie_facts.specs.law_bearer_lists.uplink_defs.Orders as up
-use Rattle.law_tie_facts.proofs.law_bearer_lists.law_chain.Frames.{set_here, set_far}
-use Rattle.law_tie_facts.proofs.law_bearer_lists.law_bearer_orders.Down.{not_same}
-use Rattle.law_tie_facts.specs.law_bearer_lists.law_context_orders.Orders.{UpPart, part_of, UpOrder, makes, adds, switches, freezes, knows, resumes, releases, closes, takes, polls, on_switch, on_freeze, on_status, on_resume, on_release, kept_in, begun, done, carried, carried_out}
-use Rattle.law_tie_facts.specs.law_bearer_lists.law_context_orders.Inputs.{orders_of}
-use Rattle.law_tie_facts.specs.law_bearer_lists.law_context_orders.Shown.{Comes}
-use Rattle.law_tie_facts.specs.law_bearer_lists.law_down_orders.Down as down_rows
-use Rattle.law_tie_facts.specs.law_bearer_lists.law_up_orders.Up as up_rows
-use Rattle.law_tie_facts.specs.law_bearer_lists.law_bearer_orders.Happenings.{Beside, Happening, asks, Contexts, kept_of, context_after, contexts_after}
-use Rattle.law_tie_facts.specs.law_bearer_lists.law_bearer_orders.Down as downs
-use Rattle.law_tie_facts.specs.law_bearer_lists.law_bearer_orders.Up as ups
-use Rattle.law_tie_facts.specs.law_bearer_lists.Puts.{hop_after}
-use Rattle.law_tie_facts.specs.law_bearer_lists.Down as down_lists
-use Rattle.law_tie_facts.specs.law_bearer_lists.Up as up_lists
-use Rattle.law_tie_facts.specs.law_run_tunnels.Own.{TunnelsHoldTheirOwn}
-use Rattle.law_tie_facts.specs.law_run_units.Happenings.{UpRecord, kept_of as kept_record}
-use Rattle.law_tie_facts.specs.law_run_bearers.Things.{PlainUnits, takes as gets, after_things}
-use Rattle.law_tie_facts.specs.law_run_bearers.Bearers.{Place, Numbering, contexts_of, asked, after_changes, instance_in, if_given, changes_over, AllInOrder}
-use Rattle.law_run_bearers.proofs.Bearers.{things_go}
-use Rattle.law_tie_facts.specs.Ties.{RunState, Owned, owned_on}
-use Rattle.law_tie_facts.specs.Asked.{RunCause, IsUpStep, context_at, Asks, AsksIn, AllAsk, down_after, up_after, AreTied, AreSound}
-use Rattle.law_tie_facts.proofs.Ends.{clash}
-use Rattle.law_tie_facts.proofs.Puts.{Outs}
-use Rattle.law_put_ties.proofs.Apart.{place, contexts_same, IsAt, at_end}
-use Rattle.law_put_ties.proofs.Stands.{ups_stay}
-use Rattle.law_up_ties.proofs.Opened.{units_then}
+use Rattle.law_owed_orders.specs.law_context_stands.Stands.{Stands, StandsAfter}
+use Rattle.law_owed_orders.proofs.law_context_stands.Stands.{stand}
+use Rattle.law_core_rows.specs.chain_defs.Parts as down_parts
+use Rattle.law_core_rows.specs.chain_defs.Orders as down
+use Rattle.law_core_rows.specs.chain_defs.Guards as down_guards
+use Rattle.law_owed_orders.specs.uplink_defs.Parts as up_parts
+use Rattle.law_owed_orders.specs.uplink_defs.Orders as up
+use Rattle.law_fresh_uplinks.proofs.law_chain.Frames.{set_here, set_far}
+use Rattle.law_owed_orders.proofs.law_bearer_orders.Down.{not_same}
+use Rattle.law_context_tests.specs.law_context_orders.Orders.{UpPart, part_of, UpOrder, makes, adds, switches, freezes, knows, resumes, releases, closes, takes, polls, on_switch, on_freeze, on_status, on_resume, on_release, kept_in, begun, done, carried, carried_out}
+use Rattle.law_context_tests.specs.law_context_orders.Inputs.{orders_of}
+use Rattle.law_context_tests.specs.law_context_orders.Shown.{Comes}
+use Rattle.law_owed_orders.specs.law_down_orders.Down as down_rows
+use Rattle.law_owed_orders.specs.law_up_orders.Up as up_rows
+use Rattle.law_owed_orders.specs.law_bearer_orders.Happenings.{Beside, Happening, asks, Contexts, kept_of, context_after, contexts_after}
+use Rattle.law_owed_orders.specs.law_bearer_orders.Down as downs
+use Rattle.law_owed_orders.specs.law_bearer_orders.Up as ups
+use Rattle.law_owed_orders.specs.law_bearer_lists.Puts.{hop_after}
+use Rattle.law_owed_orders.specs.law_bearer_lists.Down as down_lists
+use Rattle.law_owed_orders.specs.law_bearer_lists.Up as up_lists
+use Rattle.law_owed_orders.specs.law_run_tunnels.Own.{TunnelsHoldTheirOwn}
+use Rattle.law_owed_orders.specs.law_run_units.Happenings.{UpRecord, kept_of as kept_record}
+use Rattle.law_owed_orders.specs.law_run_bearers.Things.{PlainUnits, takes as gets, after_things}
+use Rattle.law_owed_orders.specs.law_run_bearers.Bearers.{Place, Numbering, contexts_of, asked, after_changes, instance_in, if_given, changes_over, AllInOrder}
+use Rattle.law_owed_orders.proofs.law_run_bearers.Bearers.{things_go}
+use Rattle.law_owed_orders.specs.law_tie_facts.Ties.{RunState, Owned, owned_on}
+use Rattle.law_owed_orders.specs.law_tie_facts.Asked.{RunCause, IsUpStep, context_at, Asks, AsksIn, AllAsk, down_after, up_after, AreTied, AreSound}
+use Rattle.law_owed_orders.proofs.law_tie_facts.Ends.{clash}
+use Rattle.law_owed_orders.proofs.law_tie_facts.Puts.{Outs}
+use Rattle.law_owed_orders.proofs.law_put_ties.Apart.{place, contexts_same, IsAt, at_end}
+use Rattle.law_owed_orders.proofs.law_put_ties.Stands.{ups_stay}
+use Rattle.law_owed_orders.proofs.law_up_ties.Opened.{units_then}
 use Rattle.law_owed_orders.specs.Steady.{IsOld, WasGiven, EndsWereGiven, IsSteady, AreSteady}
 use Rattle.law_owed_orders.specs.Owed.{OfFreeze, Owes, OwesIn, AllOwe, final_asks}
 use Rattle.law_owed_orders.proofs.Rooms.{HasRoom, up_here, made_room}

@@ -7,10 +7,10 @@ use Rattle.gnb_types.specs.declared.names.BearerId.{BearerId}
 use Rattle.message_types.specs.declared.rrc.Token.{Token}
 use Rattle.unit_defs.specs.Ways.{Message, Pdu, Input, Output}
 use Rattle.run_defs.specs.Runs.{Reading}
-use Rattle.law_tie_facts.specs.law_bearer_lists.law_bearer_orders.Happenings.{Beside}
-use Rattle.law_tie_facts.specs.law_run_units.Happenings.{UpRecord}
-use Rattle.law_tie_facts.specs.law_run_bearers.Bearers.{Numbering, contexts_of}
-use Rattle.law_tie_facts.specs.Asked.{RunCause, IsUpStep, down_after, up_after}
+use Rattle.law_owed_orders.specs.law_bearer_orders.Happenings.{Beside}
+use Rattle.law_owed_orders.specs.law_run_units.Happenings.{UpRecord}
+use Rattle.law_owed_orders.specs.law_run_bearers.Bearers.{Numbering, contexts_of}
+use Rattle.law_owed_orders.specs.law_tie_facts.Asked.{RunCause, IsUpStep, down_after, up_after}
 use Rattle.law_fresh_uplinks.specs.law_tied_runs.Steps.{Point, IsPassed, DuActs, CoreOffers, CoreTakes, StaysBeside}
 use Rattle.law_fresh_uplinks.specs.Later.{Comes}
 use Rattle.law_owed_orders.specs.Steady.{AreSteady}

@@ -12,7 +12,7 @@ ghost use Rattle.law_fresh_uplinks.specs.Later as later;
 ghost use Rattle.law_fresh_uplinks.specs.Later.{AreFresh, Comes};
 ghost use Rattle.law_owed_orders.specs.Steady.{IsOld};
 ghost use Rattle.law_owed_runs.specs.Owing.{IsSteadyAt, NoneIsZero, Step, Steps};
-ghost use Rattle.law_tie_facts.specs.law_run_bearers.Bearers.{Numbering};
+ghost use Rattle.law_owed_orders.specs.law_run_bearers.Bearers.{Numbering};
 ghost use Rattle.law_fresh_uplinks.specs.law_tied_runs.Steps.{IsPassed, IsTied, Point};
 ghost use Rattle.law_fresh_uplinks.specs.law_tied_runs.law_core_ties.law_put_ties.Worked.{bearer, terminal};
 ghost use Rattle.run_defs.specs.Runs.{Reading};

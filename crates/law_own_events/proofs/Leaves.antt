@@ -9,26 +9,26 @@ use Rattle.gnb_types.specs.declared.names.Dir.TheVariants.{Dl}
 use Rattle.gnb_types.specs.declared.keys.TunnelEnd.{TunnelEnd}
 use Rattle.message_types.specs.declared.rrc.Token.{Token}
 use Rattle.scenario_text.specs.declared.event.Event.{Event}
-use Rattle.unit_defs.specs.Ways.{Message, Pdu, Load, Put, control, packet, radio, deliver, dropped, held, opened, closed, failed, no, gives, spent}
-use Rattle.unit_defs.specs.Messages.{teid_of}
-use Rattle.unit_defs.specs.Core.{CoreRecord, core_acts}
+use Rattle.law_own_steps.specs.unit_defs.Ways.{Message, Pdu, Load, Put, control, packet, radio, deliver, dropped, held, opened, closed, failed, no, gives, spent}
+use Rattle.law_own_steps.specs.unit_defs.Messages.{teid_of}
+use Rattle.law_own_steps.specs.unit_defs.Core.{CoreRecord, core_acts}
 use Rattle.transport_defs.specs.declared.Item.{Item}
 use Rattle.transport_defs.specs.Links.{landed}
-use Rattle.run_defs.specs.Lines.{RunLine}
-use Rattle.run_defs.specs.Units.{Units, up_of}
-use Rattle.run_defs.specs.Written.{Written, written_put, WrittenCoreStepped}
-use Rattle.run_defs.specs.States.{goes, stops, told_before, ◌next◌, goes_on, Ending, Within, as_step, RunStep, core_stepped, Lengths, sn_of, entity, book_of}
-use Rattle.run_defs.specs.Steps.{check_spans, put_on_tunnel, put_out_all, count_letters, carried_out}
-use Rattle.run_defs.specs.Events.{offered, landed_as}
-use Rattle.run_defs.specs.Runs.{Reading, Plain, plain_way, core_done, plain_world}
-use Rattle.law_steps.specs.Causes.{by_item, node_of, count_of, first_of}
-use Rattle.law_steps.specs.Made.{Made, stays, ends, then_made, sets_up, starts, acts, holds_item, holds_pdu, offers, core_takes, core_reads, lands, loses_letter, loses_item, remarks}
-use Rattle.law_steps.proofs.Frames.{HasUnits, then_units, keep_checked as units_checked, keep_put_on_tunnel as units_on_tunnel, keep_put_all as units_put_all}
+use Rattle.law_own_steps.specs.run_defs.Lines.{RunLine}
+use Rattle.law_own_steps.specs.run_defs.Units.{Units, up_of}
+use Rattle.law_own_steps.specs.run_defs.Written.{Written, written_put, WrittenCoreStepped}
+use Rattle.law_own_steps.specs.run_defs.States.{goes, stops, told_before, ◌next◌, goes_on, Ending, Within, as_step, RunStep, core_stepped, Lengths, sn_of, entity, book_of}
+use Rattle.law_own_steps.specs.run_defs.Steps.{check_spans, put_on_tunnel, put_out_all, count_letters, carried_out}
+use Rattle.law_own_steps.specs.run_defs.Events.{offered, landed_as}
+use Rattle.law_own_steps.specs.run_defs.Runs.{Reading, Plain, plain_way, core_done, plain_world}
+use Rattle.law_own_steps.specs.law_steps.Causes.{by_item, node_of, count_of, first_of}
+use Rattle.law_own_steps.specs.law_steps.Made.{Made, stays, ends, then_made, sets_up, starts, acts, holds_item, holds_pdu, offers, core_takes, core_reads, lands, loses_letter, loses_item, remarks}
+use Rattle.law_own_steps.proofs.law_steps.Frames.{HasUnits, then_units, keep_checked as units_checked, keep_put_on_tunnel as units_on_tunnel, keep_put_all as units_put_all}
 use Rattle.law_own_steps.proofs.law_run_facts.Within.{HoldsWith, then_holds, keep_checked as facts_checked, keep_put_on_tunnel as facts_on_tunnel, keep_put_all as facts_put_all}
-use Rattle.law_slices.specs.Slices.{core_slice}
-use Rattle.law_slices.specs.Steps.{IsFor, PutsFor, StaysFor}
-use Rattle.law_slices.proofs.Cores.{acts_steps}
-use Rattle.law_up_slice.specs.CuUps.{up_slice}
+use Rattle.law_own_steps.specs.law_slices.Slices.{core_slice}
+use Rattle.law_own_steps.specs.law_slices.Steps.{IsFor, PutsFor, StaysFor}
+use Rattle.law_own_steps.proofs.law_slices.Cores.{acts_steps}
+use Rattle.law_own_steps.specs.law_up_slice.CuUps.{up_slice}
 use Rattle.law_own_steps.specs.law_run_slices.Units.{units_slice}
 use Rattle.law_own_steps.specs.law_others_stay.Others.{OthersStay}
 use Rattle.law_own_steps.proofs.law_others_stay.Steps.{StayFrom, same, stay_same, stay_then, then_stay, then_from, keep_checked, keep_put_on_tunnel, keep_put_all, book_stays, first_stays}

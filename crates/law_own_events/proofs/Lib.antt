@@ -7,5 +7,7 @@ pub use Rattle.law_own_steps.proofs.law_run_slices as law_run_slices
 pub use Rattle.law_own_steps.proofs.law_run_tunnels as law_run_tunnels
 pub use Rattle.law_own_steps.proofs.law_slice_owners as law_slice_owners
 pub use Rattle.law_own_steps.proofs.law_step_slices as law_step_slices
-pub use Rattle.law_tunnel_book.proofs as law_tunnel_book
+pub use Rattle.law_own_steps.proofs.law_tunnel_book as law_tunnel_book
 pub use Rattle.law_own_steps.proofs.law_tunnel_owners as law_tunnel_owners
+pub use Rattle.law_own_steps.proofs.law_link_items as law_link_items
+pub use Rattle.law_own_steps.proofs.law_open_tunnels as law_open_tunnels

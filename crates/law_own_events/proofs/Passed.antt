@@ -3,31 +3,31 @@ use Rattle.std.proofs.Common.{◌≡◌, List, [], ◌∷◌, Some}
 use Rattle.std.specs.List.{AllByRecursion}
 use Rattle.message_types.specs.declared.rrc.Token.{Token}
 use Rattle.scenario_text.specs.declared.event.Event.{Event}
-use Rattle.unit_defs.specs.Ways.{Message, Pdu, Load}
+use Rattle.law_own_steps.specs.unit_defs.Ways.{Message, Pdu, Load}
 use Rattle.transport_defs.specs.declared.Item.{Item}
-use Rattle.run_defs.specs.Units.{Units, new_units}
-use Rattle.run_defs.specs.Written.{Written}
-use Rattle.run_defs.specs.States.{new_state, goes, RunStep, radio_of}
-use Rattle.run_defs.specs.Runs.{Reading, plain_world}
-use Rattle.law_steps.specs.Made.{Made}
-use Rattle.law_steps.specs.Reached.{reached}
-use Rattle.law_steps.proofs.Frames.{made_relates}
-use Rattle.law_teids.specs.Given.{GiveOnce}
-use Rattle.law_teids.proofs.Runs.{give_same, give_then, placed_gives, answer_gives, given_once}
+use Rattle.law_own_steps.specs.run_defs.Units.{Units, new_units}
+use Rattle.law_own_steps.specs.run_defs.Written.{Written}
+use Rattle.law_own_steps.specs.run_defs.States.{new_state, goes, RunStep, radio_of}
+use Rattle.law_own_steps.specs.run_defs.Runs.{Reading, plain_world}
+use Rattle.law_own_steps.specs.law_steps.Made.{Made}
+use Rattle.law_own_steps.specs.law_steps.Reached.{reached}
+use Rattle.law_own_steps.proofs.law_steps.Frames.{made_relates}
+use Rattle.law_own_steps.specs.law_teids.Given.{GiveOnce}
+use Rattle.law_own_steps.proofs.law_teids.Runs.{give_same, give_then, placed_gives, answer_gives, given_once}
 use Rattle.law_own_steps.specs.law_run_facts.Facts.{Hold}
 use Rattle.law_own_steps.specs.law_run_facts.UnitFacts.{written_facts}
 use Rattle.law_own_steps.proofs.law_run_facts.Runs.{made_holds}
 use Rattle.law_own_steps.proofs.law_run_facts.Later.{made_later, facts_hold_to}
 use Rattle.law_own_steps.proofs.law_run_facts.Plain.{plain_kept, plain_run_holds}
-use Rattle.law_open_tunnels.proofs.Runs.{first_stands, stand_where_open, made_stands}
-use Rattle.law_open_tunnels.specs.Open.{StandWhereOpen}
-use Rattle.law_owner_facts.specs.Owned.{AreOwned}
+use Rattle.law_own_steps.proofs.law_open_tunnels.Runs.{first_stands, stand_where_open, made_stands}
+use Rattle.law_own_steps.specs.law_open_tunnels.Open.{StandWhereOpen}
+use Rattle.law_own_steps.specs.law_owner_facts.Owned.{AreOwned}
 use Rattle.law_own_steps.proofs.law_tunnel_owners.Placed.{first_owned}
 use Rattle.law_own_steps.proofs.law_tunnel_owners.Runs.{owned_later, owned_made}
-use Rattle.law_tunnel_names.specs.Names.{by_book}
-use Rattle.law_unit_tunnels.specs.Units.{NoneIsFree}
-use Rattle.law_tunnel_book.specs.Book.{book_of}
-use Rattle.law_tunnel_book.proofs.Books.{holds_own}
+use Rattle.law_own_steps.specs.law_tunnel_names.Names.{by_book}
+use Rattle.law_own_steps.specs.law_unit_tunnels.Units.{NoneIsFree}
+use Rattle.law_own_steps.specs.law_tunnel_book.Book.{book_of}
+use Rattle.law_own_steps.proofs.law_tunnel_book.Books.{holds_own}
 use Rattle.law_own_steps.proofs.law_step_slices.Runs.{themselves, keep}
 use Rattle.law_own_steps.proofs.law_run_tunnels.Held.{Later}
 use Rattle.law_own_steps.proofs.law_run_tunnels.Runs.{Named, kept, first, own_there}

@@ -3,13 +3,13 @@ use Rattle.std.specs.Prelude.{◌≡◌, true, List, Some}
 use Rattle.gnb_types.specs.declared.names.UeId.{UeId}
 use Rattle.message_types.specs.declared.rrc.Token.{Token}
 use Rattle.scenario_text.specs.declared.event.Event.{Event}
-use Rattle.unit_defs.specs.Ways.{Message, Load, Pdu}
-use Rattle.run_defs.specs.Written.{Written}
-use Rattle.run_defs.specs.States.{State, goes, Outcome, RunStep}
-use Rattle.run_defs.specs.Runs.{Reading, plain_world}
-use Rattle.law_steps.specs.Causes.{node_of, given_of}
-use Rattle.law_steps.specs.Made.{Made, stays, ends, then_made, sets_up, starts, acts, holds_item, holds_pdu, offers, core_takes, core_reads, lands, loses_letter, loses_item, remarks}
-use Rattle.law_slices.specs.Slices.{message_ue}
+use Rattle.law_own_steps.specs.unit_defs.Ways.{Message, Load, Pdu}
+use Rattle.law_own_steps.specs.run_defs.Written.{Written}
+use Rattle.law_own_steps.specs.run_defs.States.{State, goes, Outcome, RunStep}
+use Rattle.law_own_steps.specs.run_defs.Runs.{Reading, plain_world}
+use Rattle.law_own_steps.specs.law_steps.Causes.{node_of, given_of}
+use Rattle.law_own_steps.specs.law_steps.Made.{Made, stays, ends, then_made, sets_up, starts, acts, holds_item, holds_pdu, offers, core_takes, core_reads, lands, loses_letter, loses_item, remarks}
+use Rattle.law_own_steps.specs.law_slices.Slices.{message_ue}
 use Rattle.law_own_steps.specs.law_run_slices.Units.{given_ue}
 
 abbrev pub RunState : Type 0

@@ -1,8 +1,8 @@
 -- The states that a run passes within an event: after some of its steps.
 use Rattle.std.specs.Prelude.{List}
 use Rattle.scenario_text.specs.declared.event.Event.{Event}
-use Rattle.run_defs.specs.States.{State, World, goes, RunStep}
-use Rattle.law_steps.specs.Made.{Made}
+use Rattle.law_own_steps.specs.run_defs.States.{State, World, goes, RunStep}
+use Rattle.law_own_steps.specs.law_steps.Made.{Made}
 
 pub data Passes {M C L P : Type 0} (world : World M C L P) (event : Event) : State M C L P → State M C L P → Type 0 where
   not_yet : (s : State M C L P) → Passes world event s s

@@ -7,25 +7,25 @@ ghost use Rattle.law_own_steps.specs.law_others_stay.Others.{IsOutputFor, IsStep
 ghost use Rattle.law_own_events.specs.Events.{AllFor, RunOutcome, RunState};
 ghost use Rattle.law_own_events.specs.Passed.{Passes};
 ghost use Rattle.law_own_steps.specs.Own.{IsActed, LeavesOthers};
-ghost use Rattle.law_open_tunnels.specs.Open.{StandWhereOpen};
-ghost use Rattle.law_owner_facts.specs.Owned.{AreOwned};
+ghost use Rattle.law_own_steps.specs.law_open_tunnels.Open.{StandWhereOpen};
+ghost use Rattle.law_own_steps.specs.law_owner_facts.Owned.{AreOwned};
 ghost use Rattle.law_own_steps.specs.law_run_links.Own.{HoldTheirOwn};
 ghost use Rattle.law_own_steps.specs.law_run_slices.Units.{given_ue, AreThemselves};
 ghost use Rattle.law_own_steps.specs.law_run_tunnels.Own.{TunnelsHoldTheirOwn};
-ghost use Rattle.law_steps.specs.Causes.{Cause, count_of, first_of, given_of, node_of};
-ghost use Rattle.law_steps.specs.Made.{Made};
-ghost use Rattle.law_steps.specs.Reached.{reached};
+ghost use Rattle.law_own_steps.specs.law_steps.Causes.{Cause, count_of, first_of, given_of, node_of};
+ghost use Rattle.law_own_steps.specs.law_steps.Made.{Made};
+ghost use Rattle.law_own_steps.specs.law_steps.Reached.{reached};
 ghost use Rattle.message_types.specs.declared.rrc.Token.{Token};
-ghost use Rattle.run_defs.specs.Lines.{RunLine};
-ghost use Rattle.run_defs.specs.Runs.{plain_world, Reading};
-ghost use Rattle.run_defs.specs.States.{goes, new_state, RunStep};
-ghost use Rattle.run_defs.specs.Steps.{carried_out};
-ghost use Rattle.run_defs.specs.Units.{Units};
-ghost use Rattle.run_defs.specs.Written.{Written};
+ghost use Rattle.law_own_steps.specs.run_defs.Lines.{RunLine};
+ghost use Rattle.law_own_steps.specs.run_defs.Runs.{plain_world, Reading};
+ghost use Rattle.law_own_steps.specs.run_defs.States.{goes, new_state, RunStep};
+ghost use Rattle.law_own_steps.specs.run_defs.Steps.{carried_out};
+ghost use Rattle.law_own_steps.specs.run_defs.Units.{Units};
+ghost use Rattle.law_own_steps.specs.run_defs.Written.{Written};
 ghost use Rattle.scenario_text.specs.declared.event.Event.{Event};
 ghost use Rattle.std.specs.List.{AllByRecursion};
 ghost use Rattle.std.specs.Prelude.{List, Some, ◌≡◌};
-ghost use Rattle.unit_defs.specs.Ways.{Load, Message, Pdu, Put};
+ghost use Rattle.law_own_steps.specs.unit_defs.Ways.{Load, Message, Pdu, Put};
 
 /// In every state that a run passes, within events too: each terminal is kept as itself; the open TEIDs of each CU-UP and DU are
 /// those that its contexts name, each for one; tunnels stand where their TEIDs are open; and what stands on a tunnel, and on a

@@ -6,22 +6,22 @@ use Rattle.std.specs.List.{AllByRecursion}
 use Rattle.std.specs.Ordering.{nat_cmp}
 use Rattle.gnb_types.specs.declared.names.UeId.{UeId}
 use Rattle.tables.specs.Tables.{find}
-use Rattle.unit_defs.specs.Ways.{Put, Output, control, packet, radio, deliver, dropped, held, opened, closed, failed, no, Input, Way, Answer, gives, spent}
-use Rattle.unit_defs.specs.Teids.{last_teid, teids_are_left}
-use Rattle.unit_defs.specs.UpRecords.{UpTunnel, CuUp}
-use Rattle.unit_defs.specs.CuUp.{cu_up_acts}
-use Rattle.unit_defs.specs.Du.{DuTunnel, Du, du_acts}
-use Rattle.law_teids.specs.Given.{opened_by, count_from, GivesNext, below, GivesTeids}
-use Rattle.law_teids.proofs.CuUps.{cu_up_gives}
-use Rattle.law_teids.proofs.Dus.{du_gives}
-use Rattle.law_open_tunnels.specs.Open.{open_after, is_open_in, ShowsFrom}
-use Rattle.law_open_tunnels.proofs.CuUps.{cu_up_fits}
-use Rattle.law_open_tunnels.proofs.Dus.{du_fits}
-use Rattle.law_owner_facts.specs.Owned.{UpOwns, DuOwns}
-use Rattle.law_slices.specs.Steps.{PutsFor, StaysFor}
-use Rattle.law_up_slice.specs.CuUps.{UpSlice, up_slice, own_tunnel as up_own, up_ue}
-use Rattle.law_du_slice.specs.Dus.{DuSlice, du_slice, own_tunnel as du_own, du_ue}
-use Rattle.law_slice_owners.proofs.Owners.{up_owning, du_owning}
+use Rattle.law_others_stay.specs.unit_defs.Ways.{Put, Output, control, packet, radio, deliver, dropped, held, opened, closed, failed, no, Input, Way, Answer, gives, spent}
+use Rattle.law_others_stay.specs.unit_defs.Teids.{last_teid, teids_are_left}
+use Rattle.law_others_stay.specs.unit_defs.UpRecords.{UpTunnel, CuUp}
+use Rattle.law_others_stay.specs.unit_defs.CuUp.{cu_up_acts}
+use Rattle.law_others_stay.specs.unit_defs.Du.{DuTunnel, Du, du_acts}
+use Rattle.law_run_links.specs.law_teids.Given.{opened_by, count_from, GivesNext, below, GivesTeids}
+use Rattle.law_run_links.proofs.law_teids.CuUps.{cu_up_gives}
+use Rattle.law_run_links.proofs.law_teids.Dus.{du_gives}
+use Rattle.law_run_tunnels.specs.law_open_tunnels.Open.{open_after, is_open_in, ShowsFrom}
+use Rattle.law_run_tunnels.proofs.law_open_tunnels.CuUps.{cu_up_fits}
+use Rattle.law_run_tunnels.proofs.law_open_tunnels.Dus.{du_fits}
+use Rattle.law_run_tunnels.specs.law_owner_facts.Owned.{UpOwns, DuOwns}
+use Rattle.law_others_stay.specs.law_slices.Steps.{PutsFor, StaysFor}
+use Rattle.law_step_slices.specs.law_up_slice.CuUps.{UpSlice, up_slice, own_tunnel as up_own, up_ue}
+use Rattle.law_step_slices.specs.law_du_slice.Dus.{DuSlice, du_slice, own_tunnel as du_own, du_ue}
+use Rattle.law_step_slices.proofs.law_slice_owners.Owners.{up_owning, du_owning}
 
 -- a TEID is closed by one of these
 abbrev pub closes : {M L P : Type 0} → ℕ → List (Put M L P) → Bool

@@ -13,33 +13,33 @@ use Rattle.gnb_types.proofs.OrderLemmas.{node_total, node_exact, ue_total}
 use Rattle.tables.proofs.TableLaws.{at-put, find-put-other}
 use Rattle.message_types.specs.declared.rrc.Token.{Token}
 use Rattle.scenario_text.specs.declared.event.Event.{Event}
-use Rattle.unit_defs.specs.Ways.{Message, Pdu, Load, Put, control, packet, radio, deliver, dropped, held, opened, closed, failed, no, Input, gives, spent}
-use Rattle.unit_defs.specs.UpRecords.{CuUp}
-use Rattle.unit_defs.specs.CuUp.{new_cu_up, cu_up_acts}
-use Rattle.unit_defs.specs.Du.{Du, du_acts}
-use Rattle.unit_defs.specs.Ue.{UeNode, ue_acts, new_ue}
-use Rattle.unit_defs.specs.CpRecords.{CuCpRecord}
-use Rattle.unit_defs.specs.CuCp.{cu_cp_acts}
-use Rattle.unit_defs.specs.Core.{CoreRecord}
+use Rattle.law_others_stay.specs.unit_defs.Ways.{Message, Pdu, Load, Put, control, packet, radio, deliver, dropped, held, opened, closed, failed, no, Input, gives, spent}
+use Rattle.law_others_stay.specs.unit_defs.UpRecords.{CuUp}
+use Rattle.law_others_stay.specs.unit_defs.CuUp.{new_cu_up, cu_up_acts}
+use Rattle.law_others_stay.specs.unit_defs.Du.{Du, du_acts}
+use Rattle.law_others_stay.specs.unit_defs.Ue.{UeNode, ue_acts, new_ue}
+use Rattle.law_others_stay.specs.unit_defs.CpRecords.{CuCpRecord}
+use Rattle.law_others_stay.specs.unit_defs.CuCp.{cu_cp_acts}
+use Rattle.law_others_stay.specs.unit_defs.Core.{CoreRecord}
 use Rattle.transport_defs.specs.declared.Item.{Item}
 use Rattle.transport_defs.specs.declared.Letter.{Letter}
-use Rattle.run_defs.specs.Lines.{RunLine}
-use Rattle.run_defs.specs.Units.{Units, cp_of, with_cp, up_of, with_up, du_of, with_du, ue_of, with_ue}
-use Rattle.run_defs.specs.Written.{Written, PlainStepped, WrittenStepped, written_step}
-use Rattle.run_defs.specs.States.{State, stepped, step_spent, Lengths, sn_of, World, goes, radio_of}
-use Rattle.run_defs.specs.Steps.{carried_out}
-use Rattle.run_defs.specs.Runs.{Reading, PlainGiven, Plain, plain_way, input_of, stepped_with, ue_stepped, plain_by, plain_world}
-use Rattle.law_steps.specs.Causes.{Cause, by_order, by_tick, by_octets, by_octets_on, by_attach, by_release, by_offer, by_item, by_air, by_ack, by_letter, node_of, given_of, count_of, first_of}
-use Rattle.law_steps.proofs.Frames.{HasUnits, units_by, act_units}
-use Rattle.law_run_facts.specs.Facts.{Facts, HoldWith, PutFits, PutsFit}
-use Rattle.law_run_facts.proofs.Within.{HoldsWith}
-use Rattle.law_run_facts.proofs.Steps.{act_holds}
-use Rattle.law_slices.specs.Slices.{core_slice}
-use Rattle.law_slices.specs.Steps.{PutsFor, StaysFor}
-use Rattle.law_slices.proofs.Tables.{apart_ues}
-use Rattle.law_up_slice.specs.CuUps.{up_slice}
-use Rattle.law_slice_owners.proofs.Owners.{up_owning}
-use Rattle.law_run_slices.specs.Units.{units_slice, given_in, given_ue}
+use Rattle.law_step_slices.specs.run_defs.Lines.{RunLine}
+use Rattle.law_step_slices.specs.run_defs.Units.{Units, cp_of, with_cp, up_of, with_up, du_of, with_du, ue_of, with_ue}
+use Rattle.law_step_slices.specs.run_defs.Written.{Written, PlainStepped, WrittenStepped, written_step}
+use Rattle.law_step_slices.specs.run_defs.States.{State, stepped, step_spent, Lengths, sn_of, World, goes, radio_of}
+use Rattle.law_step_slices.specs.run_defs.Steps.{carried_out}
+use Rattle.law_step_slices.specs.run_defs.Runs.{Reading, PlainGiven, Plain, plain_way, input_of, stepped_with, ue_stepped, plain_by, plain_world}
+use Rattle.law_others_stay.specs.law_steps.Causes.{Cause, by_order, by_tick, by_octets, by_octets_on, by_attach, by_release, by_offer, by_item, by_air, by_ack, by_letter, node_of, given_of, count_of, first_of}
+use Rattle.law_others_stay.proofs.law_steps.Frames.{HasUnits, units_by, act_units}
+use Rattle.law_run_links.specs.law_run_facts.Facts.{Facts, HoldWith, PutFits, PutsFit}
+use Rattle.law_run_links.proofs.law_run_facts.Within.{HoldsWith}
+use Rattle.law_run_links.proofs.law_run_facts.Steps.{act_holds}
+use Rattle.law_others_stay.specs.law_slices.Slices.{core_slice}
+use Rattle.law_others_stay.specs.law_slices.Steps.{PutsFor, StaysFor}
+use Rattle.law_others_stay.proofs.law_slices.Tables.{apart_ues}
+use Rattle.law_step_slices.specs.law_up_slice.CuUps.{up_slice}
+use Rattle.law_step_slices.proofs.law_slice_owners.Owners.{up_owning}
+use Rattle.law_step_slices.specs.law_run_slices.Units.{units_slice, given_in, given_ue}
 use Rattle.law_others_stay.specs.Others.{IsCauseFor, IsStepFor}
 use Rattle.law_others_stay.proofs.Steps.{others_stay}
 use Rattle.law_own_steps.specs.Own.{IsActed, LeavesOthers}

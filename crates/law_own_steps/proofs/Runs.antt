@@ -2,14 +2,14 @@
 use Rattle.std.proofs.Common.{◌≡◌, List, Some}
 use Rattle.message_types.specs.declared.rrc.Token.{Token}
 use Rattle.scenario_text.specs.declared.event.Event.{Event}
-use Rattle.unit_defs.specs.Ways.{Message, Pdu, Load}
-use Rattle.run_defs.specs.Written.{Written}
-use Rattle.run_defs.specs.States.{new_state}
-use Rattle.run_defs.specs.Runs.{Reading, plain_world}
-use Rattle.law_steps.specs.Reached.{reached}
-use Rattle.law_open_tunnels.proofs.Runs.{first_stands, stand_where_open}
-use Rattle.law_tunnel_owners.proofs.Placed.{first_owned}
-use Rattle.law_tunnel_owners.proofs.Runs.{owned_later}
+use Rattle.law_others_stay.specs.unit_defs.Ways.{Message, Pdu, Load}
+use Rattle.law_step_slices.specs.run_defs.Written.{Written}
+use Rattle.law_step_slices.specs.run_defs.States.{new_state}
+use Rattle.law_step_slices.specs.run_defs.Runs.{Reading, plain_world}
+use Rattle.law_others_stay.specs.law_steps.Reached.{reached}
+use Rattle.law_run_tunnels.proofs.law_open_tunnels.Runs.{first_stands, stand_where_open}
+use Rattle.law_run_tunnels.proofs.law_tunnel_owners.Placed.{first_owned}
+use Rattle.law_run_tunnels.proofs.law_tunnel_owners.Runs.{owned_later}
 use Rattle.law_step_slices.proofs.Runs.{its_own}
 use Rattle.law_run_links.proofs.Links.{first_own, own_later}
 use Rattle.law_run_tunnels.proofs.Runs.{own_in_runs}

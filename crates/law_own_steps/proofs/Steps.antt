@@ -17,28 +17,28 @@ use Rattle.tables.specs.Tables.{find, at}
 use Rattle.tables.proofs.TableLaws.{other_key}
 use Rattle.message_types.specs.declared.rrc.Token.{Token}
 use Rattle.scenario_text.specs.declared.event.Event.{Event}
-use Rattle.unit_defs.specs.Ways.{Message, Pdu, Load, Put, control, packet, radio, deliver, dropped, held, opened, closed, failed, no, Taken, Input, packet_input, radio_input, confirm_input, gives, spent}
-use Rattle.unit_defs.specs.UpRecords.{UpTunnel, CuUp}
-use Rattle.unit_defs.specs.CuUp.{cu_up_acts}
-use Rattle.unit_defs.specs.Du.{DuTunnel, Du, du_acts}
-use Rattle.unit_defs.specs.Ue.{UeNode, is_connected}
+use Rattle.law_others_stay.specs.unit_defs.Ways.{Message, Pdu, Load, Put, control, packet, radio, deliver, dropped, held, opened, closed, failed, no, Taken, Input, packet_input, radio_input, confirm_input, gives, spent}
+use Rattle.law_others_stay.specs.unit_defs.UpRecords.{UpTunnel, CuUp}
+use Rattle.law_others_stay.specs.unit_defs.CuUp.{cu_up_acts}
+use Rattle.law_others_stay.specs.unit_defs.Du.{DuTunnel, Du, du_acts}
+use Rattle.law_others_stay.specs.unit_defs.Ue.{UeNode, is_connected}
 use Rattle.transport_defs.specs.declared.Item.{Item}
 use Rattle.transport_defs.specs.Links.{items_of}
-use Rattle.run_defs.specs.Units.{Units, up_of, with_up, du_of, with_du, ue_of, epoch_at}
-use Rattle.run_defs.specs.Written.{Written, written_put, PlainStepped, WrittenStepped, written_step}
-use Rattle.run_defs.specs.States.{State, stepped, step_spent, Lengths, radio_of}
-use Rattle.run_defs.specs.Conditions.{same_epoch, ready_home, ready_at, ready_of, receiver_by, sender_by}
-use Rattle.run_defs.specs.Runs.{Reading, PlainGiven, Plain, plain_way, input_of, content_of, stepped_with, acts_on, plain_by, plain_world}
-use Rattle.law_steps.specs.Causes.{Cause, by_order, by_tick, by_octets, by_octets_on, by_attach, by_release, by_offer, by_item, by_air, by_ack, by_letter, node_of, given_of, Stands}
-use Rattle.law_run_facts.proofs.Steps.{nth_has}
-use Rattle.law_open_tunnels.specs.Open.{stands, StandWhereOpen}
-use Rattle.law_owner_facts.specs.Owned.{AreOwned}
-use Rattle.law_slices.specs.Steps.{IsFor, StaysFor}
-use Rattle.law_up_slice.specs.CuUps.{tunnel_ue as up_tunnel_ue}
-use Rattle.law_du_slice.specs.Dus.{tunnel_ue as du_tunnel_ue}
-use Rattle.law_slice_owners.proofs.Owners.{apart_of}
-use Rattle.law_run_slices.specs.Units.{units_slice, unit_ue, given_in, given_ue, IsUnitsStepOf, AreThemselves}
-use Rattle.law_run_slices.proofs.Units.{given_step}
+use Rattle.law_step_slices.specs.run_defs.Units.{Units, up_of, with_up, du_of, with_du, ue_of, epoch_at}
+use Rattle.law_step_slices.specs.run_defs.Written.{Written, written_put, PlainStepped, WrittenStepped, written_step}
+use Rattle.law_step_slices.specs.run_defs.States.{State, stepped, step_spent, Lengths, radio_of}
+use Rattle.law_step_slices.specs.run_defs.Conditions.{same_epoch, ready_home, ready_at, ready_of, receiver_by, sender_by}
+use Rattle.law_step_slices.specs.run_defs.Runs.{Reading, PlainGiven, Plain, plain_way, input_of, content_of, stepped_with, acts_on, plain_by, plain_world}
+use Rattle.law_others_stay.specs.law_steps.Causes.{Cause, by_order, by_tick, by_octets, by_octets_on, by_attach, by_release, by_offer, by_item, by_air, by_ack, by_letter, node_of, given_of, Stands}
+use Rattle.law_run_links.proofs.law_run_facts.Steps.{nth_has}
+use Rattle.law_run_tunnels.specs.law_open_tunnels.Open.{stands, StandWhereOpen}
+use Rattle.law_run_tunnels.specs.law_owner_facts.Owned.{AreOwned}
+use Rattle.law_others_stay.specs.law_slices.Steps.{IsFor, StaysFor}
+use Rattle.law_step_slices.specs.law_up_slice.CuUps.{tunnel_ue as up_tunnel_ue}
+use Rattle.law_step_slices.specs.law_du_slice.Dus.{tunnel_ue as du_tunnel_ue}
+use Rattle.law_step_slices.proofs.law_slice_owners.Owners.{apart_of}
+use Rattle.law_step_slices.specs.law_run_slices.Units.{units_slice, unit_ue, given_in, given_ue, IsUnitsStepOf, AreThemselves}
+use Rattle.law_step_slices.proofs.law_run_slices.Units.{given_step}
 use Rattle.law_run_links.specs.Own.{HoldTheirOwn}
 use Rattle.law_run_tunnels.specs.Own.{IsOwnAt, TunnelsHoldTheirOwn}
 use Rattle.law_others_stay.specs.Others.{items_on, IsNodeFor, IsCauseFor, IsStepFor, IsOutputFor}

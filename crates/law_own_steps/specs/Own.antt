@@ -4,15 +4,15 @@ use Rattle.std.specs.Prelude.{ℕ, ◌≡◌, false, List}
 use Rattle.gnb_types.specs.declared.names.Gnb.{Gnb}
 use Rattle.gnb_types.specs.declared.names.UeId.{UeId}
 use Rattle.scenario_text.specs.declared.event.Event.{Event}
-use Rattle.unit_defs.specs.Ways.{Put}
-use Rattle.run_defs.specs.Units.{Units, up_of}
-use Rattle.run_defs.specs.States.{State, stepped, World, sn_of}
-use Rattle.run_defs.specs.Steps.{too_many_letters}
-use Rattle.law_steps.specs.Causes.{Cause, node_of, given_of, Stands}
-use Rattle.law_slices.specs.Slices.{core_slice}
-use Rattle.law_slices.specs.Steps.{StaysFor}
-use Rattle.law_up_slice.specs.CuUps.{up_slice}
-use Rattle.law_run_slices.specs.Units.{units_slice}
+use Rattle.law_others_stay.specs.unit_defs.Ways.{Put}
+use Rattle.law_step_slices.specs.run_defs.Units.{Units, up_of}
+use Rattle.law_step_slices.specs.run_defs.States.{State, stepped, World, sn_of}
+use Rattle.law_step_slices.specs.run_defs.Steps.{too_many_letters}
+use Rattle.law_others_stay.specs.law_steps.Causes.{Cause, node_of, given_of, Stands}
+use Rattle.law_others_stay.specs.law_slices.Slices.{core_slice}
+use Rattle.law_others_stay.specs.law_slices.Steps.{StaysFor}
+use Rattle.law_step_slices.specs.law_up_slice.CuUps.{up_slice}
+use Rattle.law_step_slices.specs.law_run_slices.Units.{units_slice}
 use Rattle.law_others_stay.specs.Others.{OthersStay}
 
 -- for this cause a unit answers so in this state, and there is room for the control messages

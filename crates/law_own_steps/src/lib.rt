@@ -5,20 +5,20 @@
 ghost use Rattle.gnb_types.specs.declared.names.UeId.{UeId};
 ghost use Rattle.law_others_stay.specs.Others.{IsOutputFor, IsStepFor};
 ghost use Rattle.law_own_steps.specs.Own.{IsActed, LeavesOthers};
-ghost use Rattle.law_run_slices.specs.Units.{given_ue};
-ghost use Rattle.law_steps.specs.Causes.{Cause, count_of, first_of, given_of, node_of};
-ghost use Rattle.law_steps.specs.Reached.{reached};
+ghost use Rattle.law_step_slices.specs.law_run_slices.Units.{given_ue};
+ghost use Rattle.law_others_stay.specs.law_steps.Causes.{Cause, count_of, first_of, given_of, node_of};
+ghost use Rattle.law_others_stay.specs.law_steps.Reached.{reached};
 ghost use Rattle.message_types.specs.declared.rrc.Token.{Token};
-ghost use Rattle.run_defs.specs.Lines.{RunLine};
-ghost use Rattle.run_defs.specs.Runs.{plain_world, Reading};
-ghost use Rattle.run_defs.specs.States.{goes, new_state, State};
-ghost use Rattle.run_defs.specs.Steps.{carried_out};
-ghost use Rattle.run_defs.specs.Units.{Units};
-ghost use Rattle.run_defs.specs.Written.{Written};
+ghost use Rattle.law_step_slices.specs.run_defs.Lines.{RunLine};
+ghost use Rattle.law_step_slices.specs.run_defs.Runs.{plain_world, Reading};
+ghost use Rattle.law_step_slices.specs.run_defs.States.{goes, new_state, State};
+ghost use Rattle.law_step_slices.specs.run_defs.Steps.{carried_out};
+ghost use Rattle.law_step_slices.specs.run_defs.Units.{Units};
+ghost use Rattle.law_step_slices.specs.run_defs.Written.{Written};
 ghost use Rattle.scenario_text.specs.declared.event.Event.{Event};
 ghost use Rattle.std.specs.List.{AllByRecursion};
 ghost use Rattle.std.specs.Prelude.{List, Some, ◌≡◌};
-ghost use Rattle.unit_defs.specs.Ways.{Load, Message, Pdu, Put};
+ghost use Rattle.law_others_stay.specs.unit_defs.Ways.{Load, Message, Pdu, Put};
 
 /// In every state that a run reaches, whatever makes a unit act with what is for a terminal: the step is the terminal's, and so is
 /// all that it puts out; and on a tunnel that it closes nothing of another terminal stands.

@@ -10,7 +10,7 @@ use Rattle.std.proofs.lemmas.Map.Keys.{sorted_head}
 use Rattle.gnb_types.specs.declared.names.BearerId.{BearerId}
 use Rattle.gnb_types.specs.Orders.{bearer_cmp}
 use Rattle.gnb_types.proofs.OrderLemmas.{bearer_total, bearer_exact}
-use Rattle.tables.specs.Tables.{find, IsSorted}
+use Rattle.law_open_tunnels.specs.tables.Tables.{find, IsSorted}
 use Rattle.law_owner_facts.specs.Owned.{has_such}
 
 module _ {X : Type 0} (test : X → Bool) where

@@ -2,8 +2,8 @@
 use Rattle.std.proofs.Common.{◌≡◌, ◌≤◌, ◌==◌, ℕ, ◌+◌, Bool, true, false, cond, not, ◌&&◌, ◌||◌, List, [], ◌∷◌, ◌++◌, Option, Some, None, ◌⊎◌, inl, inr, refl, sym, ap, ◌∙◌, arith, eqb-true}
 use Rattle.std.specs.Ordering.{nat_cmp, eq_by_cmp}
 use Rattle.std.specs.Cmp.{nat_cmp_total}
-use Rattle.tables.specs.Tables.{find, put, without}
-use Rattle.tables.proofs.TableLaws.{find-put-same, find-put-other, find-without}
+use Rattle.law_open_tunnels.specs.tables.Tables.{find, put, without}
+use Rattle.law_open_tunnels.proofs.tables.TableLaws.{find-put-same, find-put-other, find-without}
 use Rattle.law_open_tunnels.specs.unit_defs.Teids.{without_each}
 use Rattle.law_open_tunnels.specs.unit_defs.UpBearers.{is_one_of}
 use Rattle.law_open_tunnels.specs.law_teids.Given.{below, GrowsTo}

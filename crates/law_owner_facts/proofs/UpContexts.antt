@@ -6,8 +6,8 @@ use Rattle.gnb_types.specs.declared.names.UeId.{UeId}
 use Rattle.gnb_types.specs.declared.names.BearerId.{BearerId}
 use Rattle.gnb_types.specs.Orders.{ue_cmp, bearer_cmp}
 use Rattle.gnb_types.proofs.OrderLemmas.{ue_total, ue_exact, bearer_total, bearer_exact}
-use Rattle.tables.specs.Tables.{find, put, without, IsSorted}
-use Rattle.tables.proofs.TableLaws.{find-put, find-without, sorted-put}
+use Rattle.law_open_tunnels.specs.tables.Tables.{find, put, without, IsSorted}
+use Rattle.law_open_tunnels.proofs.tables.TableLaws.{find-put, find-without, sorted-put}
 use Rattle.law_open_tunnels.specs.unit_defs.Teids.{without_each}
 use Rattle.law_open_tunnels.specs.unit_defs.UpRecords.{UpBearer, UpContext, TunnelKind, n3, f1u_uplink, forwarding_down, forwarding_up, UpTunnel}
 use Rattle.law_open_tunnels.specs.unit_defs.UpBearers.{is_one_of}

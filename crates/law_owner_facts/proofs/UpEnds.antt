@@ -9,7 +9,7 @@ use Rattle.std.proofs.lemmas.Map.Keys.{sorted_tail}
 use Rattle.gnb_types.specs.declared.names.UeId.{UeId}
 use Rattle.gnb_types.specs.declared.names.BearerId.{BearerId}
 use Rattle.gnb_types.specs.Orders.{bearer_cmp}
-use Rattle.tables.specs.Tables.{find, IsSorted}
+use Rattle.law_open_tunnels.specs.tables.Tables.{find, IsSorted}
 use Rattle.law_open_tunnels.specs.unit_defs.UpRecords.{UpBearer, TunnelKind, n3, f1u_uplink, forwarding_down, forwarding_up, UpTunnel}
 use Rattle.law_open_tunnels.specs.unit_defs.UpBearers.{made, teids_of_bearer, teid_in, is_one_of, open_teids}
 use Rattle.law_open_tunnels.specs.unit_defs.CuUp.{entries, entries_of, bearers_from, bearers_made}

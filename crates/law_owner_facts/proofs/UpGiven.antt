@@ -12,7 +12,7 @@ use Rattle.std.proofs.lemmas.Map.Keys.{sorted_tail}
 use Rattle.gnb_types.specs.Orders.{ue_cmp}
 use Rattle.law_open_tunnels.specs.unit_defs.UpRecords.{TunnelKind, n3, f1u_uplink, forwarding_down, forwarding_up}
 use Rattle.law_open_tunnels.specs.unit_defs.UpBearers.{teid_in, is_one_of}
-use Rattle.tables.specs.Tables.{find, put, IsSorted}
+use Rattle.law_open_tunnels.specs.tables.Tables.{find, put, IsSorted}
 use Rattle.law_open_tunnels.specs.unit_defs.Ways.{Way}
 use Rattle.law_open_tunnels.specs.unit_defs.UpRecords.{UpBearer, UpContext, TunnelKind, UpTunnel}
 use Rattle.law_open_tunnels.specs.unit_defs.CuUp.{entries_of, with_entries, teids_from, uplink_entries}

@@ -4,7 +4,7 @@ use Rattle.std.specs.Ordering.{nat_cmp}
 use Rattle.gnb_types.specs.declared.names.Gnb.{Gnb}
 use Rattle.gnb_types.specs.declared.names.UeId.{UeId}
 use Rattle.gnb_types.specs.Orders.{ue_cmp, bearer_cmp}
-use Rattle.tables.specs.Tables.{find, IsSorted}
+use Rattle.law_open_tunnels.specs.tables.Tables.{find, IsSorted}
 use Rattle.law_open_tunnels.specs.unit_defs.UpRecords.{UpBearer, UpContext, TunnelKind, n3, f1u_uplink, forwarding_down, forwarding_up, UpTunnel, CuUp}
 use Rattle.law_open_tunnels.specs.unit_defs.UpBearers.{teid_in, is_one_of}
 use Rattle.law_open_tunnels.specs.unit_defs.Du.{DuBearer, DuContext, DuTunnel, Du}

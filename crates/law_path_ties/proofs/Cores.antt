@@ -22,9 +22,9 @@ use Rattle.law_steps.specs.Causes.{Cause, by_order, by_tick, by_octets, by_octet
 use Rattle.law_run_facts.specs.Facts.{Facts}
 use Rattle.law_run_facts.proofs.Within.{HoldsWith, then_holds, keep_checked, keep_lose, keep_reconnect_node, keep_put_all}
 use Rattle.law_slices.proofs.Tables.{apart_ues}
-use Rattle.law_own_events.proofs.law_own_steps.Leaves.{has_core, core_fits, core_is}
-use Rattle.law_put_ties.proofs.Stands.{Ends}
-use Rattle.law_tie_facts.specs.Ties.{RunState}
+use Rattle.law_owed_runs.proofs.law_own_steps.Leaves.{has_core, core_fits, core_is}
+use Rattle.law_owed_runs.proofs.law_put_ties.Stands.{Ends}
+use Rattle.law_owed_runs.specs.law_tie_facts.Ties.{RunState}
 use Rattle.law_path_ties.specs.Paths.{PathStays}
 
 module _ {M C L P : Type 0} (world : World M C L P) (core : CoreRecord M C) where

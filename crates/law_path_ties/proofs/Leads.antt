@@ -29,32 +29,32 @@ use Rattle.run_defs.specs.States.{entity, sn_of, ◌next◌}
 use Rattle.run_defs.specs.Steps.{check_spans, put_on_tunnel, put_out_all}
 use Rattle.run_defs.specs.Events.{offered}
 use Rattle.run_defs.specs.Runs.{Reading, plain_world, plain_way}
-use Rattle.law_put_ties.specs.law_tie_facts.law_tunnel_steps.run_defs.transport_defs.Links.{landed}
-use Rattle.law_put_ties.proofs.law_tie_facts.law_tunnel_steps.law_steps.Frames.{HasUnits, units_by, act_units}
+use Rattle.run_defs.specs.transport_defs.Links.{landed}
+use Rattle.law_steps.proofs.Frames.{HasUnits, units_by, act_units}
 use Rattle.run_defs.specs.Lines.{RunLine}
 use Rattle.law_core_rows.specs.Shown.{Places, IsPath, Goal, goal_by, to_first, orders_to, IsOne, Follows, IsAfter}
 use Rattle.law_core_rows.proofs.Rows.{letter_follows}
-use Rattle.law_tie_facts.specs.law_bearer_lists.chain_defs.Parts as down_parts
-use Rattle.law_tie_facts.specs.law_bearer_lists.chain_defs.Parts.{is_open}
-use Rattle.law_tie_facts.specs.law_bearer_lists.chain_defs.Orders as down
-use Rattle.law_tie_facts.proofs.law_bearer_lists.law_chain.Facts as chain
-use Rattle.law_tie_facts.proofs.law_bearer_lists.law_chain.Runs.{stream, agrees, kept_run, good_start}
-use Rattle.law_tie_facts.specs.law_bearer_lists.law_context_orders.Orders.{UpPart, part_of}
-use Rattle.law_tie_facts.specs.law_bearer_lists.law_context_orders.Inputs.{orders_of}
-use Rattle.law_tie_facts.specs.law_bearer_lists.law_context_orders.Shown.{is_bearer}
-use Rattle.law_tie_facts.specs.law_bearer_lists.law_bearer_orders.Down as downs
-use Rattle.law_tie_facts.specs.law_owner_facts.Owned.{ends_of, AreOwned}
-use Rattle.law_tie_facts.specs.law_run_bearers.Things.{PlainUnits}
-use Rattle.law_tie_facts.specs.law_run_bearers.Bearers.{Place, Numbering, if_of, at_place, contexts_of}
-use Rattle.law_tie_facts.specs.Ties.{RunState, Owned, owned_by, owned_on, owned_at}
-use Rattle.law_tie_facts.specs.Asked.{AreSound, context_at, beside_of}
+use Rattle.law_core_rows.specs.chain_defs.Parts as down_parts
+use Rattle.law_core_rows.specs.chain_defs.Parts.{is_open}
+use Rattle.law_core_rows.specs.chain_defs.Orders as down
+use Rattle.law_owed_runs.proofs.law_chain.Facts as chain
+use Rattle.law_owed_runs.proofs.law_chain.Runs.{stream, agrees, kept_run, good_start}
+use Rattle.law_context_tests.specs.law_context_orders.Orders.{UpPart, part_of}
+use Rattle.law_context_tests.specs.law_context_orders.Inputs.{orders_of}
+use Rattle.law_context_tests.specs.law_context_orders.Shown.{is_bearer}
+use Rattle.law_owed_runs.specs.law_bearer_orders.Down as downs
+use Rattle.law_owed_runs.specs.law_owner_facts.Owned.{ends_of, AreOwned}
+use Rattle.law_owed_runs.specs.law_run_bearers.Things.{PlainUnits}
+use Rattle.law_owed_runs.specs.law_run_bearers.Bearers.{Place, Numbering, if_of, at_place, contexts_of}
+use Rattle.law_owed_runs.specs.law_tie_facts.Ties.{RunState, Owned, owned_by, owned_on, owned_at}
+use Rattle.law_owed_runs.specs.law_tie_facts.Asked.{AreSound, context_at, beside_of}
 use Rattle.law_context_tests.specs.Tests.{is_final}
-use Rattle.law_tie_facts.proofs.law_open_tunnels.Links.{end_of}
-use Rattle.law_tie_facts.proofs.Ends.{clash}
-use Rattle.law_tie_facts.proofs.Puts.{Outs}
-use Rattle.law_put_ties.proofs.Apart.{on_same, end_same, on_n3}
-use Rattle.law_put_ties.proofs.Stands.{Ends, after_told, and_no_more, units_put, ups_stay}
-use Rattle.law_up_ties.proofs.Opened.{owners_stay}
+use Rattle.law_owed_runs.proofs.law_open_tunnels.Links.{end_of}
+use Rattle.law_owed_runs.proofs.law_tie_facts.Ends.{clash}
+use Rattle.law_owed_runs.proofs.law_tie_facts.Puts.{Outs}
+use Rattle.law_owed_runs.proofs.law_put_ties.Apart.{on_same, end_same, on_n3}
+use Rattle.law_owed_runs.proofs.law_put_ties.Stands.{Ends, after_told, and_no_more, units_put, ups_stay}
+use Rattle.law_owed_runs.proofs.law_up_ties.Opened.{owners_stay}
 use Rattle.law_owed_runs.specs.law_owed_orders.Steady.{IsOld}
 use Rattle.law_owed_runs.proofs.law_owed_orders.Rooms.{open_as}
 use Rattle.law_owed_runs.specs.law_fresh_uplinks.law_tied_runs.law_core_ties.Core.{context_of, places_of}

@@ -11,17 +11,17 @@ use Rattle.unit_defs.specs.Ways.{Pdu, packet_content, report_content, Taken, fre
 use Rattle.unit_defs.specs.UpRecords.{UpBearer, UpAt, TunnelKind, n3, f1u_uplink, forwarding_down, forwarding_up}
 use Rattle.unit_defs.specs.UpBearers.{thawed}
 use Rattle.run_defs.specs.Runs.{plain_way}
-use Rattle.law_tie_facts.specs.law_bearer_lists.chain_defs.Parts as down_parts
-use Rattle.law_tie_facts.specs.law_bearer_lists.chain_defs.Orders as down
-use Rattle.law_tie_facts.specs.law_bearer_lists.law_chain_rows.Shown.{number_orders}
-use Rattle.law_tie_facts.specs.law_bearer_lists.law_context_orders.Orders.{UpPart, UpOrder, makes, adds, switches, freezes, knows, resumes, releases, closes, takes, polls, on_switch, on_status, on_resume}
-use Rattle.law_tie_facts.specs.law_bearer_lists.law_down_orders.Down as rows
-use Rattle.law_tie_facts.specs.law_bearer_lists.law_bearer_orders.Happenings.{Beside, asks, Contexts, context_after}
-use Rattle.law_tie_facts.specs.law_bearer_lists.law_bearer_orders.Down as downs
-use Rattle.law_tie_facts.specs.law_bearer_lists.law_context_orders.Shown.{is_bearer}
-use Rattle.law_tie_facts.specs.law_run_bearers.Things.{PlainUnits}
-use Rattle.law_tie_facts.specs.law_run_bearers.Bearers.{Numbering}
-use Rattle.law_tie_facts.specs.Asked.{down_after}
+use Rattle.law_core_rows.specs.chain_defs.Parts as down_parts
+use Rattle.law_core_rows.specs.chain_defs.Orders as down
+use Rattle.law_owed_runs.specs.law_chain_rows.Shown.{number_orders}
+use Rattle.law_context_tests.specs.law_context_orders.Orders.{UpPart, UpOrder, makes, adds, switches, freezes, knows, resumes, releases, closes, takes, polls, on_switch, on_status, on_resume}
+use Rattle.law_owed_runs.specs.law_down_orders.Down as rows
+use Rattle.law_owed_runs.specs.law_bearer_orders.Happenings.{Beside, asks, Contexts, context_after}
+use Rattle.law_owed_runs.specs.law_bearer_orders.Down as downs
+use Rattle.law_context_tests.specs.law_context_orders.Shown.{is_bearer}
+use Rattle.law_owed_runs.specs.law_run_bearers.Things.{PlainUnits}
+use Rattle.law_owed_runs.specs.law_run_bearers.Bearers.{Numbering}
+use Rattle.law_owed_runs.specs.law_tie_facts.Asked.{down_after}
 use Rattle.law_owed_runs.specs.law_fresh_uplinks.law_tied_runs.law_core_ties.Core.{orders_offered}
 use Rattle.law_owed_runs.specs.law_fresh_uplinks.law_tied_runs.Steps.{IsOfRadio}
 

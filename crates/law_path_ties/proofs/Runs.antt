@@ -14,11 +14,11 @@ use Rattle.unit_defs.specs.Ue.{new_ue}
 use Rattle.unit_defs.specs.UpBearers.{made}
 use Rattle.run_defs.specs.Conditions.{n3_from}
 use Rattle.run_defs.specs.Runs.{Reading}
-use Rattle.law_tie_facts.specs.law_bearer_lists.chain_defs.Parts as down_parts
-use Rattle.law_tie_facts.specs.law_bearer_lists.chain_defs.Orders as down
-use Rattle.law_tie_facts.specs.law_bearer_lists.chain_defs.Guards as down_guards
-use Rattle.law_tie_facts.specs.law_run_bearers.Bearers.{Numbering}
-use Rattle.law_tie_facts.specs.Asked.{AreSound}
+use Rattle.law_core_rows.specs.chain_defs.Parts as down_parts
+use Rattle.law_core_rows.specs.chain_defs.Orders as down
+use Rattle.law_core_rows.specs.chain_defs.Guards as down_guards
+use Rattle.law_owed_runs.specs.law_run_bearers.Bearers.{Numbering}
+use Rattle.law_owed_runs.specs.law_tie_facts.Asked.{AreSound}
 use Rattle.law_owed_runs.specs.law_fresh_uplinks.law_tied_runs.law_core_ties.law_put_ties.Worked.{terminal, bearer as its_bearer}
 use Rattle.law_owed_runs.specs.law_fresh_uplinks.law_tied_runs.Steps as tied
 use Rattle.law_owed_runs.specs.law_fresh_uplinks.law_tied_runs.Steps.{Point, IsPassed, IsTied, AreOrders}

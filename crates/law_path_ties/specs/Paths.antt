@@ -12,12 +12,12 @@ use Rattle.unit_defs.specs.Core.{CorePath, CoreRecord}
 use Rattle.run_defs.specs.transport_defs.declared.Letter.{Letter}
 use Rattle.run_defs.specs.Runs.{Reading}
 use Rattle.law_core_rows.specs.Shown.{Goal, goal_by}
-use Rattle.law_tie_facts.specs.law_bearer_lists.chain_defs.Parts as down_parts
-use Rattle.law_tie_facts.specs.law_bearer_lists.chain_defs.Orders as down
-use Rattle.law_tie_facts.specs.law_bearer_lists.chain_defs.Guards as down_guards
-use Rattle.law_tie_facts.specs.law_run_bearers.Things.{PlainUnits}
-use Rattle.law_tie_facts.specs.law_run_bearers.Bearers.{Numbering}
-use Rattle.law_tie_facts.specs.Ties.{RunState, owned_on}
+use Rattle.law_core_rows.specs.chain_defs.Parts as down_parts
+use Rattle.law_core_rows.specs.chain_defs.Orders as down
+use Rattle.law_core_rows.specs.chain_defs.Guards as down_guards
+use Rattle.law_owed_runs.specs.law_run_bearers.Things.{PlainUnits}
+use Rattle.law_owed_runs.specs.law_run_bearers.Bearers.{Numbering}
+use Rattle.law_owed_runs.specs.law_tie_facts.Ties.{RunState, owned_on}
 use Rattle.law_owed_runs.specs.law_fresh_uplinks.law_tied_runs.law_core_ties.Core.{PathLeads, IsOffer, orders_offered, IsCoreStep, orders_told}
 use Rattle.law_owed_runs.specs.law_fresh_uplinks.law_tied_runs.Steps as tied
 use Rattle.law_owed_runs.specs.law_fresh_uplinks.law_tied_runs.Steps.{Point, IsPassed, DuActs}

@@ -1,9 +1,9 @@
 -- The core's path after a worked handover to the other gNB, whose CU-UP gave its context instance 1.
 use Rattle.std.specs.Prelude.{◌≡◌, Option, Some, None}
 use Rattle.gnb_types.specs.declared.names.Gnb.TheVariants.{B}
-use Rattle.law_tie_facts.specs.law_bearer_lists.chain_defs.Parts as down_parts
-use Rattle.law_tie_facts.specs.law_run_bearers.Bearers.{Numbering}
-use Rattle.law_tie_facts.specs.Ties.{RunState}
+use Rattle.law_core_rows.specs.chain_defs.Parts as down_parts
+use Rattle.law_owed_runs.specs.law_run_bearers.Bearers.{Numbering}
+use Rattle.law_owed_runs.specs.law_tie_facts.Ties.{RunState}
 use Rattle.law_owed_runs.specs.law_fresh_uplinks.law_tied_runs.law_core_ties.Core.{PathLeads}
 use Rattle.law_owed_runs.specs.law_fresh_uplinks.law_tied_runs.law_core_ties.law_put_ties.Worked.{terminal, bearer}
 

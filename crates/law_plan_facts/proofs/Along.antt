@@ -13,21 +13,21 @@ use Rattle.gnb_types.specs.declared.plans.Plan.{Plan}
 use Rattle.gnb_types.specs.Orders.{ue_cmp}
 use Rattle.tables.specs.Tables.{find}
 use Rattle.scenario_text.specs.declared.event.Event.{Event}
-use Rattle.unit_defs.specs.Ways.{Put}
-use Rattle.unit_defs.specs.Messages.{teid_of}
-use Rattle.unit_defs.specs.Ue.{new_ue}
+use Rattle.law_run_plans.specs.unit_defs.Ways.{Put}
+use Rattle.law_run_plans.specs.unit_defs.Messages.{teid_of}
+use Rattle.law_run_plans.specs.unit_defs.Ue.{new_ue}
 use Rattle.transport_defs.specs.declared.Item.{Item}
 use Rattle.transport_defs.specs.declared.Letter.{Letter}
 use Rattle.transport_defs.specs.Links.{most_letters, letter, landed}
-use Rattle.run_defs.specs.Units.{Units, with_ue}
-use Rattle.run_defs.specs.States.{State, World, letter_for, octets_from, goes, stops, told_before, ◌next◌, stepped, Ending, Within, Outcome, as_step, entity, radio_of, sn_of, was_attached}
-use Rattle.run_defs.specs.Steps.{check_spans, put_on_tunnel, put_out_all, count_letters, too_many_letters, carried_out}
-use Rattle.run_defs.specs.Events.{landed_as, offered}
-use Rattle.run_defs.specs.Runs.{happens}
-use Rattle.law_steps.specs.Causes.{Cause, by_order, by_tick, by_octets, by_octets_on, by_attach, by_release, by_offer, by_item, by_air, by_ack, by_letter, node_of, given_of, count_of, first_of, Stands}
-use Rattle.law_steps.specs.Made.{Made, stays, ends, then_made, sets_up, starts, acts, holds_item, holds_pdu, offers, core_takes, core_reads, lands, loses_letter, loses_item, remarks}
-use Rattle.law_steps.specs.Reached.{reached_by, reached}
-use Rattle.law_steps.proofs.Runs.{made_of_steps}
+use Rattle.law_run_facts.specs.run_defs.Units.{Units, with_ue}
+use Rattle.law_run_facts.specs.run_defs.States.{State, World, letter_for, octets_from, goes, stops, told_before, ◌next◌, stepped, Ending, Within, Outcome, as_step, entity, radio_of, sn_of, was_attached}
+use Rattle.law_run_facts.specs.run_defs.Steps.{check_spans, put_on_tunnel, put_out_all, count_letters, too_many_letters, carried_out}
+use Rattle.law_run_facts.specs.run_defs.Events.{landed_as, offered}
+use Rattle.law_run_facts.specs.run_defs.Runs.{happens}
+use Rattle.law_run_facts.specs.law_steps.Causes.{Cause, by_order, by_tick, by_octets, by_octets_on, by_attach, by_release, by_offer, by_item, by_air, by_ack, by_letter, node_of, given_of, count_of, first_of, Stands}
+use Rattle.law_run_facts.specs.law_steps.Made.{Made, stays, ends, then_made, sets_up, starts, acts, holds_item, holds_pdu, offers, core_takes, core_reads, lands, loses_letter, loses_item, remarks}
+use Rattle.law_run_facts.specs.law_steps.Reached.{reached_by, reached}
+use Rattle.law_run_facts.proofs.law_steps.Runs.{made_of_steps}
 use Rattle.law_run_plans.specs.Plans.{Plans, PlansStay}
 use Rattle.law_run_plans.proofs.Frames.{HasPlans, then_plans, keep_checked as plans_checked, keep_put_on_tunnel as plans_put, keep_put_all as plans_put_all, plans_by, act_plans}
 use Rattle.law_run_plans.proofs.Runs.{stay_put, StaysFrom, cause_stays, made_stays}

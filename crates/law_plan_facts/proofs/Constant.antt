@@ -4,7 +4,7 @@ use Rattle.gnb_types.specs.declared.names.NodeId.TheVariants.{CuCp, Core}
 use Rattle.gnb_types.specs.declared.keys.TunnelEnd.{TunnelEnd}
 use Rattle.gnb_types.specs.declared.inputs.Order.TheVariants as orders
 use Rattle.transport_defs.specs.declared.Item.{Item}
-use Rattle.run_defs.specs.States.{World, order_for}
+use Rattle.law_run_facts.specs.run_defs.States.{World, order_for}
 use Rattle.law_run_plans.specs.Plans.{Plans}
 use Rattle.law_run_facts.specs.Facts.{Facts, AreKept}
 use Rattle.law_run_facts.proofs.Both.{both, given_one, given_other, puts_both}

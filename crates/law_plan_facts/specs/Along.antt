@@ -15,18 +15,18 @@ use Rattle.gnb_types.specs.Orders.{ue_cmp}
 use Rattle.tables.specs.Tables.{find, put}
 use Rattle.scenario_text.specs.declared.event.Event.{Event}
 use Rattle.scenario_text.specs.declared.event.Event.TheVariants as events
-use Rattle.unit_defs.specs.Ways.{Put}
-use Rattle.unit_defs.specs.Messages.{teid_of}
-use Rattle.unit_defs.specs.Core.{CorePath, CoreRecord}
-use Rattle.unit_defs.specs.Static.{up_has_room, up_has_teids, du_has_teids}
-use Rattle.unit_defs.specs.Ue.{new_ue}
+use Rattle.law_run_plans.specs.unit_defs.Ways.{Put}
+use Rattle.law_run_plans.specs.unit_defs.Messages.{teid_of}
+use Rattle.law_run_plans.specs.unit_defs.Core.{CorePath, CoreRecord}
+use Rattle.law_run_plans.specs.unit_defs.Static.{up_has_room, up_has_teids, du_has_teids}
+use Rattle.law_run_plans.specs.unit_defs.Ue.{new_ue}
 use Rattle.transport_defs.specs.declared.Item.{Item}
 use Rattle.transport_defs.specs.declared.Letter.{Letter}
-use Rattle.run_defs.specs.Units.{Units, up_of, du_of, with_ue}
-use Rattle.run_defs.specs.States.{State, Given, offer_for, order_for, octets_from, Lengths, sn_in, stepped, core_stepped, World, goes, stops, Ending, entity}
-use Rattle.run_defs.specs.Steps.{count_letters}
-use Rattle.run_defs.specs.Conditions.{is_held_by_units, units_placed, all_set_up, n3_from}
-use Rattle.law_steps.specs.Causes.{IsNoAttach}
+use Rattle.law_run_facts.specs.run_defs.Units.{Units, up_of, du_of, with_ue}
+use Rattle.law_run_facts.specs.run_defs.States.{State, Given, offer_for, order_for, octets_from, Lengths, sn_in, stepped, core_stepped, World, goes, stops, Ending, entity}
+use Rattle.law_run_facts.specs.run_defs.Steps.{count_letters}
+use Rattle.law_run_facts.specs.run_defs.Conditions.{is_held_by_units, units_placed, all_set_up, n3_from}
+use Rattle.law_run_facts.specs.law_steps.Causes.{IsNoAttach}
 use Rattle.law_run_plans.specs.Plans.{Plans, PlansStay}
 use Rattle.law_run_facts.specs.Facts.{Facts, Hold, PutsFit, GivenFits}
 

@@ -7,7 +7,7 @@ ghost use Rattle.command_run.specs.Ends.{run_status};
 ghost use Rattle.command_run.specs.Run.{RunMeets, setting_of};
 ghost use Rattle.command_run.specs.declared.end.RunEnd.{RunEnd};
 ghost use Rattle.law_promise.specs.Written.{WritesOne};
-ghost use Rattle.message_codec_defs.specs.Codecs.{profile_codec};
+ghost use Rattle.message_proof_codec.specs.message_codec_defs.Codecs.{profile_codec};
 ghost use Rattle.plain_defs.specs.Plain.{IsPlain, KeepRange};
 ghost use Rattle.run_defs.specs.UnitRuns.{tables};
 ghost use Rattle.run_defs.specs.unit_octet_defs.Codec.{Codec};

@@ -12,9 +12,9 @@ use Rattle.gnb_types.specs.declared.keys.TunnelEnd.{TunnelEnd}
 use Rattle.gnb_types.specs.Orders.{node_cmp, tunnel_cmp}
 use Rattle.gnb_types.proofs.OrderLemmas.{tunnel_total, tunnel_exact}
 use Rattle.tables.specs.Tables.{find, at}
-use Rattle.unit_defs.specs.UpRecords.{UpTunnel, TunnelKind, n3, f1u_uplink}
-use Rattle.unit_defs.specs.UpBearers.{is_one_of}
-use Rattle.unit_defs.specs.CuUp.{new_cu_up}
+use Rattle.law_du_puts.specs.unit_defs.UpRecords.{UpTunnel, TunnelKind, n3, f1u_uplink}
+use Rattle.law_du_puts.specs.unit_defs.UpBearers.{is_one_of}
+use Rattle.law_du_puts.specs.unit_defs.CuUp.{new_cu_up}
 use Rattle.law_tie_facts.specs.law_tunnel_steps.run_defs.Units.{up_of}
 use Rattle.law_tie_facts.specs.law_bearer_lists.law_context_orders.Orders.{UpPart, part_of}
 use Rattle.law_tie_facts.specs.law_bearer_lists.law_context_orders.Shown.{is_bearer}

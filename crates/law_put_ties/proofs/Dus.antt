@@ -12,9 +12,9 @@ use Rattle.gnb_types.specs.declared.names.BearerId.{BearerId}
 use Rattle.gnb_types.specs.declared.names.Dir.TheVariants.{Dl, Ul}
 use Rattle.gnb_types.specs.declared.keys.TunnelEnd.{TunnelEnd}
 use Rattle.message_types.specs.declared.rrc.Token.{Token}
-use Rattle.unit_defs.specs.Ways.{Message, Pdu, packet_pdu, report_pdu, Load, fresh, numbered, frame, uplink, status, end_marker, Input, control_input, packet_input, radio_input, confirm_input, offer_input, tick_input, order_input, Answer}
-use Rattle.unit_defs.specs.UpRecords.{UpTunnel, TunnelKind, n3, f1u_uplink, forwarding_down, forwarding_up}
-use Rattle.unit_defs.specs.Du.{missing, is_missing}
+use Rattle.law_du_puts.specs.unit_defs.Ways.{Message, Pdu, packet_pdu, report_pdu, Load, fresh, numbered, frame, uplink, status, end_marker, Input, control_input, packet_input, radio_input, confirm_input, offer_input, tick_input, order_input, Answer}
+use Rattle.law_du_puts.specs.unit_defs.UpRecords.{UpTunnel, TunnelKind, n3, f1u_uplink, forwarding_down, forwarding_up}
+use Rattle.law_du_puts.specs.unit_defs.Du.{missing, is_missing}
 use Rattle.law_tie_facts.specs.law_tunnel_steps.run_defs.Lines.{RunLine}
 use Rattle.law_tie_facts.specs.law_tunnel_steps.run_defs.Units.{du_of, with_du}
 use Rattle.law_tie_facts.specs.law_tunnel_steps.run_defs.Written.{written_put}
@@ -43,8 +43,8 @@ use Rattle.law_tie_facts.specs.law_run_bearers.Bearers.{Numbering, contexts_of}
 use Rattle.law_tie_facts.specs.Ties.{RunState, RunItem, Owned, owned_on, owned_at, downs_of, up_item, ups_of, IsMirror}
 use Rattle.law_tie_facts.specs.Asked.{RunCause, AreTied, AreSound}
 use Rattle.law_tie_facts.proofs.Puts.{Outs, put_there, ups_both, downs_written, ups_written, IsOwn, own_from, stays_so}
-use Rattle.law_du_inputs.specs.Changes.{DuPart, Change, takes, renews, sets_up, ends, stays, part_of, change_by}
-use Rattle.law_du_inputs.specs.Puts.{OnTunnel, is_of, tunnels_put, on_uplink, of_number, of_part, of_change, carried_of, Puts}
+use Rattle.law_du_steps.specs.law_du_inputs.Changes.{DuPart, Change, takes, renews, sets_up, ends, stays, part_of, change_by}
+use Rattle.law_du_steps.specs.law_du_inputs.Puts.{OnTunnel, is_of, tunnels_put, on_uplink, of_number, of_part, of_change, carried_of, Puts}
 use Rattle.law_du_puts.specs.Inputs.{ups_by}
 use Rattle.law_du_puts.proofs.Letters.{input_puts}
 use Rattle.law_du_steps.specs.Steps.{order_of}

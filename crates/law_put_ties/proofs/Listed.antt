@@ -5,7 +5,7 @@ use Rattle.std.specs.List.{AllByRecursion}
 use Rattle.gnb_types.specs.declared.names.UeId.{UeId}
 use Rattle.gnb_types.specs.declared.names.BearerId.{BearerId}
 use Rattle.gnb_types.specs.declared.keys.TunnelEnd.{TunnelEnd}
-use Rattle.unit_defs.specs.Ways.{Load, Pdu, control, packet, radio, deliver, dropped, held, opened, closed, failed, no}
+use Rattle.law_du_puts.specs.unit_defs.Ways.{Load, Pdu, control, packet, radio, deliver, dropped, held, opened, closed, failed, no}
 use Rattle.law_tie_facts.specs.law_bearer_lists.chain_defs.Parts as down_parts
 use Rattle.law_tie_facts.specs.law_bearer_lists.uplink_defs.Parts as up_parts
 use Rattle.law_tie_facts.specs.law_bearer_lists.law_chain_rows.Shown.{item_of}
@@ -13,7 +13,7 @@ use Rattle.law_tie_facts.specs.law_bearer_lists.law_context_orders.Shown.{is_bea
 use Rattle.law_tie_facts.specs.law_tunnel_steps.Standing.{is_end}
 use Rattle.law_tie_facts.specs.Ties.{up_item}
 use Rattle.law_tie_facts.proofs.Puts.{Outs, downs_at, ups_at, IsOwn}
-use Rattle.law_du_inputs.specs.Puts.{OnTunnel, tunnels_put}
+use Rattle.law_du_steps.specs.law_du_inputs.Puts.{OnTunnel, tunnels_put}
 
 -- what these put there, as items of either part
 abbrev pub items_on : {X : Type 0} → (Load Pdu → List X) → TunnelEnd → List OnTunnel → List X

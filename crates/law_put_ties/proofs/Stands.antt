@@ -8,7 +8,7 @@ use Rattle.gnb_types.specs.declared.names.NodeId.{NodeId}
 use Rattle.gnb_types.specs.declared.keys.TunnelEnd.{TunnelEnd}
 use Rattle.gnb_types.specs.Orders.{tunnel_cmp}
 use Rattle.gnb_types.proofs.OrderLemmas.{tunnel_exact}
-use Rattle.unit_defs.specs.Ways.{Put}
+use Rattle.law_du_puts.specs.unit_defs.Ways.{Put}
 use Rattle.law_tie_facts.specs.law_tunnel_steps.run_defs.Lines.{RunLine}
 use Rattle.law_tie_facts.specs.law_tunnel_steps.run_defs.Units.{Units}
 use Rattle.law_tie_facts.specs.law_tunnel_steps.run_defs.Written.{written_put}

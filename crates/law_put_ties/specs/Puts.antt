@@ -6,9 +6,9 @@ use Rattle.gnb_types.specs.declared.names.NodeId.TheVariants.{Du as du_id}
 use Rattle.gnb_types.specs.declared.names.UeId.{UeId}
 use Rattle.gnb_types.specs.declared.names.BearerId.{BearerId}
 use Rattle.message_types.specs.declared.rrc.Token.{Token}
-use Rattle.unit_defs.specs.Ways.{Message, Pdu, packet_pdu, Load, uplink, Input, Output, gives}
-use Rattle.unit_defs.specs.UpRecords.{f1u_uplink}
-use Rattle.unit_defs.specs.Du.{du_acts}
+use Rattle.law_du_puts.specs.unit_defs.Ways.{Message, Pdu, packet_pdu, Load, uplink, Input, Output, gives}
+use Rattle.law_du_puts.specs.unit_defs.UpRecords.{f1u_uplink}
+use Rattle.law_du_puts.specs.unit_defs.Du.{du_acts}
 use Rattle.law_tie_facts.specs.law_tunnel_steps.run_defs.Lines.{RunLine}
 use Rattle.law_tie_facts.specs.law_tunnel_steps.run_defs.Units.{du_of, with_du}
 use Rattle.law_tie_facts.specs.law_tunnel_steps.run_defs.Written.{written_put}
@@ -23,7 +23,7 @@ use Rattle.law_tie_facts.specs.law_run_bearers.Things.{PlainUnits}
 use Rattle.law_tie_facts.specs.law_run_bearers.Bearers.{Numbering}
 use Rattle.law_tie_facts.specs.Ties.{RunState, Owned, owned_on}
 use Rattle.law_tie_facts.specs.Asked.{RunCause}
-use Rattle.law_du_inputs.specs.Puts.{OnTunnel}
+use Rattle.law_du_steps.specs.law_du_inputs.Puts.{OnTunnel}
 use Rattle.law_du_puts.specs.Inputs.{ups_by}
 use Rattle.law_du_steps.specs.Steps.{order_of}
 

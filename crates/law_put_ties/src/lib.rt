@@ -7,7 +7,7 @@ ghost use Rattle.gnb_types.specs.declared.names.BearerId.{BearerId};
 ghost use Rattle.gnb_types.specs.declared.names.Gnb.{Gnb};
 ghost use Rattle.gnb_types.specs.declared.names.SnBits.{SnBits};
 ghost use Rattle.gnb_types.specs.declared.names.UeId.{UeId};
-ghost use Rattle.law_du_inputs.specs.Puts.{OnTunnel};
+ghost use Rattle.law_du_steps.specs.law_du_inputs.Puts.{OnTunnel};
 ghost use Rattle.law_put_ties.specs.Puts.{AllLead, IsDuStep, orders_up, puts_of};
 ghost use Rattle.law_put_ties.specs.Worked.{moved_orders, moved_run, uplink_in, uplink_of};
 ghost use Rattle.law_tie_facts.specs.Asked.{AreSound, AreTied, RunCause};
@@ -19,7 +19,7 @@ ghost use Rattle.law_tie_facts.specs.law_tunnel_steps.run_defs.Runs.{plain_world
 ghost use Rattle.law_tie_facts.specs.law_tunnel_steps.run_defs.States.{new_state};
 ghost use Rattle.message_types.specs.declared.rrc.Token.{Token};
 ghost use Rattle.std.specs.Prelude.{[], ◌∷◌, List, Some, ◌≡◌, ℕ};
-ghost use Rattle.unit_defs.specs.Ways.{Input, Message, Output, Pdu};
+ghost use Rattle.law_du_puts.specs.unit_defs.Ways.{Input, Message, Output, Pdu};
 ghost use Rattle.law_tie_facts.specs.law_bearer_lists.uplink_defs.Orders as up;
 ghost use Rattle.law_tie_facts.specs.law_bearer_lists.uplink_defs.Parts as up_parts;
 

@@ -13,17 +13,17 @@ use Rattle.gnb_types.specs.Orders.{entity_cmp}
 use Rattle.gnb_types.proofs.OrderLemmas.{entity_exact}
 use Rattle.message_types.specs.declared.rrc.Token.{Token}
 use Rattle.scenario_text.specs.declared.event.Event.{Event}
-use Rattle.chain_defs.specs.Parts.{Part}
-use Rattle.chain_defs.specs.Orders.{Order, arrives, fails, carries, after, run}
+use Rattle.law_heard_packets.specs.chain_defs.Parts.{Part}
+use Rattle.law_heard_packets.specs.chain_defs.Orders.{Order, arrives, fails, carries, after, run}
 use Rattle.unit_defs.specs.Ways.{Message, Pdu, Load}
-use Rattle.run_defs.specs.Units.{Units}
-use Rattle.run_defs.specs.Written.{Written}
-use Rattle.run_defs.specs.States.{radio_of}
-use Rattle.run_defs.specs.Steps.{epoch_now}
-use Rattle.run_defs.specs.Runs.{Reading, plain_world}
-use Rattle.law_steps.specs.Causes.{by_order, by_tick, by_octets, by_octets_on, by_attach, by_release, by_offer, by_item, by_air, by_ack, by_letter, Stands, node_of, count_of}
-use Rattle.law_radio_steps.specs.Radios.{on_air, lost_in, after_taking, after_puts, moved_to, followed}
-use Rattle.law_radio_steps.proofs.Tracks.{acts_so}
+use Rattle.law_radio_ties.specs.run_defs.Units.{Units}
+use Rattle.law_radio_ties.specs.run_defs.Written.{Written}
+use Rattle.law_radio_ties.specs.run_defs.States.{radio_of}
+use Rattle.law_radio_ties.specs.run_defs.Steps.{epoch_now}
+use Rattle.law_radio_ties.specs.run_defs.Runs.{Reading, plain_world}
+use Rattle.law_radio_ties.specs.law_steps.Causes.{by_order, by_tick, by_octets, by_octets_on, by_attach, by_release, by_offer, by_item, by_air, by_ack, by_letter, Stands, node_of, count_of}
+use Rattle.law_radio_ties.specs.law_radio_steps.Radios.{on_air, lost_in, after_taking, after_puts, moved_to, followed}
+use Rattle.law_radio_ties.proofs.law_radio_steps.Tracks.{acts_so}
 use Rattle.law_radio_ties.specs.Radio.{RunState, RunCause, OnRadio, packets_on, IsOther, IsBeside}
 use Rattle.law_heard_packets.specs.Heard.{WasPut, LeavesRadio}
 use Rattle.law_heard_packets.proofs.Heard.{put_stays}

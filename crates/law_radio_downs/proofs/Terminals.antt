@@ -21,28 +21,28 @@ use Rattle.message_types.specs.declared.rrc.Token.{Token}
 use Rattle.message_types.specs.declared.rrc.Token.TheVariants as tokens
 use Rattle.scenario_text.specs.declared.event.Event.{Event}
 use Rattle.pdcp_defs.specs.Receivers.{Receiver, is_duplicate, is_ahead}
-use Rattle.chain_defs.specs.Parts.{Part}
-use Rattle.chain_defs.specs.Orders.{Order, fails, run}
-use Rattle.uplink_defs.specs.Orders as up
+use Rattle.law_heard_packets.specs.chain_defs.Parts.{Part}
+use Rattle.law_heard_packets.specs.chain_defs.Orders.{Order, fails, run}
+use Rattle.law_radio_ties.specs.uplink_defs.Orders as up
 use Rattle.unit_defs.specs.declared.UeState.{UeState}
 use Rattle.unit_defs.specs.declared.UeState.TheVariants as states
 use Rattle.unit_defs.specs.Ways.{Message, f1, e1, xn, core, rrc, Load, Pdu, packet_pdu, report_pdu, packet_content, report_content, Content, Input, control_input, packet_input, radio_input, confirm_input, offer_input, tick_input, order_input, Output, control, packet, radio, deliver, dropped, held, opened, closed, failed, no, Answer}
 use Rattle.unit_defs.specs.Ue.{UeNode, largest_packet, is_connected, is_accessing, may_return, may_obey, used_uplink}
-use Rattle.run_defs.specs.transport_defs.Links.{is_epoch, nth}
-use Rattle.run_defs.specs.Units.{with_ue, ue_of}
-use Rattle.run_defs.specs.Written.{Written, written_put}
-use Rattle.run_defs.specs.States.{Lengths, entity, sn_of, radio_of}
-use Rattle.run_defs.specs.Steps.{is_on_air, epoch_now}
-use Rattle.run_defs.specs.Conditions.{receiver_by, sender_by}
-use Rattle.run_defs.specs.Runs.{Reading, plain_world, plain_way, input_of, taken_of, content_of}
-use Rattle.law_steps.specs.Causes.{by_order, by_tick, by_octets, by_octets_on, by_attach, by_release, by_offer, by_item, by_air, by_ack, by_letter, Stands, node_of, given_of, count_of}
-use Rattle.law_run_links.specs.Own.{HoldTheirOwn}
-use Rattle.law_radio_steps.specs.Radios.{on_air, after_taking, after_puts, moved_to, followed}
-use Rattle.law_radio_steps.proofs.Tracks.{acts_so}
-use Rattle.law_terminal_rows.specs.Shown.{numbering}
-use Rattle.law_terminal_inputs.specs.Inputs.{Parts, Orders, none, of_command, of_accepted, of_token, of_letter, of_confirmed, offered_to, of_offer, of_arrival, of_return, of_order, if_here, orders_by}
-use Rattle.law_terminal_radios.specs.Radios.{unknown_after, IsPutIn, IsHeard, Hears}
-use Rattle.law_terminal_radios.proofs.Table.{heard}
+use Rattle.law_radio_ties.specs.transport_defs.Links.{is_epoch, nth}
+use Rattle.law_radio_ties.specs.run_defs.Units.{with_ue, ue_of}
+use Rattle.law_radio_ties.specs.run_defs.Written.{Written, written_put}
+use Rattle.law_radio_ties.specs.run_defs.States.{Lengths, entity, sn_of, radio_of}
+use Rattle.law_radio_ties.specs.run_defs.Steps.{is_on_air, epoch_now}
+use Rattle.law_radio_ties.specs.run_defs.Conditions.{receiver_by, sender_by}
+use Rattle.law_radio_ties.specs.run_defs.Runs.{Reading, plain_world, plain_way, input_of, taken_of, content_of}
+use Rattle.law_radio_ties.specs.law_steps.Causes.{by_order, by_tick, by_octets, by_octets_on, by_attach, by_release, by_offer, by_item, by_air, by_ack, by_letter, Stands, node_of, given_of, count_of}
+use Rattle.law_radio_ties.specs.law_run_links.Own.{HoldTheirOwn}
+use Rattle.law_radio_ties.specs.law_radio_steps.Radios.{on_air, after_taking, after_puts, moved_to, followed}
+use Rattle.law_radio_ties.proofs.law_radio_steps.Tracks.{acts_so}
+use Rattle.law_radio_ties.specs.law_terminal_rows.Shown.{numbering}
+use Rattle.law_radio_ties.specs.law_terminal_inputs.Inputs.{Parts, Orders, none, of_command, of_accepted, of_token, of_letter, of_confirmed, offered_to, of_offer, of_arrival, of_return, of_order, if_here, orders_by}
+use Rattle.law_radio_ties.specs.law_terminal_radios.Radios.{unknown_after, IsPutIn, IsHeard, Hears}
+use Rattle.law_radio_ties.proofs.law_terminal_radios.Table.{heard}
 use Rattle.law_radio_ties.specs.Radio.{RunState, RunCause, OnRadio, IsAtTerminal, IsUeStep}
 use Rattle.law_radio_ties.proofs.Taken.{ready_is_du}
 use Rattle.law_radio_ties.proofs.Puts.{with_more}

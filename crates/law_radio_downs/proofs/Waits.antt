@@ -12,17 +12,17 @@ use Rattle.gnb_types.specs.declared.keys.EntityKey.{EntityKey}
 use Rattle.gnb_types.specs.Orders.{bearer_cmp, entity_cmp}
 use Rattle.gnb_types.proofs.OrderLemmas.{bearer_total, bearer_exact, entity_total, entity_exact}
 use Rattle.message_types.specs.declared.rrc.Token.{Token}
-use Rattle.chain_defs.specs.Parts.{Part}
+use Rattle.law_heard_packets.specs.chain_defs.Parts.{Part}
 use Rattle.law_intervals.specs.Intervals.{HasNoGap}
 use Rattle.law_intervals.proofs.Intervals.{all_append, HasNoGap-append}
 use Rattle.unit_defs.specs.Ways.{Message, Pdu, packet_pdu, report_pdu, Load, Put, control, packet, radio, deliver, dropped, held, opened, closed, failed, no}
-use Rattle.run_defs.specs.transport_defs.Links.{Radio, silent, is_epoch, nth}
-use Rattle.run_defs.specs.Written.{Written}
-use Rattle.run_defs.specs.States.{entity}
-use Rattle.run_defs.specs.Steps.{same_epoch, count_beside}
-use Rattle.run_defs.specs.Runs.{Reading, plain_world}
-use Rattle.law_radio_steps.specs.Radios.{OnAir, lost_in, with_item, after_put, after_puts, moved_to}
-use Rattle.law_terminal_inputs.specs.Inputs.{packet_in}
+use Rattle.law_radio_ties.specs.transport_defs.Links.{Radio, silent, is_epoch, nth}
+use Rattle.law_radio_ties.specs.run_defs.Written.{Written}
+use Rattle.law_radio_ties.specs.run_defs.States.{entity}
+use Rattle.law_radio_ties.specs.run_defs.Steps.{same_epoch, count_beside}
+use Rattle.law_radio_ties.specs.run_defs.Runs.{Reading, plain_world}
+use Rattle.law_radio_ties.specs.law_radio_steps.Radios.{OnAir, lost_in, with_item, after_put, after_puts, moved_to}
+use Rattle.law_radio_ties.specs.law_terminal_inputs.Inputs.{packet_in}
 use Rattle.law_radio_ties.specs.Radio.{OnRadio, packets_on, IsRadio}
 use Rattle.law_radio_ties.proofs.Lists.{counts, packets_both, after_carry, carried_one, after_ack, IsHead, acked_one, more_put, nothing_there}
 use Rattle.law_radio_ties.proofs.Puts.{with_more}

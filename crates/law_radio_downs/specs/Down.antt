@@ -9,15 +9,15 @@ use Rattle.gnb_types.specs.declared.names.Dir.TheVariants.{Dl}
 use Rattle.gnb_types.specs.declared.keys.EntityKey.{EntityKey}
 use Rattle.gnb_types.specs.Orders.{ue_cmp, entity_cmp}
 use Rattle.message_types.specs.declared.rrc.Token.{Token}
-use Rattle.chain_defs.specs.Parts.{Part}
+use Rattle.law_heard_packets.specs.chain_defs.Parts.{Part}
 use Rattle.law_intervals.specs.Intervals.{HasNoGap}
 use Rattle.unit_defs.specs.Ways.{Message, Pdu, packet_pdu, report_pdu, Load, Put, radio}
-use Rattle.run_defs.specs.transport_defs.Links.{silent, is_epoch}
-use Rattle.run_defs.specs.Written.{Written}
-use Rattle.run_defs.specs.States.{entity}
-use Rattle.law_steps.specs.Causes.{by_release, by_air}
-use Rattle.law_radio_steps.specs.Radios.{OnAir}
-use Rattle.law_terminal_inputs.specs.Inputs.{packet_in}
+use Rattle.law_radio_ties.specs.transport_defs.Links.{silent, is_epoch}
+use Rattle.law_radio_ties.specs.run_defs.Written.{Written}
+use Rattle.law_radio_ties.specs.run_defs.States.{entity}
+use Rattle.law_radio_ties.specs.law_steps.Causes.{by_release, by_air}
+use Rattle.law_radio_ties.specs.law_radio_steps.Radios.{OnAir}
+use Rattle.law_radio_ties.specs.law_terminal_inputs.Inputs.{packet_in}
 use Rattle.law_radio_ties.specs.Radio.{RunCause, IsRadio}
 use Rattle.law_heard_packets.specs.Heard.{WasPut}
 

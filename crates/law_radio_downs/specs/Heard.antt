@@ -7,13 +7,13 @@ use Rattle.gnb_types.specs.declared.names.Dir.TheVariants.{Dl}
 use Rattle.gnb_types.specs.Orders.{bearer_cmp}
 use Rattle.message_types.specs.declared.rrc.Token.{Token}
 use Rattle.pdcp_defs.specs.Receivers.{is_duplicate, is_ahead}
-use Rattle.chain_defs.specs.Parts.{Part, start}
-use Rattle.chain_defs.specs.Orders.{Order, run}
-use Rattle.chain_defs.specs.Guards.{AreKept}
+use Rattle.law_heard_packets.specs.chain_defs.Parts.{Part, start}
+use Rattle.law_heard_packets.specs.chain_defs.Orders.{Order, run}
+use Rattle.law_heard_packets.specs.chain_defs.Guards.{AreKept}
 use Rattle.unit_defs.specs.Ways.{Pdu, packet_content, report_content, Content, Input, radio_input, order_input}
 use Rattle.unit_defs.specs.Ue.{UeNode}
-use Rattle.run_defs.specs.Runs.{plain_way}
-use Rattle.law_terminal_inputs.specs.Inputs.{Parts, Orders, none, if_here, of_pdu, orders_by, OwedTaken, OwedOrder}
+use Rattle.law_radio_ties.specs.run_defs.Runs.{plain_way}
+use Rattle.law_radio_ties.specs.law_terminal_inputs.Inputs.{Parts, Orders, none, if_here, of_pdu, orders_by, OwedTaken, OwedOrder}
 use Rattle.law_heard_packets.specs.Heard.{WasPut, hears}
 
 -- ---- orders: as of every input (`orders_by`), but for a packet that is taken

@@ -2,8 +2,8 @@
 //! the law.
 #![tactic(auto)]
 
-ghost use Rattle.chain_defs.specs.Orders.{Order, run};
-ghost use Rattle.chain_defs.specs.Parts.{Part};
+ghost use Rattle.law_heard_packets.specs.chain_defs.Orders.{Order, run};
+ghost use Rattle.law_heard_packets.specs.chain_defs.Parts.{Part};
 ghost use Rattle.gnb_types.specs.declared.names.BearerId.{BearerId};
 ghost use Rattle.gnb_types.specs.declared.names.NodeId.{NodeId};
 ghost use Rattle.gnb_types.specs.declared.names.SnBits.{SnBits};
@@ -12,18 +12,18 @@ ghost use Rattle.law_heard_packets.specs.Heard.{LeavesRadio};
 ghost use Rattle.law_radio_downs.specs.Down.{down_key, IsDown};
 ghost use Rattle.law_radio_downs.specs.Down.{packets_down, Puts, Stays, WasReceived};
 ghost use Rattle.law_radio_downs.specs.Heard.{heard_by, IsKept, OwedHeard, OwedRest};
-ghost use Rattle.law_radio_steps.specs.Radios.{OnAir, on_air};
+ghost use Rattle.law_radio_ties.specs.law_radio_steps.Radios.{OnAir, on_air};
 ghost use Rattle.law_radio_ties.specs.Radio.{IsAtTerminal, IsBeside, IsUeStep};
 ghost use Rattle.law_radio_ties.specs.Radio.{OnRadio, RunCause, RunState};
-ghost use Rattle.law_run_links.specs.Own.{HoldTheirOwn};
-ghost use Rattle.law_steps.specs.Causes.{by_ack, Stands};
-ghost use Rattle.law_terminal_inputs.specs.Inputs.{Parts};
+ghost use Rattle.law_radio_ties.specs.law_run_links.Own.{HoldTheirOwn};
+ghost use Rattle.law_radio_ties.specs.law_steps.Causes.{by_ack, Stands};
+ghost use Rattle.law_radio_ties.specs.law_terminal_inputs.Inputs.{Parts};
 ghost use Rattle.law_waiting_frames.specs.Frames.{Fits};
 ghost use Rattle.message_types.specs.declared.rrc.Token.{Token};
-ghost use Rattle.run_defs.specs.Runs.{Reading};
-ghost use Rattle.run_defs.specs.Units.{Units};
-ghost use Rattle.run_defs.specs.Written.{Written};
-ghost use Rattle.run_defs.specs.transport_defs.Links.{silent};
+ghost use Rattle.law_radio_ties.specs.run_defs.Runs.{Reading};
+ghost use Rattle.law_radio_ties.specs.run_defs.Units.{Units};
+ghost use Rattle.law_radio_ties.specs.run_defs.Written.{Written};
+ghost use Rattle.law_radio_ties.specs.transport_defs.Links.{silent};
 ghost use Rattle.scenario_text.specs.declared.event.Event.{Event};
 ghost use Rattle.std.specs.List.{AllByRecursion};
 ghost use Rattle.std.specs.Prelude.{List, Option, ℕ, ◌<◌, ◌≡◌};

@@ -7,12 +7,12 @@ use Rattle.gnb_types.specs.declared.names.NodeId.TheVariants.{Ue}
 use Rattle.gnb_types.specs.declared.keys.EntityKey.{EntityKey}
 use Rattle.gnb_types.specs.Orders.{ue_cmp, entity_cmp}
 use Rattle.tables.specs.Tables.{find}
-use Rattle.run_defs.specs.unit_defs.Ways.{Put, radio}
-use Rattle.run_defs.specs.transport_defs.declared.Item.{Item}
-use Rattle.run_defs.specs.transport_defs.Links.{Radio, silent, is_epoch}
-use Rattle.run_defs.specs.Units.{Units}
-use Rattle.run_defs.specs.States.{State, World, entity, radio_of}
-use Rattle.run_defs.specs.Steps.{count_beside, same_epoch, epoch_now}
+use Rattle.law_steps.specs.unit_defs.Ways.{Put, radio}
+use Rattle.law_steps.specs.transport_defs.declared.Item.{Item}
+use Rattle.law_steps.specs.transport_defs.Links.{Radio, silent, is_epoch}
+use Rattle.law_steps.specs.run_defs.Units.{Units}
+use Rattle.law_steps.specs.run_defs.States.{State, World, entity, radio_of}
+use Rattle.law_steps.specs.run_defs.Steps.{count_beside, same_epoch, epoch_now}
 use Rattle.law_steps.specs.Causes.{Cause, by_air, by_ack, by_release, node_of, count_of}
 
 pub record OnAir (P : Type 0) : Type 0 where

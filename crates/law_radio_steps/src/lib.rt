@@ -5,11 +5,11 @@ ghost use Rattle.gnb_types.specs.declared.keys.EntityKey.{EntityKey};
 ghost use Rattle.gnb_types.specs.declared.names.NodeId.{NodeId};
 ghost use Rattle.law_radio_steps.specs.Radios.{after_puts, after_step, on_air};
 ghost use Rattle.law_steps.specs.Causes.{Cause, count_of, first_of, node_of};
-ghost use Rattle.run_defs.specs.Lines.{RunLine};
-ghost use Rattle.run_defs.specs.States.{State, World, goes, ◌next◌};
-ghost use Rattle.run_defs.specs.Steps.{carried_out, check_spans, put_out_all};
-ghost use Rattle.run_defs.specs.Units.{Units};
-ghost use Rattle.run_defs.specs.unit_defs.Ways.{Put};
+ghost use Rattle.law_steps.specs.run_defs.Lines.{RunLine};
+ghost use Rattle.law_steps.specs.run_defs.States.{State, World, goes, ◌next◌};
+ghost use Rattle.law_steps.specs.run_defs.Steps.{carried_out, check_spans, put_out_all};
+ghost use Rattle.law_steps.specs.run_defs.Units.{Units};
+ghost use Rattle.law_steps.specs.unit_defs.Ways.{Put};
 ghost use Rattle.std.specs.Prelude.{List, Option, ◌≡◌, ℕ};
 
 /// Whatever units answer, what stands on a radio after a step, and the epoch in which it is connected, is what was so before, with what

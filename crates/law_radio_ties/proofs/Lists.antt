@@ -2,10 +2,10 @@
 use Rattle.std.proofs.Common.{◌≡◌, ℕ, ◌+◌, ◌-◌, ◌==◌, true, false, List, [], ◌∷◌, ◌++◌, length, map, Some, refl, sym, ap, ◌∙◌, append_assoc, length-append, arith}
 use Rattle.std.specs.Prelude.{if◌then◌else◌}
 use Rattle.std.proofs.lemmas.List.{append-nil}
-use Rattle.unit_defs.specs.Ways.{Pdu, packet_pdu, report_pdu}
-use Rattle.run_defs.specs.transport_defs.Links.{Radio, silent, nth}
-use Rattle.run_defs.specs.Written.{Written}
-use Rattle.law_terminal_inputs.specs.Inputs.{packet_in, rest_of}
+use Rattle.law_run_plans.specs.unit_defs.Ways.{Pdu, packet_pdu, report_pdu}
+use Rattle.law_run_plans.specs.transport_defs.Links.{Radio, silent, nth}
+use Rattle.law_radio_steps.specs.run_defs.Written.{Written}
+use Rattle.law_terminal_radios.specs.law_terminal_inputs.Inputs.{packet_in, rest_of}
 use Rattle.law_radio_ties.specs.Radio.{OnRadio, packets_on, IsRadio}
 
 abbrev pub counts : List (ℕ × List ℕ) → List ℕ

@@ -17,24 +17,24 @@ use Rattle.tables.specs.Tables.{find}
 use Rattle.tables.proofs.TableLaws.{find-put-other}
 use Rattle.message_types.specs.declared.rrc.Token.{Token}
 use Rattle.scenario_text.specs.declared.event.Event.{Event}
-use Rattle.unit_defs.specs.Ways.{Message, Pdu, packet_pdu, report_pdu, Load, uplink, Put, control, packet, radio, deliver, dropped, held, opened, closed, failed, no}
-use Rattle.unit_defs.specs.Ue.{UeNode, new_ue}
-use Rattle.run_defs.specs.transport_defs.Links.{Radio, silent, is_epoch, nth}
-use Rattle.run_defs.specs.Lines.{RunLine}
-use Rattle.run_defs.specs.Units.{Units, ue_of}
-use Rattle.run_defs.specs.Written.{Written}
-use Rattle.run_defs.specs.States.{entity, was_attached}
-use Rattle.run_defs.specs.Steps.{epoch_now, count_beside}
-use Rattle.run_defs.specs.Runs.{Reading, plain_world}
-use Rattle.law_steps.specs.Causes.{by_order, by_tick, by_octets, by_octets_on, by_attach, by_release, by_offer, by_item, by_air, by_ack, by_letter, Stands, node_of, count_of}
-use Rattle.law_steps.proofs.Frames.{HasUnits, units_by, act_units}
+use Rattle.law_run_plans.specs.unit_defs.Ways.{Message, Pdu, packet_pdu, report_pdu, Load, uplink, Put, control, packet, radio, deliver, dropped, held, opened, closed, failed, no}
+use Rattle.law_run_plans.specs.unit_defs.Ue.{UeNode, new_ue}
+use Rattle.law_run_plans.specs.transport_defs.Links.{Radio, silent, is_epoch, nth}
+use Rattle.law_radio_steps.specs.run_defs.Lines.{RunLine}
+use Rattle.law_radio_steps.specs.run_defs.Units.{Units, ue_of}
+use Rattle.law_radio_steps.specs.run_defs.Written.{Written}
+use Rattle.law_radio_steps.specs.run_defs.States.{entity, was_attached}
+use Rattle.law_radio_steps.specs.run_defs.Steps.{epoch_now, count_beside}
+use Rattle.law_radio_steps.specs.run_defs.Runs.{Reading, plain_world}
+use Rattle.law_radio_steps.specs.law_steps.Causes.{by_order, by_tick, by_octets, by_octets_on, by_attach, by_release, by_offer, by_item, by_air, by_ack, by_letter, Stands, node_of, count_of}
+use Rattle.law_radio_steps.proofs.law_steps.Frames.{HasUnits, units_by, act_units}
 use Rattle.law_run_plans.proofs.Frames.{HasPlans, plans_by, act_plans}
 use Rattle.law_radio_steps.specs.Radios.{OnAir, on_air, lost_in, after_taking, with_item, after_puts, moved_to, followed}
 use Rattle.law_radio_steps.proofs.Tracks.{acts_so}
-use Rattle.uplink_defs.specs.Parts.{Part}
-use Rattle.uplink_defs.specs.Orders as up
+use Rattle.law_terminal_radios.specs.uplink_defs.Parts.{Part}
+use Rattle.law_terminal_radios.specs.uplink_defs.Orders as up
 use Rattle.law_du_steps.specs.Steps.{order_of}
-use Rattle.law_terminal_inputs.specs.Inputs.{Parts, packet_in, rest_of, IsShown}
+use Rattle.law_terminal_radios.specs.law_terminal_inputs.Inputs.{Parts, packet_in, rest_of, IsShown}
 use Rattle.law_radio_ties.specs.Radio.{RunState, RunCause, OnRadio, IsRadio, IsOnAir, up_key, IsAtTerminal, StandsNext, IsOff, IsOther, Leaves, IsBeside}
 use Rattle.law_radio_ties.proofs.Lists.{counts, after_carry, carried_one}
 use Rattle.law_radio_ties.proofs.Taken.{ready_is_du}

@@ -13,13 +13,13 @@ use Rattle.gnb_types.specs.declared.keys.EntityKey.{EntityKey}
 use Rattle.gnb_types.specs.Orders.{bearer_cmp, entity_cmp}
 use Rattle.gnb_types.proofs.OrderLemmas.{bearer_total, bearer_exact, entity_total, entity_exact}
 use Rattle.message_types.specs.declared.rrc.Token.{Token}
-use Rattle.unit_defs.specs.Ways.{Message, Pdu, Output, control, packet, radio, deliver, dropped, held, opened, closed, failed, no}
-use Rattle.run_defs.specs.transport_defs.Links.{is_epoch}
-use Rattle.run_defs.specs.Written.{Written, written_pdu, written_put}
-use Rattle.run_defs.specs.States.{Lengths, entity}
-use Rattle.run_defs.specs.Steps.{count_beside}
+use Rattle.law_run_plans.specs.unit_defs.Ways.{Message, Pdu, Output, control, packet, radio, deliver, dropped, held, opened, closed, failed, no}
+use Rattle.law_run_plans.specs.transport_defs.Links.{is_epoch}
+use Rattle.law_radio_steps.specs.run_defs.Written.{Written, written_pdu, written_put}
+use Rattle.law_radio_steps.specs.run_defs.States.{Lengths, entity}
+use Rattle.law_radio_steps.specs.run_defs.Steps.{count_beside}
 use Rattle.law_radio_steps.specs.Radios.{OnAir, with_item, after_puts}
-use Rattle.law_terminal_inputs.specs.Inputs.{packet_in, packets_put}
+use Rattle.law_terminal_radios.specs.law_terminal_inputs.Inputs.{packet_in, packets_put}
 use Rattle.law_terminal_radios.specs.Radios.{IsPutIn}
 use Rattle.law_radio_ties.specs.Radio.{OnRadio, packets_on, up_key}
 

@@ -15,18 +15,18 @@ use Rattle.gnb_types.specs.Orders.{bearer_cmp, entity_cmp}
 use Rattle.gnb_types.proofs.OrderLemmas.{bearer_exact, entity_exact}
 use Rattle.message_types.specs.declared.rrc.Token.{Token}
 use Rattle.scenario_text.specs.declared.event.Event.{Event}
-use Rattle.unit_defs.specs.Ways.{Message, Load, Pdu, packet_pdu, report_pdu, Input, control_input, packet_input, radio_input, confirm_input, offer_input, tick_input, order_input}
-use Rattle.unit_defs.specs.Ue.{UeNode, is_connected}
-use Rattle.run_defs.specs.transport_defs.Links.{Radio, silent}
-use Rattle.run_defs.specs.Units.{ue_of, epoch_at}
-use Rattle.run_defs.specs.Written.{Written}
-use Rattle.run_defs.specs.States.{radio_of}
-use Rattle.run_defs.specs.Conditions.{same_epoch, ready_at, ready_of, ready_home, receiver_by, sender_by}
-use Rattle.run_defs.specs.Runs.{Reading, input_of, taken_of, content_of}
-use Rattle.law_steps.specs.Causes.{by_order, by_tick, by_octets, by_octets_on, by_attach, by_release, by_offer, by_item, by_air, by_ack, by_letter, Stands, node_of, given_of}
+use Rattle.law_run_plans.specs.unit_defs.Ways.{Message, Load, Pdu, packet_pdu, report_pdu, Input, control_input, packet_input, radio_input, confirm_input, offer_input, tick_input, order_input}
+use Rattle.law_run_plans.specs.unit_defs.Ue.{UeNode, is_connected}
+use Rattle.law_run_plans.specs.transport_defs.Links.{Radio, silent}
+use Rattle.law_radio_steps.specs.run_defs.Units.{ue_of, epoch_at}
+use Rattle.law_radio_steps.specs.run_defs.Written.{Written}
+use Rattle.law_radio_steps.specs.run_defs.States.{radio_of}
+use Rattle.law_radio_steps.specs.run_defs.Conditions.{same_epoch, ready_at, ready_of, ready_home, receiver_by, sender_by}
+use Rattle.law_radio_steps.specs.run_defs.Runs.{Reading, input_of, taken_of, content_of}
+use Rattle.law_radio_steps.specs.law_steps.Causes.{by_order, by_tick, by_octets, by_octets_on, by_attach, by_release, by_offer, by_item, by_air, by_ack, by_letter, Stands, node_of, given_of}
 use Rattle.law_run_links.specs.Own.{HoldTheirOwn}
 use Rattle.law_radio_steps.specs.Radios.{OnAir, on_air, after_taking}
-use Rattle.law_terminal_inputs.specs.Inputs.{Parts, rest_of}
+use Rattle.law_terminal_radios.specs.law_terminal_inputs.Inputs.{Parts, rest_of}
 use Rattle.law_terminal_radios.specs.Radios.{unknown_after}
 use Rattle.law_radio_ties.specs.Radio.{RunState, RunCause, OnRadio, IsRadio, IsOnAir, up_key, OwedOnRadio}
 use Rattle.law_radio_ties.proofs.Lists.{after_ack, IsHead, acked_one}

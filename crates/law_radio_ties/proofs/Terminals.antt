@@ -17,26 +17,26 @@ use Rattle.tables.specs.Tables.{find}
 use Rattle.tables.proofs.TableLaws.{find-put-same}
 use Rattle.message_types.specs.declared.rrc.Token.{Token}
 use Rattle.scenario_text.specs.declared.event.Event.{Event}
-use Rattle.unit_defs.specs.declared.UeState.{UeState}
-use Rattle.unit_defs.specs.declared.UeState.TheVariants as states
-use Rattle.unit_defs.specs.Ways.{Message, Pdu, packet_content, report_content, Input, control_input, packet_input, radio_input, confirm_input, offer_input, tick_input, order_input, Output, Answer}
-use Rattle.unit_defs.specs.Ue.{UeNode, is_connected}
-use Rattle.run_defs.specs.transport_defs.Links.{silent}
-use Rattle.run_defs.specs.Lines.{RunLine}
-use Rattle.run_defs.specs.Units.{Units, ue_of, with_ue}
-use Rattle.run_defs.specs.Written.{Written, written_put}
-use Rattle.run_defs.specs.States.{sn_of}
-use Rattle.run_defs.specs.Steps.{same_epoch, is_on_air, epoch_on_air, epoch_now}
-use Rattle.run_defs.specs.Runs.{Reading, plain_world, plain_way}
-use Rattle.law_steps.specs.Causes.{by_order, by_tick, by_octets, by_octets_on, by_attach, by_release, by_offer, by_item, by_air, by_ack, by_letter, node_of, count_of}
-use Rattle.law_steps.proofs.Frames.{HasUnits, units_by, act_units}
+use Rattle.law_run_plans.specs.unit_defs.declared.UeState.{UeState}
+use Rattle.law_run_plans.specs.unit_defs.declared.UeState.TheVariants as states
+use Rattle.law_run_plans.specs.unit_defs.Ways.{Message, Pdu, packet_content, report_content, Input, control_input, packet_input, radio_input, confirm_input, offer_input, tick_input, order_input, Output, Answer}
+use Rattle.law_run_plans.specs.unit_defs.Ue.{UeNode, is_connected}
+use Rattle.law_run_plans.specs.transport_defs.Links.{silent}
+use Rattle.law_radio_steps.specs.run_defs.Lines.{RunLine}
+use Rattle.law_radio_steps.specs.run_defs.Units.{Units, ue_of, with_ue}
+use Rattle.law_radio_steps.specs.run_defs.Written.{Written, written_put}
+use Rattle.law_radio_steps.specs.run_defs.States.{sn_of}
+use Rattle.law_radio_steps.specs.run_defs.Steps.{same_epoch, is_on_air, epoch_on_air, epoch_now}
+use Rattle.law_radio_steps.specs.run_defs.Runs.{Reading, plain_world, plain_way}
+use Rattle.law_radio_steps.specs.law_steps.Causes.{by_order, by_tick, by_octets, by_octets_on, by_attach, by_release, by_offer, by_item, by_air, by_ack, by_letter, node_of, count_of}
+use Rattle.law_radio_steps.proofs.law_steps.Frames.{HasUnits, units_by, act_units}
 use Rattle.law_run_plans.proofs.Frames.{HasPlans, plans_by, act_plans}
 use Rattle.law_run_links.specs.Own.{HoldTheirOwn}
 use Rattle.law_radio_steps.specs.Radios.{OnAir, on_air, lost_in, after_taking, after_puts, moved_to, followed}
 use Rattle.law_radio_steps.proofs.Tracks.{acts_so}
-use Rattle.uplink_defs.specs.Orders.{Order, connects, leaves, arrives}
-use Rattle.law_terminal_inputs.specs.Inputs.{Parts, Orders, carried_out, rest_of, orders_by, packets_put, left_on, IsAfter, Follows}
-use Rattle.law_terminal_inputs.proofs.Kept.{input_follows}
+use Rattle.law_terminal_radios.specs.uplink_defs.Orders.{Order, connects, leaves, arrives}
+use Rattle.law_terminal_radios.specs.law_terminal_inputs.Inputs.{Parts, Orders, carried_out, rest_of, orders_by, packets_put, left_on, IsAfter, Follows}
+use Rattle.law_terminal_radios.proofs.law_terminal_inputs.Kept.{input_follows}
 use Rattle.law_terminal_radios.specs.Radios.{IsOfTerminal, clears, unknown_after, is_on_radio, IsPutIn, IsMoved, IsHeard, Hears}
 use Rattle.law_terminal_radios.proofs.Table.{heard}
 use Rattle.law_radio_ties.specs.Radio.{RunState, RunCause, OnRadio, packets_on, IsRadio, IsOnAir, up_key, IsAtTerminal, IsUeStep, OwedOnRadio}

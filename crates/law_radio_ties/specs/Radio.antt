@@ -12,20 +12,20 @@ use Rattle.gnb_types.specs.declared.keys.EntityKey.{EntityKey}
 use Rattle.gnb_types.specs.Orders.{ue_cmp, bearer_cmp, entity_cmp}
 use Rattle.message_types.specs.declared.rrc.Token.{Token}
 use Rattle.scenario_text.specs.declared.event.Event.{Event}
-use Rattle.unit_defs.specs.Ways.{Message, Pdu, packet_pdu, report_pdu, packet_content, Load, Input, confirm_input, Put, Output, radio, gives}
-use Rattle.unit_defs.specs.Ue.{UeNode, ue_acts}
-use Rattle.run_defs.specs.transport_defs.declared.Item.{Item}
-use Rattle.run_defs.specs.transport_defs.Links.{Radio, silent}
-use Rattle.run_defs.specs.Lines.{RunLine}
-use Rattle.run_defs.specs.Units.{Units, ue_of, with_ue}
-use Rattle.run_defs.specs.Written.{Written, written_put}
-use Rattle.run_defs.specs.States.{State, entity, sn_of, was_attached, goes}
-use Rattle.run_defs.specs.Steps.{carried_out, epoch_on_air}
-use Rattle.run_defs.specs.Runs.{Reading, plain_world, plain_way, input_of}
-use Rattle.law_steps.specs.Causes.{Cause, by_attach, by_release, by_air, by_ack, Stands, node_of, given_of, count_of, first_of}
+use Rattle.law_run_plans.specs.unit_defs.Ways.{Message, Pdu, packet_pdu, report_pdu, packet_content, Load, Input, confirm_input, Put, Output, radio, gives}
+use Rattle.law_run_plans.specs.unit_defs.Ue.{UeNode, ue_acts}
+use Rattle.law_run_plans.specs.transport_defs.declared.Item.{Item}
+use Rattle.law_run_plans.specs.transport_defs.Links.{Radio, silent}
+use Rattle.law_radio_steps.specs.run_defs.Lines.{RunLine}
+use Rattle.law_radio_steps.specs.run_defs.Units.{Units, ue_of, with_ue}
+use Rattle.law_radio_steps.specs.run_defs.Written.{Written, written_put}
+use Rattle.law_radio_steps.specs.run_defs.States.{State, entity, sn_of, was_attached, goes}
+use Rattle.law_radio_steps.specs.run_defs.Steps.{carried_out, epoch_on_air}
+use Rattle.law_radio_steps.specs.run_defs.Runs.{Reading, plain_world, plain_way, input_of}
+use Rattle.law_radio_steps.specs.law_steps.Causes.{Cause, by_attach, by_release, by_air, by_ack, Stands, node_of, given_of, count_of, first_of}
 use Rattle.law_radio_steps.specs.Radios.{OnAir, on_air}
-use Rattle.uplink_defs.specs.Parts.{Part}
-use Rattle.law_terminal_inputs.specs.Inputs.{Parts, IsShown, packet_in, rest_of}
+use Rattle.law_terminal_radios.specs.uplink_defs.Parts.{Part}
+use Rattle.law_terminal_radios.specs.law_terminal_inputs.Inputs.{Parts, IsShown, packet_in, rest_of}
 
 abbrev pub RunState : Type 0
 RunState = State (Message Token) Token (Written (Load Pdu)) (Written Pdu)

@@ -10,17 +10,17 @@ ghost use Rattle.law_radio_ties.specs.Radio.{IsAtTerminal, IsBeside, IsUeStep, L
 ghost use Rattle.law_radio_ties.specs.Radio.{OnRadio, OwedOnRadio, RunCause, RunState};
 ghost use Rattle.law_radio_ties.specs.Radio.{StandsNext, up_key};
 ghost use Rattle.law_run_links.specs.Own.{HoldTheirOwn};
-ghost use Rattle.law_steps.specs.Causes.{by_air, Stands};
-ghost use Rattle.law_terminal_inputs.specs.Inputs.{carried_out, orders_by, Parts};
+ghost use Rattle.law_radio_steps.specs.law_steps.Causes.{by_air, Stands};
+ghost use Rattle.law_terminal_radios.specs.law_terminal_inputs.Inputs.{carried_out, orders_by, Parts};
 ghost use Rattle.message_types.specs.declared.rrc.Token.{Token};
-ghost use Rattle.run_defs.specs.Runs.{plain_way, Reading};
-ghost use Rattle.run_defs.specs.Units.{Units};
-ghost use Rattle.run_defs.specs.Written.{Written};
+ghost use Rattle.law_radio_steps.specs.run_defs.Runs.{plain_way, Reading};
+ghost use Rattle.law_radio_steps.specs.run_defs.Units.{Units};
+ghost use Rattle.law_radio_steps.specs.run_defs.Written.{Written};
 ghost use Rattle.scenario_text.specs.declared.event.Event.{Event};
 ghost use Rattle.std.specs.Prelude.{List, Option, ℕ};
-ghost use Rattle.unit_defs.specs.Ue.{UeNode};
-ghost use Rattle.unit_defs.specs.Ways.{Input, Load, Message, Output, Pdu, Put, uplink};
-ghost use Rattle.uplink_defs.specs.Orders.{run};
+ghost use Rattle.law_run_plans.specs.unit_defs.Ue.{UeNode};
+ghost use Rattle.law_run_plans.specs.unit_defs.Ways.{Input, Load, Message, Output, Pdu, Put, uplink};
+ghost use Rattle.law_terminal_radios.specs.uplink_defs.Orders.{run};
 
 /// Where a terminal shows a bearer's parts, and what stands on its radio up is the two lists of the part, it does so after each step of
 /// its own, whatever it is given: what is put comes to the list, and all of it is gone, where it leaves its radio. What is confirmed to it

@@ -11,8 +11,8 @@ ghost use Rattle.message_defs.specs.E1.{heard_e1};
 ghost use Rattle.unit_octet_defs.specs.Codec.{Codec};
 ghost use Rattle.codec_defs.specs.Reading.{ReadsItems, ReadsPdus};
 ghost use Rattle.codec_range_defs.specs.Ranges.{IsE1InRange, ReadsInRange};
-ghost use Rattle.message_codec_defs.specs.Codecs.{read_between, profile_codec};
-ghost use Rattle.message_codec_defs.specs.OctetCodecs.{SaysInOctets, ReadsOctets};
+ghost use Rattle.message_proof_codec.specs.message_codec_defs.Codecs.{read_between, profile_codec};
+ghost use Rattle.message_proof_codec.specs.message_codec_defs.OctetCodecs.{SaysInOctets, ReadsOctets};
 ghost use Rattle.law_read_ranges.specs.SameMessages.{HasMessagesOf};
 
 /// A message that is heard in a value of E1AP-PDU, and so one that octets say, has 1 to 8 bearers, a quota of 4 to 4,096 packets, and at

@@ -7,9 +7,9 @@ use Rattle.std.specs.Ordering.{nat_cmp, match_ordering, MatchOrdering}
 use Rattle.std.specs.Cmp.{ranks}
 use Rattle.std.specs.BTreeMap.{insert_entry}
 use Rattle.std.specs.List.{AllByRecursion}
-use Rattle.tables.specs.Tables.{put}
-use Rattle.pdcp_defs.specs.Receivers.{Receiver, with_packet, deliver_from, deliver}
-use Rattle.unit_defs.specs.UpRecords.{UpFlags}
+use Rattle.law_answers.specs.tables.Tables.{put}
+use Rattle.law_answers.specs.pdcp_defs.Receivers.{Receiver, with_packet, deliver_from, deliver}
+use Rattle.law_answers.specs.unit_defs.UpRecords.{UpFlags}
 use Rattle.law_receivers.specs.Ready.{Ascends, StoresAbove, UpStores}
 
 abbrev Store : Type 0

@@ -11,16 +11,16 @@ use Rattle.gnb_types.specs.declared.reasons.DropReason.TheVariants.{Stale, Dupli
 use Rattle.gnb_types.specs.declared.reasons.HeldReason.TheVariants.{Ahead}
 use Rattle.gnb_types.specs.declared.reasons.RefuseReason.TheVariants.{NotAccessing, Busy, NoRadio, Size, Quota}
 use Rattle.gnb_types.specs.Orders.{bearer_cmp}
-use Rattle.tables.specs.Tables.{find}
-use Rattle.message_types.specs.declared.rrc.Token.{Token}
-use Rattle.message_types.specs.declared.rrc.Token.TheVariants as tokens
-use Rattle.pdcp.specs.Near.{last_count}
-use Rattle.pdcp_defs.specs.Senders.{numbered, has_room, confirmed_to, confirmed_by}
-use Rattle.pdcp_defs.specs.Receivers.{is_duplicate, is_ahead, stored, deliver as handed_up, received_bits}
-use Rattle.unit_defs.specs.declared.UeState.{UeState}
-use Rattle.unit_defs.specs.declared.UeState.TheVariants as states
-use Rattle.unit_defs.specs.Ways.{Message, rrc, report_pdu, Content, packet_content, report_content, Input, control_input, radio_input, confirm_input, offer_input, tick_input, order_input, held, no, Way, Answer, gives, spent, ◌then◌, nothing, puts, drops, counts_spent, epochs_spent}
-use Rattle.unit_defs.specs.Ue.{UeBearer, UeNode, new_bearers, last_epoch, largest_packet, is_connected, is_accessing, may_return, on_air, data_output, unconfirmed_outputs, number_each, number_waiting, connect_bearer, with_bearer, with_bearers, connect_each, connect, of_bearer, at_bearer, says_it, may_obey, obey, arrived, arrive, returned, return_to, come_back, accepted_in, accept, fail, used_uplink, offered, offer, handed, took, take, confirmed, confirm, told, told_by, ue_acts}
+use Rattle.law_answers.specs.tables.Tables.{find}
+use Rattle.law_answers.specs.message_types.declared.rrc.Token.{Token}
+use Rattle.law_answers.specs.message_types.declared.rrc.Token.TheVariants as tokens
+use Rattle.law_answers.specs.pdcp.Near.{last_count}
+use Rattle.law_answers.specs.pdcp_defs.Senders.{numbered, has_room, confirmed_to, confirmed_by}
+use Rattle.law_answers.specs.pdcp_defs.Receivers.{is_duplicate, is_ahead, stored, deliver as handed_up, received_bits}
+use Rattle.law_answers.specs.unit_defs.declared.UeState.{UeState}
+use Rattle.law_answers.specs.unit_defs.declared.UeState.TheVariants as states
+use Rattle.law_answers.specs.unit_defs.Ways.{Message, rrc, report_pdu, Content, packet_content, report_content, Input, control_input, radio_input, confirm_input, offer_input, tick_input, order_input, held, no, Way, Answer, gives, spent, ◌then◌, nothing, puts, drops, counts_spent, epochs_spent}
+use Rattle.law_answers.specs.unit_defs.Ue.{UeBearer, UeNode, new_bearers, last_epoch, largest_packet, is_connected, is_accessing, may_return, on_air, data_output, unconfirmed_outputs, number_each, number_waiting, connect_bearer, with_bearer, with_bearers, connect_each, connect, of_bearer, at_bearer, says_it, may_obey, obey, arrived, arrive, returned, return_to, come_back, accepted_in, accept, fail, used_uplink, offered, offer, handed, took, take, confirmed, confirm, told, told_by, ue_acts}
 use Rattle.law_answers.specs.After.{HoldsAfter}
 use Rattle.law_answers.proofs.Answers.{holds_if, holds_then}
 use Rattle.law_receivers.specs.Ready.{Ascends, StoresAbove, UeReady}

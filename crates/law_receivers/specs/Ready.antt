@@ -4,10 +4,10 @@ use Rattle.std.specs.List.{AllByRecursion}
 use Rattle.gnb_types.specs.declared.names.UeId.{UeId}
 use Rattle.gnb_types.specs.declared.names.BearerId.{BearerId}
 use Rattle.gnb_types.specs.Orders.{ue_cmp}
-use Rattle.tables.specs.Tables.{find}
-use Rattle.pdcp_defs.specs.Receivers.{Receiver}
-use Rattle.unit_defs.specs.UpRecords.{UpBearer, UpFlags, UpContext, CuUp}
-use Rattle.unit_defs.specs.Ue.{UeBearer, UeNode}
+use Rattle.law_answers.specs.tables.Tables.{find}
+use Rattle.law_answers.specs.pdcp_defs.Receivers.{Receiver}
+use Rattle.law_answers.specs.unit_defs.UpRecords.{UpBearer, UpFlags, UpContext, CuUp}
+use Rattle.law_answers.specs.unit_defs.Ue.{UeBearer, UeNode}
 
 -- COUNTs from this one on, ascending
 abbrev pub Ascends : ℕ → List (ℕ × List ℕ) → Type 0

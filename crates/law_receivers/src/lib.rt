@@ -8,11 +8,11 @@ ghost use Rattle.law_answers.specs.After.{HoldsAfter};
 ghost use Rattle.law_receivers.specs.Ready.{UeReady, UpReady};
 ghost use Rattle.std.specs.List.{AllByRecursion};
 ghost use Rattle.std.specs.Prelude.{false, List, Some, ℕ, ◌+◌, ◌≡◌, ◌≤◌};
-ghost use Rattle.tables.specs.Tables.{find};
-ghost use Rattle.unit_defs.specs.CuUp.{cu_up_acts};
-ghost use Rattle.unit_defs.specs.Ue.{ue_acts, UeBearer, UeNode};
-ghost use Rattle.unit_defs.specs.UpRecords.{CuUp, UpBearer, UpContext};
-ghost use Rattle.unit_defs.specs.Ways.{Input, Way};
+ghost use Rattle.law_answers.specs.tables.Tables.{find};
+ghost use Rattle.law_answers.specs.unit_defs.CuUp.{cu_up_acts};
+ghost use Rattle.law_answers.specs.unit_defs.Ue.{ue_acts, UeBearer, UeNode};
+ghost use Rattle.law_answers.specs.unit_defs.UpRecords.{CuUp, UpBearer, UpContext};
+ghost use Rattle.law_answers.specs.unit_defs.Ways.{Input, Way};
 
 /// A CU-UP at which nothing is stored but above what is awaited, while a context isn't frozen, is such a one after any input; so a
 /// bearer of a context that isn't frozen stores nothing up to the COUNT that it awaits.

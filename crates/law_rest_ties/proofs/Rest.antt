@@ -29,27 +29,27 @@ use Rattle.law_steps.specs.Reached.{reached}
 use Rattle.law_steps.proofs.Frames.{HasUnits, units_by, act_units, made_relates}
 use Rattle.law_teids.specs.Given.{GiveOnce}
 use Rattle.law_teids.proofs.Runs.{give_same, give_then, placed_gives, answer_gives, given_once}
-use Rattle.law_open_tunnels.proofs.Links.{end_of, same_end, differs}
+use Rattle.law_tied_runs.proofs.law_open_tunnels.Links.{end_of, same_end, differs}
 use Rattle.law_tunnel_steps.specs.Standing.{standing, is_end, after_put, after_puts}
 use Rattle.law_tunnel_steps.proofs.Tracks.{acts_so}
 use Rattle.law_tunnel_names.specs.Names.{by_book}
 use Rattle.law_unit_tunnels.specs.Units.{NoneIsFree}
-use Rattle.law_tunnel_book.specs.Book.{book_of}
-use Rattle.law_tunnel_book.proofs.Books.{holds_own}
-use Rattle.law_own_events.specs.law_run_facts.Facts.{Hold, PutFits, PutsFit}
-use Rattle.law_own_events.specs.Passed.{Passes, not_yet, further}
-use Rattle.law_own_events.specs.law_own_steps.Own.{IsActed}
-use Rattle.law_own_events.proofs.law_run_facts.Steps.{taken_has}
-use Rattle.law_own_events.proofs.law_run_facts.Later.{made_later, facts_hold_to}
-use Rattle.law_own_events.proofs.law_run_tunnels.Held.{Later}
-use Rattle.law_own_events.proofs.law_run_tunnels.Runs.{Named, kept, first}
-use Rattle.law_own_events.proofs.Passed.{sound_past}
-use Rattle.law_tie_facts.specs.Ties.{RunState, RunItem, Owned, owned_on, owned_at}
-use Rattle.law_tie_facts.specs.Asked.{RunCause}
-use Rattle.law_run_bearers.specs.Things.{PlainUnits}
-use Rattle.law_run_bearers.specs.Bearers.{Numbering}
-use Rattle.law_put_ties.proofs.Apart.{on_same, contexts_same}
-use Rattle.law_put_ties.proofs.Stands.{takes_none, ups_stay}
+use Rattle.law_tied_runs.specs.law_tunnel_book.Book.{book_of}
+use Rattle.law_tied_runs.proofs.law_tunnel_book.Books.{holds_own}
+use Rattle.law_tied_runs.specs.law_run_facts.Facts.{Hold, PutFits, PutsFit}
+use Rattle.law_tied_runs.specs.law_own_events.Passed.{Passes, not_yet, further}
+use Rattle.law_tied_runs.specs.law_own_steps.Own.{IsActed}
+use Rattle.law_tied_runs.proofs.law_run_facts.Steps.{taken_has}
+use Rattle.law_tied_runs.proofs.law_run_facts.Later.{made_later, facts_hold_to}
+use Rattle.law_tied_runs.proofs.law_run_tunnels.Held.{Later}
+use Rattle.law_tied_runs.proofs.law_run_tunnels.Runs.{Named, kept, first}
+use Rattle.law_tied_runs.proofs.law_own_events.Passed.{sound_past}
+use Rattle.law_tied_runs.specs.law_tie_facts.Ties.{RunState, RunItem, Owned, owned_on, owned_at}
+use Rattle.law_tied_runs.specs.law_tie_facts.Asked.{RunCause}
+use Rattle.law_tied_runs.specs.law_run_bearers.Things.{PlainUnits}
+use Rattle.law_tied_runs.specs.law_run_bearers.Bearers.{Numbering}
+use Rattle.law_tied_runs.proofs.law_put_ties.Apart.{on_same, contexts_same}
+use Rattle.law_tied_runs.proofs.law_put_ties.Stands.{takes_none, ups_stay}
 use Rattle.law_tied_runs.specs.Steps.{IsPassed, IsLeft}
 use Rattle.law_rest_ties.specs.Nodes.{PutsNoItem}
 

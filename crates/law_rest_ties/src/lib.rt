@@ -3,13 +3,13 @@
 
 ghost use Rattle.gnb_types.specs.declared.names.BearerId.{BearerId};
 ghost use Rattle.gnb_types.specs.declared.names.UeId.{UeId};
-ghost use Rattle.law_own_events.specs.law_own_steps.Own.{IsActed};
+ghost use Rattle.law_tied_runs.specs.law_own_steps.Own.{IsActed};
 ghost use Rattle.law_rest_ties.specs.Nodes.{PutsNoItem};
-ghost use Rattle.law_run_bearers.specs.Bearers.{Numbering};
-ghost use Rattle.law_run_bearers.specs.Things.{PlainUnits};
+ghost use Rattle.law_tied_runs.specs.law_run_bearers.Bearers.{Numbering};
+ghost use Rattle.law_tied_runs.specs.law_run_bearers.Things.{PlainUnits};
 ghost use Rattle.law_steps.specs.Causes.{count_of, first_of, node_of};
-ghost use Rattle.law_tie_facts.specs.Asked.{RunCause};
-ghost use Rattle.law_tie_facts.specs.Ties.{RunState};
+ghost use Rattle.law_tied_runs.specs.law_tie_facts.Asked.{RunCause};
+ghost use Rattle.law_tied_runs.specs.law_tie_facts.Ties.{RunState};
 ghost use Rattle.law_tied_runs.specs.Steps.{IsLeft, IsPassed};
 ghost use Rattle.message_types.specs.declared.rrc.Token.{Token};
 ghost use Rattle.run_defs.specs.Lines.{RunLine};

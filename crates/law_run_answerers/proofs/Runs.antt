@@ -30,10 +30,10 @@ use Rattle.unit_defs.specs.CpRecords.{CpTerminal, CuCpRecord}
 use Rattle.unit_defs.specs.CuCp.{cu_cp_acts}
 use Rattle.unit_defs.specs.Core.{CorePath, CoreRecord}
 use Rattle.unit_defs.specs.Static.{with_downlinks, up_context, up_placed, uplinks_from, du_context, du_placed, cp_context, cp_placed}
-use Rattle.run_defs.specs.Written.{Written}
-use Rattle.run_defs.specs.States.{State, new_state}
-use Rattle.run_defs.specs.Runs.{Reading, plain_way, plain_world}
-use Rattle.law_steps.specs.Reached.{reached}
+use Rattle.law_run_facts.specs.run_defs.Written.{Written}
+use Rattle.law_run_facts.specs.run_defs.States.{State, new_state}
+use Rattle.law_run_facts.specs.run_defs.Runs.{Reading, plain_way, plain_world}
+use Rattle.law_run_facts.specs.law_steps.Reached.{reached}
 use Rattle.law_run_facts.specs.Facts.{PutFits, PutsFit}
 use Rattle.law_run_facts.specs.UnitFacts.{UnitFacts, as_facts, InputFits, AnswerFits, UnitsKeep}
 use Rattle.law_run_facts.proofs.Plain.{plain_run_holds}

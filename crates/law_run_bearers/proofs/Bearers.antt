@@ -10,24 +10,24 @@ use Rattle.gnb_types.specs.declared.names.BearerId.{BearerId}
 use Rattle.gnb_types.specs.declared.plans.Plan.{Plan}
 use Rattle.gnb_types.specs.Orders.{node_cmp}
 use Rattle.gnb_types.proofs.OrderLemmas.{node_total, node_exact}
-use Rattle.message_types.specs.declared.rrc.Token.{Token}
+use Rattle.law_context_stands.specs.message_types.declared.rrc.Token.{Token}
 use Rattle.tables.specs.Tables.{at}
 use Rattle.tables.proofs.TableLaws.{at-put}
-use Rattle.unit_defs.specs.Ways.{Message, Pdu, Input, Output, Answer, gives, spent, with_outputs, ◌then◌}
-use Rattle.unit_defs.specs.Ue.{UeNode}
-use Rattle.unit_defs.specs.CpRecords.{CuCpRecord}
-use Rattle.unit_defs.specs.CuUp.{new_cu_up, cu_up_acts}
-use Rattle.unit_defs.specs.CuCp.{cu_cp_acts}
-use Rattle.run_defs.specs.Units.{cp_of, with_cp, up_of, with_up, ue_of}
-use Rattle.run_defs.specs.Conditions.{units_placed, all_set_up}
-use Rattle.run_defs.specs.Runs.{Plain, plain_way}
-use Rattle.chain_defs.specs.Parts.{set}
-use Rattle.law_answers.specs.After.{HoldsAfter}
-use Rattle.law_tunnel_frames.specs.OneTunnel.{BearersInOrder}
-use Rattle.law_context_orders.specs.Orders.{UpPart, part_of, UpOrder, carried_out, carried}
-use Rattle.law_context_orders.specs.Inputs.{orders_of}
-use Rattle.law_context_orders.specs.Shown.{Comes, Follows}
-use Rattle.law_context_rows.proofs.Rows.{all_does, follows, stays_in_order}
+use Rattle.law_context_stands.specs.unit_defs.Ways.{Message, Pdu, Input, Output, Answer, gives, spent, with_outputs, ◌then◌}
+use Rattle.law_context_stands.specs.unit_defs.Ue.{UeNode}
+use Rattle.law_context_stands.specs.unit_defs.CpRecords.{CuCpRecord}
+use Rattle.law_context_stands.specs.unit_defs.CuUp.{new_cu_up, cu_up_acts}
+use Rattle.law_context_stands.specs.unit_defs.CuCp.{cu_cp_acts}
+use Rattle.law_run_units.specs.run_defs.Units.{cp_of, with_cp, up_of, with_up, ue_of}
+use Rattle.law_run_units.specs.run_defs.Conditions.{units_placed, all_set_up}
+use Rattle.law_run_units.specs.run_defs.Runs.{Plain, plain_way}
+use Rattle.law_run_units.specs.chain_defs.Parts.{set}
+use Rattle.law_context_stands.specs.law_answers.After.{HoldsAfter}
+use Rattle.law_context_stands.specs.law_tunnel_frames.OneTunnel.{BearersInOrder}
+use Rattle.law_context_stands.specs.law_context_orders.Orders.{UpPart, part_of, UpOrder, carried_out, carried}
+use Rattle.law_context_stands.specs.law_context_orders.Inputs.{orders_of}
+use Rattle.law_context_stands.specs.law_context_orders.Shown.{Comes, Follows}
+use Rattle.law_context_stands.proofs.law_context_rows.Rows.{all_does, follows, stays_in_order}
 use Rattle.law_context_stands.specs.Stands.{IsSame}
 use Rattle.law_context_stands.specs.Holds.{IsSameAfter}
 use Rattle.law_context_stands.proofs.Holds.{stays_same}

@@ -3,21 +3,21 @@ use Rattle.std.proofs.Common.{◌≡◌, ℕ, List, [], ◌∷◌, ◌++◌, Opt
 use Rattle.gnb_types.specs.declared.names.Gnb.{Gnb}
 use Rattle.gnb_types.specs.declared.names.NodeId.{NodeId}
 use Rattle.gnb_types.specs.declared.names.NodeId.TheVariants.{CuCp, CuUp as up_id, Du as du_id, Core, Ue}
-use Rattle.message_types.specs.declared.rrc.Token.{Token}
-use Rattle.scenario_text.specs.declared.event.Event.{Event}
-use Rattle.unit_defs.specs.Ways.{Message, Pdu, Load, Input, gives, spent}
-use Rattle.unit_defs.specs.Ue.{UeNode, ue_acts}
-use Rattle.unit_defs.specs.CuUp.{cu_up_acts}
-use Rattle.unit_defs.specs.UpRecords.{CuUp}
-use Rattle.unit_defs.specs.Du.{Du, du_acts}
-use Rattle.unit_defs.specs.CpRecords.{CuCpRecord}
-use Rattle.unit_defs.specs.CuCp.{cu_cp_acts}
-use Rattle.run_defs.specs.Units.{cp_of, with_cp, up_of, with_up, du_of, with_du, ue_of, with_ue}
-use Rattle.run_defs.specs.Written.{Written, PlainStepped, WrittenStepped, written_step}
-use Rattle.run_defs.specs.States.{State, stepped, step_spent, Lengths}
-use Rattle.run_defs.specs.Runs.{Reading, PlainGiven, Plain, plain_way, input_of, stepped_with, ue_stepped, acts_on, plain_by, plain_world}
-use Rattle.law_steps.specs.Reached.{reached}
-use Rattle.law_steps.proofs.Frames.{reached_relates}
+use Rattle.law_context_stands.specs.message_types.declared.rrc.Token.{Token}
+use Rattle.law_run_units.specs.scenario_text.declared.event.Event.{Event}
+use Rattle.law_context_stands.specs.unit_defs.Ways.{Message, Pdu, Load, Input, gives, spent}
+use Rattle.law_context_stands.specs.unit_defs.Ue.{UeNode, ue_acts}
+use Rattle.law_context_stands.specs.unit_defs.CuUp.{cu_up_acts}
+use Rattle.law_context_stands.specs.unit_defs.UpRecords.{CuUp}
+use Rattle.law_context_stands.specs.unit_defs.Du.{Du, du_acts}
+use Rattle.law_context_stands.specs.unit_defs.CpRecords.{CuCpRecord}
+use Rattle.law_context_stands.specs.unit_defs.CuCp.{cu_cp_acts}
+use Rattle.law_run_units.specs.run_defs.Units.{cp_of, with_cp, up_of, with_up, du_of, with_du, ue_of, with_ue}
+use Rattle.law_run_units.specs.run_defs.Written.{Written, PlainStepped, WrittenStepped, written_step}
+use Rattle.law_run_units.specs.run_defs.States.{State, stepped, step_spent, Lengths}
+use Rattle.law_run_units.specs.run_defs.Runs.{Reading, PlainGiven, Plain, plain_way, input_of, stepped_with, ue_stepped, acts_on, plain_by, plain_world}
+use Rattle.law_run_units.specs.law_steps.Reached.{reached}
+use Rattle.law_run_units.proofs.law_steps.Frames.{reached_relates}
 use Rattle.law_run_units.specs.Happenings.{kept_of}
 use Rattle.law_run_bearers.specs.Things.{Thing, comes, set_up, takes, PlainUnits, ue_after, after_thing, after_things}
 

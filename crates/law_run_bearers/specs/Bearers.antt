@@ -5,14 +5,14 @@ use Rattle.gnb_types.specs.declared.names.NodeId.{NodeId}
 use Rattle.gnb_types.specs.declared.names.NodeId.TheVariants.{CuUp as up_id}
 use Rattle.gnb_types.specs.declared.names.UeId.{UeId}
 use Rattle.gnb_types.specs.declared.names.BearerId.{BearerId}
-use Rattle.message_types.specs.declared.rrc.Token.{Token}
-use Rattle.unit_defs.specs.Ways.{Pdu, Input, gives, spent}
-use Rattle.unit_defs.specs.CuUp.{cu_up_acts}
-use Rattle.run_defs.specs.Units.{up_of}
-use Rattle.run_defs.specs.Runs.{Plain, plain_way}
-use Rattle.law_context_orders.specs.Orders.{UpPart, part_of, UpOrder}
-use Rattle.law_context_orders.specs.Inputs.{orders_of}
-use Rattle.law_tunnel_frames.specs.OneTunnel.{BearersInOrder}
+use Rattle.law_context_stands.specs.message_types.declared.rrc.Token.{Token}
+use Rattle.law_context_stands.specs.unit_defs.Ways.{Pdu, Input, gives, spent}
+use Rattle.law_context_stands.specs.unit_defs.CuUp.{cu_up_acts}
+use Rattle.law_run_units.specs.run_defs.Units.{up_of}
+use Rattle.law_run_units.specs.run_defs.Runs.{Plain, plain_way}
+use Rattle.law_context_stands.specs.law_context_orders.Orders.{UpPart, part_of, UpOrder}
+use Rattle.law_context_stands.specs.law_context_orders.Inputs.{orders_of}
+use Rattle.law_context_stands.specs.law_tunnel_frames.OneTunnel.{BearersInOrder}
 use Rattle.law_run_units.specs.Happenings.{UpRecord}
 use Rattle.law_bearer_orders.specs.Happenings.{Beside, asks, Contexts, context_after}
 use Rattle.law_run_bearers.specs.Things.{Thing, comes, set_up, takes, PlainUnits, after_thing}

@@ -3,15 +3,15 @@ use Rattle.std.specs.Prelude.{ℕ, List, [], ◌∷◌, Option, Some, None}
 use Rattle.gnb_types.specs.declared.names.NodeId.{NodeId}
 use Rattle.gnb_types.specs.declared.names.NodeId.TheVariants.{CuCp, CuUp as up_id, Du as du_id, Core, Ue}
 use Rattle.gnb_types.specs.declared.plans.Plan.{Plan}
-use Rattle.message_types.specs.declared.rrc.Token.{Token}
-use Rattle.unit_defs.specs.Ways.{Message, Pdu, Input}
-use Rattle.unit_defs.specs.Ue.{UeNode, new_ue, ue_acts}
-use Rattle.unit_defs.specs.CuUp.{cu_up_acts}
-use Rattle.unit_defs.specs.Du.{du_acts}
-use Rattle.unit_defs.specs.CuCp.{cu_cp_acts}
-use Rattle.run_defs.specs.Units.{Units, cp_of, with_cp, up_of, with_up, du_of, with_du, ue_of, with_ue}
-use Rattle.run_defs.specs.Conditions.{units_placed, all_set_up}
-use Rattle.run_defs.specs.Runs.{plain_way}
+use Rattle.law_context_stands.specs.message_types.declared.rrc.Token.{Token}
+use Rattle.law_context_stands.specs.unit_defs.Ways.{Message, Pdu, Input}
+use Rattle.law_context_stands.specs.unit_defs.Ue.{UeNode, new_ue, ue_acts}
+use Rattle.law_context_stands.specs.unit_defs.CuUp.{cu_up_acts}
+use Rattle.law_context_stands.specs.unit_defs.Du.{du_acts}
+use Rattle.law_context_stands.specs.unit_defs.CuCp.{cu_cp_acts}
+use Rattle.law_run_units.specs.run_defs.Units.{Units, cp_of, with_cp, up_of, with_up, du_of, with_du, ue_of, with_ue}
+use Rattle.law_run_units.specs.run_defs.Conditions.{units_placed, all_set_up}
+use Rattle.law_run_units.specs.run_defs.Runs.{plain_way}
 use Rattle.law_run_units.specs.Happenings.{kept_of}
 
 -- a terminal comes; one is set up without messages; a unit is given an input

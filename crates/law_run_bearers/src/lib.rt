@@ -5,13 +5,13 @@
 ghost use Rattle.std.specs.Prelude.{◌≡◌, List, Some};
 ghost use Rattle.gnb_types.specs.declared.names.BearerId.{BearerId};
 ghost use Rattle.gnb_types.specs.declared.names.UeId.{UeId};
-ghost use Rattle.message_types.specs.declared.rrc.Token.{Token};
-ghost use Rattle.scenario_text.specs.declared.event.Event.{Event};
-ghost use Rattle.unit_defs.specs.Ways.{Message, Load, Pdu};
-ghost use Rattle.run_defs.specs.Runs.{plain_world, Reading};
-ghost use Rattle.run_defs.specs.States.{State};
-ghost use Rattle.run_defs.specs.Written.{Written};
-ghost use Rattle.law_steps.specs.Reached.{reached};
+ghost use Rattle.law_context_stands.specs.message_types.declared.rrc.Token.{Token};
+ghost use Rattle.law_run_units.specs.scenario_text.declared.event.Event.{Event};
+ghost use Rattle.law_context_stands.specs.unit_defs.Ways.{Message, Load, Pdu};
+ghost use Rattle.law_run_units.specs.run_defs.Runs.{plain_world, Reading};
+ghost use Rattle.law_run_units.specs.run_defs.States.{State};
+ghost use Rattle.law_run_units.specs.run_defs.Written.{Written};
+ghost use Rattle.law_run_units.specs.law_steps.Reached.{reached};
 ghost use Rattle.law_run_bearers.specs.Things.{Thing, PlainUnits, after_things};
 ghost use Rattle.law_run_bearers.specs.Bearers.{Numbering, contexts_of, changes_over, after_changes, AllInOrder};
 

@@ -12,16 +12,16 @@ use Rattle.gnb_types.specs.declared.outputs.Tag.{Tag}
 use Rattle.gnb_types.specs.declared.outputs.Tag.TheVariants.{Absent, Own, Same}
 use Rattle.gnb_types.specs.Orders.{ue_cmp, tunnel_cmp}
 use Rattle.tables.specs.Tables.{find}
-use Rattle.unit_defs.specs.Ways.{Put, control, packet, radio, deliver, dropped, held, opened, closed, failed, no}
-use Rattle.unit_defs.specs.Ue.{new_ue}
+use Rattle.law_steps.specs.unit_defs.Ways.{Put, control, packet, radio, deliver, dropped, held, opened, closed, failed, no}
+use Rattle.law_steps.specs.unit_defs.Ue.{new_ue}
 use Rattle.transport_defs.specs.declared.Item.{Item}
 use Rattle.transport_defs.specs.declared.Letter.{Letter}
 use Rattle.transport_defs.specs.Links.{is_epoch, emptied, put_letter, landed}
-use Rattle.run_defs.specs.Lines.{RunLine, put_item, lost_items, tunnel_link, radio_link, shown}
-use Rattle.run_defs.specs.Units.{Units, with_ue}
-use Rattle.run_defs.specs.States.{State, World, Stop, goes, stops, told_before, ◌next◌, goes_on, Ending, Within, as_step, entity, radio_of, with_radio}
-use Rattle.run_defs.specs.Steps.{first_outstanding, entities_of, checked_by, check_spans, noted, count_beside, item_of, on_tunnel, put_on_tunnel, put_on_connected, put_on_radio, put_control, opens, closes, radio_lost, lose_each, lose_radios_of, lose_radios, radios_of, same_epoch, epoch_now, connect_in, reconnect, reconnect_node, put_out, put_out_all, carried_out}
-use Rattle.run_defs.specs.Events.{leaves}
+use Rattle.law_steps.specs.run_defs.Lines.{RunLine, put_item, lost_items, tunnel_link, radio_link, shown}
+use Rattle.law_steps.specs.run_defs.Units.{Units, with_ue}
+use Rattle.law_steps.specs.run_defs.States.{State, World, Stop, goes, stops, told_before, ◌next◌, goes_on, Ending, Within, as_step, entity, radio_of, with_radio}
+use Rattle.law_steps.specs.run_defs.Steps.{first_outstanding, entities_of, checked_by, check_spans, noted, count_beside, item_of, on_tunnel, put_on_tunnel, put_on_connected, put_on_radio, put_control, opens, closes, radio_lost, lose_each, lose_radios_of, lose_radios, radios_of, same_epoch, epoch_now, connect_in, reconnect, reconnect_node, put_out, put_out_all, carried_out}
+use Rattle.law_steps.specs.run_defs.Events.{leaves}
 use Rattle.law_steps.specs.Causes.{Cause, by_order, by_tick, by_octets, by_octets_on, by_attach, by_release, by_offer, by_item, by_air, by_ack, by_letter, node_of, count_of, first_of}
 use Rattle.law_run_control.specs.Control.{Control, control_of, letter_in, letters_in, with_letters}
 

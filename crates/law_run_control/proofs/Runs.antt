@@ -13,12 +13,12 @@ use Rattle.tables.specs.Tables.{find}
 use Rattle.scenario_text.specs.declared.event.Event.{Event}
 use Rattle.transport_defs.specs.declared.Letter.{Letter}
 use Rattle.transport_defs.specs.Links.{letter, landed}
-use Rattle.run_defs.specs.Units.{up_of}
-use Rattle.run_defs.specs.States.{State, World, Given, letter_for, octets_from, goes, stops, told_before, ◌next◌, Ending, Outcome, sn_of, was_attached}
-use Rattle.run_defs.specs.Steps.{check_spans, put_out_all}
-use Rattle.run_defs.specs.Conditions.{n3_from}
-use Rattle.run_defs.specs.Events.{landed_as}
-use Rattle.run_defs.specs.Runs.{happens}
+use Rattle.law_steps.specs.run_defs.Units.{up_of}
+use Rattle.law_steps.specs.run_defs.States.{State, World, Given, letter_for, octets_from, goes, stops, told_before, ◌next◌, Ending, Outcome, sn_of, was_attached}
+use Rattle.law_steps.specs.run_defs.Steps.{check_spans, put_out_all}
+use Rattle.law_steps.specs.run_defs.Conditions.{n3_from}
+use Rattle.law_steps.specs.run_defs.Events.{landed_as}
+use Rattle.law_steps.specs.run_defs.Runs.{happens}
 use Rattle.law_steps.specs.Causes.{Cause, by_order, by_tick, by_octets, by_octets_on, by_attach, by_release, by_offer, by_item, by_air, by_ack, by_letter, node_of, given_of, Stands}
 use Rattle.law_steps.specs.Made.{Made, stays, ends, then_made, sets_up, starts, acts, holds_item, holds_pdu, offers, core_takes, core_reads, lands, loses_letter, loses_item, remarks}
 use Rattle.law_steps.specs.Reached.{reached_by, reached}

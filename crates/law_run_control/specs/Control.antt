@@ -8,14 +8,14 @@ use Rattle.gnb_types.specs.declared.plans.Plan.{Plan}
 use Rattle.gnb_types.specs.declared.plans.Tunnel.{Tunnel}
 use Rattle.gnb_types.specs.Orders.{ue_cmp}
 use Rattle.tables.specs.Tables.{put}
-use Rattle.unit_defs.specs.Ways.{Put, control}
-use Rattle.unit_defs.specs.Core.{CoreRecord}
-use Rattle.unit_defs.specs.Static.{up_has_room, up_has_teids, du_has_teids}
-use Rattle.unit_defs.specs.Ue.{new_ue}
+use Rattle.law_steps.specs.unit_defs.Ways.{Put, control}
+use Rattle.law_steps.specs.unit_defs.Core.{CoreRecord}
+use Rattle.law_steps.specs.unit_defs.Static.{up_has_room, up_has_teids, du_has_teids}
+use Rattle.law_steps.specs.unit_defs.Ue.{new_ue}
 use Rattle.transport_defs.specs.declared.Letter.{Letter}
-use Rattle.run_defs.specs.Units.{Units, up_of, du_of, with_ue}
-use Rattle.run_defs.specs.States.{State, Given, letter_for, Lengths, stepped, core_stepped, World}
-use Rattle.run_defs.specs.Conditions.{is_held_by_units, units_placed, all_set_up}
+use Rattle.law_steps.specs.run_defs.Units.{Units, up_of, du_of, with_ue}
+use Rattle.law_steps.specs.run_defs.States.{State, Given, letter_for, Lengths, stepped, core_stepped, World}
+use Rattle.law_steps.specs.run_defs.Conditions.{is_held_by_units, units_placed, all_set_up}
 
 pub record Control (M C : Type 0) : Type 0 where
   pub units : Units M C

@@ -1,9 +1,9 @@
 -- Facts of units and of the core alone, which ask nothing of what stands on links.
 use Rattle.std.proofs.Common.{ℕ, List, [], ◌∷◌, Option}
-use Rattle.gnb_types.specs.declared.names.Gnb.{Gnb}
-use Rattle.gnb_types.specs.declared.names.NodeId.{NodeId}
-use Rattle.gnb_types.specs.declared.names.UeId.{UeId}
-use Rattle.message_types.specs.declared.rrc.Token.{Token}
+use Rattle.law_answers.specs.gnb_types.declared.names.Gnb.{Gnb}
+use Rattle.law_answers.specs.gnb_types.declared.names.NodeId.{NodeId}
+use Rattle.law_answers.specs.gnb_types.declared.names.UeId.{UeId}
+use Rattle.law_answers.specs.message_types.declared.rrc.Token.{Token}
 use Rattle.law_answers.specs.unit_defs.Ways.{Message, Pdu, Load, Put, control, packet, radio, deliver, dropped, held, opened, closed, failed, no, Answer, gives, spent}
 use Rattle.law_answers.specs.unit_defs.UpRecords.{CuUp}
 use Rattle.law_answers.specs.unit_defs.Du.{Du}

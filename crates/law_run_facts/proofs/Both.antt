@@ -1,11 +1,11 @@
 -- Two facts of a run at once: where the first goes on to hold for itself, and the second where the run leads on as it does, both do. What
 -- is put has both, and so what stands on a tunnel may have a third one for it.
 use Rattle.std.proofs.Common.{ℕ, List, [], ◌∷◌, Option, None}
-use Rattle.gnb_types.specs.declared.names.NodeId.{NodeId}
-use Rattle.gnb_types.specs.declared.names.NodeId.TheVariants.{Core}
-use Rattle.gnb_types.specs.declared.keys.TunnelEnd.{TunnelEnd}
+use Rattle.law_answers.specs.gnb_types.declared.names.NodeId.{NodeId}
+use Rattle.law_answers.specs.gnb_types.declared.names.NodeId.TheVariants.{Core}
+use Rattle.law_answers.specs.gnb_types.declared.keys.TunnelEnd.{TunnelEnd}
 use Rattle.law_answers.specs.unit_defs.Ways.{Put, control, packet, radio, deliver, dropped, held, opened, closed, failed, no}
-use Rattle.transport_defs.specs.declared.Item.{Item}
+use Rattle.law_teids.specs.transport_defs.declared.Item.{Item}
 use Rattle.law_teids.specs.run_defs.Units.{Units}
 use Rattle.law_teids.specs.run_defs.States.{World, Given, letter_for, item_for, carried_for, confirmed_for, offer_for, tick_for, order_for, octets_from, octets_on}
 use Rattle.law_run_facts.specs.Facts.{Facts, PutFits, PutsFit, GivenFits, AreKept}

@@ -3,15 +3,15 @@
 use Rattle.std.proofs.Common.{ℕ, Bool, true, false, not, ◌||◌, List, [], ◌∷◌, ◌++◌, Option, Some, None}
 use Rattle.std.specs.Prelude.{if◌then◌else◌}
 use Rattle.std.specs.List.{flat_map}
-use Rattle.gnb_types.specs.declared.names.NodeId.{NodeId}
-use Rattle.gnb_types.specs.declared.keys.Channel.{Channel}
-use Rattle.gnb_types.specs.declared.reasons.DropReason.TheVariants.{Stale}
-use Rattle.message_types.specs.declared.rrc.Token.{Token}
-use Rattle.transaction_defs.specs.Callers.{is_open, is_awaited, close, Begin, begun, running, spent as begins_no_more, begin, Due}
-use Rattle.transaction_defs.specs.Callees.{Verdict, new, again, stale, verdict, taken as taken_in, kept_reply}
+use Rattle.law_answers.specs.gnb_types.declared.names.NodeId.{NodeId}
+use Rattle.law_answers.specs.gnb_types.declared.keys.Channel.{Channel}
+use Rattle.law_answers.specs.gnb_types.declared.reasons.DropReason.TheVariants.{Stale}
+use Rattle.law_answers.specs.message_types.declared.rrc.Token.{Token}
+use Rattle.law_answers.specs.transaction_defs.Callers.{is_open, is_awaited, close, Begin, begun, running, spent as begins_no_more, begin, Due}
+use Rattle.law_answers.specs.transaction_defs.Callees.{Verdict, new, again, stale, verdict, taken as taken_in, kept_reply}
 use Rattle.law_answers.specs.unit_defs.Ways.{Message, Pdu, Output, Answer, gives, spent, with_outputs, ◌then◌, nothing, drops}
 use Rattle.law_answers.specs.unit_defs.Transactions.{Transactions, Waiting, Asked, is_empty, waits_at, with_waiting, begun_as, begin_request, ask, advance_with, advance, ask_at_once, replied, replied_late, answered_again, request_by, on_request, on_reply}
-use Rattle.transport_defs.specs.declared.Letter.{Letter}
+use Rattle.law_teids.specs.transport_defs.declared.Letter.{Letter}
 use Rattle.law_teids.specs.run_defs.Runs.{plain_way}
 use Rattle.law_run_facts.specs.Facts.{PutFits, PutsFit}
 use Rattle.law_run_facts.proofs.Within.{all_both}

@@ -2,16 +2,16 @@
 use Rattle.std.proofs.Common.{◌≡◌, ◌≤◌, ℕ, ◌+◌, true, false, ◌&&◌, List, [], ◌∷◌, length, Option, Some, None, refl, sym, subst}
 use Rattle.std.proofs.lemmas.Bool.{or_parts}
 use Rattle.std.specs.Ordering.{nat_cmp}
-use Rattle.gnb_types.specs.declared.names.NodeId.{NodeId}
-use Rattle.gnb_types.specs.declared.names.NodeId.TheVariants.{Core}
-use Rattle.gnb_types.specs.declared.names.Dir.TheVariants.{Dl}
-use Rattle.gnb_types.specs.declared.keys.TunnelEnd.{TunnelEnd}
-use Rattle.gnb_types.specs.declared.plans.Plan.{Plan}
-use Rattle.scenario_text.specs.declared.event.Event.{Event}
+use Rattle.law_answers.specs.gnb_types.declared.names.NodeId.{NodeId}
+use Rattle.law_answers.specs.gnb_types.declared.names.NodeId.TheVariants.{Core}
+use Rattle.law_answers.specs.gnb_types.declared.names.Dir.TheVariants.{Dl}
+use Rattle.law_answers.specs.gnb_types.declared.keys.TunnelEnd.{TunnelEnd}
+use Rattle.law_answers.specs.gnb_types.declared.plans.Plan.{Plan}
+use Rattle.law_teids.specs.scenario_text.declared.event.Event.{Event}
 use Rattle.law_answers.specs.unit_defs.Messages.{teid_of}
 use Rattle.law_answers.specs.unit_defs.Static.{up_has_room, up_has_teids, du_has_teids}
-use Rattle.transport_defs.specs.declared.Item.{Item}
-use Rattle.transport_defs.specs.Links.{most_letters, letter, landed}
+use Rattle.law_teids.specs.transport_defs.declared.Item.{Item}
+use Rattle.law_teids.specs.transport_defs.Links.{most_letters, letter, landed}
 use Rattle.law_teids.specs.run_defs.Units.{Units, up_of, du_of}
 use Rattle.law_teids.specs.run_defs.States.{State, World, letter_for, octets_from, goes, stops, told_before, ◌next◌, Ending, Within, Outcome, as_step, entity, sn_of, was_attached}
 use Rattle.law_teids.specs.run_defs.Steps.{check_spans, put_on_tunnel, put_out_all, count_letters, carried_out}

@@ -8,3 +8,5 @@ pub mod Fits
 pub mod Tells
 pub mod Later
 pub mod Both
+pub use Rattle.law_teids.proofs.law_steps as law_steps
+pub use Rattle.law_teids.proofs as law_teids

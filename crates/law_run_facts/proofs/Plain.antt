@@ -1,13 +1,13 @@
 -- In every run of `Run` what holds of each unit, of the core, and of what stands on links goes on to hold.
 use Rattle.std.proofs.Common.{◌≡◌, ℕ, List, [], ◌∷◌, map, Option, Some, None, refl, sym, subst, arith}
-use Rattle.gnb_types.specs.declared.names.Gnb.{Gnb}
-use Rattle.gnb_types.specs.declared.names.NodeId.{NodeId}
-use Rattle.gnb_types.specs.declared.names.NodeId.TheVariants.{CuCp, CuUp as up_id, Du as du_id, Core, Ue}
-use Rattle.gnb_types.specs.declared.names.SnBits.TheVariants.{Len12}
-use Rattle.gnb_types.specs.declared.keys.EntityKey.{EntityKey}
-use Rattle.message_types.specs.declared.rrc.Token.{Token}
-use Rattle.scenario_text.specs.declared.event.Event.{Event}
-use Rattle.tables.specs.Tables.{find, at}
+use Rattle.law_answers.specs.gnb_types.declared.names.Gnb.{Gnb}
+use Rattle.law_answers.specs.gnb_types.declared.names.NodeId.{NodeId}
+use Rattle.law_answers.specs.gnb_types.declared.names.NodeId.TheVariants.{CuCp, CuUp as up_id, Du as du_id, Core, Ue}
+use Rattle.law_answers.specs.gnb_types.declared.names.SnBits.TheVariants.{Len12}
+use Rattle.law_answers.specs.gnb_types.declared.keys.EntityKey.{EntityKey}
+use Rattle.law_answers.specs.message_types.declared.rrc.Token.{Token}
+use Rattle.law_teids.specs.scenario_text.declared.event.Event.{Event}
+use Rattle.law_answers.specs.tables.Tables.{find, at}
 use Rattle.law_answers.specs.unit_defs.Ways.{Message, Pdu, Load, Put, control, packet, radio, deliver, dropped, held, opened, closed, failed, no, Input, gives, spent}
 use Rattle.law_answers.specs.unit_defs.Ue.{UeNode, new_ue, ue_acts}
 use Rattle.law_answers.specs.unit_defs.UpRecords.{CuUp}
@@ -16,7 +16,7 @@ use Rattle.law_answers.specs.unit_defs.Du.{Du, du_acts}
 use Rattle.law_answers.specs.unit_defs.CpRecords.{CuCpRecord}
 use Rattle.law_answers.specs.unit_defs.CuCp.{cu_cp_acts}
 use Rattle.law_answers.specs.unit_defs.Core.{CoreRecord, core_acts}
-use Rattle.transport_defs.specs.declared.Item.{Item}
+use Rattle.law_teids.specs.transport_defs.declared.Item.{Item}
 use Rattle.law_teids.specs.run_defs.Units.{Units, cp_of, with_cp, up_of, with_up, du_of, with_du, ue_of, with_ue}
 use Rattle.law_teids.specs.run_defs.Written.{Written, written_put, PlainStepped, WrittenStepped, WrittenCoreStepped, written_step}
 use Rattle.law_teids.specs.run_defs.States.{State, new_state, Lengths, letter_for, item_for, carried_for, confirmed_for, offer_for, tick_for, order_for, octets_from, octets_on, stepped, step_spent, core_stepped}

@@ -6,14 +6,14 @@ use Rattle.std.specs.Map.{lookup}
 use Rattle.std.specs.BTreeMap.{is_at}
 use Rattle.std.specs.List.{AllByRecursion}
 use Rattle.std.specs.Ordering.{nat_cmp}
-use Rattle.gnb_types.specs.declared.names.NodeId.{NodeId}
-use Rattle.gnb_types.specs.declared.names.UeId.{UeId}
-use Rattle.tables.specs.Tables.{find}
-use Rattle.scenario_text.specs.declared.event.Event.{Event}
+use Rattle.law_answers.specs.gnb_types.declared.names.NodeId.{NodeId}
+use Rattle.law_answers.specs.gnb_types.declared.names.UeId.{UeId}
+use Rattle.law_answers.specs.tables.Tables.{find}
+use Rattle.law_teids.specs.scenario_text.declared.event.Event.{Event}
 use Rattle.law_answers.specs.unit_defs.Ways.{Put}
-use Rattle.transport_defs.specs.declared.Item.{Item}
-use Rattle.transport_defs.specs.Links.{most_letters, letter, landed, nth}
-use Rattle.gnb_types.specs.declared.plans.Plan.{Plan}
+use Rattle.law_teids.specs.transport_defs.declared.Item.{Item}
+use Rattle.law_teids.specs.transport_defs.Links.{most_letters, letter, landed, nth}
+use Rattle.law_answers.specs.gnb_types.declared.plans.Plan.{Plan}
 use Rattle.law_answers.specs.unit_defs.Ue.{new_ue}
 use Rattle.law_teids.specs.run_defs.Units.{Units, with_ue}
 use Rattle.law_teids.specs.run_defs.States.{State, World, ◌next◌, goes_on, stepped, radio_of, sn_of}

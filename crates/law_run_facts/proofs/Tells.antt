@@ -2,19 +2,19 @@
 use Rattle.std.proofs.Common.{◌≡◌, ℕ, Bool, true, false, List, [], ◌∷◌, ◌++◌, Option, Some, None, inl, inr, refl, subst}
 use Rattle.std.specs.Prelude.{if◌then◌else◌}
 use Rattle.std.specs.List.{AllByRecursion, list_any, flat_map}
-use Rattle.gnb_types.specs.declared.names.NodeId.{NodeId}
-use Rattle.gnb_types.specs.declared.names.NodeId.TheVariants.{CuCp, CuUp, Du, Core, Ue}
-use Rattle.gnb_types.specs.declared.names.UeId.{UeId}
-use Rattle.gnb_types.specs.declared.names.Dir.TheVariants.{Dl}
-use Rattle.gnb_types.specs.declared.keys.EntityKey.{EntityKey}
-use Rattle.gnb_types.specs.declared.keys.TunnelEnd.{TunnelEnd}
-use Rattle.gnb_types.specs.Orders.{ue_cmp, tunnel_cmp}
-use Rattle.tables.specs.Tables.{find, at}
-use Rattle.scenario_text.specs.declared.event.Event.{Event}
+use Rattle.law_answers.specs.gnb_types.declared.names.NodeId.{NodeId}
+use Rattle.law_answers.specs.gnb_types.declared.names.NodeId.TheVariants.{CuCp, CuUp, Du, Core, Ue}
+use Rattle.law_answers.specs.gnb_types.declared.names.UeId.{UeId}
+use Rattle.law_answers.specs.gnb_types.declared.names.Dir.TheVariants.{Dl}
+use Rattle.law_answers.specs.gnb_types.declared.keys.EntityKey.{EntityKey}
+use Rattle.law_answers.specs.gnb_types.declared.keys.TunnelEnd.{TunnelEnd}
+use Rattle.law_answers.specs.gnb_types.Orders.{ue_cmp, tunnel_cmp}
+use Rattle.law_answers.specs.tables.Tables.{find, at}
+use Rattle.law_teids.specs.scenario_text.declared.event.Event.{Event}
 use Rattle.law_answers.specs.unit_defs.Ways.{Put, control, packet, radio, deliver, dropped, held, opened, closed, failed, no}
 use Rattle.law_answers.specs.unit_defs.Messages.{teid_of}
-use Rattle.transport_defs.specs.declared.Item.{Item}
-use Rattle.transport_defs.specs.Links.{is_epoch, emptied, letter}
+use Rattle.law_teids.specs.transport_defs.declared.Item.{Item}
+use Rattle.law_teids.specs.transport_defs.Links.{is_epoch, emptied, letter}
 use Rattle.law_teids.specs.run_defs.Lines.{RunLine, put_item, lost_items, is_quiet, is_busy, has_settled, has_not_settled, was_refused, tunnel_link, radio_link, shown}
 use Rattle.law_teids.specs.run_defs.States.{State, World, Stop, goes, stops, told_before, ◌next◌, goes_on, Within, Outcome, as_step, entity, radio_of, with_radio, sn_of, stepped, letter_for, octets_from}
 use Rattle.law_teids.specs.run_defs.Steps.{first_outstanding, entities_of, checked_by, check_spans, noted, count_beside, item_of, on_tunnel, put_on_tunnel, put_on_connected, put_on_radio, put_control, opens, closes, lost_if, radio_lost, lose_each, lose_radios_of, lose_radios, radios_of, same_epoch, epoch_now, connect_in, reconnect, reconnect_node, put_out, put_out_all, carried_out}

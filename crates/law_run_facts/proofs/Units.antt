@@ -6,17 +6,17 @@ use Rattle.std.specs.Ordering.{eq_by_cmp}
 use Rattle.std.specs.Cmp.{Equal-is}
 use Rattle.std.specs.Option.{option_map}
 use Rattle.std.specs.BTreeMap.{is_at}
-use Rattle.gnb_types.specs.declared.names.Gnb.{Gnb}
-use Rattle.gnb_types.specs.declared.names.Gnb.TheVariants.{A, B}
-use Rattle.gnb_types.specs.declared.names.UeId.{UeId}
-use Rattle.gnb_types.specs.declared.names.NodeId.{NodeId}
-use Rattle.gnb_types.specs.declared.names.NodeId.TheVariants.{CuUp as up_id, Du as du_id}
-use Rattle.gnb_types.specs.declared.plans.Plan.{Plan}
-use Rattle.gnb_types.specs.Orders.{node_cmp, ue_cmp}
-use Rattle.gnb_types.proofs.OrderLemmas.{node_total, node_exact, ue_total, ue_exact}
-use Rattle.message_types.specs.declared.rrc.Token.{Token}
-use Rattle.tables.specs.Tables.{find, at}
-use Rattle.tables.proofs.TableLaws.{at-put, find-put}
+use Rattle.law_answers.specs.gnb_types.declared.names.Gnb.{Gnb}
+use Rattle.law_answers.specs.gnb_types.declared.names.Gnb.TheVariants.{A, B}
+use Rattle.law_answers.specs.gnb_types.declared.names.UeId.{UeId}
+use Rattle.law_answers.specs.gnb_types.declared.names.NodeId.{NodeId}
+use Rattle.law_answers.specs.gnb_types.declared.names.NodeId.TheVariants.{CuUp as up_id, Du as du_id}
+use Rattle.law_answers.specs.gnb_types.declared.plans.Plan.{Plan}
+use Rattle.law_answers.specs.gnb_types.Orders.{node_cmp, ue_cmp}
+use Rattle.law_answers.proofs.gnb_types.OrderLemmas.{node_total, node_exact, ue_total, ue_exact}
+use Rattle.law_answers.specs.message_types.declared.rrc.Token.{Token}
+use Rattle.law_answers.specs.tables.Tables.{find, at}
+use Rattle.law_answers.proofs.tables.TableLaws.{at-put, find-put}
 use Rattle.law_answers.specs.unit_defs.Ways.{Message}
 use Rattle.law_answers.specs.unit_defs.CpRecords.{CuCpRecord, new_cu_cp}
 use Rattle.law_answers.specs.unit_defs.UpRecords.{CuUp}

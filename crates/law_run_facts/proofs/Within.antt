@@ -4,21 +4,21 @@ use Rattle.std.specs.Prelude.{if◌then◌else◌, unwrap_or}
 use Rattle.std.specs.List.{AllByRecursion, flat_map}
 use Rattle.std.specs.Ordering.{eq_by_cmp}
 use Rattle.std.specs.Cmp.{Equal-is}
-use Rattle.gnb_types.specs.declared.names.NodeId.{NodeId}
-use Rattle.gnb_types.specs.declared.names.NodeId.TheVariants.{CuCp, CuUp, Du, Core, Ue}
-use Rattle.gnb_types.specs.declared.names.UeId.{UeId}
-use Rattle.gnb_types.specs.declared.keys.EntityKey.{EntityKey}
-use Rattle.gnb_types.specs.declared.keys.TunnelEnd.{TunnelEnd}
-use Rattle.gnb_types.specs.declared.outputs.Tag.{Tag}
-use Rattle.gnb_types.specs.declared.outputs.Tag.TheVariants.{Absent, Own, Same}
-use Rattle.gnb_types.specs.Orders.{ue_cmp, entity_cmp, tunnel_cmp}
-use Rattle.gnb_types.proofs.OrderLemmas.{entity_total, entity_exact, tunnel_total, tunnel_exact}
-use Rattle.tables.specs.Tables.{find, put, without, at}
-use Rattle.tables.proofs.TableLaws.{find-put, find-without, at-put, at-without}
+use Rattle.law_answers.specs.gnb_types.declared.names.NodeId.{NodeId}
+use Rattle.law_answers.specs.gnb_types.declared.names.NodeId.TheVariants.{CuCp, CuUp, Du, Core, Ue}
+use Rattle.law_answers.specs.gnb_types.declared.names.UeId.{UeId}
+use Rattle.law_answers.specs.gnb_types.declared.keys.EntityKey.{EntityKey}
+use Rattle.law_answers.specs.gnb_types.declared.keys.TunnelEnd.{TunnelEnd}
+use Rattle.law_answers.specs.gnb_types.declared.outputs.Tag.{Tag}
+use Rattle.law_answers.specs.gnb_types.declared.outputs.Tag.TheVariants.{Absent, Own, Same}
+use Rattle.law_answers.specs.gnb_types.Orders.{ue_cmp, entity_cmp, tunnel_cmp}
+use Rattle.law_answers.proofs.gnb_types.OrderLemmas.{entity_total, entity_exact, tunnel_total, tunnel_exact}
+use Rattle.law_answers.specs.tables.Tables.{find, put, without, at}
+use Rattle.law_answers.proofs.tables.TableLaws.{find-put, find-without, at-put, at-without}
 use Rattle.law_answers.specs.unit_defs.Ways.{Put, control, packet, radio, deliver, dropped, held, opened, closed, failed, no}
-use Rattle.transport_defs.specs.declared.Item.{Item}
-use Rattle.transport_defs.specs.declared.Letter.{Letter}
-use Rattle.transport_defs.specs.Links.{Bag, Radio, is_epoch, emptied, most_letters, put_letter}
+use Rattle.law_teids.specs.transport_defs.declared.Item.{Item}
+use Rattle.law_teids.specs.transport_defs.declared.Letter.{Letter}
+use Rattle.law_teids.specs.transport_defs.Links.{Bag, Radio, is_epoch, emptied, most_letters, put_letter}
 use Rattle.law_teids.specs.run_defs.Lines.{RunLine, put_item, lost_items, tunnel_link, radio_link, shown}
 use Rattle.law_teids.specs.run_defs.States.{State, World, Stop, goes, stops, told_before, ◌next◌, goes_on, Ending, Within, entity, radio_of, with_radio}
 use Rattle.law_teids.specs.run_defs.Steps.{first_outstanding, entities_of, checked_by, check_spans, noted, count_beside, item_of, letter_of, with_tunnel, on_tunnel, put_on_tunnel, put_on_connected, put_on_radio, put_control, opens, closes, radio_lost, lose_each, lose_radios_of, lose_radios, radios_of, same_epoch, epoch_now, connect_in, reconnect, reconnect_node, delivered, put_out, put_out_all, count_letters}

@@ -2,25 +2,25 @@
 -- item of a tunnel and of a radio; and what is asked of units and of the core that they go on to hold.
 use Rattle.std.specs.Prelude.{ℕ, ◌≡◌, ◌≤◌, ◌+◌, true, false, ◌&&◌, List, length, Option, Some, None}
 use Rattle.std.specs.List.{AllByRecursion}
-use Rattle.gnb_types.specs.declared.names.NodeId.{NodeId}
-use Rattle.gnb_types.specs.declared.names.NodeId.TheVariants.{CuUp, Core}
-use Rattle.gnb_types.specs.declared.names.UeId.{UeId}
-use Rattle.gnb_types.specs.declared.names.BearerId.{BearerId}
-use Rattle.gnb_types.specs.declared.names.Dir.TheVariants.{Dl}
-use Rattle.gnb_types.specs.declared.keys.TunnelEnd.{TunnelEnd}
-use Rattle.gnb_types.specs.declared.keys.EntityKey.{EntityKey}
-use Rattle.gnb_types.specs.declared.plans.Plan.{Plan}
-use Rattle.gnb_types.specs.declared.plans.Tunnel.{Tunnel}
-use Rattle.gnb_types.specs.Orders.{ue_cmp, tunnel_cmp}
-use Rattle.tables.specs.Tables.{find, put}
+use Rattle.law_answers.specs.gnb_types.declared.names.NodeId.{NodeId}
+use Rattle.law_answers.specs.gnb_types.declared.names.NodeId.TheVariants.{CuUp, Core}
+use Rattle.law_answers.specs.gnb_types.declared.names.UeId.{UeId}
+use Rattle.law_answers.specs.gnb_types.declared.names.BearerId.{BearerId}
+use Rattle.law_answers.specs.gnb_types.declared.names.Dir.TheVariants.{Dl}
+use Rattle.law_answers.specs.gnb_types.declared.keys.TunnelEnd.{TunnelEnd}
+use Rattle.law_answers.specs.gnb_types.declared.keys.EntityKey.{EntityKey}
+use Rattle.law_answers.specs.gnb_types.declared.plans.Plan.{Plan}
+use Rattle.law_answers.specs.gnb_types.declared.plans.Tunnel.{Tunnel}
+use Rattle.law_answers.specs.gnb_types.Orders.{ue_cmp, tunnel_cmp}
+use Rattle.law_answers.specs.tables.Tables.{find, put}
 use Rattle.law_answers.specs.unit_defs.Ways.{Put, control, packet, radio}
 use Rattle.law_answers.specs.unit_defs.Messages.{teid_of}
 use Rattle.law_answers.specs.unit_defs.Core.{CorePath, CoreRecord}
 use Rattle.law_answers.specs.unit_defs.Static.{up_has_room, up_has_teids, du_has_teids}
 use Rattle.law_answers.specs.unit_defs.Ue.{new_ue}
-use Rattle.transport_defs.specs.declared.Item.{Item}
-use Rattle.transport_defs.specs.declared.Letter.{Letter}
-use Rattle.transport_defs.specs.Links.{most_letters}
+use Rattle.law_teids.specs.transport_defs.declared.Item.{Item}
+use Rattle.law_teids.specs.transport_defs.declared.Letter.{Letter}
+use Rattle.law_teids.specs.transport_defs.Links.{most_letters}
 use Rattle.law_teids.specs.run_defs.Units.{Units, up_of, du_of, with_ue}
 use Rattle.law_teids.specs.run_defs.States.{State, Given, letter_for, item_for, carried_for, confirmed_for, octets_from, Lengths, stepped, core_stepped, World, entity, radio_of}
 use Rattle.law_teids.specs.run_defs.Steps.{count_beside, count_letters}

@@ -1,14 +1,14 @@
 -- What is asked of units and of the core where only some of what they may answer leads on: to units from which the run goes on as it
 -- does. So a fact may speak of the units that a run ends with.
 use Rattle.std.specs.Prelude.{ℕ, ◌≡◌, true, false, ◌&&◌, List, Option, Some, None}
-use Rattle.gnb_types.specs.declared.names.NodeId.{NodeId}
-use Rattle.gnb_types.specs.declared.names.NodeId.TheVariants.{CuUp, Core}
-use Rattle.gnb_types.specs.declared.names.UeId.{UeId}
-use Rattle.gnb_types.specs.declared.names.BearerId.{BearerId}
-use Rattle.gnb_types.specs.declared.names.Dir.TheVariants.{Dl}
-use Rattle.gnb_types.specs.declared.plans.Plan.{Plan}
-use Rattle.gnb_types.specs.Orders.{ue_cmp}
-use Rattle.tables.specs.Tables.{find, put}
+use Rattle.law_answers.specs.gnb_types.declared.names.NodeId.{NodeId}
+use Rattle.law_answers.specs.gnb_types.declared.names.NodeId.TheVariants.{CuUp, Core}
+use Rattle.law_answers.specs.gnb_types.declared.names.UeId.{UeId}
+use Rattle.law_answers.specs.gnb_types.declared.names.BearerId.{BearerId}
+use Rattle.law_answers.specs.gnb_types.declared.names.Dir.TheVariants.{Dl}
+use Rattle.law_answers.specs.gnb_types.declared.plans.Plan.{Plan}
+use Rattle.law_answers.specs.gnb_types.Orders.{ue_cmp}
+use Rattle.law_answers.specs.tables.Tables.{find, put}
 use Rattle.law_answers.specs.unit_defs.Ways.{Put}
 use Rattle.law_answers.specs.unit_defs.Messages.{teid_of}
 use Rattle.law_answers.specs.unit_defs.Core.{CorePath, CoreRecord}

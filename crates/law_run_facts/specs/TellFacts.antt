@@ -1,11 +1,11 @@
 -- What the lines of a step tell of what was put: an item of a tunnel or of a radio with its fact, and a control message of the acting node.
 use Rattle.std.specs.Prelude.{ℕ, ◌≡◌, false, List, Option, Some, None, ◌⊎◌}
 use Rattle.std.specs.List.{AllByRecursion, list_any}
-use Rattle.gnb_types.specs.declared.names.NodeId.{NodeId}
-use Rattle.gnb_types.specs.declared.keys.TunnelEnd.{TunnelEnd}
-use Rattle.transport_defs.specs.declared.Item.{Item}
-use Rattle.scenario_text.specs.declared.line.Link.{Link}
-use Rattle.scenario_text.specs.declared.line.Item.{Item as ShownItem}
+use Rattle.law_answers.specs.gnb_types.declared.names.NodeId.{NodeId}
+use Rattle.law_answers.specs.gnb_types.declared.keys.TunnelEnd.{TunnelEnd}
+use Rattle.law_teids.specs.transport_defs.declared.Item.{Item}
+use Rattle.law_teids.specs.scenario_text.declared.line.Link.{Link}
+use Rattle.law_teids.specs.scenario_text.declared.line.Item.{Item as ShownItem}
 use Rattle.law_teids.specs.run_defs.Lines.{RunLine, put_item, put_message, tunnel_link, radio_link, shown}
 use Rattle.law_teids.specs.run_defs.States.{World, RunStep}
 use Rattle.law_teids.specs.run_defs.Local.{puts_something}

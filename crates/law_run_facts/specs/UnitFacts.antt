@@ -1,19 +1,19 @@
 -- The same facts of `Run`, told of each unit by itself, and of items and PDUs as what they say.
 use Rattle.std.specs.Prelude.{ℕ, ◌≡◌, true, List, Option, Some, None}
-use Rattle.gnb_types.specs.declared.names.Gnb.{Gnb}
-use Rattle.gnb_types.specs.declared.names.NodeId.{NodeId}
-use Rattle.gnb_types.specs.declared.names.NodeId.TheVariants.{CuCp, CuUp as up_id, Du as du_id, Core, Ue}
-use Rattle.gnb_types.specs.declared.names.SnBits.{SnBits}
-use Rattle.gnb_types.specs.declared.names.UeId.{UeId}
-use Rattle.gnb_types.specs.declared.names.BearerId.{BearerId}
-use Rattle.gnb_types.specs.declared.names.Dir.TheVariants.{Dl}
-use Rattle.gnb_types.specs.declared.keys.TunnelEnd.{TunnelEnd}
-use Rattle.gnb_types.specs.declared.keys.EntityKey.{EntityKey}
-use Rattle.gnb_types.specs.declared.plans.Plan.{Plan}
-use Rattle.gnb_types.specs.declared.plans.Tunnel.{Tunnel}
-use Rattle.gnb_types.specs.Orders.{ue_cmp}
-use Rattle.message_types.specs.declared.rrc.Token.{Token}
-use Rattle.tables.specs.Tables.{find, put}
+use Rattle.law_answers.specs.gnb_types.declared.names.Gnb.{Gnb}
+use Rattle.law_answers.specs.gnb_types.declared.names.NodeId.{NodeId}
+use Rattle.law_answers.specs.gnb_types.declared.names.NodeId.TheVariants.{CuCp, CuUp as up_id, Du as du_id, Core, Ue}
+use Rattle.law_answers.specs.gnb_types.declared.names.SnBits.{SnBits}
+use Rattle.law_answers.specs.gnb_types.declared.names.UeId.{UeId}
+use Rattle.law_answers.specs.gnb_types.declared.names.BearerId.{BearerId}
+use Rattle.law_answers.specs.gnb_types.declared.names.Dir.TheVariants.{Dl}
+use Rattle.law_answers.specs.gnb_types.declared.keys.TunnelEnd.{TunnelEnd}
+use Rattle.law_answers.specs.gnb_types.declared.keys.EntityKey.{EntityKey}
+use Rattle.law_answers.specs.gnb_types.declared.plans.Plan.{Plan}
+use Rattle.law_answers.specs.gnb_types.declared.plans.Tunnel.{Tunnel}
+use Rattle.law_answers.specs.gnb_types.Orders.{ue_cmp}
+use Rattle.law_answers.specs.message_types.declared.rrc.Token.{Token}
+use Rattle.law_answers.specs.tables.Tables.{find, put}
 use Rattle.law_answers.specs.unit_defs.Ways.{Message, Pdu, Load, fresh, Input, control_input, packet_input, radio_input, confirm_input, Answer, gives, spent}
 use Rattle.law_answers.specs.unit_defs.Messages.{teid_of}
 use Rattle.law_answers.specs.unit_defs.UpRecords.{CuUp}
@@ -25,8 +25,8 @@ use Rattle.law_answers.specs.unit_defs.CuCp.{cu_cp_acts}
 use Rattle.law_answers.specs.unit_defs.Core.{CorePath, CoreRecord, new_core, core_acts}
 use Rattle.law_answers.specs.unit_defs.Static.{up_has_room, up_has_teids, du_has_teids, up_placed, du_placed, cp_placed, up_set_up, du_set_up, cp_set_up}
 use Rattle.law_teids.specs.unit_octet_defs.Writing.{pdu_octets, load_octets, written_load}
-use Rattle.transport_defs.specs.declared.Item.{Item}
-use Rattle.transport_defs.specs.declared.Letter.{Letter}
+use Rattle.law_teids.specs.transport_defs.declared.Item.{Item}
+use Rattle.law_teids.specs.transport_defs.declared.Letter.{Letter}
 use Rattle.law_teids.specs.run_defs.Units.{Units, cp_of, up_of, du_of, ue_of}
 use Rattle.law_teids.specs.run_defs.States.{entity}
 use Rattle.law_teids.specs.run_defs.Written.{Written}

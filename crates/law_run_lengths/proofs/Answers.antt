@@ -19,20 +19,20 @@ use Rattle.unit_defs.specs.Ue.{UeNode, new_ue, placed, ue_acts}
 use Rattle.unit_defs.specs.CpRecords.{CuCpRecord}
 use Rattle.unit_defs.specs.CuCp.{cu_cp_acts}
 use Rattle.unit_defs.specs.Core.{CoreRecord, core_acts}
-use Rattle.unit_octet_defs.specs.Writing.{pdu_octets, load_octets, written_load}
+use Rattle.law_plan_facts.specs.unit_octet_defs.Writing.{pdu_octets, load_octets, written_load}
 use Rattle.transport_defs.specs.declared.Item.{Item}
-use Rattle.run_defs.specs.Units.{Units, cp_of, with_cp, up_of, with_up, du_of, with_du, ue_of, with_ue}
-use Rattle.run_defs.specs.Written.{Written, written_put, PlainStepped, WrittenStepped, WrittenCoreStepped, written_step}
-use Rattle.run_defs.specs.States.{letter_for, item_for, carried_for, confirmed_for, offer_for, tick_for, order_for, octets_from, octets_on, stepped, step_spent, core_stepped}
-use Rattle.run_defs.specs.Conditions.{units_placed, all_set_up}
-use Rattle.run_defs.specs.Runs.{Reading, PlainGiven, Plain, plain_way, input_of, stepped_with, ue_stepped, acts_on, plain_by, core_done, plain_core, plain_world}
-use Rattle.law_run_plans.specs.Plans.{Plans, PlansStay}
-use Rattle.law_run_facts.specs.Facts.{Facts, PutFits, PutsFit, GivenFits}
-use Rattle.law_run_facts.specs.UnitFacts.{OfUnits, as_facts, AnswerFits}
-use Rattle.law_run_facts.proofs.Units.{with_up_holds, with_du_holds, with_cp_holds, with_ue_holds, units_set_up}
+use Rattle.law_run_tunnels.specs.run_defs.Units.{Units, cp_of, with_cp, up_of, with_up, du_of, with_du, ue_of, with_ue}
+use Rattle.law_run_tunnels.specs.run_defs.Written.{Written, written_put, PlainStepped, WrittenStepped, WrittenCoreStepped, written_step}
+use Rattle.law_run_tunnels.specs.run_defs.States.{letter_for, item_for, carried_for, confirmed_for, offer_for, tick_for, order_for, octets_from, octets_on, stepped, step_spent, core_stepped}
+use Rattle.law_run_tunnels.specs.run_defs.Conditions.{units_placed, all_set_up}
+use Rattle.law_run_tunnels.specs.run_defs.Runs.{Reading, PlainGiven, Plain, plain_way, input_of, stepped_with, ue_stepped, acts_on, plain_by, core_done, plain_core, plain_world}
+use Rattle.law_plan_facts.specs.law_run_plans.Plans.{Plans, PlansStay}
+use Rattle.law_plan_facts.specs.law_run_facts.Facts.{Facts, PutFits, PutsFit, GivenFits}
+use Rattle.law_plan_facts.specs.law_run_facts.UnitFacts.{OfUnits, as_facts, AnswerFits}
+use Rattle.law_plan_facts.proofs.law_run_facts.Units.{with_up_holds, with_du_holds, with_cp_holds, with_ue_holds, units_set_up}
 use Rattle.law_plan_facts.specs.Along.{lengths_by, with_plan, Allowed, Brings, Grows, AreKeptAlong}
-use Rattle.law_link_items.proofs.Names.{link_items}
-use Rattle.law_link_items.proofs.CuCps.{cu_cp_fits}
+use Rattle.law_run_tunnels.proofs.law_link_items.Names.{link_items}
+use Rattle.law_run_tunnels.proofs.law_link_items.CuCps.{cu_cp_fits}
 use Rattle.law_tunnel_names.specs.Names.{Names, HasLength, LoadNames, InputNames, OutputNames, OutputsName, AnswerNames}
 use Rattle.law_tunnel_names.specs.CuCps.{CpNames, CoreNames}
 use Rattle.law_tunnel_names.proofs.CuCps.{cu_cp_names}

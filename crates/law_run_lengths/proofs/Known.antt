@@ -19,14 +19,14 @@ use Rattle.unit_defs.specs.UpRecords.{UpBearer, CuUp}
 use Rattle.unit_defs.specs.Du.{DuBearer, Du}
 use Rattle.unit_defs.specs.CpRecords.{Attempt, CpContext, CuCpRecord}
 use Rattle.unit_defs.specs.Core.{CoreRecord}
-use Rattle.unit_octet_defs.specs.Writing.{load_octets, written_load}
-use Rattle.run_defs.specs.States.{sn_in}
-use Rattle.run_defs.specs.Runs.{plain_way}
-use Rattle.law_run_plans.specs.Plans.{Plans, PlansStay}
-use Rattle.law_run_facts.specs.UnitFacts.{UnitFacts, OfUnits}
-use Rattle.law_run_facts.proofs.Alone.{alone}
+use Rattle.law_plan_facts.specs.unit_octet_defs.Writing.{load_octets, written_load}
+use Rattle.law_run_tunnels.specs.run_defs.States.{sn_in}
+use Rattle.law_run_tunnels.specs.run_defs.Runs.{plain_way}
+use Rattle.law_plan_facts.specs.law_run_plans.Plans.{Plans, PlansStay}
+use Rattle.law_plan_facts.specs.law_run_facts.UnitFacts.{UnitFacts, OfUnits}
+use Rattle.law_plan_facts.proofs.law_run_facts.Alone.{alone}
 use Rattle.law_plan_facts.specs.Along.{lengths_by}
-use Rattle.law_link_items.proofs.Octets.{map_all}
+use Rattle.law_run_tunnels.proofs.law_link_items.Octets.{map_all}
 use Rattle.law_tunnel_names.specs.Names.{Owners, IfAny, ue_of, NamesFor, Names, LoadNames, Property, KeptNames}
 use Rattle.law_tunnel_names.specs.CuCps.{ContextNames, TerminalNames, CpNames, CoreNames}
 use Rattle.law_unit_tunnels.specs.Units.{Each, BearerHolds, UpHolds, DownlinkHolds, DuHolds, NoneIsFree, UpNames, DuNames, IsLong}

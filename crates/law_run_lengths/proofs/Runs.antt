@@ -14,18 +14,18 @@ use Rattle.unit_defs.specs.CuUp.{new_cu_up}
 use Rattle.unit_defs.specs.Du.{DuContext, new_du}
 use Rattle.unit_defs.specs.CpRecords.{Attempt, CpContext, new_cu_cp}
 use Rattle.transport_defs.specs.declared.Item.{Item}
-use Rattle.run_defs.specs.Units.{up_of, du_of}
-use Rattle.run_defs.specs.Written.{Written}
-use Rattle.run_defs.specs.States.{State, new_state, sn_of, radio_of}
-use Rattle.run_defs.specs.Runs.{Reading, plain_world}
-use Rattle.law_steps.specs.Reached.{reached}
-use Rattle.law_run_facts.specs.Facts.{Hold}
-use Rattle.law_run_facts.proofs.Units.{first_hold}
+use Rattle.law_run_tunnels.specs.run_defs.Units.{up_of, du_of}
+use Rattle.law_run_tunnels.specs.run_defs.Written.{Written}
+use Rattle.law_run_tunnels.specs.run_defs.States.{State, new_state, sn_of, radio_of}
+use Rattle.law_run_tunnels.specs.run_defs.Runs.{Reading, plain_world}
+use Rattle.law_run_tunnels.specs.law_steps.Reached.{reached}
+use Rattle.law_plan_facts.specs.law_run_facts.Facts.{Hold}
+use Rattle.law_plan_facts.proofs.law_run_facts.Units.{first_hold}
 use Rattle.law_plan_facts.proofs.Along.{holds_along}
-use Rattle.law_link_items.proofs.Octets.{map_all}
+use Rattle.law_run_tunnels.proofs.law_link_items.Octets.{map_all}
 use Rattle.law_tunnel_names.specs.Names.{LoadNames}
 use Rattle.law_tunnel_names.specs.CuCps.{ContextNames, TerminalNames, CpNames}
-use Rattle.law_unit_packets.proofs.Keyed.{keyed_found}
+use Rattle.law_tunnel_names.proofs.law_unit_packets.Keyed.{keyed_found}
 use Rattle.law_unit_tunnels.specs.Units.{UpNames, DuNames}
 use Rattle.law_run_lengths.specs.Lengths.{IsNumberedBy, IsWrittenBy, IsWrittenOnAirBy, NumbersAreOfPlans}
 use Rattle.law_run_lengths.proofs.Known.{Owns, Its, Parts, length_is}

@@ -13,11 +13,11 @@ use Rattle.unit_defs.specs.Ways.{Message, Pdu, Load, numbered}
 use Rattle.unit_defs.specs.UpRecords.{UpContext}
 use Rattle.unit_defs.specs.Du.{DuContext}
 use Rattle.unit_defs.specs.CpRecords.{CpContext, CpTerminal}
-use Rattle.unit_octet_defs.specs.Writing.{pdu_octets, load_octets, written_load}
+use Rattle.law_plan_facts.specs.unit_octet_defs.Writing.{pdu_octets, load_octets, written_load}
 use Rattle.transport_defs.specs.declared.Item.{Item}
-use Rattle.run_defs.specs.Units.{cp_of, up_of, du_of}
-use Rattle.run_defs.specs.Written.{Written}
-use Rattle.run_defs.specs.States.{State, sn_of, radio_of}
+use Rattle.law_run_tunnels.specs.run_defs.Units.{cp_of, up_of, du_of}
+use Rattle.law_run_tunnels.specs.run_defs.Written.{Written}
+use Rattle.law_run_tunnels.specs.run_defs.States.{State, sn_of, radio_of}
 
 -- a packet that is forwarded with a number says how long it is
 abbrev pub IsNumberedBy : SnBits → Load Pdu → Type 0

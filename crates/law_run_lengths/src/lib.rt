@@ -2,11 +2,11 @@
 #![tactic(auto)]
 
 ghost use Rattle.law_run_lengths.specs.Lengths.{NumbersAreOfPlans};
-ghost use Rattle.law_steps.specs.Reached.{reached};
+ghost use Rattle.law_run_tunnels.specs.law_steps.Reached.{reached};
 ghost use Rattle.message_types.specs.declared.rrc.Token.{Token};
-ghost use Rattle.run_defs.specs.Runs.{plain_world, Reading};
-ghost use Rattle.run_defs.specs.States.{new_state, State};
-ghost use Rattle.run_defs.specs.Written.{Written};
+ghost use Rattle.law_run_tunnels.specs.run_defs.Runs.{plain_world, Reading};
+ghost use Rattle.law_run_tunnels.specs.run_defs.States.{new_state, State};
+ghost use Rattle.law_run_tunnels.specs.run_defs.Written.{Written};
 ghost use Rattle.scenario_text.specs.declared.event.Event.{Event};
 ghost use Rattle.std.specs.Prelude.{List, Some, ◌≡◌};
 ghost use Rattle.unit_defs.specs.Ways.{Load, Message, Pdu};

@@ -3,19 +3,19 @@ use Rattle.std.proofs.Common.{◌≡◌, ◌≤◌, ℕ, List, [], ◌∷◌, le
 use Rattle.std.specs.List.{AllByRecursion}
 use Rattle.gnb_types.specs.declared.names.NodeId.{NodeId}
 use Rattle.gnb_types.specs.declared.names.NodeId.TheVariants.{Core}
-use Rattle.message_types.specs.declared.rrc.Token.{Token}
-use Rattle.scenario_text.specs.declared.event.Event.{Event}
-use Rattle.unit_defs.specs.Ways.{Message, Pdu, Load, Put, control, packet, radio, deliver, dropped, held, opened, closed, failed, no}
-use Rattle.unit_defs.specs.Core.{CoreRecord}
-use Rattle.tables.specs.Tables.{find, at}
-use Rattle.transport_defs.specs.declared.Item.{Item}
-use Rattle.transport_defs.specs.declared.Letter.{Letter}
-use Rattle.transport_defs.specs.Links.{most_letters}
-use Rattle.run_defs.specs.Written.{Written}
-use Rattle.run_defs.specs.States.{State, new_state, World, Lengths, octets_from, CoreStepped, core_stepped, radio_of}
-use Rattle.run_defs.specs.Steps.{count_letters}
-use Rattle.run_defs.specs.Runs.{Reading, plain_world}
-use Rattle.law_steps.specs.Reached.{reached}
+use Rattle.law_run_facts.specs.message_types.declared.rrc.Token.{Token}
+use Rattle.law_run_facts.specs.scenario_text.declared.event.Event.{Event}
+use Rattle.law_run_facts.specs.unit_defs.Ways.{Message, Pdu, Load, Put, control, packet, radio, deliver, dropped, held, opened, closed, failed, no}
+use Rattle.law_run_facts.specs.unit_defs.Core.{CoreRecord}
+use Rattle.law_run_facts.specs.tables.Tables.{find, at}
+use Rattle.law_run_facts.specs.transport_defs.declared.Item.{Item}
+use Rattle.law_run_facts.specs.transport_defs.declared.Letter.{Letter}
+use Rattle.law_run_facts.specs.transport_defs.Links.{most_letters}
+use Rattle.law_run_facts.specs.run_defs.Written.{Written}
+use Rattle.law_run_facts.specs.run_defs.States.{State, new_state, World, Lengths, octets_from, CoreStepped, core_stepped, radio_of}
+use Rattle.law_run_facts.specs.run_defs.Steps.{count_letters}
+use Rattle.law_run_facts.specs.run_defs.Runs.{Reading, plain_world}
+use Rattle.law_run_facts.specs.law_steps.Reached.{reached}
 use Rattle.law_run_facts.specs.Facts.{Facts, Hold, PutFits, AreKept}
 use Rattle.law_run_facts.proofs.Runs.{facts_hold}
 use Rattle.law_run_links.specs.Own.{HoldTheirOwn}

@@ -2,8 +2,8 @@
 use Rattle.std.specs.Prelude.{◌≡◌}
 use Rattle.std.specs.List.{AllByRecursion}
 use Rattle.gnb_types.specs.declared.keys.EntityKey.{EntityKey}
-use Rattle.transport_defs.specs.declared.Item.{Item}
-use Rattle.run_defs.specs.States.{State, radio_of}
+use Rattle.law_run_facts.specs.transport_defs.declared.Item.{Item}
+use Rattle.law_run_facts.specs.run_defs.States.{State, radio_of}
 
 -- each item of a radio is of the radio's terminal, bearer and direction
 abbrev pub HoldTheirOwn : {M C L P : Type 0} → State M C L P → Type 0

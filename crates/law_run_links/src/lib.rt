@@ -2,15 +2,15 @@
 #![tactic(auto)]
 
 ghost use Rattle.law_run_links.specs.Own.{HoldTheirOwn};
-ghost use Rattle.law_steps.specs.Reached.{reached};
-ghost use Rattle.message_types.specs.declared.rrc.Token.{Token};
-ghost use Rattle.run_defs.specs.Runs.{plain_world, Reading};
-ghost use Rattle.run_defs.specs.States.{new_state, State, World};
-ghost use Rattle.run_defs.specs.Written.{Written};
-ghost use Rattle.scenario_text.specs.declared.event.Event.{Event};
+ghost use Rattle.law_run_facts.specs.law_steps.Reached.{reached};
+ghost use Rattle.law_run_facts.specs.message_types.declared.rrc.Token.{Token};
+ghost use Rattle.law_run_facts.specs.run_defs.Runs.{plain_world, Reading};
+ghost use Rattle.law_run_facts.specs.run_defs.States.{new_state, State, World};
+ghost use Rattle.law_run_facts.specs.run_defs.Written.{Written};
+ghost use Rattle.law_run_facts.specs.scenario_text.declared.event.Event.{Event};
 ghost use Rattle.std.specs.Prelude.{length, List, Some, ◌≡◌, ◌≤◌};
-ghost use Rattle.transport_defs.specs.Links.{most_letters};
-ghost use Rattle.unit_defs.specs.Ways.{Load, Message, Pdu};
+ghost use Rattle.law_run_facts.specs.transport_defs.Links.{most_letters};
+ghost use Rattle.law_run_facts.specs.unit_defs.Ways.{Load, Message, Pdu};
 
 /// Whatever units and the core answer: in every run each item of a radio is of the radio's terminal, bearer and direction; and
 /// so on from any state in which it is so.

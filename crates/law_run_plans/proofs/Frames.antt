@@ -11,9 +11,9 @@ use Rattle.gnb_types.specs.declared.outputs.Tag.{Tag}
 use Rattle.gnb_types.specs.declared.outputs.Tag.TheVariants.{Absent, Own, Same}
 use Rattle.gnb_types.specs.Orders.{ue_cmp, tunnel_cmp}
 use Rattle.tables.specs.Tables.{find, put}
-use Rattle.unit_defs.specs.Ways.{Put, control, packet, radio, deliver, dropped, held, opened, closed, failed, no}
-use Rattle.transport_defs.specs.declared.Item.{Item}
-use Rattle.transport_defs.specs.Links.{is_epoch, emptied}
+use Rattle.law_answers.specs.unit_defs.Ways.{Put, control, packet, radio, deliver, dropped, held, opened, closed, failed, no}
+use Rattle.law_steps.specs.transport_defs.declared.Item.{Item}
+use Rattle.law_steps.specs.transport_defs.Links.{is_epoch, emptied}
 use Rattle.law_steps.specs.run_defs.Lines.{RunLine, put_item, lost_items, tunnel_link, radio_link, shown}
 use Rattle.law_steps.specs.run_defs.Units.{Units}
 use Rattle.law_steps.specs.run_defs.States.{State, World, Stop, goes, stops, told_before, ◌next◌, goes_on, Ending, Within, as_step, entity, radio_of, with_radio}

@@ -12,18 +12,18 @@ use Rattle.gnb_types.specs.declared.names.UeId.{UeId}
 use Rattle.gnb_types.specs.declared.plans.Plan.{Plan}
 use Rattle.gnb_types.specs.Orders.{ue_cmp}
 use Rattle.gnb_types.proofs.OrderLemmas.{ue_total, ue_exact}
-use Rattle.message_types.specs.declared.rrc.Token.{Token}
-use Rattle.scenario_text.specs.declared.event.Event.{Event}
+use Rattle.law_answers.specs.message_types.declared.rrc.Token.{Token}
+use Rattle.law_steps.specs.scenario_text.declared.event.Event.{Event}
 use Rattle.tables.specs.Tables.{find, put}
 use Rattle.tables.proofs.TableLaws.{find-put}
-use Rattle.unit_defs.specs.Ways.{Message, Pdu, Load, Put, Input, gives, spent}
-use Rattle.unit_defs.specs.Ue.{UeNode, new_ue, placed, ue_acts}
-use Rattle.unit_defs.specs.CpRecords.{CuCpRecord}
-use Rattle.unit_defs.specs.CuCp.{cu_cp_acts}
-use Rattle.unit_defs.specs.CuUp.{cu_up_acts}
-use Rattle.unit_defs.specs.Du.{du_acts}
-use Rattle.unit_defs.specs.UpRecords.{CuUp}
-use Rattle.unit_defs.specs.Du.{Du}
+use Rattle.law_answers.specs.unit_defs.Ways.{Message, Pdu, Load, Put, Input, gives, spent}
+use Rattle.law_answers.specs.unit_defs.Ue.{UeNode, new_ue, placed, ue_acts}
+use Rattle.law_answers.specs.unit_defs.CpRecords.{CuCpRecord}
+use Rattle.law_answers.specs.unit_defs.CuCp.{cu_cp_acts}
+use Rattle.law_answers.specs.unit_defs.CuUp.{cu_up_acts}
+use Rattle.law_answers.specs.unit_defs.Du.{du_acts}
+use Rattle.law_answers.specs.unit_defs.UpRecords.{CuUp}
+use Rattle.law_answers.specs.unit_defs.Du.{Du}
 use Rattle.law_steps.specs.run_defs.Units.{Units, cp_of, with_cp, up_of, with_up, du_of, with_du, ue_of, with_ue}
 use Rattle.law_steps.specs.run_defs.Written.{Written, PlainStepped, WrittenStepped, written_step}
 use Rattle.law_steps.specs.run_defs.States.{State, new_state, World, Lengths, Given, stepped, step_spent, goes, stops, told_before, ◌next◌, Ending, Outcome, as_step, was_attached, sn_of}

@@ -11,12 +11,12 @@ use Rattle.gnb_types.specs.declared.reasons.DropReason.TheVariants.{Stale, Unexp
 use Rattle.gnb_types.specs.declared.reasons.RefuseReason.TheVariants.{NotAccessing, Busy, NoRadio, Size, Quota}
 use Rattle.gnb_types.specs.Orders.{bearer_cmp}
 use Rattle.tables.specs.Tables.{find}
-use Rattle.message_types.specs.declared.rrc.Token.{Token}
-use Rattle.message_types.specs.declared.rrc.Token.TheVariants as tokens
-use Rattle.unit_defs.specs.declared.UeState.{UeState}
-use Rattle.unit_defs.specs.declared.UeState.TheVariants as states
-use Rattle.unit_defs.specs.Ways.{Message, rrc, Input, control_input, packet_input, radio_input, confirm_input, offer_input, tick_input, order_input, no, Way, Answer, spent, ◌then◌, nothing, puts, drops, epochs_spent}
-use Rattle.unit_defs.specs.Ue.{UeBearer, UeNode, last_epoch, largest_packet, is_connected, is_accessing, may_return, number_waiting, with_bearer, with_bearers, connect_each, connect, of_bearer, at_bearer, says_it, may_obey, obey, arrived, arrive, returned, return_to, come_back, accepted_in, accept, fail, used_uplink, offered, offer, took, take, confirmed, confirm, told, told_by, ue_acts}
+use Rattle.law_answers.specs.message_types.declared.rrc.Token.{Token}
+use Rattle.law_answers.specs.message_types.declared.rrc.Token.TheVariants as tokens
+use Rattle.law_answers.specs.unit_defs.declared.UeState.{UeState}
+use Rattle.law_answers.specs.unit_defs.declared.UeState.TheVariants as states
+use Rattle.law_answers.specs.unit_defs.Ways.{Message, rrc, Input, control_input, packet_input, radio_input, confirm_input, offer_input, tick_input, order_input, no, Way, Answer, spent, ◌then◌, nothing, puts, drops, epochs_spent}
+use Rattle.law_answers.specs.unit_defs.Ue.{UeBearer, UeNode, last_epoch, largest_packet, is_connected, is_accessing, may_return, number_waiting, with_bearer, with_bearers, connect_each, connect, of_bearer, at_bearer, says_it, may_obey, obey, arrived, arrive, returned, return_to, come_back, accepted_in, accept, fail, used_uplink, offered, offer, took, take, confirmed, confirm, told, told_by, ue_acts}
 use Rattle.law_answers.specs.After.{HoldsAfter}
 use Rattle.law_answers.proofs.Answers.{holds_if, holds_then, any_then}
 

@@ -4,7 +4,7 @@ use Rattle.gnb_types.specs.declared.names.UeId.{UeId}
 use Rattle.gnb_types.specs.declared.plans.Plan.{Plan}
 use Rattle.gnb_types.specs.Orders.{ue_cmp}
 use Rattle.tables.specs.Tables.{find}
-use Rattle.unit_defs.specs.Ue.{UeNode}
+use Rattle.law_answers.specs.unit_defs.Ue.{UeNode}
 use Rattle.law_steps.specs.run_defs.Units.{Units, ue_of}
 
 abbrev pub Plans : Type 0

@@ -3,13 +3,13 @@
 
 ghost use Rattle.law_run_plans.specs.Plans.{AreOfTheirPlans, PlansStay};
 ghost use Rattle.law_steps.specs.Reached.{reached};
-ghost use Rattle.message_types.specs.declared.rrc.Token.{Token};
+ghost use Rattle.law_answers.specs.message_types.declared.rrc.Token.{Token};
 ghost use Rattle.law_steps.specs.run_defs.Runs.{plain_world, Reading};
 ghost use Rattle.law_steps.specs.run_defs.States.{new_state, State, World};
 ghost use Rattle.law_steps.specs.run_defs.Written.{Written};
-ghost use Rattle.scenario_text.specs.declared.event.Event.{Event};
+ghost use Rattle.law_steps.specs.scenario_text.declared.event.Event.{Event};
 ghost use Rattle.std.specs.Prelude.{List, Some, ◌≡◌};
-ghost use Rattle.unit_defs.specs.Ways.{Load, Message, Pdu};
+ghost use Rattle.law_answers.specs.unit_defs.Ways.{Load, Message, Pdu};
 
 /// In every run, whatever units and the core answer, and from every state: the plan that is kept of a terminal is kept for good,
 /// so the length of its numbers is the same in each later state.

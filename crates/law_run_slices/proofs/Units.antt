@@ -12,19 +12,19 @@ use Rattle.gnb_types.specs.Orders.{node_cmp}
 use Rattle.gnb_types.proofs.OrderLemmas.{node_total, node_exact, ue_total}
 use Rattle.tables.proofs.TableLaws.{at-put, find-put-other}
 use Rattle.message_types.specs.declared.rrc.Token.{Token}
-use Rattle.unit_defs.specs.Ways.{Message, Pdu, Load, Input, Put, control, packet, radio, deliver, dropped, held, opened, closed, failed, no, Answer, gives, spent}
-use Rattle.unit_defs.specs.UpRecords.{CuUp}
-use Rattle.unit_defs.specs.CuUp.{new_cu_up, cu_up_acts}
-use Rattle.unit_defs.specs.Du.{Du, new_du, du_acts}
-use Rattle.unit_defs.specs.Ue.{UeNode, ue_acts}
-use Rattle.unit_defs.specs.CpRecords.{CuCpRecord}
-use Rattle.unit_defs.specs.CuCp.{cu_cp_acts}
+use Rattle.run_defs.specs.unit_defs.Ways.{Message, Pdu, Load, Input, Put, control, packet, radio, deliver, dropped, held, opened, closed, failed, no, Answer, gives, spent}
+use Rattle.run_defs.specs.unit_defs.UpRecords.{CuUp}
+use Rattle.run_defs.specs.unit_defs.CuUp.{new_cu_up, cu_up_acts}
+use Rattle.run_defs.specs.unit_defs.Du.{Du, new_du, du_acts}
+use Rattle.run_defs.specs.unit_defs.Ue.{UeNode, ue_acts}
+use Rattle.run_defs.specs.unit_defs.CpRecords.{CuCpRecord}
+use Rattle.run_defs.specs.unit_defs.CuCp.{cu_cp_acts}
 use Rattle.run_defs.specs.Units.{Units, cp_of, with_cp, up_of, with_up, du_of, with_du, ue_of, with_ue}
 use Rattle.run_defs.specs.States.{Lengths, stepped, step_spent}
 use Rattle.run_defs.specs.Written.{written_put, PlainStepped, written_step}
 use Rattle.run_defs.specs.Runs.{Reading, PlainGiven, plain_way, input_of, stepped_with, ue_stepped, acts_on, plain_by, plain_world}
-use Rattle.law_slices.specs.Steps.{IsFor, PutsFor, StaysFor}
-use Rattle.law_slices.proofs.Tables.{apart_ues}
+use Rattle.law_terminal_slice.specs.law_slices.Steps.{IsFor, PutsFor, StaysFor}
+use Rattle.law_terminal_slice.proofs.law_slices.Tables.{apart_ues}
 use Rattle.law_cp_slice.specs.CuCps.{cp_slice}
 use Rattle.law_cp_slice.proofs.Others.{cp_steps}
 use Rattle.law_up_slice.specs.CuUps.{up_part}

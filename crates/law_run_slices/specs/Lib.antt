@@ -1,1 +1,2 @@
 pub mod Units
+pub use Rattle.run_defs.specs as run_defs

@@ -6,12 +6,12 @@ use Rattle.gnb_types.specs.declared.names.NodeId.{NodeId}
 use Rattle.gnb_types.specs.declared.names.NodeId.TheVariants.{CuCp, CuUp as up_id, Du as du_id, Core, Ue}
 use Rattle.gnb_types.specs.declared.names.UeId.{UeId}
 use Rattle.message_types.specs.declared.rrc.Token.{Token}
-use Rattle.unit_defs.specs.Ways.{Message, Pdu, Input}
-use Rattle.unit_defs.specs.Ue.{UeNode}
+use Rattle.run_defs.specs.unit_defs.Ways.{Message, Pdu, Input}
+use Rattle.run_defs.specs.unit_defs.Ue.{UeNode}
 use Rattle.run_defs.specs.Units.{Units, cp_of, up_of, du_of, ue_of}
 use Rattle.run_defs.specs.States.{Stepped, stepped, step_spent}
 use Rattle.run_defs.specs.Runs.{PlainGiven, Reading, input_of}
-use Rattle.law_slices.specs.Steps.{IsFor, StaysFor}
+use Rattle.law_terminal_slice.specs.law_slices.Steps.{IsFor, StaysFor}
 use Rattle.law_cp_slice.specs.CuCps.{CpSlice, cp_slice, cp_ue}
 use Rattle.law_up_slice.specs.CuUps.{UpPart, up_part, up_ue}
 use Rattle.law_du_slice.specs.Dus.{DuSlice, du_slice, du_ue, IsApart}

@@ -9,7 +9,7 @@ ghost use Rattle.run_defs.specs.Runs.{plain_world, PlainGiven, Reading};
 ghost use Rattle.run_defs.specs.States.{Lengths};
 ghost use Rattle.run_defs.specs.Units.{Units};
 ghost use Rattle.std.specs.Prelude.{◌≡◌, Some};
-ghost use Rattle.unit_defs.specs.Ways.{Message};
+ghost use Rattle.run_defs.specs.unit_defs.Ways.{Message};
 
 /// Whichever unit of a run is given what is for a terminal: all that it puts out is the terminal's, and what all units keep of
 /// the other terminals stays, where no TEID of a DU is two terminals', and each terminal is kept as itself.

@@ -29,7 +29,7 @@ use Rattle.law_channel.proofs.Kept.{good_of}
 use Rattle.law_channel_rows.proofs.Undated.{sorted_of}
 use Rattle.law_run_control.specs.Control.{IsKept, control_of}
 use Rattle.law_run_control.proofs.Runs.{made_holds as control_holds}
-use Rattle.law_run_channels.specs.Tied.{PlainControl, run_talk, kept_by, IsPassed, at_first, by_answer, by_coming, by_placing, by_core as by_core_step}
+use Rattle.law_run_once.specs.law_run_channels.Tied.{PlainControl, run_talk, kept_by, IsPassed, at_first, by_answer, by_coming, by_placing, by_core as by_core_step}
 use Rattle.law_run_once.proofs.Joint.{Joint}
 use Rattle.law_run_once.proofs.Passed.{joint}
 use Rattle.law_all_steps.specs.law_own_events.Events.{RunState}

@@ -8,7 +8,7 @@ ghost use Rattle.gnb_types.specs.Orders.{channel_cmp, ue_cmp};
 ghost use Rattle.law_all_steps.specs.Steps.{AfterSteps};
 ghost use Rattle.law_cp_slice.specs.CuCps.{cp_view};
 ghost use Rattle.law_all_steps.specs.law_own_events.Events.{RunState};
-ghost use Rattle.law_run_channels.specs.Tied.{kept_by};
+ghost use Rattle.law_run_once.specs.law_run_channels.Tied.{kept_by};
 ghost use Rattle.law_run_control.specs.Control.{control_of};
 ghost use Rattle.law_run_ticks.specs.Ticks.{AreTold, IsUnit, TickAlike};
 ghost use Rattle.law_slice_arguments.specs.Views.{StayAlikeAt};

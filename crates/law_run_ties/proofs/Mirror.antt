@@ -1,8 +1,8 @@
 -- What an order does to a list of a part is what the step does to its tunnel.
 use Rattle.std.proofs.Common.{inl, inr, ◌≡◌, ◌≢◌, ◌⊎◌, ◌==◌, ℕ, Bool, true, false, if◌then◌else◌, List, [], ◌∷◌, ◌++◌, refl, sym, ap, ◌∙◌, eqb-true}
 use Rattle.std.proofs.lemmas.List.{append-nil}
-use Rattle.unit_defs.specs.Ways.{Pdu, Load}
-use Rattle.unit_defs.specs.UpRecords.{TunnelKind, n3, f1u_uplink, forwarding_down, forwarding_up}
+use Rattle.law_tie_facts.specs.unit_defs.Ways.{Pdu, Load}
+use Rattle.law_tie_facts.specs.unit_defs.UpRecords.{TunnelKind, n3, f1u_uplink, forwarding_down, forwarding_up}
 use Rattle.law_tie_facts.specs.law_tunnel_steps.run_defs.Runs.{taken_of}
 use Rattle.law_tie_facts.specs.law_bearer_lists.chain_defs.Parts as down_parts
 use Rattle.law_tie_facts.specs.law_bearer_lists.chain_defs.Parts.{set}

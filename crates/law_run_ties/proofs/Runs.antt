@@ -3,7 +3,7 @@ use Rattle.std.proofs.Common.{◌≡◌, ℕ, List, [], ◌∷◌, ◌++◌, ref
 use Rattle.gnb_types.specs.declared.names.SnBits.{SnBits}
 use Rattle.gnb_types.specs.declared.names.UeId.{UeId}
 use Rattle.gnb_types.specs.declared.names.BearerId.{BearerId}
-use Rattle.unit_defs.specs.Ways.{Pdu}
+use Rattle.law_tie_facts.specs.unit_defs.Ways.{Pdu}
 use Rattle.law_tie_facts.specs.law_tunnel_steps.run_defs.Runs.{plain_way}
 use Rattle.law_tie_facts.specs.law_bearer_lists.chain_defs.Parts as down_parts
 use Rattle.law_tie_facts.specs.law_bearer_lists.chain_defs.Orders as down

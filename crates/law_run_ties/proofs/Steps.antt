@@ -18,12 +18,12 @@ use Rattle.gnb_types.proofs.OrderLemmas.{node_total, node_exact, tunnel_total, t
 use Rattle.tables.specs.Tables.{find, at}
 use Rattle.tables.proofs.TableLaws.{at-put}
 use Rattle.message_types.specs.declared.rrc.Token.{Token}
-use Rattle.unit_defs.specs.Ways.{Message, Load, fresh, numbered, frame, uplink, status, end_marker, Pdu, packet_pdu, report_pdu, packet, held, no, Taken, Input, packet_input, Answer, gives, spent, nothing, ◌then◌}
-use Rattle.unit_defs.specs.UpRecords.{UpContext, UpTunnel, UpBearer, TunnelKind, n3, f1u_uplink, forwarding_down, forwarding_up}
-use Rattle.unit_defs.specs.UpBearers.{is_one_of, with_uplink, switched, frozen_to, with_status, resumed, framed}
-use Rattle.unit_defs.specs.UpItems.{took}
+use Rattle.law_tie_facts.specs.unit_defs.Ways.{Message, Load, fresh, numbered, frame, uplink, status, end_marker, Pdu, packet_pdu, report_pdu, packet, held, no, Taken, Input, packet_input, Answer, gives, spent, nothing, ◌then◌}
+use Rattle.law_tie_facts.specs.unit_defs.UpRecords.{UpContext, UpTunnel, UpBearer, TunnelKind, n3, f1u_uplink, forwarding_down, forwarding_up}
+use Rattle.law_tie_facts.specs.unit_defs.UpBearers.{is_one_of, with_uplink, switched, frozen_to, with_status, resumed, framed}
+use Rattle.law_tie_facts.specs.unit_defs.UpItems.{took}
 use Rattle.gnb_types.specs.declared.outputs.Tag.TheVariants.{Absent}
-use Rattle.unit_defs.specs.CuUp.{new_cu_up, cu_up_acts}
+use Rattle.law_tie_facts.specs.unit_defs.CuUp.{new_cu_up, cu_up_acts}
 use Rattle.law_tie_facts.specs.law_tunnel_steps.run_defs.transport_defs.declared.Item.{Item}
 use Rattle.law_tie_facts.specs.law_tunnel_steps.run_defs.Lines.{RunLine}
 use Rattle.law_tie_facts.specs.law_tunnel_steps.run_defs.Units.{up_of, with_up}
@@ -40,9 +40,9 @@ use Rattle.law_tie_facts.specs.law_bearer_lists.law_uplink_rows.Shown as up_show
 use Rattle.law_tie_facts.specs.law_bearer_lists.law_context_orders.Orders.{UpPart, part_with, part_of_bearer, part_in, part_of, UpOrder, makes, adds, switches, freezes, knows, resumes, releases, closes, takes, polls, on_switch, on_freeze, on_status, on_resume, kept_in, begun, done, carried}
 use Rattle.law_tie_facts.specs.law_bearer_lists.law_context_orders.Inputs.{orders_of}
 use Rattle.law_tie_facts.specs.law_bearer_lists.law_context_orders.Shown.{is_bearer, on_bearer, Comes, Follows}
-use Rattle.law_context_rows.proofs.Rows.{all_does, follows}
-use Rattle.law_context_tests.specs.Tests.{is_final, EndsAfter, AreTested}
-use Rattle.law_context_tests.proofs.Tests.{orders_tested}
+use Rattle.law_tie_facts.proofs.law_context_rows.Rows.{all_does, follows}
+use Rattle.law_tie_facts.specs.law_context_tests.Tests.{is_final, EndsAfter, AreTested}
+use Rattle.law_tie_facts.proofs.law_context_tests.Tests.{orders_tested}
 use Rattle.law_tie_facts.specs.law_bearer_lists.law_down_orders.Down as down_rows
 use Rattle.law_tie_facts.specs.law_bearer_lists.law_up_orders.Up as up_rows
 use Rattle.law_tie_facts.specs.law_bearer_lists.law_bearer_orders.Happenings.{Beside, Happening, asks, Contexts, context_after}

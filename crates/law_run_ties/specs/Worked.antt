@@ -10,7 +10,7 @@ use Rattle.gnb_types.specs.declared.names.UeId.{UeId}
 use Rattle.gnb_types.specs.declared.keys.TunnelEnd.{TunnelEnd}
 use Rattle.gnb_types.specs.declared.plans.Plan.{Plan}
 use Rattle.gnb_types.specs.declared.plans.SnStatus.{SnStatus}
-use Rattle.unit_defs.specs.UpRecords.{SourceHop, Downlink}
+use Rattle.law_tie_facts.specs.unit_defs.UpRecords.{SourceHop, Downlink}
 use Rattle.law_tie_facts.specs.law_tunnel_steps.run_defs.scenario_text.declared.event.Event.{Event}
 use Rattle.law_tie_facts.specs.law_tunnel_steps.run_defs.scenario_text.declared.event.Event.TheVariants as events
 use Rattle.law_tie_facts.specs.law_tunnel_steps.run_defs.Runs.{Reading, plain_world}

@@ -25,7 +25,7 @@ ghost use Rattle.law_tie_facts.specs.law_tunnel_steps.Standing.{standing};
 ghost use Rattle.message_types.specs.declared.rrc.Token.{Token};
 ghost use Rattle.law_tie_facts.specs.law_tunnel_steps.run_defs.Runs.{plain_way, Reading};
 ghost use Rattle.std.specs.Prelude.{[], ◌∷◌, List, Some, ◌≡◌, ℕ};
-ghost use Rattle.unit_defs.specs.Ways.{Input, Message, Output, Pdu};
+ghost use Rattle.law_tie_facts.specs.unit_defs.Ways.{Input, Message, Output, Pdu};
 ghost use Rattle.law_tie_facts.specs.law_bearer_lists.uplink_defs.Orders as up;
 ghost use Rattle.law_tie_facts.specs.law_bearer_lists.uplink_defs.Parts as up_parts;
 

@@ -7,22 +7,22 @@ use Rattle.gnb_types.specs.declared.names.NodeId.TheVariants.{CuUp as up_id, Du 
 use Rattle.gnb_types.specs.declared.names.BearerId.{BearerId}
 use Rattle.gnb_types.specs.Orders.{node_cmp}
 use Rattle.gnb_types.proofs.OrderLemmas.{node_total}
-use Rattle.message_types.specs.declared.rrc.Token.{Token}
-use Rattle.tables.proofs.TableLaws.{at-put}
-use Rattle.unit_defs.specs.Ways.{Message, Pdu}
-use Rattle.unit_defs.specs.UpRecords.{UpBearer, CuUp}
-use Rattle.unit_defs.specs.CuUp.{new_cu_up}
-use Rattle.unit_defs.specs.Du.{DuBearer, Du, new_du}
-use Rattle.run_defs.specs.Units.{Units, up_of, with_up, du_of, with_du}
-use Rattle.run_defs.specs.Runs.{plain_way}
-use Rattle.law_teids.specs.Given.{GiveOnce}
-use Rattle.law_owner_facts.specs.Owned.{UpOwns, DuOwns}
+use Rattle.law_tunnel_book.specs.message_types.declared.rrc.Token.{Token}
+use Rattle.law_tunnel_book.proofs.tables.TableLaws.{at-put}
+use Rattle.law_tunnel_book.specs.unit_defs.Ways.{Message, Pdu}
+use Rattle.law_tunnel_book.specs.unit_defs.UpRecords.{UpBearer, CuUp}
+use Rattle.law_tunnel_book.specs.unit_defs.CuUp.{new_cu_up}
+use Rattle.law_tunnel_book.specs.unit_defs.Du.{DuBearer, Du, new_du}
+use Rattle.law_laid_out.specs.run_defs.Units.{Units, up_of, with_up, du_of, with_du}
+use Rattle.law_laid_out.specs.run_defs.Runs.{plain_way}
+use Rattle.law_laid_out.specs.law_teids.Given.{GiveOnce}
+use Rattle.law_tunnel_book.specs.law_owner_facts.Owned.{UpOwns, DuOwns}
 use Rattle.law_laid_out.specs.law_run_facts.UnitFacts.{UnitFacts}
 use Rattle.law_laid_out.proofs.law_run_facts.Alone.{alone}
 use Rattle.law_laid_out.proofs.law_link_items.Octets.{map_all}
-use Rattle.law_tunnel_names.specs.Names.{by_book, Property}
-use Rattle.law_tunnel_names.specs.CuCps.{CpNames}
-use Rattle.law_unit_tunnels.specs.Units.{BearerHolds, UpHolds, DownlinkHolds, DuHolds, UpNames, DuNames}
+use Rattle.law_tunnel_book.specs.law_tunnel_names.Names.{by_book, Property}
+use Rattle.law_tunnel_book.specs.law_tunnel_names.CuCps.{CpNames}
+use Rattle.law_tunnel_book.specs.law_unit_tunnels.Units.{BearerHolds, UpHolds, DownlinkHolds, DuHolds, UpNames, DuNames}
 use Rattle.law_tunnel_book.specs.Book.{book_of, Keeps}
 use Rattle.law_tunnel_book.proofs.Books.{books_keep, up_holds, du_holds}
 use Rattle.law_run_tunnels.proofs.Owners.{plain_property}

@@ -6,13 +6,13 @@ use Rattle.gnb_types.specs.declared.names.NodeId.TheVariants.{CuUp as up_id, Du 
 use Rattle.gnb_types.specs.declared.names.SnBits.{SnBits}
 use Rattle.gnb_types.specs.declared.names.Dir.{Dir}
 use Rattle.gnb_types.specs.declared.names.Dir.TheVariants.{Dl, Ul}
-use Rattle.unit_defs.specs.Ways.{Pdu, Load}
-use Rattle.unit_defs.specs.UpRecords.{TunnelKind, n3, f1u_uplink, forwarding_down, forwarding_up}
-use Rattle.unit_octet_defs.specs.Writing.{load_octets, written_load}
-use Rattle.transport_defs.specs.declared.Item.{Item}
-use Rattle.run_defs.specs.Carried.{Layout, F1uDownlink}
-use Rattle.run_defs.specs.Written.{Written}
-use Rattle.run_defs.specs.Units.{Units}
+use Rattle.law_tunnel_book.specs.unit_defs.Ways.{Pdu, Load}
+use Rattle.law_tunnel_book.specs.unit_defs.UpRecords.{TunnelKind, n3, f1u_uplink, forwarding_down, forwarding_up}
+use Rattle.law_laid_out.specs.unit_octet_defs.Writing.{load_octets, written_load}
+use Rattle.law_laid_out.specs.transport_defs.declared.Item.{Item}
+use Rattle.law_laid_out.specs.run_defs.Carried.{Layout, F1uDownlink}
+use Rattle.law_laid_out.specs.run_defs.Written.{Written}
+use Rattle.law_laid_out.specs.run_defs.Units.{Units}
 use Rattle.law_laid_out.specs.law_run_facts.UnitFacts.{HasOctets}
 use Rattle.law_laid_out.specs.law_link_items.Items.{count_of_load}
 use Rattle.law_laid_out.proofs.Laid.{laid_between}

@@ -11,14 +11,14 @@ use Rattle.gnb_types.specs.declared.names.BearerId.{BearerId}
 use Rattle.gnb_types.specs.declared.names.Dir.{Dir}
 use Rattle.gnb_types.specs.declared.names.Dir.TheVariants.{Dl, Ul}
 use Rattle.gnb_types.specs.declared.keys.EntityKey.{EntityKey}
-use Rattle.message_types.specs.declared.rrc.Token.{Token}
-use Rattle.tables.specs.Tables.{find}
-use Rattle.unit_defs.specs.Ways.{Message, Pdu, Load}
-use Rattle.unit_defs.specs.UpRecords.{TunnelKind, n3, f1u_uplink, forwarding_down, forwarding_up}
-use Rattle.run_defs.specs.Units.{Units, up_of, du_of}
-use Rattle.run_defs.specs.Runs.{plain_way}
-use Rattle.law_teids.specs.Given.{below}
-use Rattle.law_tunnel_names.specs.Names.{Book, by_book, Names, Property, PutOn}
+use Rattle.law_tunnel_book.specs.message_types.declared.rrc.Token.{Token}
+use Rattle.law_tunnel_book.specs.tables.Tables.{find}
+use Rattle.law_tunnel_book.specs.unit_defs.Ways.{Message, Pdu, Load}
+use Rattle.law_tunnel_book.specs.unit_defs.UpRecords.{TunnelKind, n3, f1u_uplink, forwarding_down, forwarding_up}
+use Rattle.law_laid_out.specs.run_defs.Units.{Units, up_of, du_of}
+use Rattle.law_laid_out.specs.run_defs.Runs.{plain_way}
+use Rattle.law_laid_out.specs.law_teids.Given.{below}
+use Rattle.law_tunnel_book.specs.law_tunnel_names.Names.{Book, by_book, Names, Property, PutOn}
 use Rattle.law_tunnel_book.specs.Book.{is_kind, is_up_owner, is_du_owner, all_such, may_be, book_of}
 use Rattle.law_laid_out.specs.law_link_items.Items.{GoesToDu, MayPut}
 use Rattle.law_run_tunnels.specs.Own.{IsOfKind, IsOwnAt}

@@ -13,30 +13,30 @@ use Rattle.gnb_types.specs.declared.names.UeId.{UeId}
 use Rattle.gnb_types.specs.declared.plans.Plan.{Plan}
 use Rattle.gnb_types.specs.Orders.{node_cmp, ue_cmp}
 use Rattle.gnb_types.proofs.OrderLemmas.{node_total, ue_total, ue_exact}
-use Rattle.message_types.specs.declared.rrc.Token.{Token}
-use Rattle.tables.specs.Tables.{find, put, at}
-use Rattle.tables.proofs.TableLaws.{find-put, find-put-same}
-use Rattle.unit_defs.specs.Ways.{Message, Pdu}
-use Rattle.unit_defs.specs.UpRecords.{n3, f1u_uplink, CuUp, UpContext}
-use Rattle.unit_defs.specs.UpBearers.{made}
-use Rattle.unit_defs.specs.CuUp.{new_cu_up, bearers_from, bearers_made as up_bearers}
-use Rattle.unit_defs.specs.Du.{Du, DuContext, new_du, bearers_made as du_bearers}
-use Rattle.unit_defs.specs.CpRecords.{CpTerminal, CuCpRecord}
-use Rattle.unit_defs.specs.Core.{CorePath, CoreRecord}
-use Rattle.unit_defs.specs.Static.{up_has_teids, du_has_teids, with_downlinks, up_context, up_placed, uplinks_from, du_context, du_placed, cp_context, cp_placed, up_set_up, du_set_up}
-use Rattle.unit_defs.specs.Ue.{new_ue, placed}
-use Rattle.run_defs.specs.Units.{cp_of, with_cp, up_of, with_up, du_of, with_du, with_ue}
-use Rattle.run_defs.specs.Conditions.{units_placed, all_set_up, n3_from, is_held_by_units}
-use Rattle.run_defs.specs.Runs.{plain_way}
-use Rattle.law_teids.proofs.Placed.{find_mapped}
-use Rattle.law_owner_facts.specs.Owned.{UpOwns, DuOwns, AreOwned}
+use Rattle.law_tunnel_book.specs.message_types.declared.rrc.Token.{Token}
+use Rattle.law_tunnel_book.specs.tables.Tables.{find, put, at}
+use Rattle.law_tunnel_book.proofs.tables.TableLaws.{find-put, find-put-same}
+use Rattle.law_tunnel_book.specs.unit_defs.Ways.{Message, Pdu}
+use Rattle.law_tunnel_book.specs.unit_defs.UpRecords.{n3, f1u_uplink, CuUp, UpContext}
+use Rattle.law_tunnel_book.specs.unit_defs.UpBearers.{made}
+use Rattle.law_tunnel_book.specs.unit_defs.CuUp.{new_cu_up, bearers_from, bearers_made as up_bearers}
+use Rattle.law_tunnel_book.specs.unit_defs.Du.{Du, DuContext, new_du, bearers_made as du_bearers}
+use Rattle.law_tunnel_book.specs.unit_defs.CpRecords.{CpTerminal, CuCpRecord}
+use Rattle.law_tunnel_book.specs.unit_defs.Core.{CorePath, CoreRecord}
+use Rattle.law_tunnel_book.specs.unit_defs.Static.{up_has_teids, du_has_teids, with_downlinks, up_context, up_placed, uplinks_from, du_context, du_placed, cp_context, cp_placed, up_set_up, du_set_up}
+use Rattle.law_tunnel_book.specs.unit_defs.Ue.{new_ue, placed}
+use Rattle.law_laid_out.specs.run_defs.Units.{cp_of, with_cp, up_of, with_up, du_of, with_du, with_ue}
+use Rattle.law_laid_out.specs.run_defs.Conditions.{units_placed, all_set_up, n3_from, is_held_by_units}
+use Rattle.law_laid_out.specs.run_defs.Runs.{plain_way}
+use Rattle.law_laid_out.proofs.law_teids.Placed.{find_mapped}
+use Rattle.law_tunnel_book.specs.law_owner_facts.Owned.{UpOwns, DuOwns, AreOwned}
 use Rattle.law_tunnel_book.proofs.law_tunnel_owners.Placed.{placed_owned}
 use Rattle.law_laid_out.specs.law_run_facts.UnitFacts.{OfUnits}
 use Rattle.law_laid_out.proofs.law_run_facts.Units.{units_set_up}
-use Rattle.law_tunnel_names.specs.Names.{Owners, UpList, Property}
-use Rattle.law_tunnel_names.specs.CuCps.{TerminalNames, CpNames, PathNames, CoreNames}
-use Rattle.law_unit_tunnels.specs.Units.{Each, UplinkNames, DownlinkHolds, DuHolds, BearerNames, BearerHolds, UpHolds, UpNames, DuNames}
-use Rattle.law_unit_packets.proofs.Keyed.{keyed_put}
+use Rattle.law_tunnel_book.specs.law_tunnel_names.Names.{Owners, UpList, Property}
+use Rattle.law_tunnel_book.specs.law_tunnel_names.CuCps.{TerminalNames, CpNames, PathNames, CoreNames}
+use Rattle.law_tunnel_book.specs.law_unit_tunnels.Units.{Each, UplinkNames, DownlinkHolds, DuHolds, BearerNames, BearerHolds, UpHolds, UpNames, DuNames}
+use Rattle.law_tunnel_book.proofs.law_unit_packets.Keyed.{keyed_put}
 use Rattle.law_run_tunnels.proofs.Held.{Records, Is, Later, Parts, ups_held, dus_held}
 
 -- ---- its bearers: the CU-UP has N3 and an uplink for each, the DU a downlink, from their next TEIDs on

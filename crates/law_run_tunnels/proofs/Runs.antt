@@ -11,28 +11,28 @@ use Rattle.gnb_types.specs.declared.plans.Tunnel.{Tunnel}
 use Rattle.gnb_types.specs.declared.keys.TunnelEnd.{TunnelEnd}
 use Rattle.gnb_types.specs.declared.inputs.Order.TheVariants as orders
 use Rattle.gnb_types.specs.Orders.{tunnel_cmp}
-use Rattle.message_types.specs.declared.rrc.Token.{Token}
-use Rattle.scenario_text.specs.declared.event.Event.{Event}
-use Rattle.tables.specs.Tables.{find, at}
-use Rattle.unit_defs.specs.Ways.{Message, Pdu, Load, Put, control, packet, radio, deliver, dropped, held, opened, closed, failed, no, Input, gives, spent}
-use Rattle.unit_defs.specs.Messages.{teid_of}
-use Rattle.unit_defs.specs.UpRecords.{CuUp, n3}
-use Rattle.unit_defs.specs.CuUp.{new_cu_up, cu_up_acts}
-use Rattle.unit_defs.specs.Du.{Du, new_du, du_acts}
-use Rattle.unit_defs.specs.Ue.{UeNode, new_ue, ue_acts}
-use Rattle.unit_defs.specs.CpRecords.{CuCpRecord, new_cu_cp}
-use Rattle.unit_defs.specs.CuCp.{cu_cp_acts}
-use Rattle.unit_defs.specs.Core.{CoreRecord, core_acts}
-use Rattle.transport_defs.specs.declared.Item.{Item}
-use Rattle.run_defs.specs.Units.{cp_of, with_cp, up_of, with_up, du_of, with_du, ue_of, with_ue}
-use Rattle.run_defs.specs.Written.{Written, written_put, PlainStepped, WrittenStepped, WrittenCoreStepped, written_step}
-use Rattle.run_defs.specs.States.{State, new_state, Lengths, letter_for, item_for, carried_for, confirmed_for, offer_for, tick_for, order_for, octets_from, octets_on, stepped, step_spent, core_stepped}
-use Rattle.run_defs.specs.Conditions.{units_placed, all_set_up}
-use Rattle.run_defs.specs.Runs.{Reading, PlainGiven, Plain, plain_way, input_of, stepped_with, ue_stepped, acts_on, plain_by, core_done, plain_core, plain_world}
-use Rattle.law_steps.specs.Reached.{reached}
-use Rattle.law_teids.proofs.Runs.{give_same, give_then, placed_gives, answer_gives}
-use Rattle.law_owner_facts.specs.Owned.{UpOwns, DuOwns}
-use Rattle.law_answers.specs.After.{HoldsAfter}
+use Rattle.law_tunnel_book.specs.message_types.declared.rrc.Token.{Token}
+use Rattle.law_laid_out.specs.scenario_text.declared.event.Event.{Event}
+use Rattle.law_tunnel_book.specs.tables.Tables.{find, at}
+use Rattle.law_tunnel_book.specs.unit_defs.Ways.{Message, Pdu, Load, Put, control, packet, radio, deliver, dropped, held, opened, closed, failed, no, Input, gives, spent}
+use Rattle.law_tunnel_book.specs.unit_defs.Messages.{teid_of}
+use Rattle.law_tunnel_book.specs.unit_defs.UpRecords.{CuUp, n3}
+use Rattle.law_tunnel_book.specs.unit_defs.CuUp.{new_cu_up, cu_up_acts}
+use Rattle.law_tunnel_book.specs.unit_defs.Du.{Du, new_du, du_acts}
+use Rattle.law_tunnel_book.specs.unit_defs.Ue.{UeNode, new_ue, ue_acts}
+use Rattle.law_tunnel_book.specs.unit_defs.CpRecords.{CuCpRecord, new_cu_cp}
+use Rattle.law_tunnel_book.specs.unit_defs.CuCp.{cu_cp_acts}
+use Rattle.law_tunnel_book.specs.unit_defs.Core.{CoreRecord, core_acts}
+use Rattle.law_laid_out.specs.transport_defs.declared.Item.{Item}
+use Rattle.law_laid_out.specs.run_defs.Units.{cp_of, with_cp, up_of, with_up, du_of, with_du, ue_of, with_ue}
+use Rattle.law_laid_out.specs.run_defs.Written.{Written, written_put, PlainStepped, WrittenStepped, WrittenCoreStepped, written_step}
+use Rattle.law_laid_out.specs.run_defs.States.{State, new_state, Lengths, letter_for, item_for, carried_for, confirmed_for, offer_for, tick_for, order_for, octets_from, octets_on, stepped, step_spent, core_stepped}
+use Rattle.law_laid_out.specs.run_defs.Conditions.{units_placed, all_set_up}
+use Rattle.law_laid_out.specs.run_defs.Runs.{Reading, PlainGiven, Plain, plain_way, input_of, stepped_with, ue_stepped, acts_on, plain_by, core_done, plain_core, plain_world}
+use Rattle.law_laid_out.specs.law_steps.Reached.{reached}
+use Rattle.law_laid_out.proofs.law_teids.Runs.{give_same, give_then, placed_gives, answer_gives}
+use Rattle.law_tunnel_book.specs.law_owner_facts.Owned.{UpOwns, DuOwns}
+use Rattle.law_tunnel_book.specs.law_answers.After.{HoldsAfter}
 use Rattle.law_tunnel_book.proofs.law_tunnel_owners.CuUps.{cu_up_owns}
 use Rattle.law_tunnel_book.proofs.law_tunnel_owners.Dus.{du_owns}
 use Rattle.law_tunnel_book.proofs.law_tunnel_owners.Placed.{nothing_up, nothing_du}
@@ -46,14 +46,14 @@ use Rattle.law_laid_out.proofs.law_run_facts.Both.{both, both_kept}
 use Rattle.law_laid_out.proofs.law_link_items.Octets.{map_all}
 use Rattle.law_laid_out.proofs.law_link_items.Names.{link_items}
 use Rattle.law_laid_out.proofs.law_link_items.Links.{items_keep}
-use Rattle.law_tunnel_names.specs.Names.{by_book, Names, Property, OwnUpList, PutOn, InputNames, OutputNames, OutputsName, AnswerNames}
-use Rattle.law_tunnel_names.specs.CuCps.{CpNames, CoreNames}
-use Rattle.law_tunnel_names.proofs.CuCps.{cu_cp_names}
-use Rattle.law_tunnel_names.proofs.Cores.{core_names}
-use Rattle.law_unit_tunnels.specs.Units.{UpHolds, DuHolds, NoneIsFree, UpNames, DuNames, IsLong, AnswerIf}
-use Rattle.law_unit_tunnels.proofs.CuUps.{cu_up_names, named_teid}
-use Rattle.law_unit_tunnels.proofs.Dus.{du_names}
-use Rattle.law_unit_tunnels.proofs.Terminals.{terminal_keeps}
+use Rattle.law_tunnel_book.specs.law_tunnel_names.Names.{by_book, Names, Property, OwnUpList, PutOn, InputNames, OutputNames, OutputsName, AnswerNames}
+use Rattle.law_tunnel_book.specs.law_tunnel_names.CuCps.{CpNames, CoreNames}
+use Rattle.law_tunnel_book.proofs.law_tunnel_names.CuCps.{cu_cp_names}
+use Rattle.law_tunnel_book.proofs.law_tunnel_names.Cores.{core_names}
+use Rattle.law_tunnel_book.specs.law_unit_tunnels.Units.{UpHolds, DuHolds, NoneIsFree, UpNames, DuNames, IsLong, AnswerIf}
+use Rattle.law_tunnel_book.proofs.law_unit_tunnels.CuUps.{cu_up_names, named_teid}
+use Rattle.law_tunnel_book.proofs.law_unit_tunnels.Dus.{du_names}
+use Rattle.law_tunnel_book.proofs.law_unit_tunnels.Terminals.{terminal_keeps}
 use Rattle.law_tunnel_book.specs.Book.{book_of}
 use Rattle.law_tunnel_book.proofs.Books.{own_in_run}
 use Rattle.law_run_tunnels.specs.Own.{IsOwnAt, TunnelsHoldTheirOwn, IsLaidAt, OctetsAreOfTheirKind}

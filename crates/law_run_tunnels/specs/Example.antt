@@ -4,14 +4,14 @@ use Rattle.gnb_types.specs.declared.names.Gnb.TheVariants.{A}
 use Rattle.gnb_types.specs.declared.names.NodeId.TheVariants.{CuUp}
 use Rattle.gnb_types.specs.declared.names.Dir.TheVariants.{Dl}
 use Rattle.gnb_types.specs.declared.keys.TunnelEnd.{TunnelEnd}
-use Rattle.message_types.specs.declared.rrc.Token.{Token}
-use Rattle.unit_defs.specs.Ways.{Message, Pdu, Load, fresh}
-use Rattle.unit_defs.specs.UpRecords.{n3, UpTunnel}
-use Rattle.unit_defs.specs.CuUp.{new_cu_up}
-use Rattle.transport_defs.specs.declared.Item.{Item}
-use Rattle.run_defs.specs.Units.{new_units, with_up}
-use Rattle.run_defs.specs.Written.{Written}
-use Rattle.run_defs.specs.States.{State, new_state}
+use Rattle.law_tunnel_book.specs.message_types.declared.rrc.Token.{Token}
+use Rattle.law_tunnel_book.specs.unit_defs.Ways.{Message, Pdu, Load, fresh}
+use Rattle.law_tunnel_book.specs.unit_defs.UpRecords.{n3, UpTunnel}
+use Rattle.law_tunnel_book.specs.unit_defs.CuUp.{new_cu_up}
+use Rattle.law_laid_out.specs.transport_defs.declared.Item.{Item}
+use Rattle.law_laid_out.specs.run_defs.Units.{new_units, with_up}
+use Rattle.law_laid_out.specs.run_defs.Written.{Written}
+use Rattle.law_laid_out.specs.run_defs.States.{State, new_state}
 
 abbrev pub its_end : TunnelEnd
 its_end = record { node = CuUp A 1; teid = 1 }

@@ -10,16 +10,16 @@ use Rattle.gnb_types.specs.declared.names.Dir.TheVariants.{Dl, Ul}
 use Rattle.gnb_types.specs.declared.keys.TunnelEnd.{TunnelEnd}
 use Rattle.gnb_types.specs.declared.keys.EntityKey.{EntityKey}
 use Rattle.gnb_types.specs.Orders.{tunnel_cmp}
-use Rattle.message_types.specs.declared.rrc.Token.{Token}
-use Rattle.tables.specs.Tables.{find}
-use Rattle.unit_defs.specs.Ways.{Message, Pdu, Load}
-use Rattle.unit_defs.specs.UpRecords.{TunnelKind, n3, f1u_uplink, forwarding_down, forwarding_up, UpTunnel}
-use Rattle.unit_defs.specs.Du.{DuTunnel}
-use Rattle.transport_defs.specs.declared.Item.{Item}
-use Rattle.run_defs.specs.Units.{Units, up_of, du_of}
-use Rattle.run_defs.specs.Carried.{Layout, NoLayout, N3, ForwardingDown, ForwardingUp, F1uDownlink, F1uUplink, IsDeliveryStatus}
-use Rattle.run_defs.specs.Written.{Written}
-use Rattle.run_defs.specs.States.{State}
+use Rattle.law_tunnel_book.specs.message_types.declared.rrc.Token.{Token}
+use Rattle.law_tunnel_book.specs.tables.Tables.{find}
+use Rattle.law_tunnel_book.specs.unit_defs.Ways.{Message, Pdu, Load}
+use Rattle.law_tunnel_book.specs.unit_defs.UpRecords.{TunnelKind, n3, f1u_uplink, forwarding_down, forwarding_up, UpTunnel}
+use Rattle.law_tunnel_book.specs.unit_defs.Du.{DuTunnel}
+use Rattle.law_laid_out.specs.transport_defs.declared.Item.{Item}
+use Rattle.law_laid_out.specs.run_defs.Units.{Units, up_of, du_of}
+use Rattle.law_laid_out.specs.run_defs.Carried.{Layout, NoLayout, N3, ForwardingDown, ForwardingUp, F1uDownlink, F1uUplink, IsDeliveryStatus}
+use Rattle.law_laid_out.specs.run_defs.Written.{Written}
+use Rattle.law_laid_out.specs.run_defs.States.{State}
 use Rattle.law_laid_out.specs.law_link_items.Items.{GoesToDu, IsOfN3, IsForwardedDown, IsForwardedUp, IsStatus, IsOfUplink}
 
 -- the direction and the load of a tunnel's kind; delivery statuses go down on an uplink of F1-U

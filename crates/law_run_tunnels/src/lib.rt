@@ -3,14 +3,14 @@
 
 ghost use Rattle.law_run_tunnels.specs.Example.{of_another};
 ghost use Rattle.law_run_tunnels.specs.Own.{OctetsAreOfTheirKind, TunnelsHoldTheirOwn};
-ghost use Rattle.law_steps.specs.Reached.{reached};
-ghost use Rattle.message_types.specs.declared.rrc.Token.{Token};
-ghost use Rattle.run_defs.specs.Runs.{plain_world, Reading};
-ghost use Rattle.run_defs.specs.States.{new_state, State};
-ghost use Rattle.run_defs.specs.Written.{Written};
-ghost use Rattle.scenario_text.specs.declared.event.Event.{Event};
+ghost use Rattle.law_laid_out.specs.law_steps.Reached.{reached};
+ghost use Rattle.law_tunnel_book.specs.message_types.declared.rrc.Token.{Token};
+ghost use Rattle.law_laid_out.specs.run_defs.Runs.{plain_world, Reading};
+ghost use Rattle.law_laid_out.specs.run_defs.States.{new_state, State};
+ghost use Rattle.law_laid_out.specs.run_defs.Written.{Written};
+ghost use Rattle.law_laid_out.specs.scenario_text.declared.event.Event.{Event};
 ghost use Rattle.std.specs.Prelude.{List, Some, ◌≡◌};
-ghost use Rattle.unit_defs.specs.Ways.{Load, Message, Pdu};
+ghost use Rattle.law_tunnel_book.specs.unit_defs.Ways.{Load, Message, Pdu};
 
 /// In every run each item that stands on a tunnel to a CU-UP or a DU is of the terminal and the bearer of the context that the
 /// TEID belongs to there, goes in the direction of the tunnel's kind, and is what such a tunnel carries in this direction: N3

@@ -13,20 +13,20 @@ use Rattle.gnb_types.specs.declared.outputs.Tag.{Tag}
 use Rattle.gnb_types.specs.declared.outputs.Tag.TheVariants.{Absent, Own, Same}
 use Rattle.gnb_types.specs.Orders.{ue_cmp, tunnel_cmp}
 use Rattle.tables.specs.Tables.{find, at}
-use Rattle.message_types.specs.declared.rrc.Token.{Token}
-use Rattle.scenario_text.specs.declared.event.Event.{Event}
-use Rattle.unit_defs.specs.Ways.{Message, Pdu, Load, Put, control, packet, radio, deliver, dropped, held, opened, closed, failed, no, gives, spent}
-use Rattle.unit_defs.specs.Core.{CoreRecord, core_acts}
-use Rattle.transport_defs.specs.declared.Item.{Item}
-use Rattle.transport_defs.specs.Links.{is_epoch, emptied}
-use Rattle.run_defs.specs.Lines.{RunLine, put_item, lost_items, tunnel_link, radio_link, shown}
-use Rattle.run_defs.specs.Units.{Units, up_of}
-use Rattle.run_defs.specs.Written.{Written}
-use Rattle.run_defs.specs.States.{State, Given, letter_for, item_for, carried_for, confirmed_for, offer_for, tick_for, order_for, octets_from, octets_on, core_stepped, World, Lengths, Stop, sn_of, goes, stops, told_before, ◌next◌, goes_on, Ending, Within, Outcome, as_step, entity, radio_of, with_radio}
-use Rattle.run_defs.specs.Steps.{first_outstanding, entities_of, checked_by, check_spans, noted, count_beside, item_of, on_tunnel, put_on_tunnel, put_on_connected, put_on_radio, put_control, opens, closes, radio_lost, lose_each, lose_radios_of, lose_radios, radios_of, same_epoch, epoch_now, connect_in, reconnect, reconnect_node, put_out, put_out_all, carried_out}
-use Rattle.run_defs.specs.Conditions.{statically}
-use Rattle.run_defs.specs.Events.{landed_as, leaves}
-use Rattle.run_defs.specs.Runs.{Reading, PlainGiven, Plain, plain_way, core_done, plain_core, plain_world, happens}
+use Rattle.law_context_rows.specs.message_types.declared.rrc.Token.{Token}
+use Rattle.law_steps.specs.scenario_text.declared.event.Event.{Event}
+use Rattle.law_steps.specs.unit_defs.Ways.{Message, Pdu, Load, Put, control, packet, radio, deliver, dropped, held, opened, closed, failed, no, gives, spent}
+use Rattle.law_steps.specs.unit_defs.Core.{CoreRecord, core_acts}
+use Rattle.law_steps.specs.transport_defs.declared.Item.{Item}
+use Rattle.law_steps.specs.transport_defs.Links.{is_epoch, emptied}
+use Rattle.law_steps.specs.run_defs.Lines.{RunLine, put_item, lost_items, tunnel_link, radio_link, shown}
+use Rattle.law_steps.specs.run_defs.Units.{Units, up_of}
+use Rattle.law_steps.specs.run_defs.Written.{Written}
+use Rattle.law_steps.specs.run_defs.States.{State, Given, letter_for, item_for, carried_for, confirmed_for, offer_for, tick_for, order_for, octets_from, octets_on, core_stepped, World, Lengths, Stop, sn_of, goes, stops, told_before, ◌next◌, goes_on, Ending, Within, Outcome, as_step, entity, radio_of, with_radio}
+use Rattle.law_steps.specs.run_defs.Steps.{first_outstanding, entities_of, checked_by, check_spans, noted, count_beside, item_of, on_tunnel, put_on_tunnel, put_on_connected, put_on_radio, put_control, opens, closes, radio_lost, lose_each, lose_radios_of, lose_radios, radios_of, same_epoch, epoch_now, connect_in, reconnect, reconnect_node, put_out, put_out_all, carried_out}
+use Rattle.law_steps.specs.run_defs.Conditions.{statically}
+use Rattle.law_steps.specs.run_defs.Events.{landed_as, leaves}
+use Rattle.law_steps.specs.run_defs.Runs.{Reading, PlainGiven, Plain, plain_way, core_done, plain_core, plain_world, happens}
 use Rattle.law_steps.specs.Causes.{Cause, by_order, by_tick, by_octets, by_octets_on, by_attach, by_release, by_offer, by_item, by_air, by_ack, by_letter, node_of, count_of, first_of}
 use Rattle.law_steps.specs.Made.{Made, stays, ends, then_made, sets_up, starts, acts, holds_item, holds_pdu, offers, core_takes, core_reads, lands, loses_letter, loses_item, remarks}
 use Rattle.law_steps.specs.Reached.{reached_by, reached}

@@ -5,10 +5,10 @@ use Rattle.gnb_types.specs.declared.names.UeId.{UeId}
 use Rattle.gnb_types.specs.declared.names.BearerId.{BearerId}
 use Rattle.gnb_types.specs.Orders.{ue_cmp}
 use Rattle.tables.specs.Tables.{find, put}
-use Rattle.unit_defs.specs.Ways.{gives, spent}
-use Rattle.unit_defs.specs.Du.{DuContext, du_acts}
-use Rattle.unit_defs.specs.Static.{du_context, du_placed}
-use Rattle.run_defs.specs.Runs.{Plain, plain_way}
+use Rattle.law_steps.specs.unit_defs.Ways.{gives, spent}
+use Rattle.law_steps.specs.unit_defs.Du.{DuContext, du_acts}
+use Rattle.law_steps.specs.unit_defs.Static.{du_context, du_placed}
+use Rattle.law_steps.specs.run_defs.Runs.{Plain, plain_way}
 use Rattle.law_du_inputs.specs.Changes.{part_in, part_of, Change, stays, sets_up, changed, change_by, Has}
 use Rattle.law_du_inputs.proofs.Contexts.{same_ue, stays_is, sets_is, put_here, put_far}
 use Rattle.law_du_inputs.proofs.Control.{input_has}

@@ -5,20 +5,20 @@ use Rattle.gnb_types.specs.declared.names.Gnb.TheVariants.{A, B}
 use Rattle.gnb_types.specs.declared.names.NodeId.{NodeId}
 use Rattle.gnb_types.specs.declared.names.NodeId.TheVariants.{CuCp, CuUp as up_id, Du as du_id, Core, Ue}
 use Rattle.gnb_types.specs.declared.plans.Plan.{Plan}
-use Rattle.message_types.specs.declared.rrc.Token.{Token}
-use Rattle.scenario_text.specs.declared.event.Event.{Event}
-use Rattle.unit_defs.specs.Ways.{Message, Pdu, Load, Input, gives, spent}
-use Rattle.unit_defs.specs.Ue.{UeNode, new_ue, placed, ue_acts}
-use Rattle.unit_defs.specs.CuUp.{new_cu_up, cu_up_acts}
-use Rattle.unit_defs.specs.Du.{new_du, du_acts}
-use Rattle.unit_defs.specs.CpRecords.{CuCpRecord}
-use Rattle.unit_defs.specs.CuCp.{cu_cp_acts}
-use Rattle.unit_defs.specs.Static.{up_placed, up_set_up, du_placed, du_set_up, cp_placed}
-use Rattle.run_defs.specs.Units.{Units, cp_of, with_cp, up_of, with_up, du_of, with_du, ue_of, with_ue}
-use Rattle.run_defs.specs.Conditions.{units_placed, all_set_up}
-use Rattle.run_defs.specs.Written.{Written, PlainStepped, WrittenStepped, written_step}
-use Rattle.run_defs.specs.States.{State, stepped, step_spent, Lengths}
-use Rattle.run_defs.specs.Runs.{Reading, PlainGiven, Plain, plain_way, input_of, stepped_with, ue_stepped, acts_on, plain_by, plain_world}
+use Rattle.law_context_rows.specs.message_types.declared.rrc.Token.{Token}
+use Rattle.law_steps.specs.scenario_text.declared.event.Event.{Event}
+use Rattle.law_steps.specs.unit_defs.Ways.{Message, Pdu, Load, Input, gives, spent}
+use Rattle.law_steps.specs.unit_defs.Ue.{UeNode, new_ue, placed, ue_acts}
+use Rattle.law_steps.specs.unit_defs.CuUp.{new_cu_up, cu_up_acts}
+use Rattle.law_steps.specs.unit_defs.Du.{new_du, du_acts}
+use Rattle.law_steps.specs.unit_defs.CpRecords.{CuCpRecord}
+use Rattle.law_steps.specs.unit_defs.CuCp.{cu_cp_acts}
+use Rattle.law_steps.specs.unit_defs.Static.{up_placed, up_set_up, du_placed, du_set_up, cp_placed}
+use Rattle.law_steps.specs.run_defs.Units.{Units, cp_of, with_cp, up_of, with_up, du_of, with_du, ue_of, with_ue}
+use Rattle.law_steps.specs.run_defs.Conditions.{units_placed, all_set_up}
+use Rattle.law_steps.specs.run_defs.Written.{Written, PlainStepped, WrittenStepped, written_step}
+use Rattle.law_steps.specs.run_defs.States.{State, stepped, step_spent, Lengths}
+use Rattle.law_steps.specs.run_defs.Runs.{Reading, PlainGiven, Plain, plain_way, input_of, stepped_with, ue_stepped, acts_on, plain_by, plain_world}
 use Rattle.law_steps.specs.Reached.{reached}
 use Rattle.law_steps.proofs.Frames.{reached_relates}
 use Rattle.law_run_units.specs.Happenings.{places, counts, takes, UpRecord, DuRecord, kept_of, after_up, after_du}

@@ -9,19 +9,19 @@ use Rattle.gnb_types.specs.declared.names.BearerId.{BearerId}
 use Rattle.gnb_types.specs.declared.plans.Plan.{Plan}
 use Rattle.gnb_types.specs.Orders.{ue_cmp, bearer_cmp}
 use Rattle.gnb_types.proofs.OrderLemmas.{ue_total}
-use Rattle.message_types.specs.declared.rrc.Token.{Token}
+use Rattle.law_context_rows.specs.message_types.declared.rrc.Token.{Token}
 use Rattle.tables.specs.Tables.{find, put, IsSorted}
 use Rattle.tables.proofs.TableLaws.{find-put-same, find-put-other}
-use Rattle.unit_defs.specs.Ways.{Message, Pdu, Output, Answer, gives, spent, with_outputs, ◌then◌}
-use Rattle.unit_defs.specs.UpRecords.{UpBearer, UpContext}
-use Rattle.unit_defs.specs.CuUp.{cu_up_acts, bearers_from, bearers_made}
-use Rattle.unit_defs.specs.Static.{with_downlinks, up_context, up_placed}
-use Rattle.run_defs.specs.Runs.{Plain, plain_way}
-use Rattle.law_answers.specs.After.{HoldsAfter}
-use Rattle.law_tunnel_frames.specs.OneTunnel.{BearersInOrder}
-use Rattle.law_context_orders.specs.Orders.{UpPart, part_in, part_of, UpOrder, carried_out, carried}
-use Rattle.law_context_orders.specs.Inputs.{orders_of}
-use Rattle.law_context_orders.specs.Shown.{Comes, Follows}
+use Rattle.law_steps.specs.unit_defs.Ways.{Message, Pdu, Output, Answer, gives, spent, with_outputs, ◌then◌}
+use Rattle.law_steps.specs.unit_defs.UpRecords.{UpBearer, UpContext}
+use Rattle.law_steps.specs.unit_defs.CuUp.{cu_up_acts, bearers_from, bearers_made}
+use Rattle.law_steps.specs.unit_defs.Static.{with_downlinks, up_context, up_placed}
+use Rattle.law_steps.specs.run_defs.Runs.{Plain, plain_way}
+use Rattle.law_context_rows.specs.law_answers.After.{HoldsAfter}
+use Rattle.law_context_rows.specs.law_tunnel_frames.OneTunnel.{BearersInOrder}
+use Rattle.law_context_rows.specs.law_context_orders.Orders.{UpPart, part_in, part_of, UpOrder, carried_out, carried}
+use Rattle.law_context_rows.specs.law_context_orders.Inputs.{orders_of}
+use Rattle.law_context_rows.specs.law_context_orders.Shown.{Comes, Follows}
 use Rattle.law_context_rows.proofs.Contexts.{order_put, made_sorted}
 use Rattle.law_context_rows.proofs.Rows.{all_does, follows, stays_in_order}
 use Rattle.law_du_inputs.proofs.Contexts.{same_ue}

@@ -5,11 +5,11 @@ use Rattle.gnb_types.specs.declared.names.NodeId.TheVariants.{CuUp}
 use Rattle.gnb_types.specs.declared.plans.Plan.{Plan}
 use Rattle.gnb_types.specs.Orders.{ue_cmp}
 use Rattle.tables.specs.Tables.{put}
-use Rattle.message_types.specs.declared.rrc.Token.{Token}
-use Rattle.unit_defs.specs.Ways.{Message}
-use Rattle.unit_defs.specs.Core.{CoreRecord, core_acts}
-use Rattle.run_defs.specs.Conditions.{n3_from}
-use Rattle.run_defs.specs.Runs.{plain_way}
+use Rattle.law_context_rows.specs.message_types.declared.rrc.Token.{Token}
+use Rattle.law_steps.specs.unit_defs.Ways.{Message}
+use Rattle.law_steps.specs.unit_defs.Core.{CoreRecord, core_acts}
+use Rattle.law_steps.specs.run_defs.Conditions.{n3_from}
+use Rattle.law_steps.specs.run_defs.Runs.{plain_way}
 use Rattle.law_run_units.specs.Happenings.{kept_of}
 
 -- a terminal is set up without messages, with its N3 tunnels from this TEID on; it is given a message

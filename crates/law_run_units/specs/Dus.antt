@@ -4,10 +4,10 @@ use Rattle.std.specs.Ordering.{eq_by_cmp}
 use Rattle.gnb_types.specs.declared.names.UeId.{UeId}
 use Rattle.gnb_types.specs.declared.names.BearerId.{BearerId}
 use Rattle.gnb_types.specs.Orders.{ue_cmp}
-use Rattle.unit_defs.specs.Ways.{gives, spent}
-use Rattle.unit_defs.specs.Du.{du_acts}
-use Rattle.unit_defs.specs.Static.{du_context}
-use Rattle.run_defs.specs.Runs.{Plain, plain_way}
+use Rattle.law_steps.specs.unit_defs.Ways.{gives, spent}
+use Rattle.law_steps.specs.unit_defs.Du.{du_acts}
+use Rattle.law_steps.specs.unit_defs.Static.{du_context}
+use Rattle.law_steps.specs.run_defs.Runs.{Plain, plain_way}
 use Rattle.law_du_inputs.specs.Changes.{DuPart, part_in, Change, stays, sets_up, changed, change_by}
 use Rattle.law_run_units.specs.Happenings.{Happening, places, counts, takes, DuRecord, after_du}
 

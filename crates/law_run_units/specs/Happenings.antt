@@ -1,13 +1,13 @@
 -- What happens to a CU-UP and to a DU over a run, and what the tables make of it.
 use Rattle.std.specs.Prelude.{ℕ, List, [], ◌∷◌}
 use Rattle.gnb_types.specs.declared.plans.Plan.{Plan}
-use Rattle.message_types.specs.declared.rrc.Token.{Token}
-use Rattle.unit_defs.specs.Ways.{Message, Pdu, Input, gives, spent}
-use Rattle.unit_defs.specs.UpRecords.{CuUp}
-use Rattle.unit_defs.specs.CuUp.{cu_up_acts}
-use Rattle.unit_defs.specs.Du.{Du, du_acts}
-use Rattle.unit_defs.specs.Static.{up_placed, up_set_up, du_placed, du_set_up}
-use Rattle.run_defs.specs.Runs.{Plain, plain_way}
+use Rattle.law_context_rows.specs.message_types.declared.rrc.Token.{Token}
+use Rattle.law_steps.specs.unit_defs.Ways.{Message, Pdu, Input, gives, spent}
+use Rattle.law_steps.specs.unit_defs.UpRecords.{CuUp}
+use Rattle.law_steps.specs.unit_defs.CuUp.{cu_up_acts}
+use Rattle.law_steps.specs.unit_defs.Du.{Du, du_acts}
+use Rattle.law_steps.specs.unit_defs.Static.{up_placed, up_set_up, du_placed, du_set_up}
+use Rattle.law_steps.specs.run_defs.Runs.{Plain, plain_way}
 
 -- A terminal is set up there without messages, on tunnels of the other unit from this TEID on; the unit counts as set up; it is given
 -- an input.

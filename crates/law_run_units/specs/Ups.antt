@@ -4,13 +4,13 @@ use Rattle.std.specs.Ordering.{eq_by_cmp}
 use Rattle.gnb_types.specs.declared.names.UeId.{UeId}
 use Rattle.gnb_types.specs.declared.names.BearerId.{BearerId}
 use Rattle.gnb_types.specs.Orders.{ue_cmp}
-use Rattle.message_types.specs.declared.rrc.Token.{Token}
-use Rattle.unit_defs.specs.Ways.{Message, Pdu, Answer, gives, spent, ◌then◌, nothing}
-use Rattle.unit_defs.specs.CuUp.{cu_up_acts}
-use Rattle.unit_defs.specs.Static.{up_context}
-use Rattle.run_defs.specs.Runs.{Plain, plain_way}
-use Rattle.law_context_orders.specs.Orders.{UpPart, part_in, UpOrder, carried_out}
-use Rattle.law_context_orders.specs.Inputs.{orders_of}
+use Rattle.law_context_rows.specs.message_types.declared.rrc.Token.{Token}
+use Rattle.law_steps.specs.unit_defs.Ways.{Message, Pdu, Answer, gives, spent, ◌then◌, nothing}
+use Rattle.law_steps.specs.unit_defs.CuUp.{cu_up_acts}
+use Rattle.law_steps.specs.unit_defs.Static.{up_context}
+use Rattle.law_steps.specs.run_defs.Runs.{Plain, plain_way}
+use Rattle.law_context_rows.specs.law_context_orders.Orders.{UpPart, part_in, UpOrder, carried_out}
+use Rattle.law_context_rows.specs.law_context_orders.Inputs.{orders_of}
 use Rattle.law_run_units.specs.Happenings.{Happening, places, counts, takes, UpRecord, after_up}
 
 -- an order; or the terminal is set up without messages, and the bearer is this then

@@ -21,18 +21,18 @@ use Rattle.run_defs.specs.Units.{up_of, du_of}
 use Rattle.run_defs.specs.Conditions.{is_held_by_units, tunnels_from, statically}
 use Rattle.run_defs.specs.Runs.{Reading}
 use Rattle.law_up_slice.specs.CuUps.{UpSlice, own_tunnel, up_slice}
-use Rattle.law_own_events.specs.law_own_steps.Own.{LeavesOthers}
-use Rattle.law_own_events.proofs.law_own_steps.Steps.{Sound}
-use Rattle.law_own_events.proofs.Passed.{sound_past}
+use Rattle.law_tied_runs.specs.law_own_steps.Own.{LeavesOthers}
+use Rattle.law_tied_runs.proofs.law_own_steps.Steps.{Sound}
+use Rattle.law_tied_runs.proofs.law_own_events.Passed.{sound_past}
 use Rattle.law_all_steps.proofs.Statics.{from_same, static_leaves}
-use Rattle.law_tie_facts.specs.law_bearer_lists.law_context_orders.Orders.{part_in}
-use Rattle.law_tie_facts.specs.law_bearer_lists.law_context_orders.Shown.{is_bearer}
-use Rattle.law_tie_facts.specs.law_tunnel_steps.Standing.{standing}
-use Rattle.law_tie_facts.specs.law_run_bearers.Bearers.{Place, Numbering, if_of, at_place, contexts_of}
-use Rattle.law_tie_facts.specs.Ties.{RunState, RunItem, Owned, owned_by, owned_on, owned_at}
-use Rattle.law_tie_facts.proofs.law_open_tunnels.Links.{end_of}
-use Rattle.law_put_ties.proofs.Apart.{found_on}
-use Rattle.law_put_ties.proofs.Stands.{some_standing}
+use Rattle.law_tied_runs.specs.law_context_orders.Orders.{part_in}
+use Rattle.law_tied_runs.specs.law_context_orders.Shown.{is_bearer}
+use Rattle.law_tied_runs.specs.law_tunnel_steps.Standing.{standing}
+use Rattle.law_tied_runs.specs.law_run_bearers.Bearers.{Place, Numbering, if_of, at_place, contexts_of}
+use Rattle.law_tied_runs.specs.law_tie_facts.Ties.{RunState, RunItem, Owned, owned_by, owned_on, owned_at}
+use Rattle.law_all_steps.proofs.law_open_tunnels.Links.{end_of}
+use Rattle.law_tied_runs.proofs.law_put_ties.Apart.{found_on}
+use Rattle.law_tied_runs.proofs.law_put_ties.Stands.{some_standing}
 use Rattle.law_tied_runs.specs.Steps.{IsLeft, IsPassed}
 
 number_same : (a : ℕ) → (a == a) ≡ true

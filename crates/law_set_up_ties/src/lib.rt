@@ -4,8 +4,8 @@
 ghost use Rattle.gnb_types.specs.declared.names.BearerId.{BearerId};
 ghost use Rattle.gnb_types.specs.declared.names.UeId.{UeId};
 ghost use Rattle.gnb_types.specs.declared.plans.Plan.{Plan};
-ghost use Rattle.law_tie_facts.specs.Ties.{RunState};
-ghost use Rattle.law_tie_facts.specs.law_run_bearers.Bearers.{Numbering};
+ghost use Rattle.law_tied_runs.specs.law_tie_facts.Ties.{RunState};
+ghost use Rattle.law_tied_runs.specs.law_run_bearers.Bearers.{Numbering};
 ghost use Rattle.law_tied_runs.specs.Steps.{IsLeft, IsPassed};
 ghost use Rattle.run_defs.specs.Conditions.{is_held_by_units, statically};
 ghost use Rattle.run_defs.specs.Runs.{Reading};

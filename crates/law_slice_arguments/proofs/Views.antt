@@ -17,10 +17,10 @@ use Rattle.unit_defs.specs.Du.{Du, new_du, du_acts}
 use Rattle.unit_defs.specs.Ue.{UeNode, ue_acts}
 use Rattle.unit_defs.specs.CpRecords.{CuCpRecord}
 use Rattle.unit_defs.specs.CuCp.{cu_cp_acts}
-use Rattle.run_defs.specs.Units.{Units, cp_of, with_cp, up_of, with_up, du_of, with_du, ue_of, with_ue}
-use Rattle.run_defs.specs.Written.{written_put, PlainStepped, written_step}
-use Rattle.run_defs.specs.States.{Lengths, stepped, step_spent}
-use Rattle.run_defs.specs.Runs.{Reading, PlainGiven, Plain, plain_way, input_of, stepped_with, ue_stepped, plain_by, plain_world}
+use Rattle.law_run_slices.specs.run_defs.Units.{Units, cp_of, with_cp, up_of, with_up, du_of, with_du, ue_of, with_ue}
+use Rattle.law_run_slices.specs.run_defs.Written.{written_put, PlainStepped, written_step}
+use Rattle.law_run_slices.specs.run_defs.States.{Lengths, stepped, step_spent}
+use Rattle.law_run_slices.specs.run_defs.Runs.{Reading, PlainGiven, Plain, plain_way, input_of, stepped_with, ue_stepped, plain_by, plain_world}
 use Rattle.law_slices.specs.Steps.{seen}
 use Rattle.law_cp_slice.specs.CuCps.{cp_view}
 use Rattle.law_cp_slice.proofs.Same.{cp_same}

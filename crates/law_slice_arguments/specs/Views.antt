@@ -3,8 +3,8 @@ use Rattle.std.specs.Prelude.{◌≡◌}
 use Rattle.gnb_types.specs.declared.names.NodeId.{NodeId}
 use Rattle.gnb_types.specs.declared.names.NodeId.TheVariants.{CuCp, CuUp as up_id, Du as du_id, Core, Ue}
 use Rattle.gnb_types.specs.declared.names.UeId.{UeId}
-use Rattle.run_defs.specs.Units.{Units, cp_of, up_of, du_of, ue_of}
-use Rattle.run_defs.specs.States.{Stepped, stepped, step_spent}
+use Rattle.law_run_slices.specs.run_defs.Units.{Units, cp_of, up_of, du_of, ue_of}
+use Rattle.law_run_slices.specs.run_defs.States.{Stepped, stepped, step_spent}
 use Rattle.law_cp_slice.specs.CuCps.{cp_view}
 use Rattle.law_up_slice.specs.CuUps.{up_view, SameRoom}
 use Rattle.law_du_slice.specs.Dus.{du_view}

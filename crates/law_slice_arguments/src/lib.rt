@@ -6,9 +6,9 @@ ghost use Rattle.gnb_types.specs.declared.names.UeId.{UeId};
 ghost use Rattle.law_run_slices.specs.Units.{given_ue};
 ghost use Rattle.law_slice_arguments.specs.Views.{AnswerAlike, AreAlikeAt};
 ghost use Rattle.message_types.specs.declared.rrc.Token.{Token};
-ghost use Rattle.run_defs.specs.Runs.{plain_world, PlainGiven, Reading};
-ghost use Rattle.run_defs.specs.States.{Lengths};
-ghost use Rattle.run_defs.specs.Units.{Units};
+ghost use Rattle.law_run_slices.specs.run_defs.Runs.{plain_world, PlainGiven, Reading};
+ghost use Rattle.law_run_slices.specs.run_defs.States.{Lengths};
+ghost use Rattle.law_run_slices.specs.run_defs.Units.{Units};
 ghost use Rattle.std.specs.Prelude.{Some, ◌≡◌};
 ghost use Rattle.unit_defs.specs.Ways.{Message};
 

@@ -16,16 +16,16 @@ use Rattle.gnb_types.specs.Orders.{ue_cmp, bearer_cmp}
 use Rattle.gnb_types.proofs.OrderLemmas.{bearer_total, bearer_exact}
 use Rattle.tables.specs.Tables.{find, IsSorted}
 use Rattle.tables.proofs.TableLaws.{other_key}
-use Rattle.unit_defs.specs.Ways.{Input, Way, Answer, gives, spent}
-use Rattle.unit_defs.specs.Teids.{last_teid}
-use Rattle.unit_defs.specs.UpRecords.{UpTunnel, CuUp}
-use Rattle.unit_defs.specs.CuUp.{cu_up_acts}
-use Rattle.unit_defs.specs.Du.{DuBearer, DuContext, DuTunnel, Du, du_acts}
-use Rattle.law_teids.specs.Given.{below}
-use Rattle.law_answers.specs.After.{HoldsAfter}
-use Rattle.law_owner_facts.specs.Owned.{up_names, up_context_names, du_names, du_context_names, is_downlink, UpOwns, DuOwns}
+use Rattle.law_tunnel_owners.specs.unit_defs.Ways.{Input, Way, Answer, gives, spent}
+use Rattle.law_tunnel_owners.specs.unit_defs.Teids.{last_teid}
+use Rattle.law_tunnel_owners.specs.unit_defs.UpRecords.{UpTunnel, CuUp}
+use Rattle.law_tunnel_owners.specs.unit_defs.CuUp.{cu_up_acts}
+use Rattle.law_tunnel_owners.specs.unit_defs.Du.{DuBearer, DuContext, DuTunnel, Du, du_acts}
+use Rattle.law_tunnel_owners.specs.law_teids.Given.{below}
+use Rattle.law_tunnel_owners.specs.law_answers.After.{HoldsAfter}
+use Rattle.law_tunnel_owners.specs.law_owner_facts.Owned.{up_names, up_context_names, du_names, du_context_names, is_downlink, UpOwns, DuOwns}
 use Rattle.law_tunnel_owners.proofs.CuUps.{cu_up_owns}
-use Rattle.law_slices.specs.Steps.{PutsFor, StaysFor}
+use Rattle.law_du_slice.specs.law_slices.Steps.{PutsFor, StaysFor}
 use Rattle.law_up_slice.specs.CuUps.{UpPart, up_part, up_slice, own_tunnel, up_ue}
 use Rattle.law_up_slice.proofs.Others.{up_steps}
 use Rattle.law_du_slice.specs.Dus.{du_slice, du_ue, IsApart}

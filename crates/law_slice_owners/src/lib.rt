@@ -4,14 +4,14 @@
 
 ghost use Rattle.gnb_types.specs.declared.names.UeId.{UeId};
 ghost use Rattle.law_du_slice.specs.Dus.{du_slice, du_ue};
-ghost use Rattle.law_owner_facts.specs.Owned.{DuOwns, UpOwns};
-ghost use Rattle.law_slices.specs.Steps.{IsStepOf};
+ghost use Rattle.law_tunnel_owners.specs.law_owner_facts.Owned.{DuOwns, UpOwns};
+ghost use Rattle.law_du_slice.specs.law_slices.Steps.{IsStepOf};
 ghost use Rattle.law_up_slice.specs.CuUps.{up_slice, up_ue};
 ghost use Rattle.std.specs.Prelude.{◌≡◌, Some};
-ghost use Rattle.unit_defs.specs.CuUp.{cu_up_acts};
-ghost use Rattle.unit_defs.specs.Du.{du_acts, Du};
-ghost use Rattle.unit_defs.specs.UpRecords.{CuUp};
-ghost use Rattle.unit_defs.specs.Ways.{Input, Way};
+ghost use Rattle.law_tunnel_owners.specs.unit_defs.CuUp.{cu_up_acts};
+ghost use Rattle.law_tunnel_owners.specs.unit_defs.Du.{du_acts, Du};
+ghost use Rattle.law_tunnel_owners.specs.unit_defs.UpRecords.{CuUp};
+ghost use Rattle.law_tunnel_owners.specs.unit_defs.Ways.{Input, Way};
 
 /// At a CU-UP whose open TEIDs are those that its contexts name, an input that is for a terminal leaves the whole slices of
 /// the others, their open TEIDs too, and all that is put out is the terminal's.

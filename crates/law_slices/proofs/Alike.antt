@@ -2,13 +2,13 @@
 -- is the same of both, and they keep the same of it then.
 use Rattle.std.proofs.Common.{◌≡◌, ℕ, ◌+◌, ◌==◌, Bool, true, false, not, ◌||◌, List, [], ◌∷◌, ◌++◌, Option, Some, None, refl, ap, ◌∙◌}
 use Rattle.std.specs.Prelude.{if◌then◌else◌, is_some}
-use Rattle.gnb_types.specs.declared.keys.Channel.{Channel}
-use Rattle.gnb_types.specs.declared.reasons.DropReason.TheVariants.{Stale}
-use Rattle.gnb_types.specs.Orders.{channel_cmp}
-use Rattle.gnb_types.proofs.OrderLemmas.{channel_total}
-use Rattle.tables.specs.Tables.{find, put, at}
-use Rattle.transaction_defs.specs.Callers.{Opened, Caller, last_instance, begin_after, begun_with, begin, spent as begins_no_more, opened_at, is_open, is_awaited, has_instance, keep_request, with_request, close}
-use Rattle.transaction_defs.specs.Callees.{Kept, Verdict, new, again, stale, verdict, verdict_after, newest, newest_in, kept_at, kept_reply, reply_in, taken, keep, with_reply, keep_for, is_newest}
+use Rattle.unit_defs.specs.gnb_types.declared.keys.Channel.{Channel}
+use Rattle.unit_defs.specs.gnb_types.declared.reasons.DropReason.TheVariants.{Stale}
+use Rattle.unit_defs.specs.gnb_types.Orders.{channel_cmp}
+use Rattle.unit_defs.proofs.gnb_types.OrderLemmas.{channel_total}
+use Rattle.unit_defs.specs.tables.Tables.{find, put, at}
+use Rattle.unit_defs.specs.transaction_defs.Callers.{Opened, Caller, last_instance, begin_after, begun_with, begin, spent as begins_no_more, opened_at, is_open, is_awaited, has_instance, keep_request, with_request, close}
+use Rattle.unit_defs.specs.transaction_defs.Callees.{Kept, Verdict, new, again, stale, verdict, verdict_after, newest, newest_in, kept_at, kept_reply, reply_in, taken, keep, with_reply, keep_for, is_newest}
 use Rattle.unit_defs.specs.Ways.{Message, control, dropped, Way, Answer, gives, nothing, drops}
 use Rattle.unit_defs.specs.Transactions.{Transactions, Waiting, Asked, is_empty, waits_at, with_waiting, with_instance, awaited_as, begun_as, begin_request, ask, advance_with, advance, ask_at_once, replied, replied_late, answered_again, request_by, on_request, on_reply}
 use Rattle.unit_defs.specs.Messages.{channel}

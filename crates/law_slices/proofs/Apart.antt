@@ -2,11 +2,11 @@
 -- was kept.
 use Rattle.std.proofs.Common.{◌≡◌, ℕ, ◌+◌, ◌==◌, Bool, true, false, not, ◌||◌, List, [], ◌∷◌, ◌++◌, Option, Some, None, refl, ◌∙◌}
 use Rattle.std.specs.Prelude.{◌≢◌, if◌then◌else◌}
-use Rattle.gnb_types.specs.declared.keys.Channel.{Channel}
-use Rattle.gnb_types.specs.Orders.{channel_cmp}
-use Rattle.tables.specs.Tables.{find, put, at}
-use Rattle.transaction_defs.specs.Callers.{Opened, Caller, last_instance, begin_after, begun_with, begin, spent as begins_no_more, opened_at, is_open, is_awaited, keep_request, with_request, close}
-use Rattle.transaction_defs.specs.Callees.{Kept, Verdict, new, again, stale, verdict, newest, kept_at, kept_reply, taken, keep, with_reply, keep_for, is_newest}
+use Rattle.unit_defs.specs.gnb_types.declared.keys.Channel.{Channel}
+use Rattle.unit_defs.specs.gnb_types.Orders.{channel_cmp}
+use Rattle.unit_defs.specs.tables.Tables.{find, put, at}
+use Rattle.unit_defs.specs.transaction_defs.Callers.{Opened, Caller, last_instance, begin_after, begun_with, begin, spent as begins_no_more, opened_at, is_open, is_awaited, keep_request, with_request, close}
+use Rattle.unit_defs.specs.transaction_defs.Callees.{Kept, Verdict, new, again, stale, verdict, newest, kept_at, kept_reply, taken, keep, with_reply, keep_for, is_newest}
 use Rattle.unit_defs.specs.Ways.{Message, Way, Answer, nothing}
 use Rattle.unit_defs.specs.Transactions.{Transactions, Waiting, Asked, is_empty, waits_at, with_waiting, begun_as, begin_request, ask, advance_with, advance, ask_at_once, replied, replied_late, answered_again, request_by, on_request, on_reply}
 use Rattle.law_slices.specs.Slices.{requests_of}

@@ -1,17 +1,17 @@
 -- Each row of the core is one terminal's.
 use Rattle.std.proofs.Common.{◌≡◌, ℕ, List, [], ◌∷◌, map, Option, Some, None, refl, ap, ◌∙◌, subst}
 use Rattle.std.specs.List.{AllByRecursion}
-use Rattle.gnb_types.specs.declared.names.NodeId.{NodeId}
-use Rattle.gnb_types.specs.declared.names.NodeId.TheVariants.{CuCp, CuUp, Du, Core, Ue}
-use Rattle.gnb_types.specs.declared.names.UeId.{UeId}
-use Rattle.gnb_types.specs.declared.plans.Peer.{Peer}
-use Rattle.gnb_types.specs.declared.plans.Tunnel.{Tunnel}
-use Rattle.gnb_types.specs.declared.reasons.DropReason.TheVariants.{Unexpected}
-use Rattle.gnb_types.specs.Orders.{ue_cmp}
-use Rattle.gnb_types.proofs.OrderLemmas.{ue_total}
-use Rattle.tables.specs.Tables.{find}
-use Rattle.tables.proofs.TableLaws.{find-put-other}
-use Rattle.message_types.specs.declared.xn.CoreMessage.TheVariants as cores
+use Rattle.unit_defs.specs.gnb_types.declared.names.NodeId.{NodeId}
+use Rattle.unit_defs.specs.gnb_types.declared.names.NodeId.TheVariants.{CuCp, CuUp, Du, Core, Ue}
+use Rattle.unit_defs.specs.gnb_types.declared.names.UeId.{UeId}
+use Rattle.unit_defs.specs.gnb_types.declared.plans.Peer.{Peer}
+use Rattle.unit_defs.specs.gnb_types.declared.plans.Tunnel.{Tunnel}
+use Rattle.unit_defs.specs.gnb_types.declared.reasons.DropReason.TheVariants.{Unexpected}
+use Rattle.unit_defs.specs.gnb_types.Orders.{ue_cmp}
+use Rattle.unit_defs.proofs.gnb_types.OrderLemmas.{ue_total}
+use Rattle.unit_defs.specs.tables.Tables.{find}
+use Rattle.unit_defs.proofs.tables.TableLaws.{find-put-other}
+use Rattle.unit_defs.specs.message_types.declared.xn.CoreMessage.TheVariants as cores
 use Rattle.unit_defs.specs.Ways.{Message, core, dropped, Way, Answer, gives, drops}
 use Rattle.unit_defs.specs.Transactions.{Kind, request, reply, transfer, kind_of, Transactions, replied}
 use Rattle.unit_defs.specs.Messages.{channel}

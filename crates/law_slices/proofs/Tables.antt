@@ -4,13 +4,13 @@ use Rattle.std.specs.Prelude.{◌≢◌}
 use Rattle.std.specs.declared.cmp.Ordering.{Ordering}
 use Rattle.std.specs.Ordering.{eq_by_cmp}
 use Rattle.std.specs.Cmp.{IsTotalOrder}
-use Rattle.gnb_types.specs.declared.names.NodeId.{NodeId}
-use Rattle.gnb_types.specs.declared.names.UeId.{UeId}
-use Rattle.gnb_types.specs.declared.keys.Channel.{Channel}
-use Rattle.gnb_types.specs.Orders.{ue_cmp, channel_cmp}
-use Rattle.gnb_types.proofs.OrderLemmas.{ue_total, ue_exact, channel_total, channel_exact}
-use Rattle.tables.specs.Tables.{find, put, without, at}
-use Rattle.tables.proofs.TableLaws.{find-put, find-without, at-put, at-without, find-put-other, find-without-other, other_key}
+use Rattle.unit_defs.specs.gnb_types.declared.names.NodeId.{NodeId}
+use Rattle.unit_defs.specs.gnb_types.declared.names.UeId.{UeId}
+use Rattle.unit_defs.specs.gnb_types.declared.keys.Channel.{Channel}
+use Rattle.unit_defs.specs.gnb_types.Orders.{ue_cmp, channel_cmp}
+use Rattle.unit_defs.proofs.gnb_types.OrderLemmas.{ue_total, ue_exact, channel_total, channel_exact}
+use Rattle.unit_defs.specs.tables.Tables.{find, put, without, at}
+use Rattle.unit_defs.proofs.tables.TableLaws.{find-put, find-without, at-put, at-without, find-put-other, find-without-other, other_key}
 use Rattle.unit_defs.specs.Messages.{channel}
 
 module _ {K X : Type 0} {R : K → K → Ordering} (o : IsTotalOrder R) (m n : List (K × X)) (q : K) where

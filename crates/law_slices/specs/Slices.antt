@@ -1,15 +1,15 @@
 -- What a unit keeps of one terminal: its slice. The tables of requests and replies are seen as functions of the peer; a terminal of
 -- number 0 stands for the unit itself.
 use Rattle.std.specs.Prelude.{ℕ, List, [], Option}
-use Rattle.gnb_types.specs.declared.names.NodeId.{NodeId}
-use Rattle.gnb_types.specs.declared.names.NodeId.TheVariants.{Ue}
-use Rattle.gnb_types.specs.declared.names.UeId.{UeId}
-use Rattle.gnb_types.specs.declared.inputs.Order.{Order}
-use Rattle.gnb_types.specs.declared.inputs.Order.TheVariants as orders
-use Rattle.gnb_types.specs.Orders.{ue_cmp, channel_cmp}
-use Rattle.tables.specs.Tables.{find, at}
-use Rattle.transaction_defs.specs.Callers.{Opened}
-use Rattle.transaction_defs.specs.Callees.{Kept}
+use Rattle.unit_defs.specs.gnb_types.declared.names.NodeId.{NodeId}
+use Rattle.unit_defs.specs.gnb_types.declared.names.NodeId.TheVariants.{Ue}
+use Rattle.unit_defs.specs.gnb_types.declared.names.UeId.{UeId}
+use Rattle.unit_defs.specs.gnb_types.declared.inputs.Order.{Order}
+use Rattle.unit_defs.specs.gnb_types.declared.inputs.Order.TheVariants as orders
+use Rattle.unit_defs.specs.gnb_types.Orders.{ue_cmp, channel_cmp}
+use Rattle.unit_defs.specs.tables.Tables.{find, at}
+use Rattle.unit_defs.specs.transaction_defs.Callers.{Opened}
+use Rattle.unit_defs.specs.transaction_defs.Callees.{Kept}
 use Rattle.unit_defs.specs.Ways.{Message}
 use Rattle.unit_defs.specs.Transactions.{Kind, request, reply, transfer, kind_of, Waiting, Transactions}
 use Rattle.unit_defs.specs.Messages.{channel}

@@ -1,7 +1,7 @@
 -- What it is that a step is one terminal's: it depends on the terminal's slice alone, and it leaves the slices of the others.
 use Rattle.std.specs.Prelude.{ℕ, ◌≡◌, ◌≢◌}
 use Rattle.std.specs.List.{AllByRecursion}
-use Rattle.gnb_types.specs.declared.names.UeId.{UeId}
+use Rattle.unit_defs.specs.gnb_types.declared.names.UeId.{UeId}
 use Rattle.unit_defs.specs.Ways.{Put, control, packet, radio, deliver, failed, Answer, gives, spent}
 
 -- an answer of which this is seen of what is kept

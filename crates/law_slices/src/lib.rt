@@ -2,7 +2,7 @@
 //! contract is the law.
 #![tactic(auto)]
 
-ghost use Rattle.gnb_types.specs.declared.names.NodeId.{NodeId};
+ghost use Rattle.unit_defs.specs.gnb_types.declared.names.NodeId.{NodeId};
 ghost use Rattle.law_slices.specs.Slices.{core_slice, message_ue};
 ghost use Rattle.law_slices.specs.Steps.{DependsOn, IsStepOf};
 ghost use Rattle.unit_defs.specs.Core.{core_acts, CoreRecord};

@@ -24,19 +24,19 @@ use Rattle.unit_defs.specs.UpRecords.{n3, f1u_uplink}
 use Rattle.unit_defs.specs.Du.{Du, DuBearer, DuContext, confirmed, du_acts}
 use Rattle.unit_defs.specs.Ue.{is_connected}
 use Rattle.transport_defs.specs.Links.{Radio, silent}
-use Rattle.run_defs.specs.Lines.{was_refused}
-use Rattle.run_defs.specs.Units.{up_of, du_of, with_du, epoch_at}
-use Rattle.run_defs.specs.Written.{Written, written_item, written_put, written_step}
-use Rattle.run_defs.specs.States.{confirmed_for, stepped, ◌next◌, goes_on, entity, refused, has_bearer, radio_of, with_radio, sn_of}
-use Rattle.run_defs.specs.Steps.{put_out_all, ordered_by}
-use Rattle.run_defs.specs.Conditions.{same_epoch, ready_at, ready_of, ready_home}
-use Rattle.run_defs.specs.Events.{confirmed_off, confirm_done, ack_items, ack_at, ack}
-use Rattle.run_defs.specs.Runs.{Reading, plain_way, plain_world, number_in, content_of, stepped_with}
-use Rattle.law_steps.specs.Made.{IsDone}
-use Rattle.law_owner_facts.specs.Owned.{AreOwned}
+use Rattle.law_link_items.specs.run_defs.Lines.{was_refused}
+use Rattle.law_link_items.specs.run_defs.Units.{up_of, du_of, with_du, epoch_at}
+use Rattle.law_link_items.specs.run_defs.Written.{Written, written_item, written_put, written_step}
+use Rattle.law_link_items.specs.run_defs.States.{confirmed_for, stepped, ◌next◌, goes_on, entity, refused, has_bearer, radio_of, with_radio, sn_of}
+use Rattle.law_link_items.specs.run_defs.Steps.{put_out_all, ordered_by}
+use Rattle.law_link_items.specs.run_defs.Conditions.{same_epoch, ready_at, ready_of, ready_home}
+use Rattle.law_link_items.specs.run_defs.Events.{confirmed_off, confirm_done, ack_items, ack_at, ack}
+use Rattle.law_link_items.specs.run_defs.Runs.{Reading, plain_way, plain_world, number_in, content_of, stepped_with}
+use Rattle.law_link_items.specs.law_steps.Made.{IsDone}
+use Rattle.law_steady_steps.specs.law_owner_facts.Owned.{AreOwned}
 use Rattle.law_steady_rows.proofs.Dus.{confirms}
 use Rattle.law_context_orders.specs.Orders.{part_of as up_part_of}
-use Rattle.law_du_inputs.specs.Changes.{DuPart, part_of as du_part_of}
+use Rattle.law_steady_steps.specs.law_du_inputs.Changes.{DuPart, part_of as du_part_of}
 use Rattle.law_steady_steps.proofs.law_steady_facts.Views.{PlainState, PlainUnits, OnTunnel, OnRadio, View, load_of, IsCalm, n3_end, uplink_end, downlink_end, Sees, IsFit, IsInOrder, Stage, comes, lacks, stands, AllStand}
 use Rattle.law_steady_steps.proofs.law_steady_facts.Keys.{Apart, same_or_apart, DuFound, du_found, dus_same}
 use Rattle.law_steady_steps.proofs.law_steady_facts.Ends.{owner_of, owner_at, n3_owned, uplink_owned, downlink_owned, others_apart, kinds_apart}

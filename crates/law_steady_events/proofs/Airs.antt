@@ -11,13 +11,13 @@ use Rattle.gnb_types.specs.declared.reasons.RefuseReason.TheVariants.{NoBearer, 
 use Rattle.scenario_text.specs.declared.event.Event.TheVariants as events
 use Rattle.transport_defs.specs.Links.{Radio, silent, nth}
 use Rattle.unit_defs.specs.Ways.{Pdu}
-use Rattle.run_defs.specs.Written.{Written}
-use Rattle.run_defs.specs.Lines.{was_refused}
-use Rattle.run_defs.specs.States.{entity, refused, has_bearer, radio_of}
-use Rattle.run_defs.specs.Conditions.{ready_home}
-use Rattle.run_defs.specs.Events.{carry_done, air_item, air_at, air}
-use Rattle.run_defs.specs.Runs.{Reading, plain_world}
-use Rattle.law_owner_facts.specs.Owned.{AreOwned}
+use Rattle.law_link_items.specs.run_defs.Written.{Written}
+use Rattle.law_link_items.specs.run_defs.Lines.{was_refused}
+use Rattle.law_link_items.specs.run_defs.States.{entity, refused, has_bearer, radio_of}
+use Rattle.law_link_items.specs.run_defs.Conditions.{ready_home}
+use Rattle.law_link_items.specs.run_defs.Events.{carry_done, air_item, air_at, air}
+use Rattle.law_link_items.specs.run_defs.Runs.{Reading, plain_world}
+use Rattle.law_steady_steps.specs.law_owner_facts.Owned.{AreOwned}
 use Rattle.law_steady_steps.proofs.law_steady_facts.Views.{PlainState, OnRadio, View, Sees, IsFit, IsInOrder, Stage, comes, lacks, stands, AllStand}
 use Rattle.law_steady_steps.proofs.law_steady_facts.Moves.{PlainOutcome, Fares}
 use Rattle.law_steady_steps.proofs.Ues.{nth_after, radio_fares}

@@ -16,16 +16,16 @@ use Rattle.scenario_text.specs.declared.event.Event.TheVariants as events
 use Rattle.unit_defs.specs.UpRecords.{TunnelKind, n3, f1u_uplink, forwarding_down, forwarding_up, UpTunnel}
 use Rattle.unit_defs.specs.UpBearers.{is_one_of, teid_in}
 use Rattle.unit_defs.specs.Du.{DuTunnel}
-use Rattle.run_defs.specs.Lines.{was_refused}
-use Rattle.run_defs.specs.Units.{up_of, du_of}
-use Rattle.run_defs.specs.Events.{get_done, get_on, get}
-use Rattle.run_defs.specs.Runs.{Reading, plain_world}
-use Rattle.law_open_tunnels.specs.Open.{is_open_in, StandWhereOpen}
+use Rattle.law_link_items.specs.run_defs.Lines.{was_refused}
+use Rattle.law_link_items.specs.run_defs.Units.{up_of, du_of}
+use Rattle.law_link_items.specs.run_defs.Events.{get_done, get_on, get}
+use Rattle.law_link_items.specs.run_defs.Runs.{Reading, plain_world}
+use Rattle.law_steady_steps.specs.law_open_tunnels.Open.{is_open_in, StandWhereOpen}
 use Rattle.law_link_items.specs.Items.{ItemsShow}
-use Rattle.law_owner_facts.specs.Owned.{ends_of as teids_of, AreOwned}
+use Rattle.law_steady_steps.specs.law_owner_facts.Owned.{ends_of as teids_of, AreOwned}
 use Rattle.law_steady_rows.specs.Steady.{TheEnds}
 use Rattle.law_context_orders.specs.Orders.{UpPart, part_of as up_part_of}
-use Rattle.law_du_inputs.specs.Changes.{DuPart, part_of as du_part_of}
+use Rattle.law_steady_steps.specs.law_du_inputs.Changes.{DuPart, part_of as du_part_of}
 use Rattle.law_steady_steps.proofs.law_steady_facts.Views.{PlainState, OnTunnel, View, Sees, IsFit, IsInOrder, Stage, comes, lacks, stands, AllStand}
 use Rattle.law_steady_steps.proofs.law_steady_facts.Ends.{UpNamed, up_named, DuNamed, du_named}
 use Rattle.law_steady_steps.proofs.law_steady_facts.Moves.{Fares}

@@ -23,12 +23,12 @@ use Rattle.unit_defs.specs.UpRecords.{n3, f1u_uplink}
 use Rattle.unit_defs.specs.Messages.{teid_of}
 use Rattle.unit_defs.specs.Core.{CorePath}
 use Rattle.unit_defs.specs.Ue.{largest_packet}
-use Rattle.run_defs.specs.Lines.{put_item, lost_items, was_refused, tunnel_link, shown}
-use Rattle.run_defs.specs.States.{goes, told_before, ◌next◌, as_step, refused, entity, is_gone, has_bearer, bearers_in}
-use Rattle.run_defs.specs.Steps.{on_tunnel, put_on_tunnel, check_spans}
-use Rattle.run_defs.specs.Events.{offered, offer_on_path, offer}
-use Rattle.run_defs.specs.Runs.{Reading, plain_world}
-use Rattle.law_owner_facts.specs.Owned.{AreOwned}
+use Rattle.law_link_items.specs.run_defs.Lines.{put_item, lost_items, was_refused, tunnel_link, shown}
+use Rattle.law_link_items.specs.run_defs.States.{goes, told_before, ◌next◌, as_step, refused, entity, is_gone, has_bearer, bearers_in}
+use Rattle.law_link_items.specs.run_defs.Steps.{on_tunnel, put_on_tunnel, check_spans}
+use Rattle.law_link_items.specs.run_defs.Events.{offered, offer_on_path, offer}
+use Rattle.law_link_items.specs.run_defs.Runs.{Reading, plain_world}
+use Rattle.law_steady_steps.specs.law_owner_facts.Owned.{AreOwned}
 use Rattle.law_steady_steps.proofs.law_steady_facts.Views.{PlainState, OnTunnel, View, load_of, fresh_ones, n3_end, uplink_end, downlink_end, Sees, IsFit, IsInOrder, Lacks, IsNowhere, Stage, comes, lacks, stands, AllStand}
 use Rattle.law_steady_steps.proofs.law_steady_facts.Keys.{Apart, apart_by, tied, same_or_apart}
 use Rattle.law_steady_steps.proofs.law_steady_facts.Ends.{owner_of, owner_at, n3_owned, uplink_owned, downlink_owned, others_apart, kinds_apart}

@@ -11,16 +11,16 @@ use Rattle.gnb_types.specs.declared.keys.TunnelEnd.{TunnelEnd}
 use Rattle.gnb_types.specs.declared.keys.EntityKey.{EntityKey}
 use Rattle.message_types.specs.declared.rrc.Token.{Token}
 use Rattle.scenario_text.specs.declared.event.Event.{Event}
-use Rattle.unit_defs.specs.Ways.{Message, Pdu, Load, held, no}
-use Rattle.run_defs.specs.Written.{Written, WrittenStepped}
-use Rattle.run_defs.specs.Lines.{held_at, was_refused, tunnel_link, radio_link}
-use Rattle.run_defs.specs.States.{stepped, step_spent, Stop, goes, stops, told_before, ◌next◌, as_step, spent_counter, entity, sn_of}
-use Rattle.run_defs.specs.Steps.{letters_spent, too_many_letters, Done, is_done, is_held, is_refused, check_spans, reconnect_node, put_out_all, carried_out, done_with, does, ordered_by}
-use Rattle.run_defs.specs.Conditions.{epoch_of, receiver_of}
-use Rattle.run_defs.specs.Events.{got_by, carried_by}
-use Rattle.run_defs.specs.Said.{offered_by}
-use Rattle.run_defs.specs.Runs.{Reading, PlainGiven, plain_world}
-use Rattle.law_steps.specs.Made.{IsDone}
+use Rattle.law_steady_rows.specs.unit_defs.Ways.{Message, Pdu, Load, held, no}
+use Rattle.law_owner_facts.specs.run_defs.Written.{Written, WrittenStepped}
+use Rattle.law_owner_facts.specs.run_defs.Lines.{held_at, was_refused, tunnel_link, radio_link}
+use Rattle.law_owner_facts.specs.run_defs.States.{stepped, step_spent, Stop, goes, stops, told_before, ◌next◌, as_step, spent_counter, entity, sn_of}
+use Rattle.law_owner_facts.specs.run_defs.Steps.{letters_spent, too_many_letters, Done, is_done, is_held, is_refused, check_spans, reconnect_node, put_out_all, carried_out, done_with, does, ordered_by}
+use Rattle.law_owner_facts.specs.run_defs.Conditions.{epoch_of, receiver_of}
+use Rattle.law_owner_facts.specs.run_defs.Events.{got_by, carried_by}
+use Rattle.law_owner_facts.specs.run_defs.Said.{offered_by}
+use Rattle.law_owner_facts.specs.run_defs.Runs.{Reading, PlainGiven, plain_world}
+use Rattle.law_owner_facts.specs.law_steps.Made.{IsDone}
 use Rattle.law_steady_facts.proofs.Views.{PlainState, PlainUnits, Stage}
 use Rattle.law_steady_facts.proofs.Moves.{Line, PlainWithin, AreMute, Moves, Comes, Fares, mute_moves, offers_none, still_comes, step_fares, printed}
 use Rattle.law_steady_facts.proofs.Puts.{PlainPut}

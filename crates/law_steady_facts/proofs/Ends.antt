@@ -11,10 +11,10 @@ use Rattle.gnb_types.specs.declared.keys.TunnelEnd.{TunnelEnd}
 use Rattle.gnb_types.specs.Orders.{ue_cmp, bearer_cmp, tunnel_cmp}
 use Rattle.gnb_types.proofs.OrderLemmas.{tunnel_exact}
 use Rattle.tables.specs.Tables.{find}
-use Rattle.unit_defs.specs.UpRecords.{UpBearer, UpContext, TunnelKind, n3, f1u_uplink, UpTunnel}
-use Rattle.unit_defs.specs.UpBearers.{is_one_of, teid_in}
-use Rattle.unit_defs.specs.Du.{DuBearer, DuContext, DuTunnel}
-use Rattle.run_defs.specs.Units.{up_of, du_of}
+use Rattle.law_steady_rows.specs.unit_defs.UpRecords.{UpBearer, UpContext, TunnelKind, n3, f1u_uplink, UpTunnel}
+use Rattle.law_steady_rows.specs.unit_defs.UpBearers.{is_one_of, teid_in}
+use Rattle.law_steady_rows.specs.unit_defs.Du.{DuBearer, DuContext, DuTunnel}
+use Rattle.law_owner_facts.specs.run_defs.Units.{up_of, du_of}
 use Rattle.law_context_orders.specs.Orders.{UpPart, part_with, part_of as up_part_of}
 use Rattle.law_du_inputs.specs.Changes.{DuPart, part_with as du_part_with, part_in as du_part_in, part_of as du_part_of}
 use Rattle.law_owner_facts.specs.Owned.{ends_of as teids_of, has_such, has_end, up_context_names, is_downlink, du_context_names, AreOwned}

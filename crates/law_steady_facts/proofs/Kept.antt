@@ -8,10 +8,10 @@ use Rattle.gnb_types.specs.declared.keys.TunnelEnd.{TunnelEnd}
 use Rattle.gnb_types.specs.declared.plans.Plan.{Plan}
 use Rattle.gnb_types.specs.Orders.{ue_cmp, bearer_cmp, tunnel_cmp}
 use Rattle.tables.specs.Tables.{find}
-use Rattle.unit_defs.specs.UpRecords.{TunnelKind}
-use Rattle.unit_defs.specs.Ue.{UeNode, UeBearer}
-use Rattle.run_defs.specs.Units.{up_of, du_of, ue_of}
-use Rattle.run_defs.specs.States.{entity, radio_of}
+use Rattle.law_steady_rows.specs.unit_defs.UpRecords.{TunnelKind}
+use Rattle.law_steady_rows.specs.unit_defs.Ue.{UeNode, UeBearer}
+use Rattle.law_owner_facts.specs.run_defs.Units.{up_of, du_of, ue_of}
+use Rattle.law_owner_facts.specs.run_defs.States.{entity, radio_of}
 use Rattle.law_context_orders.specs.Orders.{part_of as up_part_of}
 use Rattle.law_du_inputs.specs.Changes.{part_of as du_part_of}
 use Rattle.law_owner_facts.specs.Owned.{AreOwned}

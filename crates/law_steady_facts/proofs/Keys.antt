@@ -12,10 +12,10 @@ use Rattle.gnb_types.specs.Orders.{ue_cmp, bearer_cmp, node_cmp}
 use Rattle.gnb_types.proofs.OrderLemmas.{ue_total, ue_exact, bearer_total, bearer_exact, node_total, node_exact}
 use Rattle.tables.specs.Tables.{find, put}
 use Rattle.tables.proofs.TableLaws.{find-put-same, find-put-other, at-put}
-use Rattle.unit_defs.specs.UpRecords.{CuUp, UpBearer, UpContext}
-use Rattle.unit_defs.specs.CuUp.{new_cu_up, context_of}
-use Rattle.unit_defs.specs.Du.{Du, DuBearer, DuContext, new_du, context_of as du_context_of}
-use Rattle.run_defs.specs.Units.{Units, up_of, with_up, du_of, with_du}
+use Rattle.law_steady_rows.specs.unit_defs.UpRecords.{CuUp, UpBearer, UpContext}
+use Rattle.law_steady_rows.specs.unit_defs.CuUp.{new_cu_up, context_of}
+use Rattle.law_steady_rows.specs.unit_defs.Du.{Du, DuBearer, DuContext, new_du, context_of as du_context_of}
+use Rattle.law_owner_facts.specs.run_defs.Units.{Units, up_of, with_up, du_of, with_du}
 use Rattle.law_context_orders.specs.Orders.{UpPart, part_with, part_of_bearer, part_in, part_of}
 use Rattle.law_du_inputs.specs.Changes.{DuPart, part_with as du_part_with, part_in as du_part_in, part_of as du_part_of}
 

@@ -1,6 +1,6 @@
 -- Packets on a link, one after another.
 use Rattle.std.proofs.Common.{◌≡◌, ℕ, ◌+◌, List, [], ◌∷◌, ◌++◌, length, refl, sym, ap, ◌∙◌, append_assoc, arith, false, Some}
-use Rattle.unit_defs.specs.Ways.{Pdu, packet_pdu, Load, fresh, frame}
+use Rattle.law_steady_rows.specs.unit_defs.Ways.{Pdu, packet_pdu, Load, fresh, frame}
 use Rattle.law_steady_facts.proofs.Views.{pdus_from, frames_from, fresh_ones}
 
 abbrev Packets : Type 0

@@ -9,12 +9,12 @@ use Rattle.gnb_types.specs.declared.names.BearerId.{BearerId}
 use Rattle.gnb_types.specs.declared.names.Dir.TheVariants.{Dl}
 use Rattle.message_types.specs.declared.rrc.Token.{Token}
 use Rattle.scenario_text.specs.declared.event.Event.{Event}
-use Rattle.unit_defs.specs.Ways.{Message, Pdu, Load}
-use Rattle.run_defs.specs.Lines.{RunLine, put_item, got_item, put_message, got_message, delivers, lost_items, lost_message, drops_input, held_at, procedure_failed, is_quiet, is_busy, has_settled, has_not_settled, was_refused}
-use Rattle.run_defs.specs.Written.{Written}
-use Rattle.run_defs.specs.States.{Stop, goes, stops, told_before, Within, Outcome, RunStep, as_step, entity}
-use Rattle.run_defs.specs.Steps.{first_outstanding, entities_of, checked_by, check_spans}
-use Rattle.run_defs.specs.Said.{is_refusal, lines_in, offered_by, packets_of, counts_of}
+use Rattle.law_steady_rows.specs.unit_defs.Ways.{Message, Pdu, Load}
+use Rattle.law_owner_facts.specs.run_defs.Lines.{RunLine, put_item, got_item, put_message, got_message, delivers, lost_items, lost_message, drops_input, held_at, procedure_failed, is_quiet, is_busy, has_settled, has_not_settled, was_refused}
+use Rattle.law_owner_facts.specs.run_defs.Written.{Written}
+use Rattle.law_owner_facts.specs.run_defs.States.{Stop, goes, stops, told_before, Within, Outcome, RunStep, as_step, entity}
+use Rattle.law_owner_facts.specs.run_defs.Steps.{first_outstanding, entities_of, checked_by, check_spans}
+use Rattle.law_owner_facts.specs.run_defs.Said.{is_refusal, lines_in, offered_by, packets_of, counts_of}
 use Rattle.law_steady_facts.proofs.Views.{PlainState, Stage}
 
 abbrev pub Line : Type 0

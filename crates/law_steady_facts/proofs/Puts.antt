@@ -15,13 +15,13 @@ use Rattle.gnb_types.proofs.OrderLemmas.{tunnel_total}
 use Rattle.tables.specs.Tables.{find, put}
 use Rattle.tables.proofs.TableLaws.{find-put-same, find-put-other}
 use Rattle.message_types.specs.declared.rrc.Token.{Token}
-use Rattle.unit_defs.specs.Ways.{Message, Pdu, packet_pdu, Load, frame, Put, packet}
-use Rattle.unit_defs.specs.UpRecords.{Downlink, UpAt}
-use Rattle.run_defs.specs.Lines.{put_item, tunnel_link, shown}
-use Rattle.run_defs.specs.Written.{Written, written_put, written_item}
-use Rattle.run_defs.specs.States.{goes, told_before, ◌next◌, Lengths, entity}
-use Rattle.run_defs.specs.Steps.{noted, count_beside, item_of, on_tunnel, put_on_tunnel, put_out, put_out_all}
-use Rattle.run_defs.specs.Runs.{Reading, plain_way, plain_world}
+use Rattle.law_steady_rows.specs.unit_defs.Ways.{Message, Pdu, packet_pdu, Load, frame, Put, packet}
+use Rattle.law_steady_rows.specs.unit_defs.UpRecords.{Downlink, UpAt}
+use Rattle.law_owner_facts.specs.run_defs.Lines.{put_item, tunnel_link, shown}
+use Rattle.law_owner_facts.specs.run_defs.Written.{Written, written_put, written_item}
+use Rattle.law_owner_facts.specs.run_defs.States.{goes, told_before, ◌next◌, Lengths, entity}
+use Rattle.law_owner_facts.specs.run_defs.Steps.{noted, count_beside, item_of, on_tunnel, put_on_tunnel, put_out, put_out_all}
+use Rattle.law_owner_facts.specs.run_defs.Runs.{Reading, plain_way, plain_world}
 use Rattle.law_steady_rows.specs.Steady.{next_on, sends}
 use Rattle.law_steady_facts.proofs.Views.{PlainState, OnTunnel, load_of, frames_from}
 use Rattle.law_steady_facts.proofs.Moves.{Line, PlainWithin, AreMute, mute_and}

@@ -11,17 +11,17 @@ use Rattle.gnb_types.specs.declared.plans.Plan.{Plan}
 use Rattle.gnb_types.specs.Orders.{ue_cmp, bearer_cmp, tunnel_cmp}
 use Rattle.tables.specs.Tables.{find}
 use Rattle.message_types.specs.declared.rrc.Token.{Token}
-use Rattle.unit_defs.specs.declared.UeState.TheVariants as ue_states
-use Rattle.unit_defs.specs.Messages.{teid_of}
-use Rattle.unit_defs.specs.Ways.{Message, Pdu, packet_pdu, Load, fresh, frame, status}
-use Rattle.unit_defs.specs.UpRecords.{Downlink}
-use Rattle.unit_defs.specs.Ue.{UeNode, UeBearer}
-use Rattle.unit_defs.specs.Core.{CorePath}
+use Rattle.law_steady_rows.specs.unit_defs.declared.UeState.TheVariants as ue_states
+use Rattle.law_steady_rows.specs.unit_defs.Messages.{teid_of}
+use Rattle.law_steady_rows.specs.unit_defs.Ways.{Message, Pdu, packet_pdu, Load, fresh, frame, status}
+use Rattle.law_steady_rows.specs.unit_defs.UpRecords.{Downlink}
+use Rattle.law_steady_rows.specs.unit_defs.Ue.{UeNode, UeBearer}
+use Rattle.law_steady_rows.specs.unit_defs.Core.{CorePath}
 use Rattle.transport_defs.specs.declared.Item.{Item}
 use Rattle.transport_defs.specs.Links.{Radio, silent}
-use Rattle.run_defs.specs.Units.{Units, up_of, du_of, ue_of}
-use Rattle.run_defs.specs.Written.{Written}
-use Rattle.run_defs.specs.States.{State, entity, radio_of}
+use Rattle.law_owner_facts.specs.run_defs.Units.{Units, up_of, du_of, ue_of}
+use Rattle.law_owner_facts.specs.run_defs.Written.{Written}
+use Rattle.law_owner_facts.specs.run_defs.States.{State, entity, radio_of}
 use Rattle.law_context_orders.specs.Orders.{UpPart, part_of as up_part_of}
 use Rattle.law_du_inputs.specs.Changes.{DuPart, part_of as du_part_of}
 use Rattle.law_steady_rows.specs.Steady.{serving, ends_of}

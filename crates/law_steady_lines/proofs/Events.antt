@@ -42,10 +42,10 @@ use Rattle.law_owner_facts.specs.Owned.{ends_of as teids_of, AreOwned}
 use Rattle.law_steady_rows.specs.Steady.{TheEnds}
 use Rattle.law_context_orders.specs.Orders.{UpPart, part_of as up_part_of}
 use Rattle.law_du_inputs.specs.Changes.{DuPart, part_of as du_part_of}
-use Rattle.law_steady_facts.proofs.Views.{PlainState, OnTunnel, OnRadio, View, Sees, IsFit, IsInOrder, Stage, comes, lacks, stands, AllStand}
-use Rattle.law_steady_facts.proofs.Ends.{UpNamed, up_named, DuNamed, du_named}
-use Rattle.law_steady_facts.proofs.Moves.{PlainOutcome}
-use Rattle.law_steady_steps.proofs.Ues.{nth_after}
+use Rattle.law_steady_runs.proofs.law_steady_facts.Views.{PlainState, OnTunnel, OnRadio, View, Sees, IsFit, IsInOrder, Stage, comes, lacks, stands, AllStand}
+use Rattle.law_steady_runs.proofs.law_steady_facts.Ends.{UpNamed, up_named, DuNamed, du_named}
+use Rattle.law_steady_runs.proofs.law_steady_facts.Moves.{PlainOutcome}
+use Rattle.law_steady_runs.proofs.law_steady_steps.Ues.{nth_after}
 use Rattle.law_steady_runs.proofs.law_steady_events.Gets.{among_one}
 use Rattle.law_steady_runs.proofs.law_steady_events.Airs.{silent_up}
 use Rattle.law_steady_runs.proofs.law_steady_events.Acks.{at_the_du}

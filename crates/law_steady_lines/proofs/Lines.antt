@@ -23,9 +23,9 @@ use Rattle.run_defs.specs.Runs.{Reading, plain_world}
 use Rattle.law_intervals.proofs.Intervals.{all_append}
 use Rattle.law_steps.specs.Causes.{Cause, node_of, given_of, count_of, first_of}
 use Rattle.law_local.proofs.law_local_packets.Lines.{IsOther, lines_of, PutShows, step_lines}
-use Rattle.law_steady_facts.proofs.Views.{PlainState, PlainUnits}
-use Rattle.law_steady_facts.proofs.Moves.{Line, PlainOutcome, PlainWithin}
-use Rattle.law_steady_facts.proofs.Puts.{PlainPut}
+use Rattle.law_steady_runs.proofs.law_steady_facts.Views.{PlainState, PlainUnits}
+use Rattle.law_steady_runs.proofs.law_steady_facts.Moves.{Line, PlainOutcome, PlainWithin}
+use Rattle.law_steady_runs.proofs.law_steady_facts.Puts.{PlainPut}
 
 abbrev pub PlainDone : Type 0
 PlainDone = Done (Message Token) Token (Written (Load Pdu)) (Written Pdu)

@@ -41,8 +41,8 @@ use Rattle.law_local.proofs.law_local_lengths.Comes.{Lengthened, come_so}
 use Rattle.law_local.proofs.law_local_lengths.Tells.{LongFacts}
 use Rattle.law_local.proofs.law_local_lengths.Runs.{kept, first}
 use Rattle.law_local.proofs.Whole.{all_of}
-use Rattle.law_steady_facts.proofs.Views.{PlainState, AllStand}
-use Rattle.law_steady_facts.proofs.Moves.{PlainStep, PlainOutcome, packets_in, offered_here, Fares}
+use Rattle.law_steady_runs.proofs.law_steady_facts.Views.{PlainState, AllStand}
+use Rattle.law_steady_runs.proofs.law_steady_facts.Moves.{PlainStep, PlainOutcome, packets_in, offered_here, Fares}
 use Rattle.law_steady_runs.specs.Scripts.{IsSteady}
 use Rattle.law_steady_runs.proofs.First.{at_first}
 use Rattle.law_steady_runs.proofs.Runs.{reached_more, event_fares}

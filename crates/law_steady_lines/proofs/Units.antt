@@ -38,9 +38,9 @@ use Rattle.law_steady_rows.proofs.Dus.{passes, confirms}
 use Rattle.law_steady_rows.proofs.Ues.{ue_takes}
 use Rattle.law_context_orders.specs.Orders.{UpPart}
 use Rattle.law_du_inputs.specs.Changes.{DuPart}
-use Rattle.law_steady_facts.proofs.Views.{PlainState, PlainUnits, OnTunnel, OnRadio, View, load_of, pdu_of, pdus_from, frames_from, fresh_ones, IsCalm, n3_end, uplink_end, downlink_end, Sees, IsFit, IsInOrder, AllStand}
-use Rattle.law_steady_facts.proofs.Keys.{UpFound, up_found, DuFound, du_found}
-use Rattle.law_steady_facts.proofs.Ends.{n3_open, uplink_open, downlink_open}
+use Rattle.law_steady_runs.proofs.law_steady_facts.Views.{PlainState, PlainUnits, OnTunnel, OnRadio, View, load_of, pdu_of, pdus_from, frames_from, fresh_ones, IsCalm, n3_end, uplink_end, downlink_end, Sees, IsFit, IsInOrder, AllStand}
+use Rattle.law_steady_runs.proofs.law_steady_facts.Keys.{UpFound, up_found, DuFound, du_found}
+use Rattle.law_steady_runs.proofs.law_steady_facts.Ends.{n3_open, uplink_open, downlink_open}
 use Rattle.law_steady_lines.proofs.Lines.{AreLong, IsAtPlace, PutsAtPlaces, AnswersAtPlaces}
 
 at_seam : (before : List (List ℕ)) (p : List ℕ) (more : List (List ℕ)) (count : ℕ) → count ≡ length before → slice_get (before ++ (p ∷ more)) count ≡ Some p

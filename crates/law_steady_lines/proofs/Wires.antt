@@ -20,7 +20,7 @@ use Rattle.run_defs.specs.Runs.{Happened}
 use Rattle.law_intervals.proofs.Intervals.{all_append}
 use Rattle.law_wires.proofs.Links.{first_of_two, second_of_two, ties, same_tunnel, same_radio}
 use Rattle.law_wires.proofs.Endings.{after_lines}
-use Rattle.law_steady_facts.proofs.Moves.{Line}
+use Rattle.law_steady_runs.proofs.law_steady_facts.Moves.{Line}
 use Rattle.law_steady_lines.proofs.Lines.{IsAtPlace}
 
 abbrev Told : Type 0

@@ -1,1 +1,2 @@
 pub mod Example
+pub use Rattle.law_steady_runs.specs as law_steady_runs

@@ -8,7 +8,7 @@ use Rattle.gnb_types.specs.declared.reasons.DropReason.TheVariants.{Duplicate}
 use Rattle.gnb_types.specs.declared.reasons.HeldReason.TheVariants.{Ahead}
 use Rattle.gnb_types.specs.Orders.{bearer_cmp}
 use Rattle.tables.specs.Tables.{find, put}
-use Rattle.pdcp_defs.specs.Receivers.{Receiver, Delivery, is_duplicate, is_ahead, stored, with_packet, deliver as handed_up}
+use Rattle.unit_defs.specs.pdcp_defs.Receivers.{Receiver, Delivery, is_duplicate, is_ahead, stored, with_packet, deliver as handed_up}
 use Rattle.unit_defs.specs.Ways.{packet_content, radio_input, held, Way, ◌then◌, nothing, puts, drops}
 use Rattle.unit_defs.specs.Ue.{UeNode, UeBearer, with_bearer, of_bearer, handed, took_data, took, take, ue_acts}
 use Rattle.law_steady_rows.specs.Steady.{UeTakes}

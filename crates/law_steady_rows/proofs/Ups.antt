@@ -4,7 +4,7 @@ use Rattle.std.specs.Prelude.{if◌then◌else◌, nat_lt}
 use Rattle.gnb_types.specs.declared.names.Dir.TheVariants.{Dl}
 use Rattle.gnb_types.specs.declared.outputs.Tag.TheVariants.{Absent, Own}
 use Rattle.pdcp.specs.Near.{last_count}
-use Rattle.pdcp_defs.specs.Senders.{numbered as with_next, has_room, confirmed_to}
+use Rattle.unit_defs.specs.pdcp_defs.Senders.{numbered as with_next, has_room, confirmed_to}
 use Rattle.unit_defs.specs.Ways.{packet_pdu, fresh, frame, Output, packet, Way, Answer, gives, spent, with_outputs, ◌then◌, nothing, puts, counts_spent, frames_spent}
 use Rattle.unit_defs.specs.UpRecords.{Downlink, UpBearer, UpAt}
 use Rattle.unit_defs.specs.UpBearers.{last_frame, has_downlink, framed_on, framed, sent, number_each, number_waiting, forwarded_down}

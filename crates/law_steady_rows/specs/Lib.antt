@@ -1,1 +1,2 @@
 pub mod Steady
+pub use Rattle.unit_defs.specs as unit_defs

@@ -17,10 +17,10 @@ use Rattle.unit_defs.specs.Ways.{Message}
 use Rattle.unit_defs.specs.UpRecords.{CuUp}
 use Rattle.unit_defs.specs.CuUp.{new_cu_up}
 use Rattle.unit_defs.specs.Du.{Du, new_du}
-use Rattle.run_defs.specs.Units.{new_units, up_of, du_of}
-use Rattle.run_defs.specs.States.{new_state}
+use Rattle.law_teids.specs.run_defs.Units.{new_units, up_of, du_of}
+use Rattle.law_teids.specs.run_defs.States.{new_state}
 use Rattle.law_context_orders.specs.Orders.{part_of as up_part_of}
-use Rattle.law_du_inputs.specs.Changes.{part_of as du_part_of}
+use Rattle.law_steady_events.specs.law_du_inputs.Changes.{part_of as du_part_of}
 use Rattle.law_steady_events.proofs.law_steady_facts.Views.{PlainUnits, IsNowhere, Stage, comes, AllStand}
 
 abbrev first_units : PlainUnits

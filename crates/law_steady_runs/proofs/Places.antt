@@ -20,7 +20,7 @@ use Rattle.unit_defs.specs.Du.{DuBearer, bearers_made as du_bearers}
 use Rattle.unit_defs.specs.Static.{with_downlinks, uplinks_from}
 use Rattle.unit_defs.specs.Ue.{new_bearer, new_bearers}
 use Rattle.transport_defs.specs.declared.Item.{Item}
-use Rattle.run_defs.specs.Conditions.{n3_from, tunnels_from}
+use Rattle.law_teids.specs.run_defs.Conditions.{n3_from, tunnels_from}
 use Rattle.law_steady_events.proofs.law_steady_facts.Keys.{apart_by, tied}
 
 -- ---- bearers

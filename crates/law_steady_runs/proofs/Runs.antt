@@ -12,21 +12,21 @@ use Rattle.message_types.specs.declared.rrc.Token.{Token}
 use Rattle.scenario_text.specs.declared.event.Event.{Event}
 use Rattle.scenario_text.specs.declared.event.Event.TheVariants as events
 use Rattle.unit_defs.specs.Ways.{Message, Pdu, Load}
-use Rattle.run_defs.specs.Lines.{is_quiet, is_busy, was_refused}
-use Rattle.run_defs.specs.Written.{Written}
-use Rattle.run_defs.specs.States.{new_state, goes, stops, prints, refused, entity, has_bearer, book_of}
-use Rattle.run_defs.specs.Conditions.{rests, ask_line}
-use Rattle.run_defs.specs.Events.{ask}
-use Rattle.run_defs.specs.Said.{lines_in, packets_of, counts_of, all_lines, Offered, Delivered, Counts}
-use Rattle.run_defs.specs.Runs.{Reading, Happened, plain_world, happens, run_on, run_from, run, Run}
-use Rattle.law_steps.specs.Reached.{reached_by, reached}
+use Rattle.law_teids.specs.run_defs.Lines.{is_quiet, is_busy, was_refused}
+use Rattle.law_teids.specs.run_defs.Written.{Written}
+use Rattle.law_teids.specs.run_defs.States.{new_state, goes, stops, prints, refused, entity, has_bearer, book_of}
+use Rattle.law_teids.specs.run_defs.Conditions.{rests, ask_line}
+use Rattle.law_teids.specs.run_defs.Events.{ask}
+use Rattle.law_teids.specs.run_defs.Said.{lines_in, packets_of, counts_of, all_lines, Offered, Delivered, Counts}
+use Rattle.law_teids.specs.run_defs.Runs.{Reading, Happened, plain_world, happens, run_on, run_from, run, Run}
+use Rattle.law_teids.specs.law_steps.Reached.{reached_by, reached}
 use Rattle.law_open_tunnels.specs.Open.{StandWhereOpen}
 use Rattle.law_open_tunnels.proofs.Runs.{stand_where_open, first_stands}
-use Rattle.law_owner_facts.specs.Owned.{AreOwned}
+use Rattle.law_tunnel_owners.specs.law_owner_facts.Owned.{AreOwned}
 use Rattle.law_tunnel_owners.proofs.Placed.{first_owned}
 use Rattle.law_tunnel_owners.proofs.Runs.{owned_later}
-use Rattle.law_link_items.specs.Items.{ItemsShow}
-use Rattle.law_link_items.proofs.Links.{items_in_run}
+use Rattle.law_steady_events.specs.law_link_items.Items.{ItemsShow}
+use Rattle.law_steady_events.proofs.law_link_items.Links.{items_in_run}
 use Rattle.law_steady_runs.specs.Scripts.{IsSteady, DeliversInOrder}
 use Rattle.law_steady_events.proofs.law_steady_facts.Views.{PlainState, AllStand}
 use Rattle.law_steady_events.proofs.law_steady_facts.Moves.{PlainStep, PlainOutcome, packets_in, counts_in, Moves, offered_here, Fares}

@@ -28,19 +28,19 @@ use Rattle.unit_defs.specs.Core.{CorePath}
 use Rattle.unit_defs.specs.Static.{up_has_room, up_has_teids, du_has_teids, up_context, up_placed, du_context, du_placed, cp_placed, up_set_up, du_set_up}
 use Rattle.unit_defs.specs.Ue.{new_ue, placed, new_bearer}
 use Rattle.transport_defs.specs.Links.{silent}
-use Rattle.run_defs.specs.Lines.{was_refused}
-use Rattle.run_defs.specs.Units.{cp_of, with_cp, up_of, with_up, du_of, with_du, ue_of, with_ue}
-use Rattle.run_defs.specs.States.{was_attached, stops, goes_on, refused, spent_counter}
-use Rattle.run_defs.specs.Conditions.{units_placed, all_set_up, n3_from, tunnels_from, statically, is_held_by_units}
-use Rattle.run_defs.specs.Events.{static}
-use Rattle.run_defs.specs.Runs.{Reading, plain_world}
+use Rattle.law_teids.specs.run_defs.Lines.{was_refused}
+use Rattle.law_teids.specs.run_defs.Units.{cp_of, with_cp, up_of, with_up, du_of, with_du, ue_of, with_ue}
+use Rattle.law_teids.specs.run_defs.States.{was_attached, stops, goes_on, refused, spent_counter}
+use Rattle.law_teids.specs.run_defs.Conditions.{units_placed, all_set_up, n3_from, tunnels_from, statically, is_held_by_units}
+use Rattle.law_teids.specs.run_defs.Events.{static}
+use Rattle.law_teids.specs.run_defs.Runs.{Reading, plain_world}
 use Rattle.law_teids.specs.Given.{below}
 use Rattle.law_teids.proofs.Grows.{below_left}
 use Rattle.law_teids.proofs.Placed.{find_mapped}
 use Rattle.law_open_tunnels.specs.Open.{is_open_in, StandWhereOpen}
-use Rattle.law_owner_facts.specs.Owned.{WereGiven, AreOwned}
+use Rattle.law_tunnel_owners.specs.law_owner_facts.Owned.{WereGiven, AreOwned}
 use Rattle.law_context_orders.specs.Orders.{UpPart, part_with, part_of_bearer, part_in, part_of as up_part_of}
-use Rattle.law_du_inputs.specs.Changes.{DuPart, part_with as du_part_with, part_in as du_part_in, part_of as du_part_of}
+use Rattle.law_steady_events.specs.law_du_inputs.Changes.{DuPart, part_with as du_part_with, part_in as du_part_in, part_of as du_part_of}
 use Rattle.law_steady_events.proofs.law_steady_facts.Views.{PlainState, PlainUnits, OnTunnel, View, Sees, IsFit, IsInOrder, IsNowhere, Lacks, Stage, comes, lacks, stands, AllStand}
 use Rattle.law_steady_events.proofs.law_steady_facts.Keys.{apart_by, up_itself, du_itself, ups_same, dus_same, up_elsewhere, du_elsewhere}
 use Rattle.law_steady_events.proofs.law_steady_facts.Kept.{Kept, stage_kept, same_terminal}

@@ -5,8 +5,8 @@ use Rattle.gnb_types.specs.declared.names.Dir.TheVariants.{Dl}
 use Rattle.gnb_types.specs.declared.keys.EntityKey.{EntityKey}
 use Rattle.scenario_text.specs.declared.event.Event.{Event}
 use Rattle.scenario_text.specs.declared.event.Event.TheVariants as events
-use Rattle.run_defs.specs.Runs.{Happened}
-use Rattle.run_defs.specs.Said.{Offered, Delivered, Counts}
+use Rattle.law_teids.specs.run_defs.Runs.{Happened}
+use Rattle.law_teids.specs.run_defs.Said.{Offered, Delivered, Counts}
 
 -- No unit is told anything, nothing is offered up and nothing is lost.
 abbrev pub IsSteady : Event → Type 0

@@ -8,9 +8,9 @@ ghost use Rattle.gnb_types.specs.declared.names.Dir.TheVariants.{Dl};
 ghost use Rattle.gnb_types.specs.declared.names.UeId.{UeId};
 ghost use Rattle.law_steady_runs.specs.Scripts.{DeliversInOrder, IsSteady};
 ghost use Rattle.law_steady_runs.specs.Worked.{downlink, worked};
-ghost use Rattle.run_defs.specs.Runs.{Reading, Run};
-ghost use Rattle.run_defs.specs.Said.{Counts, Delivered};
-ghost use Rattle.run_defs.specs.States.{entity};
+ghost use Rattle.law_teids.specs.run_defs.Runs.{Reading, Run};
+ghost use Rattle.law_teids.specs.run_defs.Said.{Counts, Delivered};
+ghost use Rattle.law_teids.specs.run_defs.States.{entity};
 ghost use Rattle.scenario_text.specs.declared.event.Event.{Event};
 
 /// In every run of terminals that are set up without messages, of packets that are offered down, of items that are got, carried and

@@ -23,15 +23,15 @@ use Rattle.unit_defs.specs.Ways.{Message, Pdu, packet_pdu, Load, frame, radio, p
 use Rattle.unit_defs.specs.UpRecords.{n3, f1u_uplink}
 use Rattle.unit_defs.specs.Du.{Du, DuBearer, DuContext, with_bearer, du_acts}
 use Rattle.transport_defs.specs.Links.{Radio, silent, is_epoch}
-use Rattle.run_defs.specs.Lines.{got_item, put_item, lost_items, tunnel_link, radio_link, shown}
-use Rattle.run_defs.specs.Units.{du_of, with_du}
-use Rattle.run_defs.specs.Written.{Written, written_put, written_pdu, written_step}
-use Rattle.run_defs.specs.States.{item_for, stepped, goes, ◌next◌, goes_on, entity, radio_of, with_radio, sn_of}
-use Rattle.run_defs.specs.Steps.{item_of, put_on_radio, put_out_all}
-use Rattle.run_defs.specs.Events.{taken_off, get_done}
-use Rattle.run_defs.specs.Said.{offered_by}
-use Rattle.run_defs.specs.Runs.{Reading, plain_way, plain_world, stepped_with, taken_of}
-use Rattle.law_owner_facts.specs.Owned.{AreOwned}
+use Rattle.law_steady_facts.specs.run_defs.Lines.{got_item, put_item, lost_items, tunnel_link, radio_link, shown}
+use Rattle.law_steady_facts.specs.run_defs.Units.{du_of, with_du}
+use Rattle.law_steady_facts.specs.run_defs.Written.{Written, written_put, written_pdu, written_step}
+use Rattle.law_steady_facts.specs.run_defs.States.{item_for, stepped, goes, ◌next◌, goes_on, entity, radio_of, with_radio, sn_of}
+use Rattle.law_steady_facts.specs.run_defs.Steps.{item_of, put_on_radio, put_out_all}
+use Rattle.law_steady_facts.specs.run_defs.Events.{taken_off, get_done}
+use Rattle.law_steady_facts.specs.run_defs.Said.{offered_by}
+use Rattle.law_steady_facts.specs.run_defs.Runs.{Reading, plain_way, plain_world, stepped_with, taken_of}
+use Rattle.law_steady_facts.specs.law_owner_facts.Owned.{AreOwned}
 use Rattle.law_steady_rows.proofs.Dus.{passes}
 use Rattle.law_steady_facts.specs.law_du_inputs.Changes.{DuPart, part_of as du_part_of}
 use Rattle.law_steady_facts.proofs.Views.{PlainState, OnTunnel, OnRadio, View, load_of, pdu_of, frames_from, n3_end, uplink_end, downlink_end, Sees, IsFit, IsInOrder, Stage, stands, AllStand}

@@ -13,15 +13,15 @@ use Rattle.scenario_text.specs.declared.event.Event.{Event}
 use Rattle.unit_defs.specs.Ways.{Message, fresh, fresh_item, status_item, packet_input}
 use Rattle.unit_defs.specs.UpRecords.{UpBearer, UpContext, n3, f1u_uplink, CuUp}
 use Rattle.unit_defs.specs.CuUp.{cu_up_acts}
-use Rattle.run_defs.specs.Units.{up_of}
-use Rattle.run_defs.specs.States.{entity}
-use Rattle.run_defs.specs.Events.{get_done}
-use Rattle.run_defs.specs.Said.{offered_by}
-use Rattle.run_defs.specs.Runs.{Reading, plain_way, plain_world, taken_of}
-use Rattle.law_owner_facts.specs.Owned.{AreOwned}
+use Rattle.law_steady_facts.specs.run_defs.Units.{up_of}
+use Rattle.law_steady_facts.specs.run_defs.States.{entity}
+use Rattle.law_steady_facts.specs.run_defs.Events.{get_done}
+use Rattle.law_steady_facts.specs.run_defs.Said.{offered_by}
+use Rattle.law_steady_facts.specs.run_defs.Runs.{Reading, plain_way, plain_world, taken_of}
+use Rattle.law_steady_facts.specs.law_owner_facts.Owned.{AreOwned}
 use Rattle.law_steady_rows.specs.Steady.{serving}
 use Rattle.law_steady_rows.proofs.Takes.{takes_fresh, takes_status}
-use Rattle.law_context_orders.specs.Orders.{UpPart}
+use Rattle.law_steady_facts.specs.law_context_orders.Orders.{UpPart}
 use Rattle.law_steady_facts.proofs.Views.{PlainState, OnTunnel, View, load_of, fresh_ones, IsCalm, n3_end, uplink_end, Sees, IsFit, IsInOrder, stands, AllStand}
 use Rattle.law_steady_facts.proofs.Keys.{UpFound, up_found}
 use Rattle.law_steady_facts.proofs.Ends.{n3_open, uplink_open, n3_owned, uplink_owned, kinds_apart}

@@ -14,17 +14,17 @@ use Rattle.scenario_text.specs.declared.event.Event.{Event}
 use Rattle.unit_defs.specs.Ways.{Message, Pdu, Output, Taken, packet_input, gives, spent}
 use Rattle.unit_defs.specs.UpRecords.{Downlink, UpBearer, UpContext, TunnelKind, CuUp, UpAt, up_at}
 use Rattle.unit_defs.specs.CuUp.{context_of, cu_up_acts}
-use Rattle.run_defs.specs.Lines.{got_item, tunnel_link, shown}
-use Rattle.run_defs.specs.Units.{up_of, with_up}
-use Rattle.run_defs.specs.Written.{written_put, written_step, WrittenStepped}
-use Rattle.run_defs.specs.States.{Lengths, item_for, stepped, entity, sn_of}
-use Rattle.run_defs.specs.Events.{taken_off, get_done}
-use Rattle.run_defs.specs.Said.{offered_by}
-use Rattle.run_defs.specs.Runs.{Reading, Plain, plain_way, plain_world, stepped_with, taken_of}
-use Rattle.law_steps.specs.Made.{IsDone}
-use Rattle.law_owner_facts.specs.Owned.{AreOwned}
+use Rattle.law_steady_facts.specs.run_defs.Lines.{got_item, tunnel_link, shown}
+use Rattle.law_steady_facts.specs.run_defs.Units.{up_of, with_up}
+use Rattle.law_steady_facts.specs.run_defs.Written.{written_put, written_step, WrittenStepped}
+use Rattle.law_steady_facts.specs.run_defs.States.{Lengths, item_for, stepped, entity, sn_of}
+use Rattle.law_steady_facts.specs.run_defs.Events.{taken_off, get_done}
+use Rattle.law_steady_facts.specs.run_defs.Said.{offered_by}
+use Rattle.law_steady_facts.specs.run_defs.Runs.{Reading, Plain, plain_way, plain_world, stepped_with, taken_of}
+use Rattle.law_steady_facts.specs.law_steps.Made.{IsDone}
+use Rattle.law_steady_facts.specs.law_owner_facts.Owned.{AreOwned}
 use Rattle.law_steady_rows.specs.Steady.{ends_of, sends, IsNumbered, UpTakes}
-use Rattle.law_context_orders.specs.Orders.{part_with}
+use Rattle.law_steady_facts.specs.law_context_orders.Orders.{part_with}
 use Rattle.law_steady_facts.proofs.Views.{PlainState, OnTunnel, View, Sees, IsFit, Stage, AllStand}
 use Rattle.law_steady_facts.proofs.Keys.{Apart, same_or_apart}
 use Rattle.law_steady_facts.proofs.Ends.{owner_of, owner_at}

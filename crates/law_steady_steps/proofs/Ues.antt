@@ -22,16 +22,16 @@ use Rattle.unit_defs.specs.declared.UeState.{UeState}
 use Rattle.unit_defs.specs.Ways.{Pdu, packet_pdu, deliver, radio_input, gives, spent}
 use Rattle.unit_defs.specs.Ue.{UeNode, UeBearer, ue_acts}
 use Rattle.transport_defs.specs.Links.{Radio, nth}
-use Rattle.run_defs.specs.Lines.{got_item, delivers, radio_link, shown}
-use Rattle.run_defs.specs.Units.{ue_of, with_ue}
-use Rattle.run_defs.specs.Written.{Written, written_put, written_step}
-use Rattle.run_defs.specs.States.{carried_for, stepped, goes, ◌next◌, goes_on, entity, radio_of, with_radio, sn_of}
-use Rattle.run_defs.specs.Steps.{same_epoch, is_on_air, epoch_on_air, epoch_now, reconnect_node, lose_radios, connect_in, put_out_all, delivered}
-use Rattle.run_defs.specs.Conditions.{epoch_of}
-use Rattle.run_defs.specs.Events.{carried_off, carry_done}
-use Rattle.run_defs.specs.Said.{offered_by}
-use Rattle.run_defs.specs.Runs.{Reading, Plain, plain_way, plain_world, content_of, stepped_with, ue_stepped}
-use Rattle.law_owner_facts.specs.Owned.{AreOwned}
+use Rattle.law_steady_facts.specs.run_defs.Lines.{got_item, delivers, radio_link, shown}
+use Rattle.law_steady_facts.specs.run_defs.Units.{ue_of, with_ue}
+use Rattle.law_steady_facts.specs.run_defs.Written.{Written, written_put, written_step}
+use Rattle.law_steady_facts.specs.run_defs.States.{carried_for, stepped, goes, ◌next◌, goes_on, entity, radio_of, with_radio, sn_of}
+use Rattle.law_steady_facts.specs.run_defs.Steps.{same_epoch, is_on_air, epoch_on_air, epoch_now, reconnect_node, lose_radios, connect_in, put_out_all, delivered}
+use Rattle.law_steady_facts.specs.run_defs.Conditions.{epoch_of}
+use Rattle.law_steady_facts.specs.run_defs.Events.{carried_off, carry_done}
+use Rattle.law_steady_facts.specs.run_defs.Said.{offered_by}
+use Rattle.law_steady_facts.specs.run_defs.Runs.{Reading, Plain, plain_way, plain_world, content_of, stepped_with, ue_stepped}
+use Rattle.law_steady_facts.specs.law_owner_facts.Owned.{AreOwned}
 use Rattle.law_steady_rows.specs.Steady.{delivered_one, UeTakes}
 use Rattle.law_steady_rows.proofs.Ues.{ue_takes}
 use Rattle.law_steady_facts.proofs.Views.{PlainState, PlainUnits, OnRadio, View, pdu_of, pdus_from, frames_from, Sees, IsFit, IsInOrder, Stage, stands, AllStand}

@@ -17,14 +17,14 @@ use Rattle.unit_defs.specs.Ways.{Message, Pdu, Load, Output}
 use Rattle.unit_defs.specs.UpRecords.{UpBearer, UpContext, TunnelKind, CuUp, up_at}
 use Rattle.unit_defs.specs.CuUp.{context_of}
 use Rattle.transport_defs.specs.Links.{silent}
-use Rattle.run_defs.specs.Units.{up_of, with_up, du_of}
-use Rattle.run_defs.specs.Written.{written_put}
-use Rattle.run_defs.specs.States.{goes, entity, sn_of}
-use Rattle.run_defs.specs.Steps.{put_out_all}
-use Rattle.run_defs.specs.Runs.{Reading, plain_way, plain_world}
-use Rattle.law_context_orders.specs.Orders.{UpPart, part_with, part_of as up_part_of}
+use Rattle.law_steady_facts.specs.run_defs.Units.{up_of, with_up, du_of}
+use Rattle.law_steady_facts.specs.run_defs.Written.{written_put}
+use Rattle.law_steady_facts.specs.run_defs.States.{goes, entity, sn_of}
+use Rattle.law_steady_facts.specs.run_defs.Steps.{put_out_all}
+use Rattle.law_steady_facts.specs.run_defs.Runs.{Reading, plain_way, plain_world}
+use Rattle.law_steady_facts.specs.law_context_orders.Orders.{UpPart, part_with, part_of as up_part_of}
 use Rattle.law_steady_facts.specs.law_du_inputs.Changes.{part_of as du_part_of}
-use Rattle.law_owner_facts.specs.Owned.{AreOwned}
+use Rattle.law_steady_facts.specs.law_owner_facts.Owned.{AreOwned}
 use Rattle.law_steady_rows.specs.Steady.{ends_of, sends, IsNumbered}
 use Rattle.law_steady_facts.proofs.Views.{PlainState, PlainUnits, OnTunnel, View, load_of, frames_from, n3_end, uplink_end, downlink_end, Sees, IsFit}
 use Rattle.law_steady_facts.proofs.Keys.{Apart, up_changed, up_kept, up_itself, ups_same, up_elsewhere}

@@ -7,23 +7,23 @@ use Rattle.gnb_types.specs.declared.names.UeId.{UeId}
 use Rattle.gnb_types.specs.declared.plans.Plan.{Plan}
 use Rattle.message_types.specs.declared.rrc.Token.{Token}
 use Rattle.scenario_text.specs.declared.event.Event.{Event}
-use Rattle.unit_defs.specs.Ways.{Message, Pdu, Load, gives, spent}
-use Rattle.unit_defs.specs.UpRecords.{CuUp}
-use Rattle.unit_defs.specs.CuUp.{cu_up_acts}
-use Rattle.unit_defs.specs.Du.{Du, du_acts}
-use Rattle.unit_defs.specs.Ue.{UeNode, new_ue, placed, ue_acts}
-use Rattle.unit_defs.specs.CpRecords.{CuCpRecord}
-use Rattle.unit_defs.specs.CuCp.{cu_cp_acts}
-use Rattle.unit_defs.specs.Core.{CoreRecord, core_acts}
-use Rattle.run_defs.specs.Units.{du_of, ue_of}
-use Rattle.run_defs.specs.Written.{Written}
-use Rattle.run_defs.specs.States.{State, new_state, Lengths}
-use Rattle.run_defs.specs.Runs.{Reading, PlainGiven, Plain, plain_way, plain_world}
-use Rattle.law_steps.specs.Reached.{reached}
-use Rattle.law_answers.specs.After.{HoldsAfter}
+use Rattle.law_run_plans.specs.unit_defs.Ways.{Message, Pdu, Load, gives, spent}
+use Rattle.law_run_plans.specs.unit_defs.UpRecords.{CuUp}
+use Rattle.law_run_plans.specs.unit_defs.CuUp.{cu_up_acts}
+use Rattle.law_run_plans.specs.unit_defs.Du.{Du, du_acts}
+use Rattle.law_run_plans.specs.unit_defs.Ue.{UeNode, new_ue, placed, ue_acts}
+use Rattle.law_run_plans.specs.unit_defs.CpRecords.{CuCpRecord}
+use Rattle.law_run_plans.specs.unit_defs.CuCp.{cu_cp_acts}
+use Rattle.law_run_plans.specs.unit_defs.Core.{CoreRecord, core_acts}
+use Rattle.law_run_facts.specs.run_defs.Units.{du_of, ue_of}
+use Rattle.law_run_facts.specs.run_defs.Written.{Written}
+use Rattle.law_run_facts.specs.run_defs.States.{State, new_state, Lengths}
+use Rattle.law_run_facts.specs.run_defs.Runs.{Reading, PlainGiven, Plain, plain_way, plain_world}
+use Rattle.law_run_facts.specs.law_steps.Reached.{reached}
+use Rattle.law_run_plans.specs.law_answers.After.{HoldsAfter}
 use Rattle.law_run_plans.proofs.Terminals.{terminal_stays}
-use Rattle.law_tunnel_owners.proofs.Placed.{first_owned}
-use Rattle.law_tunnel_owners.proofs.Runs.{owned_later}
+use Rattle.law_slice_owners.proofs.law_tunnel_owners.Placed.{first_owned}
+use Rattle.law_slice_owners.proofs.law_tunnel_owners.Runs.{owned_later}
 use Rattle.law_slice_owners.proofs.Owners.{apart_of}
 use Rattle.law_run_facts.specs.UnitFacts.{UnitFacts, UnitsKeep, written_facts}
 use Rattle.law_run_facts.specs.Facts.{Hold}

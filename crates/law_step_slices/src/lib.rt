@@ -4,14 +4,14 @@
 ghost use Rattle.gnb_types.specs.declared.names.NodeId.{NodeId};
 ghost use Rattle.gnb_types.specs.declared.names.UeId.{UeId};
 ghost use Rattle.law_run_slices.specs.Units.{given_ue, IsUnitsStepOf};
-ghost use Rattle.law_steps.specs.Reached.{reached};
+ghost use Rattle.law_run_facts.specs.law_steps.Reached.{reached};
 ghost use Rattle.message_types.specs.declared.rrc.Token.{Token};
-ghost use Rattle.run_defs.specs.Runs.{plain_world, PlainGiven, Reading};
-ghost use Rattle.run_defs.specs.States.{Lengths, new_state, State};
-ghost use Rattle.run_defs.specs.Written.{Written};
+ghost use Rattle.law_run_facts.specs.run_defs.Runs.{plain_world, PlainGiven, Reading};
+ghost use Rattle.law_run_facts.specs.run_defs.States.{Lengths, new_state, State};
+ghost use Rattle.law_run_facts.specs.run_defs.Written.{Written};
 ghost use Rattle.scenario_text.specs.declared.event.Event.{Event};
 ghost use Rattle.std.specs.Prelude.{List, Some, ◌≡◌};
-ghost use Rattle.unit_defs.specs.Ways.{Load, Message, Pdu};
+ghost use Rattle.law_run_plans.specs.unit_defs.Ways.{Load, Message, Pdu};
 
 /// In every state of every run, whichever unit is given what is for a terminal: all that it puts out is the terminal's, and what
 /// all units keep of the other terminals stays. No TEID of a DU is two terminals' there, and each terminal is kept as itself.

@@ -1,22 +1,22 @@
 -- Each event is made of steps.
 use Rattle.std.proofs.Common.{◌≡◌, ◌==◌, ℕ, zero, suc, Bool, true, false, not, ◌&&◌, ◌||◌, List, [], ◌∷◌, Option, Some, None, refl}
 use Rattle.std.specs.Prelude.{if◌then◌else◌, is_some}
-use Rattle.gnb_types.specs.declared.names.Gnb.{Gnb}
-use Rattle.gnb_types.specs.declared.names.Gnb.TheVariants.{A, B}
-use Rattle.gnb_types.specs.declared.names.NodeId.{NodeId}
-use Rattle.gnb_types.specs.declared.names.NodeId.TheVariants.{CuCp, CuUp, Du, Core, Ue}
-use Rattle.gnb_types.specs.declared.names.UeId.{UeId}
-use Rattle.gnb_types.specs.declared.names.BearerId.{BearerId}
-use Rattle.gnb_types.specs.declared.names.Dir.{Dir}
-use Rattle.gnb_types.specs.declared.names.Dir.TheVariants.{Dl, Ul}
-use Rattle.gnb_types.specs.declared.keys.TunnelEnd.{TunnelEnd}
-use Rattle.gnb_types.specs.declared.keys.EntityKey.{EntityKey}
-use Rattle.gnb_types.specs.declared.plans.Plan.{Plan}
-use Rattle.gnb_types.specs.declared.inputs.Order.TheVariants as orders
-use Rattle.gnb_types.specs.declared.reasons.RefuseReason.TheVariants.{Attached, NotStarted, NoUe, NoHome, Busy, NotAllowed, Empty, NoLink, NoSuch, Decodable}
-use Rattle.gnb_types.specs.declared.reasons.RefuseReason.TheVariants as reasons
-use Rattle.gnb_types.specs.Orders.{ue_cmp, tunnel_cmp}
-use Rattle.tables.specs.Tables.{find}
+use Rattle.run_defs.specs.gnb_types.declared.names.Gnb.{Gnb}
+use Rattle.run_defs.specs.gnb_types.declared.names.Gnb.TheVariants.{A, B}
+use Rattle.run_defs.specs.gnb_types.declared.names.NodeId.{NodeId}
+use Rattle.run_defs.specs.gnb_types.declared.names.NodeId.TheVariants.{CuCp, CuUp, Du, Core, Ue}
+use Rattle.run_defs.specs.gnb_types.declared.names.UeId.{UeId}
+use Rattle.run_defs.specs.gnb_types.declared.names.BearerId.{BearerId}
+use Rattle.run_defs.specs.gnb_types.declared.names.Dir.{Dir}
+use Rattle.run_defs.specs.gnb_types.declared.names.Dir.TheVariants.{Dl, Ul}
+use Rattle.run_defs.specs.gnb_types.declared.keys.TunnelEnd.{TunnelEnd}
+use Rattle.run_defs.specs.gnb_types.declared.keys.EntityKey.{EntityKey}
+use Rattle.run_defs.specs.gnb_types.declared.plans.Plan.{Plan}
+use Rattle.run_defs.specs.gnb_types.declared.inputs.Order.TheVariants as orders
+use Rattle.run_defs.specs.gnb_types.declared.reasons.RefuseReason.TheVariants.{Attached, NotStarted, NoUe, NoHome, Busy, NotAllowed, Empty, NoLink, NoSuch, Decodable}
+use Rattle.run_defs.specs.gnb_types.declared.reasons.RefuseReason.TheVariants as reasons
+use Rattle.run_defs.specs.gnb_types.Orders.{ue_cmp, tunnel_cmp}
+use Rattle.run_defs.specs.tables.Tables.{find}
 use Rattle.run_defs.specs.scenario_text.declared.event.Event.{Event}
 use Rattle.run_defs.specs.scenario_text.declared.event.Event.TheVariants as events
 use Rattle.run_defs.specs.unit_defs.Ways.{teids_spent}

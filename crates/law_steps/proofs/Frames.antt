@@ -4,16 +4,16 @@ use Rattle.std.proofs.Common.{◌≡◌, ℕ, Bool, true, false, ◌&&◌, List,
 use Rattle.std.proofs.lemmas.Bool.{or_parts}
 use Rattle.std.specs.Prelude.{if◌then◌else◌}
 use Rattle.std.specs.List.{flat_map}
-use Rattle.gnb_types.specs.declared.names.NodeId.{NodeId}
-use Rattle.gnb_types.specs.declared.names.NodeId.TheVariants.{CuCp, CuUp, Du, Core, Ue}
-use Rattle.gnb_types.specs.declared.names.UeId.{UeId}
-use Rattle.gnb_types.specs.declared.keys.EntityKey.{EntityKey}
-use Rattle.gnb_types.specs.declared.keys.TunnelEnd.{TunnelEnd}
-use Rattle.gnb_types.specs.declared.plans.Plan.{Plan}
-use Rattle.gnb_types.specs.declared.outputs.Tag.{Tag}
-use Rattle.gnb_types.specs.declared.outputs.Tag.TheVariants.{Absent, Own, Same}
-use Rattle.gnb_types.specs.Orders.{ue_cmp, tunnel_cmp}
-use Rattle.tables.specs.Tables.{find, at}
+use Rattle.run_defs.specs.gnb_types.declared.names.NodeId.{NodeId}
+use Rattle.run_defs.specs.gnb_types.declared.names.NodeId.TheVariants.{CuCp, CuUp, Du, Core, Ue}
+use Rattle.run_defs.specs.gnb_types.declared.names.UeId.{UeId}
+use Rattle.run_defs.specs.gnb_types.declared.keys.EntityKey.{EntityKey}
+use Rattle.run_defs.specs.gnb_types.declared.keys.TunnelEnd.{TunnelEnd}
+use Rattle.run_defs.specs.gnb_types.declared.plans.Plan.{Plan}
+use Rattle.run_defs.specs.gnb_types.declared.outputs.Tag.{Tag}
+use Rattle.run_defs.specs.gnb_types.declared.outputs.Tag.TheVariants.{Absent, Own, Same}
+use Rattle.run_defs.specs.gnb_types.Orders.{ue_cmp, tunnel_cmp}
+use Rattle.run_defs.specs.tables.Tables.{find, at}
 use Rattle.run_defs.specs.scenario_text.declared.event.Event.{Event}
 use Rattle.run_defs.specs.unit_defs.Ways.{Put, control, packet, radio, deliver, dropped, held, opened, closed, failed, no}
 use Rattle.run_defs.specs.unit_defs.Static.{up_has_room, up_has_teids, du_has_teids}

@@ -2,17 +2,17 @@
 use Rattle.std.proofs.Common.{◌≡◌, ◌==◌, ℕ, zero, suc, ◌+◌, ◌||◌, Bool, true, false, List, [], ◌∷◌, length, map, Option, Some, None, refl}
 use Rattle.std.specs.Prelude.{if◌then◌else◌, unwrap_or}
 use Rattle.std.specs.List.{AllByRecursion}
-use Rattle.gnb_types.specs.declared.names.UeId.{UeId}
-use Rattle.gnb_types.specs.declared.names.BearerId.{BearerId}
-use Rattle.gnb_types.specs.declared.names.NodeId.{NodeId}
-use Rattle.gnb_types.specs.declared.names.NodeId.TheVariants.{CuUp, Ue}
-use Rattle.gnb_types.specs.declared.keys.TunnelEnd.{TunnelEnd}
-use Rattle.gnb_types.specs.declared.keys.EntityKey.{EntityKey}
-use Rattle.gnb_types.specs.declared.plans.Plan.{Plan}
-use Rattle.gnb_types.specs.declared.inputs.Order.{Order}
-use Rattle.gnb_types.specs.declared.inputs.Order.TheVariants as orders
-use Rattle.gnb_types.specs.Orders.{tunnel_cmp}
-use Rattle.tables.specs.Tables.{find, at, entry_after, first_entry}
+use Rattle.run_defs.specs.gnb_types.declared.names.UeId.{UeId}
+use Rattle.run_defs.specs.gnb_types.declared.names.BearerId.{BearerId}
+use Rattle.run_defs.specs.gnb_types.declared.names.NodeId.{NodeId}
+use Rattle.run_defs.specs.gnb_types.declared.names.NodeId.TheVariants.{CuUp, Ue}
+use Rattle.run_defs.specs.gnb_types.declared.keys.TunnelEnd.{TunnelEnd}
+use Rattle.run_defs.specs.gnb_types.declared.keys.EntityKey.{EntityKey}
+use Rattle.run_defs.specs.gnb_types.declared.plans.Plan.{Plan}
+use Rattle.run_defs.specs.gnb_types.declared.inputs.Order.{Order}
+use Rattle.run_defs.specs.gnb_types.declared.inputs.Order.TheVariants as orders
+use Rattle.run_defs.specs.gnb_types.Orders.{tunnel_cmp}
+use Rattle.run_defs.specs.tables.Tables.{find, at, entry_after, first_entry}
 use Rattle.run_defs.specs.scenario_text.declared.event.Event.{Event}
 use Rattle.run_defs.specs.unit_defs.declared.UeState.{UeState}
 use Rattle.run_defs.specs.unit_defs.declared.UeState.TheVariants as ue_states

@@ -1,9 +1,9 @@
 -- What an input comes to, and how outcomes are joined.
 use Rattle.std.proofs.Common.{◌≡◌, Bool, true, false, List, [], ◌∷◌, Some, None, refl}
 use Rattle.std.specs.Prelude.{if◌then◌else◌}
-use Rattle.gnb_types.specs.declared.names.NodeId.{NodeId}
-use Rattle.gnb_types.specs.declared.inputs.Order.{Order}
-use Rattle.gnb_types.specs.declared.reasons.RefuseReason.{RefuseReason}
+use Rattle.run_defs.specs.gnb_types.declared.names.NodeId.{NodeId}
+use Rattle.run_defs.specs.gnb_types.declared.inputs.Order.{Order}
+use Rattle.run_defs.specs.gnb_types.declared.reasons.RefuseReason.{RefuseReason}
 use Rattle.run_defs.specs.scenario_text.declared.event.Event.{Event}
 use Rattle.run_defs.specs.unit_defs.Ways.{Put, held, no}
 use Rattle.run_defs.specs.Lines.{was_refused}

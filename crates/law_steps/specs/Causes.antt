@@ -1,18 +1,18 @@
 -- Why a unit makes a step: what it is given, which item or message it takes, and what else changes before its outputs are put.
 use Rattle.std.specs.Prelude.{ℕ, ◌≡◌, ◌==◌, true, false, List, ◌∷◌, Option, Some, None}
-use Rattle.gnb_types.specs.declared.names.Gnb.{Gnb}
-use Rattle.gnb_types.specs.declared.names.NodeId.{NodeId}
-use Rattle.gnb_types.specs.declared.names.NodeId.TheVariants.{CuCp, Ue}
-use Rattle.gnb_types.specs.declared.names.UeId.{UeId}
-use Rattle.gnb_types.specs.declared.names.BearerId.{BearerId}
-use Rattle.gnb_types.specs.declared.names.Dir.TheVariants.{Ul}
-use Rattle.gnb_types.specs.declared.keys.TunnelEnd.{TunnelEnd}
-use Rattle.gnb_types.specs.declared.keys.EntityKey.{EntityKey}
-use Rattle.gnb_types.specs.declared.plans.Plan.{Plan}
-use Rattle.gnb_types.specs.declared.inputs.Order.{Order}
-use Rattle.gnb_types.specs.declared.inputs.Order.TheVariants as orders
-use Rattle.gnb_types.specs.Orders.{tunnel_cmp}
-use Rattle.tables.specs.Tables.{find}
+use Rattle.run_defs.specs.gnb_types.declared.names.Gnb.{Gnb}
+use Rattle.run_defs.specs.gnb_types.declared.names.NodeId.{NodeId}
+use Rattle.run_defs.specs.gnb_types.declared.names.NodeId.TheVariants.{CuCp, Ue}
+use Rattle.run_defs.specs.gnb_types.declared.names.UeId.{UeId}
+use Rattle.run_defs.specs.gnb_types.declared.names.BearerId.{BearerId}
+use Rattle.run_defs.specs.gnb_types.declared.names.Dir.TheVariants.{Ul}
+use Rattle.run_defs.specs.gnb_types.declared.keys.TunnelEnd.{TunnelEnd}
+use Rattle.run_defs.specs.gnb_types.declared.keys.EntityKey.{EntityKey}
+use Rattle.run_defs.specs.gnb_types.declared.plans.Plan.{Plan}
+use Rattle.run_defs.specs.gnb_types.declared.inputs.Order.{Order}
+use Rattle.run_defs.specs.gnb_types.declared.inputs.Order.TheVariants as orders
+use Rattle.run_defs.specs.gnb_types.Orders.{tunnel_cmp}
+use Rattle.run_defs.specs.tables.Tables.{find}
 use Rattle.run_defs.specs.scenario_text.declared.event.Event.{Event}
 use Rattle.run_defs.specs.scenario_text.declared.event.Event.TheVariants as events
 use Rattle.run_defs.specs.transport_defs.declared.Item.{Item}

@@ -1,17 +1,17 @@
 -- What an event of a run comes to: steps of units and of the core, and lines of no unit's step, one after another.
 use Rattle.std.specs.Prelude.{ℕ, ◌≡◌, true, false, ◌||◌, ◌&&◌, List, [], ◌∷◌, Some, None}
 use Rattle.std.specs.List.{AllByRecursion}
-use Rattle.gnb_types.specs.declared.names.NodeId.{NodeId}
-use Rattle.gnb_types.specs.declared.names.NodeId.TheVariants.{Core}
-use Rattle.gnb_types.specs.declared.names.UeId.{UeId}
-use Rattle.gnb_types.specs.declared.names.BearerId.{BearerId}
-use Rattle.gnb_types.specs.declared.names.Dir.TheVariants.{Dl}
-use Rattle.gnb_types.specs.declared.keys.TunnelEnd.{TunnelEnd}
-use Rattle.gnb_types.specs.declared.keys.EntityKey.{EntityKey}
-use Rattle.gnb_types.specs.declared.plans.Plan.{Plan}
-use Rattle.gnb_types.specs.declared.reasons.HeldReason.{HeldReason}
-use Rattle.gnb_types.specs.Orders.{ue_cmp, tunnel_cmp}
-use Rattle.tables.specs.Tables.{find, put}
+use Rattle.run_defs.specs.gnb_types.declared.names.NodeId.{NodeId}
+use Rattle.run_defs.specs.gnb_types.declared.names.NodeId.TheVariants.{Core}
+use Rattle.run_defs.specs.gnb_types.declared.names.UeId.{UeId}
+use Rattle.run_defs.specs.gnb_types.declared.names.BearerId.{BearerId}
+use Rattle.run_defs.specs.gnb_types.declared.names.Dir.TheVariants.{Dl}
+use Rattle.run_defs.specs.gnb_types.declared.keys.TunnelEnd.{TunnelEnd}
+use Rattle.run_defs.specs.gnb_types.declared.keys.EntityKey.{EntityKey}
+use Rattle.run_defs.specs.gnb_types.declared.plans.Plan.{Plan}
+use Rattle.run_defs.specs.gnb_types.declared.reasons.HeldReason.{HeldReason}
+use Rattle.run_defs.specs.gnb_types.Orders.{ue_cmp, tunnel_cmp}
+use Rattle.run_defs.specs.tables.Tables.{find, put}
 use Rattle.run_defs.specs.scenario_text.declared.event.Event.{Event}
 use Rattle.run_defs.specs.scenario_text.declared.event.Event.TheVariants as events
 use Rattle.run_defs.specs.unit_defs.Ways.{Put, held, no}

@@ -4,12 +4,12 @@ use Rattle.std.specs.Prelude.{if◌then◌else◌, nat_lt, filter}
 use Rattle.std.specs.List.{flat_map}
 use Rattle.std.proofs.lemmas.List.{append-nil}
 use Rattle.std.proofs.lemmas.Grind.{flat_map-append}
-use Rattle.gnb_types.specs.declared.names.NodeId.{NodeId}
-use Rattle.gnb_types.specs.declared.outputs.Tag.{Tag}
-use Rattle.gnb_types.specs.declared.outputs.Tag.TheVariants.{Absent, Own, Same}
-use Rattle.gnb_types.specs.declared.plans.SnStatus.{SnStatus}
-use Rattle.gnb_types.specs.declared.reasons.DropReason.TheVariants.{Unexpected}
-use Rattle.pdcp.specs.Near.{last_count}
+use Rattle.law_steps.specs.gnb_types.declared.names.NodeId.{NodeId}
+use Rattle.law_steps.specs.gnb_types.declared.outputs.Tag.{Tag}
+use Rattle.law_steps.specs.gnb_types.declared.outputs.Tag.TheVariants.{Absent, Own, Same}
+use Rattle.law_steps.specs.gnb_types.declared.plans.SnStatus.{SnStatus}
+use Rattle.law_steps.specs.gnb_types.declared.reasons.DropReason.TheVariants.{Unexpected}
+use Rattle.law_steps.specs.pdcp.Near.{last_count}
 use Rattle.law_steps.specs.pdcp_defs.Senders.{numbered as with_next, has_room, may_restore, restored, confirmed_by, confirmed_to}
 use Rattle.law_steps.specs.pdcp_defs.Receivers.{deliver as handed_up, received_bits, is_duplicate, stored}
 use Rattle.law_steps.specs.unit_defs.Ways.{packet_pdu, report_pdu, Content, packet_content, report_content, Load, fresh, numbered, end_marker, Taken, fresh_item, numbered_item, uplink_item, status_item, end_item, Output, Way, Answer, gives, spent, with_outputs, ◌then◌, nothing, puts, drops, closed, counts_spent}

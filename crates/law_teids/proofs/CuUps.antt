@@ -3,27 +3,27 @@ use Rattle.std.proofs.Common.{◌≡◌, ◌≤◌, ◌==◌, ℕ, zero, suc, �
 use Rattle.std.specs.Prelude.{if◌then◌else◌}
 use Rattle.std.specs.List.{flat_map, list_all}
 use Rattle.std.specs.Ordering.{nat_cmp}
-use Rattle.gnb_types.specs.declared.names.NodeId.{NodeId}
-use Rattle.gnb_types.specs.declared.names.NodeId.TheVariants.{CuCp, Du as du_id}
-use Rattle.gnb_types.specs.declared.names.UeId.{UeId}
-use Rattle.gnb_types.specs.declared.names.BearerId.{BearerId}
-use Rattle.gnb_types.specs.declared.names.SnBits.{SnBits}
-use Rattle.gnb_types.specs.declared.keys.Channel.{Channel}
-use Rattle.gnb_types.specs.declared.plans.Peer.{Peer}
-use Rattle.gnb_types.specs.declared.plans.Tunnel.{Tunnel}
-use Rattle.gnb_types.specs.declared.plans.SnStatus.{SnStatus}
-use Rattle.gnb_types.specs.declared.inputs.Order.TheVariants as orders
-use Rattle.gnb_types.specs.declared.outputs.Tag.TheVariants.{Absent}
-use Rattle.gnb_types.specs.declared.reasons.HeldReason.{HeldReason}
-use Rattle.gnb_types.specs.declared.reasons.DropReason.{DropReason}
-use Rattle.gnb_types.specs.declared.reasons.DropReason.TheVariants.{NoContext, NoTunnel, Unexpected}
-use Rattle.gnb_types.specs.declared.reasons.RefuseReason.TheVariants.{Empty, NoRadio}
-use Rattle.gnb_types.specs.Names.{node_text}
-use Rattle.gnb_types.specs.Orders.{bearer_cmp}
-use Rattle.tables.specs.Tables.{find, put}
-use Rattle.transaction_defs.specs.Callers.{close, due}
-use Rattle.message_types.specs.declared.e1.E1Message.{E1Message}
-use Rattle.message_types.specs.declared.e1.E1Message.TheVariants as e1s
+use Rattle.law_steps.specs.gnb_types.declared.names.NodeId.{NodeId}
+use Rattle.law_steps.specs.gnb_types.declared.names.NodeId.TheVariants.{CuCp, Du as du_id}
+use Rattle.law_steps.specs.gnb_types.declared.names.UeId.{UeId}
+use Rattle.law_steps.specs.gnb_types.declared.names.BearerId.{BearerId}
+use Rattle.law_steps.specs.gnb_types.declared.names.SnBits.{SnBits}
+use Rattle.law_steps.specs.gnb_types.declared.keys.Channel.{Channel}
+use Rattle.law_steps.specs.gnb_types.declared.plans.Peer.{Peer}
+use Rattle.law_steps.specs.gnb_types.declared.plans.Tunnel.{Tunnel}
+use Rattle.law_steps.specs.gnb_types.declared.plans.SnStatus.{SnStatus}
+use Rattle.law_steps.specs.gnb_types.declared.inputs.Order.TheVariants as orders
+use Rattle.law_steps.specs.gnb_types.declared.outputs.Tag.TheVariants.{Absent}
+use Rattle.law_steps.specs.gnb_types.declared.reasons.HeldReason.{HeldReason}
+use Rattle.law_steps.specs.gnb_types.declared.reasons.DropReason.{DropReason}
+use Rattle.law_steps.specs.gnb_types.declared.reasons.DropReason.TheVariants.{NoContext, NoTunnel, Unexpected}
+use Rattle.law_steps.specs.gnb_types.declared.reasons.RefuseReason.TheVariants.{Empty, NoRadio}
+use Rattle.law_steps.specs.gnb_types.Names.{node_text}
+use Rattle.law_steps.specs.gnb_types.Orders.{bearer_cmp}
+use Rattle.law_steps.specs.tables.Tables.{find, put}
+use Rattle.law_steps.specs.transaction_defs.Callers.{close, due}
+use Rattle.law_steps.specs.message_types.declared.e1.E1Message.{E1Message}
+use Rattle.law_steps.specs.message_types.declared.e1.E1Message.TheVariants as e1s
 use Rattle.law_steps.specs.unit_defs.Ways.{Message, e1, Taken, closed, no, Input, control_input, packet_input, tick_input, order_input, Way, Answer, gives, spent, ◌then◌, nothing, puts, drops, teids_spent}
 use Rattle.law_steps.specs.unit_defs.Messages.{cause_busy, cause_quota, mode_uplinks, mode_switch, mode_freeze, mode_status, mode_resume, channel, are_bearers, bearers_of, statuses_of, teid_of}
 use Rattle.law_steps.specs.unit_defs.Teids.{teids_are_left, teid_after}

@@ -3,26 +3,26 @@ use Rattle.std.proofs.Common.{◌≡◌, ◌≤◌, ◌==◌, ℕ, suc, ◌+◌,
 use Rattle.std.specs.Prelude.{if◌then◌else◌}
 use Rattle.std.specs.List.{AllByRecursion}
 use Rattle.std.specs.Ordering.{nat_cmp}
-use Rattle.gnb_types.specs.declared.names.NodeId.{NodeId}
-use Rattle.gnb_types.specs.declared.names.NodeId.TheVariants.{CuCp, CuUp, Du as du_id, Core, Ue}
-use Rattle.gnb_types.specs.declared.names.UeId.{UeId}
-use Rattle.gnb_types.specs.declared.names.BearerId.{BearerId}
-use Rattle.gnb_types.specs.declared.names.SnBits.{SnBits}
-use Rattle.gnb_types.specs.declared.names.Dir.TheVariants.{Dl, Ul}
-use Rattle.gnb_types.specs.declared.keys.Channel.{Channel}
-use Rattle.gnb_types.specs.declared.plans.Peer.{Peer}
-use Rattle.gnb_types.specs.declared.plans.Tunnel.{Tunnel}
-use Rattle.gnb_types.specs.declared.inputs.Order.TheVariants as orders
-use Rattle.gnb_types.specs.declared.outputs.Tag.TheVariants.{Absent, Same}
-use Rattle.gnb_types.specs.declared.reasons.DropReason.{DropReason}
-use Rattle.gnb_types.specs.declared.reasons.DropReason.TheVariants.{NoContext, NoTunnel, Unexpected}
-use Rattle.gnb_types.specs.Names.{node_text}
-use Rattle.gnb_types.specs.Orders.{bearer_cmp}
-use Rattle.tables.specs.Tables.{find, put}
-use Rattle.transaction_defs.specs.Callers.{close, due}
-use Rattle.message_types.specs.declared.f1.F1.{F1}
-use Rattle.message_types.specs.declared.f1.F1.TheVariants as f1s
-use Rattle.message_types.specs.declared.rrc.Token.{Token}
+use Rattle.law_steps.specs.gnb_types.declared.names.NodeId.{NodeId}
+use Rattle.law_steps.specs.gnb_types.declared.names.NodeId.TheVariants.{CuCp, CuUp, Du as du_id, Core, Ue}
+use Rattle.law_steps.specs.gnb_types.declared.names.UeId.{UeId}
+use Rattle.law_steps.specs.gnb_types.declared.names.BearerId.{BearerId}
+use Rattle.law_steps.specs.gnb_types.declared.names.SnBits.{SnBits}
+use Rattle.law_steps.specs.gnb_types.declared.names.Dir.TheVariants.{Dl, Ul}
+use Rattle.law_steps.specs.gnb_types.declared.keys.Channel.{Channel}
+use Rattle.law_steps.specs.gnb_types.declared.plans.Peer.{Peer}
+use Rattle.law_steps.specs.gnb_types.declared.plans.Tunnel.{Tunnel}
+use Rattle.law_steps.specs.gnb_types.declared.inputs.Order.TheVariants as orders
+use Rattle.law_steps.specs.gnb_types.declared.outputs.Tag.TheVariants.{Absent, Same}
+use Rattle.law_steps.specs.gnb_types.declared.reasons.DropReason.{DropReason}
+use Rattle.law_steps.specs.gnb_types.declared.reasons.DropReason.TheVariants.{NoContext, NoTunnel, Unexpected}
+use Rattle.law_steps.specs.gnb_types.Names.{node_text}
+use Rattle.law_steps.specs.gnb_types.Orders.{bearer_cmp}
+use Rattle.law_steps.specs.tables.Tables.{find, put}
+use Rattle.law_steps.specs.transaction_defs.Callers.{close, due}
+use Rattle.law_steps.specs.message_types.declared.f1.F1.{F1}
+use Rattle.law_steps.specs.message_types.declared.f1.F1.TheVariants as f1s
+use Rattle.law_steps.specs.message_types.declared.rrc.Token.{Token}
 use Rattle.law_steps.specs.unit_defs.Ways.{Message, f1, rrc, uplink, status, end_marker, Taken, frame_item, packet, opened, closed, Input, control_input, packet_input, radio_input, confirm_input, offer_input, tick_input, order_input, Way, Answer, gives, spent, ◌then◌, nothing, puts, drops, teids_spent}
 use Rattle.law_steps.specs.unit_defs.Messages.{channel, is_same_gnb, bearers_of, are_first_bearers}
 use Rattle.law_steps.specs.unit_defs.Teids.{teids_are_left, teid_after, without_each}

@@ -5,8 +5,8 @@ use Rattle.std.specs.Ordering.{nat_cmp, eq_by_cmp}
 use Rattle.std.specs.Cmp.{nat_cmp_total, Equal-is}
 use Rattle.std.specs.List.{AllByRecursion}
 use Rattle.std.proofs.lemmas.Map.Lookups.{exact_unsigned}
-use Rattle.tables.specs.Tables.{find, put, without}
-use Rattle.tables.proofs.TableLaws.{find-put, find-without}
+use Rattle.law_steps.specs.tables.Tables.{find, put, without}
+use Rattle.law_steps.proofs.tables.TableLaws.{find-put, find-without}
 use Rattle.law_steps.specs.unit_defs.Teids.{last_teid, teids_are_left, teid_after, without_each}
 use Rattle.law_teids.specs.Given.{count_from, GivesNext, below, GrowsTo}
 

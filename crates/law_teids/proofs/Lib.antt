@@ -7,3 +7,4 @@ pub mod Placed
 pub mod Runs
 pub mod UnitRuns
 pub use Rattle.law_steps.proofs as law_steps
+pub use Rattle.law_steps.proofs.tables as tables

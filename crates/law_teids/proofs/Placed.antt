@@ -5,14 +5,14 @@ use Rattle.std.specs.Option.{option_map}
 use Rattle.std.specs.Map.{lookup}
 use Rattle.std.specs.BTreeMap.{is_at}
 use Rattle.std.specs.List.{flat_map}
-use Rattle.gnb_types.specs.declared.names.Gnb.{Gnb}
-use Rattle.gnb_types.specs.declared.names.UeId.{UeId}
-use Rattle.gnb_types.specs.declared.names.BearerId.{BearerId}
-use Rattle.gnb_types.specs.declared.names.NodeId.{NodeId}
-use Rattle.gnb_types.specs.declared.names.NodeId.TheVariants.{CuUp as up_id}
-use Rattle.gnb_types.specs.declared.plans.Plan.{Plan}
-use Rattle.gnb_types.specs.declared.plans.Tunnel.{Tunnel}
-use Rattle.tables.specs.Tables.{find}
+use Rattle.law_steps.specs.gnb_types.declared.names.Gnb.{Gnb}
+use Rattle.law_steps.specs.gnb_types.declared.names.UeId.{UeId}
+use Rattle.law_steps.specs.gnb_types.declared.names.BearerId.{BearerId}
+use Rattle.law_steps.specs.gnb_types.declared.names.NodeId.{NodeId}
+use Rattle.law_steps.specs.gnb_types.declared.names.NodeId.TheVariants.{CuUp as up_id}
+use Rattle.law_steps.specs.gnb_types.declared.plans.Plan.{Plan}
+use Rattle.law_steps.specs.gnb_types.declared.plans.Tunnel.{Tunnel}
+use Rattle.law_steps.specs.tables.Tables.{find}
 use Rattle.law_steps.specs.unit_defs.Teids.{teids_are_left, teid_after}
 use Rattle.law_steps.specs.unit_defs.UpRecords.{UpBearer, CuUp}
 use Rattle.law_steps.specs.unit_defs.CuUp.{bearers_from, bearers_made, entries_of}

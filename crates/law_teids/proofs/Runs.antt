@@ -4,17 +4,17 @@ use Rattle.std.specs.Prelude.{unwrap_or}
 use Rattle.std.specs.Ordering.{eq_by_cmp}
 use Rattle.std.specs.Option.{option_map}
 use Rattle.std.specs.Cmp.{Equal-is}
-use Rattle.gnb_types.specs.declared.names.Gnb.{Gnb}
-use Rattle.gnb_types.specs.declared.names.Gnb.TheVariants.{A, B}
-use Rattle.gnb_types.specs.declared.names.NodeId.{NodeId}
-use Rattle.gnb_types.specs.declared.names.NodeId.TheVariants.{CuCp, CuUp as up_id, Du as du_id, Core, Ue}
-use Rattle.gnb_types.specs.declared.plans.Plan.{Plan}
-use Rattle.gnb_types.specs.Orders.{node_cmp}
-use Rattle.gnb_types.proofs.OrderLemmas.{node_total, node_exact}
-use Rattle.tables.specs.Tables.{find, at}
-use Rattle.tables.proofs.TableLaws.{at-put}
-use Rattle.message_types.specs.declared.rrc.Token.{Token}
-use Rattle.scenario_text.specs.declared.event.Event.{Event}
+use Rattle.law_steps.specs.gnb_types.declared.names.Gnb.{Gnb}
+use Rattle.law_steps.specs.gnb_types.declared.names.Gnb.TheVariants.{A, B}
+use Rattle.law_steps.specs.gnb_types.declared.names.NodeId.{NodeId}
+use Rattle.law_steps.specs.gnb_types.declared.names.NodeId.TheVariants.{CuCp, CuUp as up_id, Du as du_id, Core, Ue}
+use Rattle.law_steps.specs.gnb_types.declared.plans.Plan.{Plan}
+use Rattle.law_steps.specs.gnb_types.Orders.{node_cmp}
+use Rattle.law_steps.proofs.gnb_types.OrderLemmas.{node_total, node_exact}
+use Rattle.law_steps.specs.tables.Tables.{find, at}
+use Rattle.law_steps.proofs.tables.TableLaws.{at-put}
+use Rattle.law_steps.specs.message_types.declared.rrc.Token.{Token}
+use Rattle.law_steps.specs.scenario_text.declared.event.Event.{Event}
 use Rattle.law_steps.specs.unit_defs.Ways.{Message, Pdu, Load, Put, Input, gives, spent}
 use Rattle.law_steps.specs.unit_defs.Static.{up_placed, du_placed, cp_placed, up_set_up, du_set_up, up_has_teids, du_has_teids}
 use Rattle.law_steps.specs.unit_defs.Ue.{UeNode, ue_acts}

@@ -1,11 +1,11 @@
 -- In every run of units that do what the tables say after decoding, each CU-UP and DU gives each TEID once.
 use Rattle.std.proofs.Common.{◌≡◌, ℕ, List, Option, Some, None, subst}
 use Rattle.std.specs.Prelude.{Ok, Err}
-use Rattle.gnb_types.specs.declared.names.Gnb.{Gnb}
-use Rattle.gnb_types.specs.declared.names.NodeId.{NodeId}
-use Rattle.gnb_types.specs.declared.names.NodeId.TheVariants.{CuCp, CuUp as up_id, Du as du_id, Core, Ue}
-use Rattle.gnb_types.specs.declared.inputs.Input.{Input as OctetInput}
-use Rattle.scenario_text.specs.declared.event.Event.{Event}
+use Rattle.law_steps.specs.gnb_types.declared.names.Gnb.{Gnb}
+use Rattle.law_steps.specs.gnb_types.declared.names.NodeId.{NodeId}
+use Rattle.law_steps.specs.gnb_types.declared.names.NodeId.TheVariants.{CuCp, CuUp as up_id, Du as du_id, Core, Ue}
+use Rattle.law_steps.specs.gnb_types.declared.inputs.Input.{Input as OctetInput}
+use Rattle.law_steps.specs.scenario_text.declared.event.Event.{Event}
 use Rattle.law_steps.specs.unit_defs.Ways.{gives, spent}
 use Rattle.law_steps.specs.unit_defs.Ue.{UeNode}
 use Rattle.law_steps.specs.unit_defs.UpRecords.{CuUp}

@@ -2,8 +2,8 @@
 use Rattle.std.specs.Prelude.{ℕ, ◌≡◌, ◌≤◌, ◌==◌, zero, suc, ◌+◌, true, if◌then◌else◌, List, [], ◌∷◌, length, Some, ◌⊎◌}
 use Rattle.std.specs.List.{flat_map}
 use Rattle.std.specs.Ordering.{nat_cmp}
-use Rattle.gnb_types.specs.declared.names.Gnb.{Gnb}
-use Rattle.tables.specs.Tables.{find}
+use Rattle.law_steps.specs.gnb_types.declared.names.Gnb.{Gnb}
+use Rattle.law_steps.specs.tables.Tables.{find}
 use Rattle.law_steps.specs.unit_defs.Ways.{Output, opened, Answer, gives, spent}
 use Rattle.law_steps.specs.unit_defs.Teids.{last_teid, teids_are_left, teid_after}
 use Rattle.law_steps.specs.run_defs.Units.{Units, up_of, du_of}

@@ -3,12 +3,12 @@
 
 ghost use Rattle.law_steps.specs.Reached.{reached};
 ghost use Rattle.law_teids.specs.Given.{GivesTeids, GiveOnce};
-ghost use Rattle.message_types.specs.declared.rrc.Token.{Token};
+ghost use Rattle.law_steps.specs.message_types.declared.rrc.Token.{Token};
 ghost use Rattle.law_steps.specs.run_defs.Runs.{plain_world, Reading};
 ghost use Rattle.law_steps.specs.run_defs.States.{State};
 ghost use Rattle.law_steps.specs.run_defs.UnitRuns.{tables, unit_world};
 ghost use Rattle.law_steps.specs.run_defs.Written.{Written};
-ghost use Rattle.scenario_text.specs.declared.event.Event.{Event};
+ghost use Rattle.law_steps.specs.scenario_text.declared.event.Event.{Event};
 ghost use Rattle.std.specs.Prelude.{List, Some, ℕ, ◌≡◌};
 ghost use Rattle.law_steps.specs.unit_defs.CuUp.{cu_up_acts};
 ghost use Rattle.law_steps.specs.unit_defs.Du.{Du, du_acts};

@@ -14,16 +14,16 @@ use Rattle.gnb_types.specs.Orders.{bearer_cmp}
 use Rattle.tables.specs.Tables.{find, IsSorted}
 use Rattle.message_types.specs.declared.rrc.Token.{Token}
 use Rattle.message_types.specs.declared.rrc.Token.TheVariants as tokens
-use Rattle.pdcp_defs.specs.Receivers.{Receiver}
-use Rattle.unit_defs.specs.declared.UeState.{UeState}
-use Rattle.unit_defs.specs.declared.UeState.TheVariants as states
-use Rattle.unit_defs.specs.declared.TokenKind.{TokenKind}
-use Rattle.unit_defs.specs.declared.TokenKind.TheVariants as says
-use Rattle.unit_defs.specs.Ways.{Message, f1, e1, xn, core, rrc, Pdu, Output, Way, Answer, gives, spent, with_outputs, ◌then◌, nothing, puts, drops, no, epochs_spent}
-use Rattle.unit_defs.specs.Ue.{UeNode, is_connected, is_accessing, may_obey, may_return, last_epoch, connect, said, says_it, obey, arrived, arrive, returned, return_to, come_back, accepted_in, accept, fail, told, told_by, ordered}
-use Rattle.chain_defs.specs.Orders as down
-use Rattle.uplink_defs.specs.Parts.{Part}
-use Rattle.uplink_defs.specs.Orders.{connects, leaves, arrives, after, run}
+use Rattle.law_terminal_rows.specs.pdcp_defs.Receivers.{Receiver}
+use Rattle.law_terminal_rows.specs.unit_defs.declared.UeState.{UeState}
+use Rattle.law_terminal_rows.specs.unit_defs.declared.UeState.TheVariants as states
+use Rattle.law_terminal_rows.specs.unit_defs.declared.TokenKind.{TokenKind}
+use Rattle.law_terminal_rows.specs.unit_defs.declared.TokenKind.TheVariants as says
+use Rattle.law_terminal_rows.specs.unit_defs.Ways.{Message, f1, e1, xn, core, rrc, Pdu, Output, Way, Answer, gives, spent, with_outputs, ◌then◌, nothing, puts, drops, no, epochs_spent}
+use Rattle.law_terminal_rows.specs.unit_defs.Ue.{UeNode, is_connected, is_accessing, may_obey, may_return, last_epoch, connect, said, says_it, obey, arrived, arrive, returned, return_to, come_back, accepted_in, accept, fail, told, told_by, ordered}
+use Rattle.law_terminal_rows.specs.chain_defs.Orders as down
+use Rattle.law_terminal_rows.specs.uplink_defs.Parts.{Part}
+use Rattle.law_terminal_rows.specs.uplink_defs.Orders.{connects, leaves, arrives, after, run}
 use Rattle.law_terminal_rows.specs.Shown.{bearer_of, orders_of, numbered_all, connections, with_all_numbered, Gives, Shows}
 use Rattle.law_terminal_rows.proofs.Radio.{connects_run, connect_gives, connected_shows}
 use Rattle.law_terminal_inputs.specs.Inputs.{Parts, Orders, none, IsShown, connecting, of_command, of_accepted, of_token, of_letter, of_arrival, of_return, of_order, left_on, packets_put, packets_delivered, IsAfter, Follows}

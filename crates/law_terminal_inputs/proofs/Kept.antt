@@ -13,15 +13,15 @@ use Rattle.gnb_types.specs.Orders.{bearer_cmp}
 use Rattle.gnb_types.proofs.OrderLemmas.{bearer_exact}
 use Rattle.message_types.specs.declared.rrc.Token.{Token}
 use Rattle.message_types.specs.declared.rrc.Token.TheVariants as tokens
-use Rattle.pdcp_defs.specs.Receivers.{is_duplicate, is_ahead}
-use Rattle.unit_defs.specs.declared.UeState.{UeState}
-use Rattle.unit_defs.specs.declared.UeState.TheVariants as states
-use Rattle.unit_defs.specs.Ways.{Message, f1, e1, xn, core, rrc, Pdu, Content, packet_content, report_content, Input, control_input, packet_input, radio_input, confirm_input, offer_input, tick_input, order_input, Way, Answer}
-use Rattle.unit_defs.specs.Ue.{UeNode, is_connected, is_accessing, may_return, may_obey, largest_packet, used_uplink, ue_acts, take, confirm, offer}
-use Rattle.chain_defs.specs.Orders as down
-use Rattle.chain_defs.specs.Guards as asks
-use Rattle.uplink_defs.specs.Orders.{offers, leaves, arrives, after}
-use Rattle.uplink_defs.specs.Guards.{IsReady, IsOwed, AreKept}
+use Rattle.law_terminal_rows.specs.pdcp_defs.Receivers.{is_duplicate, is_ahead}
+use Rattle.law_terminal_rows.specs.unit_defs.declared.UeState.{UeState}
+use Rattle.law_terminal_rows.specs.unit_defs.declared.UeState.TheVariants as states
+use Rattle.law_terminal_rows.specs.unit_defs.Ways.{Message, f1, e1, xn, core, rrc, Pdu, Content, packet_content, report_content, Input, control_input, packet_input, radio_input, confirm_input, offer_input, tick_input, order_input, Way, Answer}
+use Rattle.law_terminal_rows.specs.unit_defs.Ue.{UeNode, is_connected, is_accessing, may_return, may_obey, largest_packet, used_uplink, ue_acts, take, confirm, offer}
+use Rattle.law_terminal_rows.specs.chain_defs.Orders as down
+use Rattle.law_terminal_rows.specs.chain_defs.Guards as asks
+use Rattle.law_terminal_rows.specs.uplink_defs.Orders.{offers, leaves, arrives, after}
+use Rattle.law_terminal_rows.specs.uplink_defs.Guards.{IsReady, IsOwed, AreKept}
 use Rattle.law_terminal_rows.specs.Shown.{numbering}
 use Rattle.law_terminal_rows.proofs.Rows.{offers_asked, reports_asked, confirms_asked, unknown_asked}
 use Rattle.law_terminal_rows.proofs.Radio.{connects_asked}

@@ -14,12 +14,12 @@ use Rattle.gnb_types.specs.Orders.{bearer_cmp}
 use Rattle.gnb_types.proofs.OrderLemmas.{bearer_total}
 use Rattle.tables.specs.Tables.{find}
 use Rattle.tables.proofs.TableLaws.{find-put-other, sorted-put}
-use Rattle.pdcp_defs.specs.Senders.{confirmed_by}
-use Rattle.pdcp_defs.specs.Receivers.{is_duplicate, is_ahead, stored, deliver as handed_up}
-use Rattle.unit_defs.specs.Ways.{Pdu, Content, packet_content, report_content, Output, dropped, held, no, Way, Answer, gives, spent, ◌then◌, nothing, puts, drops}
-use Rattle.unit_defs.specs.Ue.{UeBearer, UeNode, is_connected, largest_packet, used_uplink, number_each, number_waiting, with_bearer, of_bearer, at_bearer, offered, offer, took, handed, take, confirmed, confirmed_if, confirm}
-use Rattle.chain_defs.specs.Orders as down
-use Rattle.uplink_defs.specs.Orders.{run}
+use Rattle.law_terminal_rows.specs.pdcp_defs.Senders.{confirmed_by}
+use Rattle.law_terminal_rows.specs.pdcp_defs.Receivers.{is_duplicate, is_ahead, stored, deliver as handed_up}
+use Rattle.law_terminal_rows.specs.unit_defs.Ways.{Pdu, Content, packet_content, report_content, Output, dropped, held, no, Way, Answer, gives, spent, ◌then◌, nothing, puts, drops}
+use Rattle.law_terminal_rows.specs.unit_defs.Ue.{UeBearer, UeNode, is_connected, largest_packet, used_uplink, number_each, number_waiting, with_bearer, of_bearer, at_bearer, offered, offer, took, handed, take, confirmed, confirmed_if, confirm}
+use Rattle.law_terminal_rows.specs.chain_defs.Orders as down
+use Rattle.law_terminal_rows.specs.uplink_defs.Orders.{run}
 use Rattle.law_terminal_rows.specs.Shown.{Gives, packets_of, numbered_all}
 use Rattle.law_terminal_rows.proofs.Numbering.{sends, each_gives}
 use Rattle.law_terminal_inputs.specs.Inputs.{Parts, none, IsShown, left_on, packets_put, packets_delivered, IsAfter, Follows}

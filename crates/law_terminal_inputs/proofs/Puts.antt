@@ -14,12 +14,12 @@ use Rattle.gnb_types.specs.declared.names.BearerId.{BearerId}
 use Rattle.gnb_types.specs.Orders.{bearer_cmp}
 use Rattle.gnb_types.proofs.OrderLemmas.{bearer_exact}
 use Rattle.tables.specs.Tables.{find, map_values, IsSorted}
-use Rattle.pdcp_defs.specs.Senders.{Sender}
-use Rattle.pdcp_defs.specs.Senders.{has_room, numbered as with_next}
-use Rattle.pdcp_defs.specs.Receivers.{received_bits}
-use Rattle.unit_defs.specs.Ways.{Pdu, packet_pdu, report_pdu, Output, Way}
-use Rattle.unit_defs.specs.Ue.{UeBearer, UeNode}
-use Rattle.uplink_defs.specs.Orders.{numbers}
+use Rattle.law_terminal_rows.specs.pdcp_defs.Senders.{Sender}
+use Rattle.law_terminal_rows.specs.pdcp_defs.Senders.{has_room, numbered as with_next}
+use Rattle.law_terminal_rows.specs.pdcp_defs.Receivers.{received_bits}
+use Rattle.law_terminal_rows.specs.unit_defs.Ways.{Pdu, packet_pdu, report_pdu, Output, Way}
+use Rattle.law_terminal_rows.specs.unit_defs.Ue.{UeBearer, UeNode}
+use Rattle.law_terminal_rows.specs.uplink_defs.Orders.{numbers}
 use Rattle.law_terminal_rows.specs.Shown.{number_orders, orders_of, orders_if, packets_of, connection, delivered_to}
 use Rattle.law_terminal_rows.proofs.Numbering.{sends}
 use Rattle.law_terminal_inputs.specs.Inputs.{packet_in, packets_put, packets_delivered, left_on}

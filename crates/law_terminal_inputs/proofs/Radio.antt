@@ -12,13 +12,13 @@ use Rattle.gnb_types.specs.Orders.{bearer_cmp}
 use Rattle.gnb_types.proofs.OrderLemmas.{bearer_total}
 use Rattle.tables.specs.Tables.{IsSorted}
 use Rattle.tables.proofs.TableLaws.{find-put-same, sorted-put}
-use Rattle.pdcp_defs.specs.Receivers.{Receiver, Delivery, is_duplicate, is_ahead, stored, deliver as handed_up}
-use Rattle.unit_defs.specs.Ways.{Pdu, Content, packet_content, report_content, Output, dropped, held, no, Way, Answer, gives, spent, ◌then◌, nothing, puts, drops}
-use Rattle.unit_defs.specs.Ue.{UeBearer, UeNode, is_connected, largest_packet, used_uplink, number_waiting, with_bearer, of_bearer, at_bearer, offered, offer, took, handed, take, confirm}
-use Rattle.chain_defs.specs.Parts.{Part as DownPart}
-use Rattle.chain_defs.specs.Orders as down
-use Rattle.uplink_defs.specs.Parts.{Part}
-use Rattle.uplink_defs.specs.Orders.{Order, offers, acknowledges, reports, run}
+use Rattle.law_terminal_rows.specs.pdcp_defs.Receivers.{Receiver, Delivery, is_duplicate, is_ahead, stored, deliver as handed_up}
+use Rattle.law_terminal_rows.specs.unit_defs.Ways.{Pdu, Content, packet_content, report_content, Output, dropped, held, no, Way, Answer, gives, spent, ◌then◌, nothing, puts, drops}
+use Rattle.law_terminal_rows.specs.unit_defs.Ue.{UeBearer, UeNode, is_connected, largest_packet, used_uplink, number_waiting, with_bearer, of_bearer, at_bearer, offered, offer, took, handed, take, confirm}
+use Rattle.law_terminal_rows.specs.chain_defs.Parts.{Part as DownPart}
+use Rattle.law_terminal_rows.specs.chain_defs.Orders as down
+use Rattle.law_terminal_rows.specs.uplink_defs.Parts.{Part}
+use Rattle.law_terminal_rows.specs.uplink_defs.Orders.{Order, offers, acknowledges, reports, run}
 use Rattle.law_terminal_rows.specs.Shown.{bearer_of, numbering, Does, delivered_to}
 use Rattle.law_terminal_rows.proofs.Rows.{offers_does, reports_does, confirms_does, unknown_does, own_report_does}
 use Rattle.law_terminal_inputs.specs.Inputs.{Parts, none, rest_of, IsShown, of_taken, of_data, of_pdu, of_confirmed, of_offer, offered_to, told_to, known_to, left_on, packets_put, packets_delivered, IsAfter, Follows}

@@ -12,18 +12,18 @@ use Rattle.gnb_types.specs.Orders.{bearer_cmp}
 use Rattle.tables.specs.Tables.{IsSorted}
 use Rattle.message_types.specs.declared.rrc.Token.{Token}
 use Rattle.message_types.specs.declared.rrc.Token.TheVariants as tokens
-use Rattle.pdcp_defs.specs.Senders.{is_reported, confirmed_to, confirmed_by}
-use Rattle.pdcp_defs.specs.Receivers.{is_duplicate, is_ahead}
-use Rattle.unit_defs.specs.declared.UeState.{UeState}
-use Rattle.unit_defs.specs.declared.UeState.TheVariants as states
-use Rattle.unit_defs.specs.Ways.{Message, rrc, Pdu, packet_pdu, report_pdu, Content, packet_content, report_content, Input, control_input, radio_input, confirm_input, offer_input, order_input, Output, radio, deliver, Way, Answer, gives, spent}
-use Rattle.unit_defs.specs.Ue.{UeBearer, UeNode, largest_packet, used_uplink, is_connected, is_accessing, may_obey, may_return}
-use Rattle.chain_defs.specs.Parts.{Part as DownPart}
-use Rattle.chain_defs.specs.Orders as down
-use Rattle.chain_defs.specs.Guards as down_guards
-use Rattle.uplink_defs.specs.Parts.{Part}
-use Rattle.uplink_defs.specs.Orders.{Order, offers, connects, leaves, arrives, acknowledges, reports, run}
-use Rattle.uplink_defs.specs.Guards.{IsOwed, AreKept}
+use Rattle.law_terminal_rows.specs.pdcp_defs.Senders.{is_reported, confirmed_to, confirmed_by}
+use Rattle.law_terminal_rows.specs.pdcp_defs.Receivers.{is_duplicate, is_ahead}
+use Rattle.law_terminal_rows.specs.unit_defs.declared.UeState.{UeState}
+use Rattle.law_terminal_rows.specs.unit_defs.declared.UeState.TheVariants as states
+use Rattle.law_terminal_rows.specs.unit_defs.Ways.{Message, rrc, Pdu, packet_pdu, report_pdu, Content, packet_content, report_content, Input, control_input, radio_input, confirm_input, offer_input, order_input, Output, radio, deliver, Way, Answer, gives, spent}
+use Rattle.law_terminal_rows.specs.unit_defs.Ue.{UeBearer, UeNode, largest_packet, used_uplink, is_connected, is_accessing, may_obey, may_return}
+use Rattle.law_terminal_rows.specs.chain_defs.Parts.{Part as DownPart}
+use Rattle.law_terminal_rows.specs.chain_defs.Orders as down
+use Rattle.law_terminal_rows.specs.chain_defs.Guards as down_guards
+use Rattle.law_terminal_rows.specs.uplink_defs.Parts.{Part}
+use Rattle.law_terminal_rows.specs.uplink_defs.Orders.{Order, offers, connects, leaves, arrives, acknowledges, reports, run}
+use Rattle.law_terminal_rows.specs.uplink_defs.Guards.{IsOwed, AreKept}
 use Rattle.law_terminal_rows.specs.Shown.{IsSeen, orders_of, numbering}
 
 -- one bearer's parts, and orders of each
@@ -143,7 +143,7 @@ module _ {M C P : Type 0} (way : Way M C P) (u : UeNode) (b : Parts) where
   orders_by bearer to input = none
 
   -- ---- what they ask for. Owed is that what is taken from a radio, or confirmed there, is the first that stands there; that a report
-  -- tells of what was carried up; and that an arrival may lead where it leads.
+  -- says what was carried up; and that an arrival may lead where it leads.
 
   abbrev pub OwedTaken : Content → Type 0
   OwedTaken (packet_content None packet) = ⊤

@@ -6,10 +6,10 @@ ghost use Rattle.std.specs.Prelude.{◌≡◌, ℕ, Option};
 ghost use Rattle.gnb_types.specs.declared.names.BearerId.{BearerId};
 ghost use Rattle.gnb_types.specs.declared.names.SnBits.{SnBits};
 ghost use Rattle.message_types.specs.declared.rrc.Token.{Token};
-ghost use Rattle.unit_defs.specs.Ways.{Message, Pdu, Way};
-ghost use Rattle.unit_defs.specs.Ways.{Input};
-ghost use Rattle.unit_defs.specs.Ue.{UeNode, is_connected};
-ghost use Rattle.unit_defs.specs.Ue.{ue_acts};
+ghost use Rattle.law_terminal_rows.specs.unit_defs.Ways.{Message, Pdu, Way};
+ghost use Rattle.law_terminal_rows.specs.unit_defs.Ways.{Input};
+ghost use Rattle.law_terminal_rows.specs.unit_defs.Ue.{UeNode, is_connected};
+ghost use Rattle.law_terminal_rows.specs.unit_defs.Ue.{ue_acts};
 ghost use Rattle.law_terminal_inputs.specs.Inputs.{Parts, IsShown, orders_by, IsOwedFor, AllKept, Follows};
 
 /// Whatever a terminal is given, the parts of each of its bearers are afterwards what the orders that `orders_by` computes make of

@@ -4,12 +4,12 @@ use Rattle.std.specs.Prelude.{if◌then◌else◌, ⊤}
 use Rattle.std.specs.List.{AllByRecursion}
 use Rattle.std.specs.Ordering.{eq_by_cmp}
 use Rattle.gnb_types.specs.declared.names.SnBits.{SnBits}
-use Rattle.pdcp_defs.specs.Senders.{Sender, has_room, numbered as with_next}
-use Rattle.unit_defs.specs.Ways.{Way}
-use Rattle.unit_defs.specs.Ue.{UeBearer, UeNode, is_connected}
-use Rattle.uplink_defs.specs.Parts.{Part}
-use Rattle.uplink_defs.specs.Orders.{Order, offers, numbers, connects, leaves, arrives, acknowledges, reports, after, run}
-use Rattle.law_terminal_rows.specs.Shown.{number_orders, orders_of, orders_if, numbering}
+use Rattle.law_terminal_inputs.specs.pdcp_defs.Senders.{Sender, has_room, numbered as with_next}
+use Rattle.law_terminal_inputs.specs.unit_defs.Ways.{Way}
+use Rattle.law_terminal_inputs.specs.unit_defs.Ue.{UeBearer, UeNode, is_connected}
+use Rattle.law_terminal_inputs.specs.uplink_defs.Parts.{Part}
+use Rattle.law_terminal_inputs.specs.uplink_defs.Orders.{Order, offers, numbers, connects, leaves, arrives, acknowledges, reports, after, run}
+use Rattle.law_terminal_inputs.specs.law_terminal_rows.Shown.{number_orders, orders_of, orders_if, numbering}
 use Rattle.law_terminal_radios.specs.Radios.{IsOfTerminal, clears}
 
 -- ---- what waits is numbered: that leaves no radio, and confirms nothing

@@ -12,11 +12,11 @@ use Rattle.gnb_types.specs.declared.outputs.Tag.TheVariants.{Absent}
 use Rattle.gnb_types.specs.Orders.{bearer_cmp}
 use Rattle.tables.specs.Tables.{find}
 use Rattle.pdcp.specs.Near.{last_count}
-use Rattle.pdcp_defs.specs.Senders.{has_room, numbered, confirmed_by}
-use Rattle.pdcp_defs.specs.Receivers.{Delivery, is_duplicate, is_ahead, stored, deliver as handed_up, received_bits}
-use Rattle.unit_defs.specs.declared.TokenKind.{TokenKind}
-use Rattle.unit_defs.specs.Ways.{report_pdu, Content, packet_content, report_content, Output, held, no, Way, Answer, gives, spent, with_outputs, ◌then◌, nothing, puts, drops, counts_spent}
-use Rattle.unit_defs.specs.Ue.{UeBearer, UeNode, is_connected, largest_packet, on_air, data_output, unconfirmed_outputs, number_each, number_waiting, connect_bearer, with_bearer, with_bearers, connect_each, connect, of_bearer, at_bearer, said, says_it, used_uplink, offered, offer, delivered, handed, took_data, took, take, confirmed, confirmed_if, confirm}
+use Rattle.law_terminal_inputs.specs.pdcp_defs.Senders.{has_room, numbered, confirmed_by}
+use Rattle.law_terminal_inputs.specs.pdcp_defs.Receivers.{Delivery, is_duplicate, is_ahead, stored, deliver as handed_up, received_bits}
+use Rattle.law_terminal_inputs.specs.unit_defs.declared.TokenKind.{TokenKind}
+use Rattle.law_terminal_inputs.specs.unit_defs.Ways.{report_pdu, Content, packet_content, report_content, Output, held, no, Way, Answer, gives, spent, with_outputs, ◌then◌, nothing, puts, drops, counts_spent}
+use Rattle.law_terminal_inputs.specs.unit_defs.Ue.{UeBearer, UeNode, is_connected, largest_packet, on_air, data_output, unconfirmed_outputs, number_each, number_waiting, connect_bearer, with_bearer, with_bearers, connect_each, connect, of_bearer, at_bearer, said, says_it, used_uplink, offered, offer, delivered, handed, took_data, took, take, confirmed, confirmed_if, confirm}
 use Rattle.law_terminal_radios.specs.Radios.{IsPutIn}
 
 all_both : {X : Type 0} (Q : X → Type 0) (xs ys : List X) → AllByRecursion Q xs → AllByRecursion Q ys → AllByRecursion Q (xs ++ ys)

@@ -16,15 +16,15 @@ use Rattle.gnb_types.specs.declared.inputs.Order.TheVariants as orders
 use Rattle.gnb_types.specs.Orders.{bearer_cmp}
 use Rattle.message_types.specs.declared.rrc.Token.{Token}
 use Rattle.message_types.specs.declared.rrc.Token.TheVariants as tokens
-use Rattle.pdcp_defs.specs.Receivers.{is_duplicate, is_ahead}
-use Rattle.unit_defs.specs.declared.UeState.{UeState}
-use Rattle.unit_defs.specs.declared.UeState.TheVariants as states
-use Rattle.unit_defs.specs.declared.TokenKind.TheVariants as says
-use Rattle.unit_defs.specs.Ways.{Message, f1, e1, xn, core, rrc, Content, packet_content, report_content, Input, control_input, packet_input, radio_input, confirm_input, offer_input, tick_input, order_input, Output, no, Way, Answer, gives, spent, ◌then◌, nothing, puts, drops, epochs_spent}
-use Rattle.unit_defs.specs.Ue.{UeNode, last_epoch, largest_packet, is_connected, is_accessing, may_return, may_obey, used_uplink, obey, arrived, arrive, returned, return_to, come_back, accepted_in, accept, fail, offer, take, confirm, told, told_by, ordered, says_it, connect, ue_acts}
-use Rattle.chain_defs.specs.Orders as down
-use Rattle.uplink_defs.specs.Orders.{Order, offers, connects, leaves, arrives, acknowledges, reports}
-use Rattle.law_terminal_rows.specs.Shown.{orders_of, numbering}
+use Rattle.law_terminal_inputs.specs.pdcp_defs.Receivers.{is_duplicate, is_ahead}
+use Rattle.law_terminal_inputs.specs.unit_defs.declared.UeState.{UeState}
+use Rattle.law_terminal_inputs.specs.unit_defs.declared.UeState.TheVariants as states
+use Rattle.law_terminal_inputs.specs.unit_defs.declared.TokenKind.TheVariants as says
+use Rattle.law_terminal_inputs.specs.unit_defs.Ways.{Message, f1, e1, xn, core, rrc, Content, packet_content, report_content, Input, control_input, packet_input, radio_input, confirm_input, offer_input, tick_input, order_input, Output, no, Way, Answer, gives, spent, ◌then◌, nothing, puts, drops, epochs_spent}
+use Rattle.law_terminal_inputs.specs.unit_defs.Ue.{UeNode, last_epoch, largest_packet, is_connected, is_accessing, may_return, may_obey, used_uplink, obey, arrived, arrive, returned, return_to, come_back, accepted_in, accept, fail, offer, take, confirm, told, told_by, ordered, says_it, connect, ue_acts}
+use Rattle.law_terminal_inputs.specs.chain_defs.Orders as down
+use Rattle.law_terminal_inputs.specs.uplink_defs.Orders.{Order, offers, connects, leaves, arrives, acknowledges, reports}
+use Rattle.law_terminal_inputs.specs.law_terminal_rows.Shown.{orders_of, numbering}
 use Rattle.law_terminal_inputs.specs.Inputs.{Parts, Orders, none, rest_of, connecting, of_command, of_accepted, of_token, of_letter, told_to, known_to, of_taken, of_data, of_pdu, of_known, of_confirmed, offered_to, of_offer, of_arrival, of_return, of_order, if_here, orders_by}
 use Rattle.law_terminal_radios.specs.Radios.{clears, unknown_after, is_on_radio, IsPutIn, IsMoved, IsHeard, Hears}
 use Rattle.law_terminal_radios.proofs.Puts.{IsSame, Rests, take_rests, confirm_rests, offer_rests, connect_rests, says_rests, says_then}

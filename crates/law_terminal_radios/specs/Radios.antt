@@ -7,11 +7,11 @@ use Rattle.gnb_types.specs.declared.names.UeId.{UeId}
 use Rattle.gnb_types.specs.declared.names.BearerId.{BearerId}
 use Rattle.gnb_types.specs.declared.names.Dir.TheVariants.{Ul}
 use Rattle.gnb_types.specs.Orders.{bearer_cmp}
-use Rattle.unit_defs.specs.declared.UeState.{UeState}
-use Rattle.unit_defs.specs.declared.UeState.TheVariants as states
-use Rattle.unit_defs.specs.Ways.{packet_content, Input, confirm_input, Output, radio, Answer, gives, spent}
-use Rattle.unit_defs.specs.Ue.{UeNode, is_connected}
-use Rattle.uplink_defs.specs.Orders.{Order, offers, numbers, connects, leaves, arrives, acknowledges, reports}
+use Rattle.law_terminal_inputs.specs.unit_defs.declared.UeState.{UeState}
+use Rattle.law_terminal_inputs.specs.unit_defs.declared.UeState.TheVariants as states
+use Rattle.law_terminal_inputs.specs.unit_defs.Ways.{packet_content, Input, confirm_input, Output, radio, Answer, gives, spent}
+use Rattle.law_terminal_inputs.specs.unit_defs.Ue.{UeNode, is_connected}
+use Rattle.law_terminal_inputs.specs.uplink_defs.Orders.{Order, offers, numbers, connects, leaves, arrives, acknowledges, reports}
 use Rattle.law_terminal_inputs.specs.Inputs.{Parts, Orders, carried_out, rest_of}
 
 -- orders of the terminal

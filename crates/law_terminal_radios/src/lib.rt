@@ -5,8 +5,8 @@ ghost use Rattle.gnb_types.specs.declared.names.BearerId.{BearerId};
 ghost use Rattle.law_terminal_inputs.specs.Inputs.{orders_by, Parts};
 ghost use Rattle.law_terminal_radios.specs.Radios.{Hears, unknown_after};
 ghost use Rattle.std.specs.Prelude.{Option, ℕ};
-ghost use Rattle.unit_defs.specs.Ue.{ue_acts, UeNode};
-ghost use Rattle.unit_defs.specs.Ways.{Input, Way};
+ghost use Rattle.law_terminal_inputs.specs.unit_defs.Ue.{ue_acts, UeNode};
+ghost use Rattle.law_terminal_inputs.specs.unit_defs.Ways.{Input, Way};
 
 /// Whatever a terminal is given: what it puts on a radio is its own, up, in the epoch in which it is connected then. A connected terminal
 /// whose orders leave the radio is on none then; else it is connected on the same one. And what was carried there and isn't confirmed is

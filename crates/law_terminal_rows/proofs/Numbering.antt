@@ -4,9 +4,9 @@ use Rattle.std.proofs.lemmas.List.{append-nil}
 use Rattle.gnb_types.specs.declared.names.SnBits.{SnBits}
 use Rattle.gnb_types.specs.declared.names.BearerId.{BearerId}
 use Rattle.pdcp.specs.Near.{last_count}
-use Rattle.pdcp_defs.specs.Senders.{Sender, numbered as with_next, has_room}
-use Rattle.unit_defs.specs.Ways.{Output, Way, Answer, gives, spent, with_outputs, ◌then◌, nothing, puts, counts_spent}
-use Rattle.unit_defs.specs.Ue.{UeBearer, UeNode, is_connected, data_output, number_each}
+use Rattle.uplink_defs.specs.pdcp_defs.Senders.{Sender, numbered as with_next, has_room}
+use Rattle.uplink_defs.specs.unit_defs.Ways.{Output, Way, Answer, gives, spent, with_outputs, ◌then◌, nothing, puts, counts_spent}
+use Rattle.uplink_defs.specs.unit_defs.Ue.{UeBearer, UeNode, is_connected, data_output, number_each}
 use Rattle.law_chain_rows.specs.Shown.{numbers_all, still_waits, numbered_packets}
 use Rattle.uplink_defs.specs.Parts.{Part}
 use Rattle.uplink_defs.specs.Orders.{numbers, after, run}

@@ -11,13 +11,13 @@ use Rattle.gnb_types.specs.declared.reasons.RefuseReason.TheVariants.{NotAccessi
 use Rattle.gnb_types.specs.Orders.{bearer_cmp}
 use Rattle.tables.specs.Tables.{find, map_values}
 use Rattle.tables.proofs.TableLaws.{find-mapped}
-use Rattle.pdcp_defs.specs.Receivers.{Receiver, received_bits}
-use Rattle.unit_defs.specs.declared.UeState.{UeState}
-use Rattle.unit_defs.specs.declared.UeState.TheVariants as states
-use Rattle.unit_defs.specs.Ways.{report_pdu, Output, no, Way, Answer, gives, spent, with_outputs, ◌then◌, nothing, puts, drops, epochs_spent}
-use Rattle.unit_defs.specs.Ue.{UeBearer, UeNode, is_connected, is_accessing, may_return, last_epoch, data_output, on_air, number_each, number_waiting, connect_bearer, connect_each, connect, with_bearers, said, says_it, may_obey, obey, arrived, arrive, returned, return_to, come_back, accepted_in, accept, fail}
-use Rattle.chain_defs.specs.Parts.{Part as DownPart}
-use Rattle.chain_defs.specs.Orders as down
+use Rattle.uplink_defs.specs.pdcp_defs.Receivers.{Receiver, received_bits}
+use Rattle.uplink_defs.specs.unit_defs.declared.UeState.{UeState}
+use Rattle.uplink_defs.specs.unit_defs.declared.UeState.TheVariants as states
+use Rattle.uplink_defs.specs.unit_defs.Ways.{report_pdu, Output, no, Way, Answer, gives, spent, with_outputs, ◌then◌, nothing, puts, drops, epochs_spent}
+use Rattle.uplink_defs.specs.unit_defs.Ue.{UeBearer, UeNode, is_connected, is_accessing, may_return, last_epoch, data_output, on_air, number_each, number_waiting, connect_bearer, connect_each, connect, with_bearers, said, says_it, may_obey, obey, arrived, arrive, returned, return_to, come_back, accepted_in, accept, fail}
+use Rattle.uplink_defs.specs.chain_defs.Parts.{Part as DownPart}
+use Rattle.uplink_defs.specs.chain_defs.Orders as down
 use Rattle.uplink_defs.specs.Parts.{Part}
 use Rattle.uplink_defs.specs.Orders.{connects, leaves, arrives, after, run}
 use Rattle.uplink_defs.specs.Guards.{IsReady, IsOwed, AreKept}

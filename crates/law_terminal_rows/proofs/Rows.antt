@@ -8,14 +8,14 @@ use Rattle.gnb_types.specs.declared.reasons.HeldReason.TheVariants.{Ahead}
 use Rattle.gnb_types.specs.declared.reasons.RefuseReason.TheVariants.{Size, Quota}
 use Rattle.gnb_types.proofs.OrderLemmas.{bearer_total}
 use Rattle.tables.proofs.TableLaws.{find-put-same, find-put-other}
-use Rattle.pdcp_defs.specs.Senders.{is_reported, confirmed_to, confirmed_by}
-use Rattle.pdcp_defs.specs.Receivers.{Receiver, is_duplicate, is_ahead, stored, deliver as handed_up}
-use Rattle.unit_defs.specs.Ways.{packet_content, report_content, Output, dropped, held, no, Way, Answer, gives, spent, ◌then◌, nothing, puts, drops}
-use Rattle.unit_defs.specs.Ue.{UeBearer, UeNode, is_connected, largest_packet, used_uplink, number_each, number_waiting, with_bearer, of_bearer, at_bearer, offered, offer, took, handed, take, confirmed, confirm}
+use Rattle.uplink_defs.specs.pdcp_defs.Senders.{is_reported, confirmed_to, confirmed_by}
+use Rattle.uplink_defs.specs.pdcp_defs.Receivers.{Receiver, is_duplicate, is_ahead, stored, deliver as handed_up}
+use Rattle.uplink_defs.specs.unit_defs.Ways.{packet_content, report_content, Output, dropped, held, no, Way, Answer, gives, spent, ◌then◌, nothing, puts, drops}
+use Rattle.uplink_defs.specs.unit_defs.Ue.{UeBearer, UeNode, is_connected, largest_packet, used_uplink, number_each, number_waiting, with_bearer, of_bearer, at_bearer, offered, offer, took, handed, take, confirmed, confirm}
 use Rattle.law_chain_rows.specs.Shown.{numbers_all, still_waits}
-use Rattle.chain_defs.specs.Parts.{Part as DownPart}
-use Rattle.chain_defs.specs.Orders as down
-use Rattle.chain_defs.specs.Guards as asks
+use Rattle.uplink_defs.specs.chain_defs.Parts.{Part as DownPart}
+use Rattle.uplink_defs.specs.chain_defs.Orders as down
+use Rattle.uplink_defs.specs.chain_defs.Guards as asks
 use Rattle.uplink_defs.specs.Parts.{Part}
 use Rattle.uplink_defs.specs.Orders.{offers, acknowledges, reports, after, run}
 use Rattle.uplink_defs.specs.Guards.{IsReady, IsOwed, AreKept}

@@ -7,12 +7,12 @@ use Rattle.gnb_types.specs.declared.names.Dir.TheVariants.{Dl}
 use Rattle.gnb_types.specs.declared.outputs.Tag.TheVariants.{Absent}
 use Rattle.gnb_types.specs.Orders.{bearer_cmp}
 use Rattle.tables.specs.Tables.{find, put, map_values}
-use Rattle.pdcp_defs.specs.Senders.{Sender, numbered as with_next, has_room}
-use Rattle.pdcp_defs.specs.Receivers.{Receiver, received_bits}
-use Rattle.unit_defs.specs.Ways.{report_pdu, Output, deliver, Way, Answer, gives, spent}
-use Rattle.unit_defs.specs.Ue.{UeBearer, UeNode, is_connected, on_air, data_output}
+use Rattle.uplink_defs.specs.pdcp_defs.Senders.{Sender, numbered as with_next, has_room}
+use Rattle.uplink_defs.specs.pdcp_defs.Receivers.{Receiver, received_bits}
+use Rattle.uplink_defs.specs.unit_defs.Ways.{report_pdu, Output, deliver, Way, Answer, gives, spent}
+use Rattle.uplink_defs.specs.unit_defs.Ue.{UeBearer, UeNode, is_connected, on_air, data_output}
 use Rattle.law_chain_rows.specs.Shown.{numbers_all, still_waits, numbered_packets}
-use Rattle.chain_defs.specs.Parts.{Part as DownPart}
+use Rattle.uplink_defs.specs.chain_defs.Parts.{Part as DownPart}
 use Rattle.uplink_defs.specs.Parts.{Part}
 use Rattle.uplink_defs.specs.Orders.{Order, numbers}
 

@@ -1,1 +1,2 @@
 pub mod Terminals
+pub use Rattle.law_slices.proofs as law_slices

@@ -15,13 +15,13 @@ use Rattle.tables.specs.Tables.{find}
 use Rattle.message_types.specs.declared.rrc.Token.{Token}
 use Rattle.message_types.specs.declared.rrc.Token.TheVariants as tokens
 use Rattle.pdcp.specs.Near.{last_count}
-use Rattle.pdcp_defs.specs.Senders.{has_room, numbered, confirmed_by}
-use Rattle.pdcp_defs.specs.Receivers.{is_duplicate, is_ahead, stored, deliver as handed_up, received_bits}
-use Rattle.unit_defs.specs.declared.UeState.{UeState}
-use Rattle.unit_defs.specs.declared.UeState.TheVariants as states
-use Rattle.unit_defs.specs.declared.TokenKind.{TokenKind}
-use Rattle.unit_defs.specs.Ways.{Message, rrc, report_pdu, Content, packet_content, report_content, Input, control_input, radio_input, confirm_input, offer_input, tick_input, order_input, Load, deliver, Way, Answer, gives, spent, ◌then◌, nothing, puts, counts_spent, epochs_spent}
-use Rattle.unit_defs.specs.Ue.{UeBearer, UeNode, last_epoch, largest_packet, is_connected, is_accessing, may_return, on_air, data_output, unconfirmed_outputs, number_each, number_waiting, connect_bearer, with_bearer, with_bearers, connect_each, connect, of_bearer, said, says_it, may_obey, obey, arrived, arrive, returned, return_to, come_back, accepted_in, accept, fail, used_uplink, offered, offer, took_data, took, take, confirmed_if, confirmed, confirm, told, told_by, ordered, ue_acts}
+use Rattle.law_slices.specs.pdcp_defs.Senders.{has_room, numbered, confirmed_by}
+use Rattle.law_slices.specs.pdcp_defs.Receivers.{is_duplicate, is_ahead, stored, deliver as handed_up, received_bits}
+use Rattle.law_slices.specs.unit_defs.declared.UeState.{UeState}
+use Rattle.law_slices.specs.unit_defs.declared.UeState.TheVariants as states
+use Rattle.law_slices.specs.unit_defs.declared.TokenKind.{TokenKind}
+use Rattle.law_slices.specs.unit_defs.Ways.{Message, rrc, report_pdu, Content, packet_content, report_content, Input, control_input, radio_input, confirm_input, offer_input, tick_input, order_input, Load, deliver, Way, Answer, gives, spent, ◌then◌, nothing, puts, counts_spent, epochs_spent}
+use Rattle.law_slices.specs.unit_defs.Ue.{UeBearer, UeNode, last_epoch, largest_packet, is_connected, is_accessing, may_return, on_air, data_output, unconfirmed_outputs, number_each, number_waiting, connect_bearer, with_bearer, with_bearers, connect_each, connect, of_bearer, said, says_it, may_obey, obey, arrived, arrive, returned, return_to, come_back, accepted_in, accept, fail, used_uplink, offered, offer, took_data, took, take, confirmed_if, confirmed, confirm, told, told_by, ordered, ue_acts}
 use Rattle.law_slices.specs.Steps.{IsFor, PutsFor}
 use Rattle.law_slices.proofs.Answers.{puts_then, puts_if}
 

@@ -4,8 +4,8 @@
 
 ghost use Rattle.law_slices.specs.Steps.{PutsFor};
 ghost use Rattle.std.specs.Prelude.{◌≡◌};
-ghost use Rattle.unit_defs.specs.Ue.{ue_acts, UeNode};
-ghost use Rattle.unit_defs.specs.Ways.{Input, Way};
+ghost use Rattle.law_slices.specs.unit_defs.Ue.{ue_acts, UeNode};
+ghost use Rattle.law_slices.specs.unit_defs.Ways.{Input, Way};
 
 /// All that a terminal puts out, on any input and in any state, is its own, and it stays the terminal that it is.
 pub fn a_step_of_a_terminal_is_its_own<M, C, P>()

@@ -25,16 +25,16 @@ use Rattle.run_defs.specs.Written.{written_put}
 use Rattle.run_defs.specs.States.{sn_of}
 use Rattle.run_defs.specs.Runs.{Reading, plain_world, plain_way}
 use Rattle.law_steps.specs.Causes.{node_of}
-use Rattle.law_tie_facts.specs.law_bearer_lists.chain_defs.Orders as down
-use Rattle.law_tie_facts.specs.law_bearer_lists.uplink_defs.Orders as up
-use Rattle.law_tie_facts.specs.law_run_bearers.Bearers.{Numbering}
-use Rattle.law_terminal_rows.specs.Shown.{numbering}
+use Rattle.law_terminal_inputs.specs.chain_defs.Orders as down
+use Rattle.law_terminal_inputs.specs.uplink_defs.Orders as up
+use Rattle.law_rest_ties.specs.law_run_bearers.Bearers.{Numbering}
+use Rattle.law_terminal_inputs.specs.law_terminal_rows.Shown.{numbering}
 use Rattle.law_terminal_inputs.specs.Inputs.{Parts, Orders, none, of_command, of_accepted, of_token, of_letter, of_taken, of_pdu, of_confirmed, offered_to, of_offer, of_arrival, of_return, of_order, if_here, orders_by, IsOwedFor, AllKept}
 use Rattle.law_terminal_inputs.proofs.Kept.{input_kept}
-use Rattle.law_own_events.specs.law_own_steps.Own.{IsActed}
-use Rattle.law_own_events.specs.law_own_steps.law_run_links.Own.{HoldTheirOwn}
-use Rattle.law_own_events.proofs.Passed.{sound_past}
-use Rattle.law_tied_runs.specs.Steps.{Point, IsPassed, IsOfRadio, IsOfTerminal, IsLeft, StaysBeside}
+use Rattle.law_rest_ties.specs.law_own_steps.Own.{IsActed}
+use Rattle.law_radio_ties.specs.law_run_links.Own.{HoldTheirOwn}
+use Rattle.law_rest_ties.proofs.law_own_events.Passed.{sound_past}
+use Rattle.law_rest_ties.specs.law_tied_runs.Steps.{Point, IsPassed, IsOfRadio, IsOfTerminal, IsLeft, StaysBeside}
 use Rattle.law_rest_ties.specs.Nodes.{PutsNoItem}
 use Rattle.law_rest_ties.proofs.Rest.{bearer_is_left}
 use Rattle.law_radio_ties.specs.Radio.{RunCause, IsAtTerminal, IsUeStep, OwedOnRadio}

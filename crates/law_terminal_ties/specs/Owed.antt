@@ -9,13 +9,13 @@ use Rattle.unit_defs.specs.Ways.{Pdu, Input, radio_input, order_input}
 use Rattle.unit_defs.specs.Ue.{UeNode}
 use Rattle.run_defs.specs.Runs.{plain_way}
 use Rattle.law_terminal_inputs.specs.Inputs.{Parts, OwedTaken, OwedOrder}
-use Rattle.law_tied_runs.specs.Steps.{Point}
+use Rattle.law_rest_ties.specs.law_tied_runs.Steps.{Point}
 
 -- the parts of a point
 abbrev pub both : Point → Parts
 both p = record { up = p.up; down = p.down }
 
--- a packet down is the first that stands on the part's radio, and a report tells of what was carried up; an arrival may lead where it
+-- a packet down is the first that stands on the part's radio, and a report says what was carried up; an arrival may lead where it
 -- leads
 abbrev pub OwedStill : UeNode → Parts → BearerId → Option ℕ → Input Token Pdu → Type 0
 OwedStill u b bearer to (radio_input ue other Dl pdu content) = eq_by_cmp bearer_cmp bearer other ≡ true → OwedTaken plain_way u b content

@@ -4,14 +4,14 @@
 ghost use Rattle.gnb_types.specs.declared.names.BearerId.{BearerId};
 ghost use Rattle.gnb_types.specs.declared.names.SnBits.{SnBits};
 ghost use Rattle.gnb_types.specs.declared.names.UeId.{UeId};
-ghost use Rattle.law_own_events.specs.law_own_steps.Own.{IsActed};
+ghost use Rattle.law_rest_ties.specs.law_own_steps.Own.{IsActed};
 ghost use Rattle.law_radio_ties.specs.Radio.{IsAtTerminal, IsUeStep, RunCause};
 ghost use Rattle.law_terminal_inputs.specs.Inputs.{Orders, orders_by};
 ghost use Rattle.law_terminal_ties.specs.Owed.{both, OwedStill};
-ghost use Rattle.law_tie_facts.specs.law_bearer_lists.chain_defs.Orders as down;
-ghost use Rattle.law_tie_facts.specs.law_bearer_lists.uplink_defs.Orders as up;
-ghost use Rattle.law_tie_facts.specs.law_run_bearers.Bearers.{Numbering};
-ghost use Rattle.law_tied_runs.specs.Steps.{IsPassed, Point, StaysBeside};
+ghost use Rattle.law_terminal_inputs.specs.chain_defs.Orders as down;
+ghost use Rattle.law_terminal_inputs.specs.uplink_defs.Orders as up;
+ghost use Rattle.law_rest_ties.specs.law_run_bearers.Bearers.{Numbering};
+ghost use Rattle.law_rest_ties.specs.law_tied_runs.Steps.{IsPassed, Point, StaysBeside};
 ghost use Rattle.message_types.specs.declared.rrc.Token.{Token};
 ghost use Rattle.run_defs.specs.Runs.{plain_way, plain_world, Reading};
 ghost use Rattle.run_defs.specs.States.{sn_of};
@@ -24,7 +24,7 @@ ghost use Rattle.unit_defs.specs.Ways.{Input, Message, Output, Pdu};
 
 /// Where a terminal shows a bearer's parts and its radio up is the part's, in a state that a run passes, each step of its own is one of
 /// those that `law_tied_runs` takes: it leaves the bearer's contexts and tunnels, and is the orders of its input, each of which asks what
-/// it does; and it is so afterwards. Owed is what stands first on the radio down, that a report tells of what was carried, and that an
+/// it does; and it is so afterwards. Owed is what stands first on the radio down, that a report says what was carried, and that an
 /// arrival may lead where it leads; nothing of the radio up.
 pub fn steps_of_a_terminal_are_its_orders()
     ensures { (reading : Reading) (n : Numbering) (ue : UeId) (bearer : BearerId) (sn : SnBits)

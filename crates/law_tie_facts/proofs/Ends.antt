@@ -10,28 +10,28 @@ use Rattle.gnb_types.specs.declared.names.BearerId.{BearerId}
 use Rattle.gnb_types.specs.declared.keys.TunnelEnd.{TunnelEnd}
 use Rattle.gnb_types.specs.Orders.{ue_cmp, bearer_cmp, node_cmp}
 use Rattle.gnb_types.proofs.OrderLemmas.{ue_exact, bearer_exact}
-use Rattle.tables.specs.Tables.{find}
-use Rattle.message_types.specs.declared.rrc.Token.{Token}
-use Rattle.unit_defs.specs.Teids.{last_teid}
-use Rattle.unit_defs.specs.Ways.{Message, Load, Pdu, control, packet, radio, deliver, dropped, held, opened, closed, failed, no, Input, Output, gives}
-use Rattle.unit_defs.specs.UpRecords.{UpBearer, UpContext, UpTunnel, TunnelKind, n3, f1u_uplink, forwarding_down, forwarding_up}
-use Rattle.unit_defs.specs.UpBearers.{teid_in, is_one_of}
-use Rattle.unit_defs.specs.CuUp.{cu_up_acts}
+use Rattle.law_tunnel_steps.specs.tables.Tables.{find}
+use Rattle.law_tunnel_steps.specs.message_types.declared.rrc.Token.{Token}
+use Rattle.law_tunnel_steps.specs.unit_defs.Teids.{last_teid}
+use Rattle.law_tunnel_steps.specs.unit_defs.Ways.{Message, Load, Pdu, control, packet, radio, deliver, dropped, held, opened, closed, failed, no, Input, Output, gives}
+use Rattle.law_tunnel_steps.specs.unit_defs.UpRecords.{UpBearer, UpContext, UpTunnel, TunnelKind, n3, f1u_uplink, forwarding_down, forwarding_up}
+use Rattle.law_tunnel_steps.specs.unit_defs.UpBearers.{teid_in, is_one_of}
+use Rattle.law_tunnel_steps.specs.unit_defs.CuUp.{cu_up_acts}
 use Rattle.law_tunnel_steps.specs.run_defs.States.{Lengths}
 use Rattle.law_tunnel_steps.specs.run_defs.Written.{Written, written_put}
 use Rattle.law_tunnel_steps.specs.run_defs.Runs.{plain_way}
 use Rattle.law_bearer_lists.specs.law_context_orders.Orders.{UpPart, part_with, part_of_bearer, part_in, part_of}
 use Rattle.law_bearer_lists.specs.law_context_orders.Shown.{is_bearer}
-use Rattle.law_owner_facts.specs.Owned.{ends_of, has_end, up_context_names, UpOwns}
-use Rattle.law_owner_facts.proofs.Owners.{first_of, second_of}
-use Rattle.law_owner_facts.proofs.UpContexts.{one_is}
-use Rattle.law_teids.specs.Given.{opened_by, count_from, GivesNext, below, GivesTeids}
-use Rattle.law_teids.proofs.CuUps.{cu_up_gives}
-use Rattle.law_open_tunnels.specs.Open.{open_after, ShowsFrom}
-use Rattle.law_open_tunnels.proofs.CuUps.{cu_up_fits}
-use Rattle.law_open_tunnels.proofs.Links.{end_of, same_end, differs}
+use Rattle.law_run_tunnels.specs.law_owner_facts.Owned.{ends_of, has_end, up_context_names, UpOwns}
+use Rattle.law_run_tunnels.proofs.law_owner_facts.Owners.{first_of, second_of}
+use Rattle.law_run_tunnels.proofs.law_owner_facts.UpContexts.{one_is}
+use Rattle.law_run_tunnels.specs.law_teids.Given.{opened_by, count_from, GivesNext, below, GivesTeids}
+use Rattle.law_run_tunnels.proofs.law_teids.CuUps.{cu_up_gives}
+use Rattle.law_run_tunnels.specs.law_open_tunnels.Open.{open_after, ShowsFrom}
+use Rattle.law_run_tunnels.proofs.law_open_tunnels.CuUps.{cu_up_fits}
+use Rattle.law_run_tunnels.proofs.law_open_tunnels.Links.{end_of, same_end, differs}
 use Rattle.law_tunnel_steps.specs.Standing.{is_end, Leaves}
-use Rattle.law_run_units.specs.Happenings.{UpRecord}
+use Rattle.law_run_bearers.specs.law_run_units.Happenings.{UpRecord}
 
 pub clash : {X : Type 0} → false ≡ true → X
 clash e = absurd (true≢false (sym e))

@@ -1,8 +1,8 @@
 -- The oldest item of a tunnel stands first in the part's list.
 use Rattle.std.proofs.Common.{◌≡◌, ℕ, true, List, ◌∷◌, ◌++◌, Option, Some, None, refl, sym, ap, ◌∙◌}
-use Rattle.unit_defs.specs.Ways.{Load, fresh, numbered, frame, uplink, status, end_marker, Pdu, packet_pdu, report_pdu}
-use Rattle.unit_defs.specs.UpRecords.{UpBearer, TunnelKind, n3, f1u_uplink, forwarding_down, forwarding_up}
-use Rattle.unit_defs.specs.UpBearers.{teid_in, is_one_of}
+use Rattle.law_tunnel_steps.specs.unit_defs.Ways.{Load, fresh, numbered, frame, uplink, status, end_marker, Pdu, packet_pdu, report_pdu}
+use Rattle.law_tunnel_steps.specs.unit_defs.UpRecords.{UpBearer, TunnelKind, n3, f1u_uplink, forwarding_down, forwarding_up}
+use Rattle.law_tunnel_steps.specs.unit_defs.UpBearers.{teid_in, is_one_of}
 use Rattle.law_tunnel_steps.specs.run_defs.Runs.{taken_of}
 use Rattle.law_bearer_lists.specs.chain_defs.Parts as down_parts
 use Rattle.law_bearer_lists.specs.chain_defs.Parts.{is_open}
@@ -11,9 +11,9 @@ use Rattle.law_bearer_lists.specs.law_chain_rows.Shown.{item_of}
 use Rattle.law_bearer_lists.specs.law_context_orders.Orders.{UpPart}
 use Rattle.law_bearer_lists.specs.law_down_orders.Down as down_rows
 use Rattle.law_bearer_lists.specs.law_up_orders.Up as up_rows
-use Rattle.law_orders_kept.specs.Down as down_asks
-use Rattle.law_orders_kept.specs.Up as up_asks
-use Rattle.law_owner_facts.specs.Owned.{ends_of}
+use Rattle.law_bearer_lists.specs.law_orders_kept.Down as down_asks
+use Rattle.law_bearer_lists.specs.law_orders_kept.Up as up_asks
+use Rattle.law_run_tunnels.specs.law_owner_facts.Owned.{ends_of}
 use Rattle.law_tie_facts.specs.Ties.{RunItem, downs_of, up_item, ups_of, IsMirror}
 use Rattle.law_tie_facts.proofs.Ends.{clash}
 

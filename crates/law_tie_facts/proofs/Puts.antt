@@ -13,10 +13,10 @@ use Rattle.gnb_types.specs.declared.names.BearerId.{BearerId}
 use Rattle.gnb_types.specs.declared.names.Dir.TheVariants.{Dl, Ul}
 use Rattle.gnb_types.specs.declared.keys.TunnelEnd.{TunnelEnd}
 use Rattle.gnb_types.proofs.OrderLemmas.{ue_total, bearer_total}
-use Rattle.tables.specs.Tables.{find}
-use Rattle.message_types.specs.declared.rrc.Token.{Token}
-use Rattle.unit_defs.specs.Ways.{Message, fresh, numbered, frame, uplink, status, end_marker, Pdu, control, packet, radio, deliver, dropped, held, opened, closed, failed, no, Output}
-use Rattle.unit_defs.specs.UpRecords.{UpTunnel, TunnelKind, n3, f1u_uplink, forwarding_down, forwarding_up}
+use Rattle.law_tunnel_steps.specs.tables.Tables.{find}
+use Rattle.law_tunnel_steps.specs.message_types.declared.rrc.Token.{Token}
+use Rattle.law_tunnel_steps.specs.unit_defs.Ways.{Message, fresh, numbered, frame, uplink, status, end_marker, Pdu, control, packet, radio, deliver, dropped, held, opened, closed, failed, no, Output}
+use Rattle.law_tunnel_steps.specs.unit_defs.UpRecords.{UpTunnel, TunnelKind, n3, f1u_uplink, forwarding_down, forwarding_up}
 use Rattle.law_tunnel_steps.specs.run_defs.transport_defs.declared.Item.{Item}
 use Rattle.law_tunnel_steps.specs.run_defs.Written.{written_put}
 use Rattle.law_tunnel_steps.specs.run_defs.Units.{up_of}

@@ -16,25 +16,25 @@ use Rattle.gnb_types.specs.declared.inputs.Order.TheVariants as inputs
 use Rattle.gnb_types.specs.declared.reasons.HeldReason.{HeldReason}
 use Rattle.gnb_types.specs.Orders.{ue_cmp, bearer_cmp}
 use Rattle.gnb_types.proofs.OrderLemmas.{ue_exact, bearer_exact}
-use Rattle.tables.specs.Tables.{find, put}
-use Rattle.transaction_defs.specs.Callees.{Verdict, new, again, stale, verdict}
-use Rattle.message_types.specs.declared.e1.E1Message.TheVariants as e1s
-use Rattle.message_types.specs.declared.rrc.Token.{Token}
-use Rattle.unit_defs.specs.Ways.{Message, e1, Pdu, Taken, Input, control_input, packet_input, order_input, Output, held, Answer, gives, spent}
-use Rattle.unit_defs.specs.Messages.{mode_uplinks, mode_switch, mode_freeze, mode_status, mode_resume, channel, are_bearers, bearers_of, statuses_of, teid_of}
-use Rattle.unit_defs.specs.Transactions.{Kind, request, reply, transfer, kind_of}
-use Rattle.unit_defs.specs.UpRecords.{UpBearer, UpContext, UpTunnel, up_at}
-use Rattle.unit_defs.specs.UpBearers.{has_downlink}
-use Rattle.unit_defs.specs.UpItems.{held_reason, took}
-use Rattle.unit_defs.specs.CuUp.{context_of, bearers_from, fits, teids_from, peer_node, names, as_released, is_own_cp, ue_in, take, cu_up_acts}
-use Rattle.unit_defs.specs.CuUp as rows
+use Rattle.law_tunnel_steps.specs.tables.Tables.{find, put}
+use Rattle.law_tunnel_steps.specs.transaction_defs.Callees.{Verdict, new, again, stale, verdict}
+use Rattle.law_tunnel_steps.specs.message_types.declared.e1.E1Message.TheVariants as e1s
+use Rattle.law_tunnel_steps.specs.message_types.declared.rrc.Token.{Token}
+use Rattle.law_tunnel_steps.specs.unit_defs.Ways.{Message, e1, Pdu, Taken, Input, control_input, packet_input, order_input, Output, held, Answer, gives, spent}
+use Rattle.law_tunnel_steps.specs.unit_defs.Messages.{mode_uplinks, mode_switch, mode_freeze, mode_status, mode_resume, channel, are_bearers, bearers_of, statuses_of, teid_of}
+use Rattle.law_tunnel_steps.specs.unit_defs.Transactions.{Kind, request, reply, transfer, kind_of}
+use Rattle.law_tunnel_steps.specs.unit_defs.UpRecords.{UpBearer, UpContext, UpTunnel, up_at}
+use Rattle.law_tunnel_steps.specs.unit_defs.UpBearers.{has_downlink}
+use Rattle.law_tunnel_steps.specs.unit_defs.UpItems.{held_reason, took}
+use Rattle.law_tunnel_steps.specs.unit_defs.CuUp.{context_of, bearers_from, fits, teids_from, peer_node, names, as_released, is_own_cp, ue_in, take, cu_up_acts}
+use Rattle.law_tunnel_steps.specs.unit_defs.CuUp as rows
 use Rattle.law_tunnel_steps.specs.run_defs.Runs.{plain_way}
 use Rattle.law_bearer_lists.proofs.law_intervals.Intervals.{all_append}
 use Rattle.law_bearer_lists.specs.law_context_orders.Orders.{UpOrder, adds, switches, freezes, knows, resumes, closes, takes, polls}
 use Rattle.law_bearer_lists.specs.law_context_orders.Inputs.{only_if, ends, closes_if, closes_after, taken_by, taken_in, taken_of, taken_on, polls_if, polls_on, new_teid, makes_with, setup_orders, switches_if, freezes_if, status_in, knows_if, modify_orders, release_orders, asked_orders, new_orders, control_orders, orders_of}
 use Rattle.law_bearer_lists.specs.law_context_orders.Shown.{is_bearer}
-use Rattle.law_owner_facts.proofs.Owners.{first_of, second_of, both_of}
-use Rattle.law_run_units.specs.Happenings.{UpRecord}
+use Rattle.law_run_tunnels.proofs.law_owner_facts.Owners.{first_of, second_of, both_of}
+use Rattle.law_run_bearers.specs.law_run_units.Happenings.{UpRecord}
 
 -- the tunnel that an order takes from is the bearer's, and the item is what the CU-UP was given
 pub record IsGivenItem (r : UpRecord) (ue : UeId) (bearer : BearerId) (input : Input Token Pdu) (order : UpOrder Pdu) (teid : ℕ) (item : Taken Pdu) : Type 0 where

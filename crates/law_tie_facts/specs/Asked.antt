@@ -6,11 +6,11 @@ use Rattle.gnb_types.specs.declared.names.SnBits.{SnBits}
 use Rattle.gnb_types.specs.declared.names.UeId.{UeId}
 use Rattle.gnb_types.specs.declared.names.BearerId.{BearerId}
 use Rattle.gnb_types.specs.declared.keys.TunnelEnd.{TunnelEnd}
-use Rattle.message_types.specs.declared.rrc.Token.{Token}
-use Rattle.unit_defs.specs.Ways.{Message, Pdu, Load, Input, Output, gives}
-use Rattle.unit_defs.specs.UpRecords.{forwarding_down, forwarding_up}
-use Rattle.unit_defs.specs.UpItems.{held_reason}
-use Rattle.unit_defs.specs.CuUp.{cu_up_acts}
+use Rattle.law_tunnel_steps.specs.message_types.declared.rrc.Token.{Token}
+use Rattle.law_tunnel_steps.specs.unit_defs.Ways.{Message, Pdu, Load, Input, Output, gives}
+use Rattle.law_tunnel_steps.specs.unit_defs.UpRecords.{forwarding_down, forwarding_up}
+use Rattle.law_tunnel_steps.specs.unit_defs.UpItems.{held_reason}
+use Rattle.law_tunnel_steps.specs.unit_defs.CuUp.{cu_up_acts}
 use Rattle.law_tunnel_steps.specs.run_defs.Lines.{RunLine}
 use Rattle.law_tunnel_steps.specs.run_defs.Units.{up_of, with_up}
 use Rattle.law_tunnel_steps.specs.run_defs.Written.{Written, written_put}
@@ -25,21 +25,21 @@ use Rattle.law_bearer_lists.specs.law_context_orders.Orders.{UpPart, UpOrder, ta
 use Rattle.law_bearer_lists.specs.law_context_orders.Inputs.{orders_of}
 use Rattle.law_bearer_lists.specs.law_down_orders.Down as down_rows
 use Rattle.law_bearer_lists.specs.law_up_orders.Up as up_rows
-use Rattle.law_orders_kept.specs.Down.{ItemOwes}
+use Rattle.law_bearer_lists.specs.law_orders_kept.Down.{ItemOwes}
 use Rattle.law_bearer_lists.specs.law_bearer_orders.Happenings.{Beside, Happening, asks, Contexts, context_after}
 use Rattle.law_bearer_lists.specs.law_bearer_orders.Down as downs
 use Rattle.law_bearer_lists.specs.law_bearer_orders.Up as ups
 use Rattle.law_bearer_lists.specs.Puts.{HopEnds, hop_after}
 use Rattle.law_bearer_lists.specs.Down as down_lists
 use Rattle.law_bearer_lists.specs.Up as up_lists
-use Rattle.law_open_tunnels.specs.Open.{StandWhereOpen}
-use Rattle.law_owner_facts.specs.Owned.{AreOwned}
+use Rattle.law_run_tunnels.specs.law_open_tunnels.Open.{StandWhereOpen}
+use Rattle.law_run_tunnels.specs.law_owner_facts.Owned.{AreOwned}
 use Rattle.law_run_tunnels.specs.Own.{TunnelsHoldTheirOwn}
 use Rattle.law_tunnel_steps.specs.law_steps.Causes.{Cause, node_of, given_of, count_of, first_of, by_item}
 use Rattle.law_tunnel_steps.specs.law_steps.Made.{IsDone}
 use Rattle.law_run_tunnels.specs.law_tunnel_book.Book.{is_kind}
 use Rattle.law_tunnel_steps.specs.Standing.{is_end, standing}
-use Rattle.law_run_units.specs.Happenings.{UpRecord}
+use Rattle.law_run_bearers.specs.law_run_units.Happenings.{UpRecord}
 use Rattle.law_run_bearers.specs.Things.{PlainUnits}
 use Rattle.law_run_bearers.specs.Bearers.{Numbering, contexts_of, instance_in}
 use Rattle.law_tie_facts.specs.Ties.{RunState, RunItem, Owned, owned_at, downs_of, ups_of, Mirrors}

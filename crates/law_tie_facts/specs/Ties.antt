@@ -7,10 +7,10 @@ use Rattle.gnb_types.specs.declared.names.NodeId.TheVariants.{CuUp as up_id}
 use Rattle.gnb_types.specs.declared.names.UeId.{UeId}
 use Rattle.gnb_types.specs.declared.names.BearerId.{BearerId}
 use Rattle.gnb_types.specs.declared.keys.TunnelEnd.{TunnelEnd}
-use Rattle.tables.specs.Tables.{find}
-use Rattle.message_types.specs.declared.rrc.Token.{Token}
-use Rattle.unit_defs.specs.Ways.{Message, Pdu, packet_pdu, Load, numbered as numbered_load, uplink, end_marker as end_load}
-use Rattle.unit_defs.specs.UpRecords.{TunnelKind, n3, f1u_uplink, forwarding_down, forwarding_up, UpTunnel}
+use Rattle.law_tunnel_steps.specs.tables.Tables.{find}
+use Rattle.law_tunnel_steps.specs.message_types.declared.rrc.Token.{Token}
+use Rattle.law_tunnel_steps.specs.unit_defs.Ways.{Message, Pdu, packet_pdu, Load, numbered as numbered_load, uplink, end_marker as end_load}
+use Rattle.law_tunnel_steps.specs.unit_defs.UpRecords.{TunnelKind, n3, f1u_uplink, forwarding_down, forwarding_up, UpTunnel}
 use Rattle.law_tunnel_steps.specs.run_defs.transport_defs.declared.Item.{Item}
 use Rattle.law_tunnel_steps.specs.run_defs.Units.{up_of}
 use Rattle.law_tunnel_steps.specs.run_defs.Written.{Written}

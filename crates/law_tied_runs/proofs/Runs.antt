@@ -12,10 +12,10 @@ use Rattle.law_core_ties.specs.law_put_ties.law_tie_facts.law_bearer_lists.uplin
 use Rattle.law_core_ties.specs.law_put_ties.law_tie_facts.law_bearer_lists.uplink_defs.Guards as up_guards
 use Rattle.law_core_ties.specs.law_put_ties.law_tie_facts.law_run_bearers.Bearers.{Numbering}
 use Rattle.law_core_ties.specs.law_put_ties.law_tie_facts.Asked.{AreSound}
-use Rattle.law_chain.specs.Words as down_words
-use Rattle.law_chain.proofs.Laws as chain_laws
-use Rattle.law_uplink.specs.Words as up_words
-use Rattle.law_uplink.proofs.Laws as uplink_laws
+use Rattle.law_core_ties.specs.law_chain.Words as down_words
+use Rattle.law_core_ties.proofs.law_chain.Laws as chain_laws
+use Rattle.law_core_ties.specs.law_uplink.Words as up_words
+use Rattle.law_core_ties.proofs.law_uplink.Laws as uplink_laws
 use Rattle.law_tied_runs.specs.Steps.{Point, IsTied, Step, a_cu_up, a_du, an_offer, a_message, all_else, Steps, not_yet, further, AreOrders}
 use Rattle.law_tied_runs.proofs.Sound.{passed_sound}
 use Rattle.law_tied_runs.proofs.Ups.{up_tied, up_orders}

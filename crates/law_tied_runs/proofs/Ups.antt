@@ -3,7 +3,7 @@ use Rattle.std.proofs.Common.{◌≡◌, ℕ, List, sym, subst, ◌∙◌}
 use Rattle.gnb_types.specs.declared.names.SnBits.{SnBits}
 use Rattle.gnb_types.specs.declared.names.UeId.{UeId}
 use Rattle.gnb_types.specs.declared.names.BearerId.{BearerId}
-use Rattle.unit_defs.specs.Ways.{Pdu}
+use Rattle.law_core_ties.specs.unit_defs.Ways.{Pdu}
 use Rattle.law_core_ties.specs.law_put_ties.law_tie_facts.law_tunnel_steps.run_defs.Runs.{Reading, plain_way}
 use Rattle.law_core_ties.specs.law_put_ties.law_tie_facts.law_bearer_lists.chain_defs.Parts as down_parts
 use Rattle.law_core_ties.specs.law_put_ties.law_tie_facts.law_bearer_lists.uplink_defs.Parts as up_parts
@@ -12,7 +12,7 @@ use Rattle.law_core_ties.specs.law_put_ties.law_tie_facts.law_bearer_lists.law_b
 use Rattle.law_core_ties.specs.law_put_ties.law_tie_facts.law_bearer_lists.law_bearer_orders.Up as ups
 use Rattle.law_core_ties.specs.law_put_ties.law_tie_facts.law_run_bearers.Bearers.{Numbering, contexts_of}
 use Rattle.law_core_ties.specs.law_put_ties.law_tie_facts.Asked.{AreTied, AreSound, down_after, up_after, step_asks}
-use Rattle.law_run_ties.proofs.Runs.{down_runs, up_runs}
+use Rattle.law_up_ties.proofs.law_run_ties.Runs.{down_runs, up_runs}
 use Rattle.law_up_ties.proofs.Ups as of_cu_ups
 use Rattle.law_tied_runs.specs.Steps.{Point, IsTied, CuUpActs, AreOrders}
 

@@ -1,3 +1,21 @@
 pub mod Steps
 pub use Rattle.law_core_ties.specs as law_core_ties
 pub use Rattle.law_own_events.specs as law_own_events
+pub use Rattle.law_core_ties.specs.law_context_orders as law_context_orders
+pub use Rattle.law_core_ties.specs.chain_defs as chain_defs
+pub use Rattle.law_core_ties.specs.uplink_defs as uplink_defs
+pub use Rattle.law_core_ties.specs.law_uplink as law_uplink
+pub use Rattle.law_core_ties.specs.law_down_orders as law_down_orders
+pub use Rattle.law_core_ties.specs.law_up_orders as law_up_orders
+pub use Rattle.law_up_ties.specs.law_bearer_orders as law_bearer_orders
+pub use Rattle.law_core_ties.specs.law_du_inputs as law_du_inputs
+pub use Rattle.law_core_ties.specs.law_du_steps as law_du_steps
+pub use Rattle.law_own_events.specs.law_run_facts as law_run_facts
+pub use Rattle.law_up_ties.specs.law_tunnel_steps as law_tunnel_steps
+pub use Rattle.law_own_events.specs.law_owner_facts as law_owner_facts
+pub use Rattle.law_own_events.specs.law_tunnel_book as law_tunnel_book
+pub use Rattle.law_up_ties.specs.law_run_units as law_run_units
+pub use Rattle.law_up_ties.specs.law_run_bearers as law_run_bearers
+pub use Rattle.law_up_ties.specs.law_tie_facts as law_tie_facts
+pub use Rattle.law_core_ties.specs.law_put_ties as law_put_ties
+pub use Rattle.law_own_events.specs.law_own_steps as law_own_steps

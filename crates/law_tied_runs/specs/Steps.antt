@@ -7,8 +7,8 @@ use Rattle.gnb_types.specs.declared.names.UeId.{UeId}
 use Rattle.gnb_types.specs.declared.names.BearerId.{BearerId}
 use Rattle.gnb_types.specs.declared.keys.TunnelEnd.{TunnelEnd}
 use Rattle.message_types.specs.declared.rrc.Token.{Token}
-use Rattle.unit_defs.specs.Ways.{Message, Pdu, Input, Output}
-use Rattle.unit_defs.specs.Core.{CorePath, CoreRecord}
+use Rattle.law_core_ties.specs.unit_defs.Ways.{Message, Pdu, Input, Output}
+use Rattle.law_core_ties.specs.unit_defs.Core.{CorePath, CoreRecord}
 use Rattle.law_core_ties.specs.law_put_ties.law_tie_facts.law_tunnel_steps.run_defs.scenario_text.declared.event.Event.{Event}
 use Rattle.law_core_ties.specs.law_put_ties.law_tie_facts.law_tunnel_steps.run_defs.transport_defs.declared.Letter.{Letter}
 use Rattle.law_core_ties.specs.law_put_ties.law_tie_facts.law_tunnel_steps.run_defs.States.{new_state}
@@ -30,7 +30,7 @@ use Rattle.law_core_ties.specs.law_put_ties.law_tie_facts.Asked.{RunCause, IsUpS
 use Rattle.law_core_ties.specs.law_put_ties.Puts.{IsDuStep, AllLead, orders_up, puts_of}
 use Rattle.law_up_ties.specs.Fresh.{UplinksAreFresh}
 use Rattle.law_core_ties.specs.Core.{PathLeads, IsOffer, orders_offered, IsCoreStep, orders_told}
-use Rattle.law_core_rows.specs.Shown.{goal_by, IsOne}
+use Rattle.law_core_ties.specs.law_core_rows.Shown.{goal_by, IsOne}
 use Rattle.law_own_events.specs.Passed.{Passes}
 
 -- a state of the run, and the parts then

@@ -4,7 +4,7 @@
 
 ghost use Rattle.law_core_ties.specs.law_put_ties.law_tie_facts.law_bearer_lists.chain_defs.Orders as down;
 ghost use Rattle.law_core_ties.specs.law_put_ties.law_tie_facts.law_bearer_lists.chain_defs.Parts as down_parts;
-ghost use Rattle.law_chain.specs.Words as down_words;
+ghost use Rattle.law_core_ties.specs.law_chain.Words as down_words;
 ghost use Rattle.gnb_types.specs.declared.names.BearerId.{BearerId};
 ghost use Rattle.gnb_types.specs.declared.names.SnBits.{SnBits};
 ghost use Rattle.gnb_types.specs.declared.names.UeId.{UeId};
@@ -13,7 +13,7 @@ ghost use Rattle.law_core_ties.specs.law_put_ties.law_tie_facts.Ties.{RunState};
 ghost use Rattle.law_core_ties.specs.law_put_ties.law_tie_facts.law_run_bearers.Bearers.{Numbering};
 ghost use Rattle.law_core_ties.specs.law_put_ties.law_tie_facts.law_tunnel_steps.run_defs.Runs.{Reading};
 ghost use Rattle.law_tied_runs.specs.Steps.{AreOrders, IsPassed, IsTied, Point, Step, Steps};
-ghost use Rattle.law_uplink.specs.Words as up_words;
+ghost use Rattle.law_core_ties.specs.law_uplink.Words as up_words;
 ghost use Rattle.std.specs.Prelude.{◌≡◌, ℕ};
 ghost use Rattle.law_core_ties.specs.law_put_ties.law_tie_facts.law_bearer_lists.uplink_defs.Orders as up;
 ghost use Rattle.law_core_ties.specs.law_put_ties.law_tie_facts.law_bearer_lists.uplink_defs.Parts as up_parts;

@@ -7,31 +7,31 @@ use Rattle.std.specs.List.{AllByRecursion}
 use Rattle.std.specs.BTreeMap.{is_at}
 use Rattle.std.specs.Map.{keys_of}
 use Rattle.std.proofs.lemmas.Map.Keys.{sorted_tail}
-use Rattle.gnb_types.specs.declared.names.Gnb.{Gnb}
-use Rattle.gnb_types.specs.declared.names.Gnb.TheVariants.{A, B}
-use Rattle.gnb_types.specs.declared.names.NodeId.TheVariants.{CuUp as up_id, Du as du_id}
-use Rattle.gnb_types.specs.declared.names.BearerId.{BearerId}
-use Rattle.gnb_types.specs.Orders.{node_cmp, bearer_cmp}
-use Rattle.message_types.specs.declared.rrc.Token.{Token}
-use Rattle.scenario_text.specs.declared.event.Event.{Event}
-use Rattle.tables.specs.Tables.{find, IsSorted, at}
-use Rattle.unit_defs.specs.Ways.{Message, Pdu, Load}
-use Rattle.unit_defs.specs.UpRecords.{TunnelKind, n3, f1u_uplink, forwarding_down, forwarding_up, UpBearer, UpTunnel, CuUp}
-use Rattle.unit_defs.specs.UpBearers.{is_one_of}
-use Rattle.unit_defs.specs.CuUp.{new_cu_up}
-use Rattle.unit_defs.specs.Du.{DuTunnel, Du, new_du}
-use Rattle.run_defs.specs.Units.{Units, new_units, up_of, du_of}
-use Rattle.run_defs.specs.States.{State, new_state}
-use Rattle.run_defs.specs.Runs.{Reading, plain_world}
-use Rattle.run_defs.specs.Written.{Written}
-use Rattle.law_steps.specs.Reached.{reached}
-use Rattle.law_teids.specs.Given.{below, GrowsTo, GiveOnce}
-use Rattle.law_teids.proofs.Runs.{given_once}
-use Rattle.law_owner_facts.specs.Owned.{ends_of, has_such, has_end, up_context_names, up_names, is_downlink, du_context_names, du_names, UpOwns, DuOwns, AreOwned}
-use Rattle.law_owner_facts.proofs.Found.{has_later, has_first}
+use Rattle.law_unit_tunnels.specs.gnb_types.declared.names.Gnb.{Gnb}
+use Rattle.law_unit_tunnels.specs.gnb_types.declared.names.Gnb.TheVariants.{A, B}
+use Rattle.law_unit_tunnels.specs.gnb_types.declared.names.NodeId.TheVariants.{CuUp as up_id, Du as du_id}
+use Rattle.law_unit_tunnels.specs.gnb_types.declared.names.BearerId.{BearerId}
+use Rattle.law_unit_tunnels.specs.gnb_types.Orders.{node_cmp, bearer_cmp}
+use Rattle.law_tunnel_owners.specs.message_types.declared.rrc.Token.{Token}
+use Rattle.law_tunnel_owners.specs.scenario_text.declared.event.Event.{Event}
+use Rattle.law_tunnel_owners.specs.tables.Tables.{find, IsSorted, at}
+use Rattle.law_tunnel_owners.specs.unit_defs.Ways.{Message, Pdu, Load}
+use Rattle.law_tunnel_owners.specs.unit_defs.UpRecords.{TunnelKind, n3, f1u_uplink, forwarding_down, forwarding_up, UpBearer, UpTunnel, CuUp}
+use Rattle.law_tunnel_owners.specs.unit_defs.UpBearers.{is_one_of}
+use Rattle.law_tunnel_owners.specs.unit_defs.CuUp.{new_cu_up}
+use Rattle.law_tunnel_owners.specs.unit_defs.Du.{DuTunnel, Du, new_du}
+use Rattle.law_tunnel_owners.specs.run_defs.Units.{Units, new_units, up_of, du_of}
+use Rattle.law_tunnel_owners.specs.run_defs.States.{State, new_state}
+use Rattle.law_tunnel_owners.specs.run_defs.Runs.{Reading, plain_world}
+use Rattle.law_tunnel_owners.specs.run_defs.Written.{Written}
+use Rattle.law_tunnel_owners.specs.law_steps.Reached.{reached}
+use Rattle.law_tunnel_owners.specs.law_teids.Given.{below, GrowsTo, GiveOnce}
+use Rattle.law_tunnel_owners.proofs.law_teids.Runs.{given_once}
+use Rattle.law_tunnel_owners.specs.law_owner_facts.Owned.{ends_of, has_such, has_end, up_context_names, up_names, is_downlink, du_context_names, du_names, UpOwns, DuOwns, AreOwned}
+use Rattle.law_tunnel_owners.proofs.law_owner_facts.Found.{has_later, has_first}
 use Rattle.law_tunnel_owners.proofs.Placed.{first_owned}
 use Rattle.law_tunnel_owners.proofs.Runs.{owned_later}
-use Rattle.law_tunnel_names.specs.Names.{by_book}
+use Rattle.law_unit_tunnels.specs.law_tunnel_names.Names.{by_book}
 use Rattle.law_unit_tunnels.specs.Units.{Each, BearerHolds, UpHolds, DuHolds, NoneIsFree}
 use Rattle.law_tunnel_book.specs.Book.{is_kind, is_up_owner, is_du_owner, all_such, may_be, book_of, Keeps, HasItsOwn}
 

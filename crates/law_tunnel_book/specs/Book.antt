@@ -2,15 +2,15 @@
 -- not open any more. 0 is none, and may be named for any. Of how long a terminal's numbers are it says nothing.
 use Rattle.std.specs.Prelude.{ℕ, ◌≡◌, ◌==◌, Bool, true, false, ◌&&◌, nat_lt, List, Option, Some, None}
 use Rattle.std.specs.Ordering.{nat_cmp}
-use Rattle.gnb_types.specs.declared.names.Gnb.{Gnb}
-use Rattle.gnb_types.specs.declared.names.UeId.{UeId}
-use Rattle.gnb_types.specs.declared.names.BearerId.{BearerId}
-use Rattle.tables.specs.Tables.{find}
-use Rattle.unit_defs.specs.UpRecords.{TunnelKind, n3, f1u_uplink, forwarding_down, forwarding_up, UpTunnel}
-use Rattle.unit_defs.specs.Du.{DuTunnel}
-use Rattle.run_defs.specs.Units.{Units, up_of, du_of}
-use Rattle.law_teids.specs.Given.{below}
-use Rattle.law_tunnel_names.specs.Names.{Book, by_book}
+use Rattle.law_unit_tunnels.specs.gnb_types.declared.names.Gnb.{Gnb}
+use Rattle.law_unit_tunnels.specs.gnb_types.declared.names.UeId.{UeId}
+use Rattle.law_unit_tunnels.specs.gnb_types.declared.names.BearerId.{BearerId}
+use Rattle.law_tunnel_owners.specs.tables.Tables.{find}
+use Rattle.law_tunnel_owners.specs.unit_defs.UpRecords.{TunnelKind, n3, f1u_uplink, forwarding_down, forwarding_up, UpTunnel}
+use Rattle.law_tunnel_owners.specs.unit_defs.Du.{DuTunnel}
+use Rattle.law_tunnel_owners.specs.run_defs.Units.{Units, up_of, du_of}
+use Rattle.law_tunnel_owners.specs.law_teids.Given.{below}
+use Rattle.law_unit_tunnels.specs.law_tunnel_names.Names.{Book, by_book}
 use Rattle.law_unit_tunnels.specs.Units.{UpHolds, DuHolds, NoneIsFree}
 
 abbrev pub is_kind : TunnelKind → TunnelKind → Bool

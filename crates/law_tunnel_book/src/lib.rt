@@ -1,15 +1,15 @@
 //! Laws of the book of a state: for whom its TEIDs may be named. Each function does nothing: its contract is the law.
 #![tactic(auto)]
 
-ghost use Rattle.law_steps.specs.Reached.{reached};
+ghost use Rattle.law_tunnel_owners.specs.law_steps.Reached.{reached};
 ghost use Rattle.law_tunnel_book.specs.Book.{book_of, HasItsOwn, Keeps};
-ghost use Rattle.message_types.specs.declared.rrc.Token.{Token};
-ghost use Rattle.run_defs.specs.Runs.{plain_world, Reading};
-ghost use Rattle.run_defs.specs.States.{new_state, State};
-ghost use Rattle.run_defs.specs.Written.{Written};
-ghost use Rattle.scenario_text.specs.declared.event.Event.{Event};
+ghost use Rattle.law_tunnel_owners.specs.message_types.declared.rrc.Token.{Token};
+ghost use Rattle.law_tunnel_owners.specs.run_defs.Runs.{plain_world, Reading};
+ghost use Rattle.law_tunnel_owners.specs.run_defs.States.{new_state, State};
+ghost use Rattle.law_tunnel_owners.specs.run_defs.Written.{Written};
+ghost use Rattle.law_tunnel_owners.specs.scenario_text.declared.event.Event.{Event};
 ghost use Rattle.std.specs.Prelude.{List, Some, ◌≡◌};
-ghost use Rattle.unit_defs.specs.Ways.{Load, Message, Pdu};
+ghost use Rattle.law_tunnel_owners.specs.unit_defs.Ways.{Load, Message, Pdu};
 
 /// In every run, from every state: for whom a TEID of a CU-UP or a DU may be named in a state, it may be named in each later
 /// one; so a message that names tunnels as the book of the state in which it was put has it, names them so for good.

@@ -9,17 +9,17 @@ use Rattle.std.specs.Map.{lookup, keys_of}
 use Rattle.std.specs.BTreeMap.{is_at}
 use Rattle.std.proofs.lemmas.Grind.{flat_map-append}
 use Rattle.std.proofs.lemmas.Map.Keys.{sorted_head, sorted_tail}
-use Rattle.gnb_types.specs.declared.names.UeId.{UeId}
-use Rattle.gnb_types.specs.declared.names.BearerId.{BearerId}
-use Rattle.gnb_types.specs.declared.plans.SnStatus.{SnStatus}
-use Rattle.gnb_types.specs.Orders.{ue_cmp, bearer_cmp}
-use Rattle.gnb_types.proofs.OrderLemmas.{ue_total, ue_exact, bearer_total, bearer_exact}
-use Rattle.tables.specs.Tables.{find, put, IsSorted}
-use Rattle.tables.proofs.TableLaws.{find-put}
-use Rattle.unit_defs.specs.Ways.{Way, Answer, gives, spent}
-use Rattle.unit_defs.specs.UpRecords.{Downlink, UpBearer, UpContext, CuUp, up_at}
-use Rattle.unit_defs.specs.UpBearers.{with_status, with_uplink}
-use Rattle.unit_defs.specs.CuUp.{UpStep, steps, stops, step_with, each_bearer, answer_with, status_each, uplinks_from, with_bearer}
+use Rattle.law_frames.specs.gnb_types.declared.names.UeId.{UeId}
+use Rattle.law_frames.specs.gnb_types.declared.names.BearerId.{BearerId}
+use Rattle.law_frames.specs.gnb_types.declared.plans.SnStatus.{SnStatus}
+use Rattle.law_frames.specs.gnb_types.Orders.{ue_cmp, bearer_cmp}
+use Rattle.law_frames.proofs.gnb_types.OrderLemmas.{ue_total, ue_exact, bearer_total, bearer_exact}
+use Rattle.law_frames.specs.tables.Tables.{find, put, IsSorted}
+use Rattle.law_frames.proofs.tables.TableLaws.{find-put}
+use Rattle.law_frames.specs.unit_defs.Ways.{Way, Answer, gives, spent}
+use Rattle.law_frames.specs.unit_defs.UpRecords.{Downlink, UpBearer, UpContext, CuUp, up_at}
+use Rattle.law_frames.specs.unit_defs.UpBearers.{with_status, with_uplink}
+use Rattle.law_frames.specs.unit_defs.CuUp.{UpStep, steps, stops, step_with, each_bearer, answer_with, status_each, uplinks_from, with_bearer}
 use Rattle.law_frames.specs.Numbered.{Frame, frames_in, frames_by, NumbersFrom}
 use Rattle.law_frames.proofs.Bearers.{status_stays, with_uplink_stays}
 use Rattle.law_tunnel_frames.specs.OneTunnel.{OwnedTunnel, number_on, numbers_on, CountTo, NextIs, BearerCounts, UpCounts, NumbersTunnel}

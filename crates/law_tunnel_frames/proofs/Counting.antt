@@ -1,9 +1,9 @@
 -- Numbers that go on, one after another; and those of a bearer's frames on one tunnel.
 use Rattle.std.proofs.Common.{◌≡◌, ℕ, zero, suc, ◌+◌, Bool, true, false, List, [], ◌∷◌, ◌++◌, length, Option, Some, None, refl, sym, ap, ◌∙◌, subst, arith}
 use Rattle.std.specs.Prelude.{if◌then◌else◌}
-use Rattle.gnb_types.specs.declared.names.NodeId.{NodeId}
-use Rattle.gnb_types.specs.declared.keys.TunnelEnd.{TunnelEnd}
-use Rattle.unit_defs.specs.UpRecords.{Downlink}
+use Rattle.law_frames.specs.gnb_types.declared.names.NodeId.{NodeId}
+use Rattle.law_frames.specs.gnb_types.declared.keys.TunnelEnd.{TunnelEnd}
+use Rattle.law_frames.specs.unit_defs.UpRecords.{Downlink}
 use Rattle.law_frames.specs.Numbered.{Frame, frames_from, GoOn}
 use Rattle.law_tunnel_frames.specs.OneTunnel.{is_tunnel, numbers_on, CountTo, Leads, NextIs}
 

@@ -7,39 +7,39 @@ use Rattle.std.specs.Map.{lookup}
 use Rattle.std.specs.BTreeMap.{is_at}
 use Rattle.std.specs.List.{AllByRecursion, flat_map, list_all}
 use Rattle.std.proofs.lemmas.Grind.{flat_map-append}
-use Rattle.gnb_types.specs.declared.names.Gnb.{Gnb}
-use Rattle.gnb_types.specs.declared.names.NodeId.{NodeId}
-use Rattle.gnb_types.specs.declared.names.NodeId.TheVariants.{CuCp, Du as du_id}
-use Rattle.gnb_types.specs.declared.names.UeId.{UeId}
-use Rattle.gnb_types.specs.declared.names.BearerId.{BearerId}
-use Rattle.gnb_types.specs.declared.names.SnBits.{SnBits}
-use Rattle.gnb_types.specs.declared.keys.Channel.{Channel}
-use Rattle.gnb_types.specs.declared.plans.Peer.{Peer}
-use Rattle.gnb_types.specs.declared.plans.Tunnel.{Tunnel}
-use Rattle.gnb_types.specs.declared.plans.SnStatus.{SnStatus}
-use Rattle.gnb_types.specs.declared.inputs.Order.TheVariants as orders
-use Rattle.gnb_types.specs.declared.outputs.Tag.TheVariants.{Absent}
-use Rattle.gnb_types.specs.declared.reasons.HeldReason.{HeldReason}
-use Rattle.gnb_types.specs.declared.reasons.DropReason.{DropReason}
-use Rattle.gnb_types.specs.declared.reasons.DropReason.TheVariants.{NoContext, NoTunnel, Stale, Unexpected}
-use Rattle.gnb_types.specs.declared.reasons.RefuseReason.TheVariants.{Empty, NoRadio}
-use Rattle.gnb_types.specs.Names.{node_text}
-use Rattle.gnb_types.specs.Orders.{bearer_cmp, ue_cmp}
-use Rattle.gnb_types.proofs.OrderLemmas.{ue_total, ue_exact}
-use Rattle.tables.specs.Tables.{find}
-use Rattle.tables.proofs.TableLaws.{find-put, find-without}
-use Rattle.transaction_defs.specs.Callers.{Begin, begun, running, spent as begins_no_more, begin, is_open, is_awaited, close, due, Due, repeats, expires}
-use Rattle.transaction_defs.specs.Callees.{Verdict, new, again, stale, verdict, taken, kept_reply}
-use Rattle.message_types.specs.declared.e1.E1Message.{E1Message}
-use Rattle.message_types.specs.declared.e1.E1Message.TheVariants as e1s
-use Rattle.unit_defs.specs.Ways.{Message, e1, Taken, closed, no, Input, control_input, packet_input, tick_input, order_input, Way, Answer, gives, spent, with_outputs, ◌then◌, nothing, puts, drops, teids_spent}
-use Rattle.unit_defs.specs.Messages.{cause_busy, cause_quota, mode_uplinks, mode_switch, mode_freeze, mode_status, mode_resume, channel, are_bearers, bearers_of, statuses_of, teid_of}
-use Rattle.unit_defs.specs.Teids.{teids_are_left}
-use Rattle.unit_defs.specs.Transactions.{Kind, request, reply, transfer, kind_of, no_instance, Transactions, Waiting, is_empty, waits_at, with_waiting, begun_as, begin_request, ask, advance_with, advance, replied, answered_again, request_by, on_request, on_reply}
-use Rattle.unit_defs.specs.UpRecords.{Downlink, UpBearer, UpContext, CuUp, UpTunnel, up_at}
-use Rattle.unit_defs.specs.UpBearers.{made, teids_of_bearer, switched, frozen_to, resumed, released, is_over, open_teids, has_downlink, framed}
-use Rattle.unit_defs.specs.UpItems.{held_reason, took}
-use Rattle.unit_defs.specs.CuUp.{bearers_from, bearers_made, with_context, context_of, with_transactions, up_node, UpStep, each_bearer, answer_with, ended, ended_if_over, end_where_over, replies, opened_of, new_context, with_new, makes, fits, set_up_for, setup_response, setup_on, setup, modified, uplinks_from, teids_from, uplinks_given, add_uplinks, as_switched, switch, as_frozen, peer_node, statuses, freeze, as_known, status_each, take_status, as_resumed, resume, names, switch_if, freeze_if, status_if, resume_if, modify_on, as_released, released_on, release, asked, start, set_up, control_by, ue_in, is_own_cp, control_came, with_bearer, taken_by, taken_in, taken_of, taken_on, take, poll_bearer, poll_on, poll, due_output, tick, cu_up_acts}
+use Rattle.law_frames.specs.gnb_types.declared.names.Gnb.{Gnb}
+use Rattle.law_frames.specs.gnb_types.declared.names.NodeId.{NodeId}
+use Rattle.law_frames.specs.gnb_types.declared.names.NodeId.TheVariants.{CuCp, Du as du_id}
+use Rattle.law_frames.specs.gnb_types.declared.names.UeId.{UeId}
+use Rattle.law_frames.specs.gnb_types.declared.names.BearerId.{BearerId}
+use Rattle.law_frames.specs.gnb_types.declared.names.SnBits.{SnBits}
+use Rattle.law_frames.specs.gnb_types.declared.keys.Channel.{Channel}
+use Rattle.law_frames.specs.gnb_types.declared.plans.Peer.{Peer}
+use Rattle.law_frames.specs.gnb_types.declared.plans.Tunnel.{Tunnel}
+use Rattle.law_frames.specs.gnb_types.declared.plans.SnStatus.{SnStatus}
+use Rattle.law_frames.specs.gnb_types.declared.inputs.Order.TheVariants as orders
+use Rattle.law_frames.specs.gnb_types.declared.outputs.Tag.TheVariants.{Absent}
+use Rattle.law_frames.specs.gnb_types.declared.reasons.HeldReason.{HeldReason}
+use Rattle.law_frames.specs.gnb_types.declared.reasons.DropReason.{DropReason}
+use Rattle.law_frames.specs.gnb_types.declared.reasons.DropReason.TheVariants.{NoContext, NoTunnel, Stale, Unexpected}
+use Rattle.law_frames.specs.gnb_types.declared.reasons.RefuseReason.TheVariants.{Empty, NoRadio}
+use Rattle.law_frames.specs.gnb_types.Names.{node_text}
+use Rattle.law_frames.specs.gnb_types.Orders.{bearer_cmp, ue_cmp}
+use Rattle.law_frames.proofs.gnb_types.OrderLemmas.{ue_total, ue_exact}
+use Rattle.law_frames.specs.tables.Tables.{find}
+use Rattle.law_frames.proofs.tables.TableLaws.{find-put, find-without}
+use Rattle.law_frames.specs.transaction_defs.Callers.{Begin, begun, running, spent as begins_no_more, begin, is_open, is_awaited, close, due, Due, repeats, expires}
+use Rattle.law_frames.specs.transaction_defs.Callees.{Verdict, new, again, stale, verdict, taken, kept_reply}
+use Rattle.law_frames.specs.message_types.declared.e1.E1Message.{E1Message}
+use Rattle.law_frames.specs.message_types.declared.e1.E1Message.TheVariants as e1s
+use Rattle.law_frames.specs.unit_defs.Ways.{Message, e1, Taken, closed, no, Input, control_input, packet_input, tick_input, order_input, Way, Answer, gives, spent, with_outputs, ◌then◌, nothing, puts, drops, teids_spent}
+use Rattle.law_frames.specs.unit_defs.Messages.{cause_busy, cause_quota, mode_uplinks, mode_switch, mode_freeze, mode_status, mode_resume, channel, are_bearers, bearers_of, statuses_of, teid_of}
+use Rattle.law_frames.specs.unit_defs.Teids.{teids_are_left}
+use Rattle.law_frames.specs.unit_defs.Transactions.{Kind, request, reply, transfer, kind_of, no_instance, Transactions, Waiting, is_empty, waits_at, with_waiting, begun_as, begin_request, ask, advance_with, advance, replied, answered_again, request_by, on_request, on_reply}
+use Rattle.law_frames.specs.unit_defs.UpRecords.{Downlink, UpBearer, UpContext, CuUp, UpTunnel, up_at}
+use Rattle.law_frames.specs.unit_defs.UpBearers.{made, teids_of_bearer, switched, frozen_to, resumed, released, is_over, open_teids, has_downlink, framed}
+use Rattle.law_frames.specs.unit_defs.UpItems.{held_reason, took}
+use Rattle.law_frames.specs.unit_defs.CuUp.{bearers_from, bearers_made, with_context, context_of, with_transactions, up_node, UpStep, each_bearer, answer_with, ended, ended_if_over, end_where_over, replies, opened_of, new_context, with_new, makes, fits, set_up_for, setup_response, setup_on, setup, modified, uplinks_from, teids_from, uplinks_given, add_uplinks, as_switched, switch, as_frozen, peer_node, statuses, freeze, as_known, status_each, take_status, as_resumed, resume, names, switch_if, freeze_if, status_if, resume_if, modify_on, as_released, released_on, release, asked, start, set_up, control_by, ue_in, is_own_cp, control_came, with_bearer, taken_by, taken_in, taken_of, taken_on, take, poll_bearer, poll_on, poll, due_output, tick, cu_up_acts}
 use Rattle.law_frames.specs.Numbered.{Frame, frames_in, frames_by}
 use Rattle.law_frames.proofs.Bearers.{poll_stays, switched_stays, frozen_stays, resumed_stays, item_stays}
 use Rattle.law_tunnel_frames.specs.OneTunnel.{OwnedTunnel, number_on, numbers_on, CountTo, Leads, BearerCounts, UpCounts, BearersInOrder, IsGiven, SwitchesFirst, NumbersTunnel}

@@ -2,20 +2,20 @@
 use Rattle.std.specs.Prelude.{ℕ, ◌≡◌, ◌==◌, ◌+◌, Bool, true, ◌&&◌, if◌then◌else◌, List, [], ◌∷◌, Option, Some, None}
 use Rattle.std.specs.List.{flat_map, AllByRecursion}
 use Rattle.std.specs.Ordering.{eq_by_cmp}
-use Rattle.gnb_types.specs.declared.names.Gnb.{Gnb}
-use Rattle.gnb_types.specs.declared.names.NodeId.{NodeId}
-use Rattle.gnb_types.specs.declared.names.NodeId.TheVariants.{Du}
-use Rattle.gnb_types.specs.declared.names.UeId.{UeId}
-use Rattle.gnb_types.specs.declared.names.BearerId.{BearerId}
-use Rattle.gnb_types.specs.declared.keys.TunnelEnd.{TunnelEnd}
-use Rattle.gnb_types.specs.declared.plans.Tunnel.{Tunnel}
-use Rattle.gnb_types.specs.Orders.{node_cmp, ue_cmp, bearer_cmp}
-use Rattle.tables.specs.Tables.{find, IsSorted}
-use Rattle.transaction_defs.specs.Callees.{new, verdict}
-use Rattle.message_types.specs.declared.e1.E1Message.TheVariants as e1s
-use Rattle.unit_defs.specs.Ways.{e1, Input, control_input, Answer, gives, spent}
-use Rattle.unit_defs.specs.Messages.{mode_switch, channel}
-use Rattle.unit_defs.specs.UpRecords.{Downlink, UpBearer, UpContext, CuUp}
+use Rattle.law_frames.specs.gnb_types.declared.names.Gnb.{Gnb}
+use Rattle.law_frames.specs.gnb_types.declared.names.NodeId.{NodeId}
+use Rattle.law_frames.specs.gnb_types.declared.names.NodeId.TheVariants.{Du}
+use Rattle.law_frames.specs.gnb_types.declared.names.UeId.{UeId}
+use Rattle.law_frames.specs.gnb_types.declared.names.BearerId.{BearerId}
+use Rattle.law_frames.specs.gnb_types.declared.keys.TunnelEnd.{TunnelEnd}
+use Rattle.law_frames.specs.gnb_types.declared.plans.Tunnel.{Tunnel}
+use Rattle.law_frames.specs.gnb_types.Orders.{node_cmp, ue_cmp, bearer_cmp}
+use Rattle.law_frames.specs.tables.Tables.{find, IsSorted}
+use Rattle.law_frames.specs.transaction_defs.Callees.{new, verdict}
+use Rattle.law_frames.specs.message_types.declared.e1.E1Message.TheVariants as e1s
+use Rattle.law_frames.specs.unit_defs.Ways.{e1, Input, control_input, Answer, gives, spent}
+use Rattle.law_frames.specs.unit_defs.Messages.{mode_switch, channel}
+use Rattle.law_frames.specs.unit_defs.UpRecords.{Downlink, UpBearer, UpContext, CuUp}
 use Rattle.law_frames.specs.Numbered.{Frame, frames_by}
 
 -- a tunnel, the bearer of a CU-UP to which it was given, if it was, and the gNB of this CU-UP

@@ -3,9 +3,9 @@
 
 ghost use Rattle.law_tunnel_frames.specs.OneTunnel.{BearersInOrder, NumbersTunnel, OwnedTunnel, SwitchesFirst, UpCounts};
 ghost use Rattle.std.specs.Prelude.{ℕ};
-ghost use Rattle.unit_defs.specs.CuUp.{cu_up_acts};
-ghost use Rattle.unit_defs.specs.UpRecords.{CuUp};
-ghost use Rattle.unit_defs.specs.Ways.{Input, Way};
+ghost use Rattle.law_frames.specs.unit_defs.CuUp.{cu_up_acts};
+ghost use Rattle.law_frames.specs.unit_defs.UpRecords.{CuUp};
+ghost use Rattle.law_frames.specs.unit_defs.Ways.{Input, Way};
 
 /// Where a tunnel leads from no bearer of a CU-UP but its owner, and the owner's next number is how many frames were put there, so
 /// it is after any input, and the frames that are put there meanwhile have the numbers that come next; provided that a new request

@@ -4,19 +4,19 @@ use Rattle.std.proofs.lemmas.Bool.{and_parts}
 use Rattle.std.specs.Prelude.{if◌then◌else◌}
 use Rattle.std.specs.List.{AllByRecursion, list_any}
 use Rattle.std.specs.Cmp.{Equal-is}
-use Rattle.gnb_types.specs.declared.names.Gnb.{Gnb}
-use Rattle.gnb_types.specs.declared.names.NodeId.{NodeId}
-use Rattle.gnb_types.specs.declared.names.NodeId.TheVariants.{CuUp, Du}
-use Rattle.gnb_types.specs.declared.plans.Tunnel.{Tunnel}
-use Rattle.gnb_types.specs.declared.reasons.CauseName.{CauseName}
-use Rattle.gnb_types.specs.Orders.{node_cmp}
-use Rattle.gnb_types.proofs.OrderLemmas.{node_exact}
-use Rattle.message_types.specs.declared.f1.F1.TheVariants as f1s
-use Rattle.message_types.specs.declared.e1.E1Message.TheVariants as e1s
-use Rattle.message_types.specs.declared.xn.XnMessage.TheVariants as xns
-use Rattle.message_types.specs.declared.xn.CoreMessage.TheVariants as cores
-use Rattle.message_types.specs.declared.rrc.Token.{Token}
-use Rattle.message_types.specs.declared.rrc.Token.TheVariants as tokens
+use Rattle.law_unit_packets.specs.gnb_types.declared.names.Gnb.{Gnb}
+use Rattle.law_unit_packets.specs.gnb_types.declared.names.NodeId.{NodeId}
+use Rattle.law_unit_packets.specs.gnb_types.declared.names.NodeId.TheVariants.{CuUp, Du}
+use Rattle.law_unit_packets.specs.gnb_types.declared.plans.Tunnel.{Tunnel}
+use Rattle.law_unit_packets.specs.gnb_types.declared.reasons.CauseName.{CauseName}
+use Rattle.law_unit_packets.specs.gnb_types.Orders.{node_cmp}
+use Rattle.law_unit_packets.proofs.gnb_types.OrderLemmas.{node_exact}
+use Rattle.law_unit_packets.specs.message_types.declared.f1.F1.TheVariants as f1s
+use Rattle.law_unit_packets.specs.message_types.declared.e1.E1Message.TheVariants as e1s
+use Rattle.law_unit_packets.specs.message_types.declared.xn.XnMessage.TheVariants as xns
+use Rattle.law_unit_packets.specs.message_types.declared.xn.CoreMessage.TheVariants as cores
+use Rattle.law_unit_packets.specs.message_types.declared.rrc.Token.{Token}
+use Rattle.law_unit_packets.specs.message_types.declared.rrc.Token.TheVariants as tokens
 use Rattle.law_unit_packets.specs.unit_defs.declared.StateName.{StateName}
 use Rattle.law_unit_packets.specs.unit_defs.declared.StateName.TheVariants as states
 use Rattle.law_unit_packets.specs.unit_defs.declared.AttemptKind.{AttemptKind}
@@ -28,7 +28,7 @@ use Rattle.law_unit_packets.specs.unit_defs.UpRecords.{TunnelKind, n3, f1u_uplin
 use Rattle.law_unit_packets.specs.unit_defs.CpRecords.{Awaited, Attempt, CpContext, CpTerminal, same_node, bearers_in, Row, is_from, answered, is_instance, awaits_answer}
 use Rattle.law_unit_packets.specs.unit_defs.CpRows.{CpAt, own_du, name_bearers, is_between_dus, is_between_gnbs, attach_has_tunnels, attach_is_placed, attach_fails, move_has_uplinks, move_is_placed, handover_is_acknowledged, handover_is_declined, handover_is_frozen, handover_is_not_frozen, offer_has_tunnels, offer_is_declined, offer_is_placed, place_is_renewed}
 use Rattle.law_unit_packets.specs.unit_defs.CuCp.{listed, caused, only_closes, in_attaching, in_moving, in_preparing, in_prepared, in_offered, in_switching, in_releasing, in_state, Answered, answers_none, answers_with, answer_of, answer_on, answer, is_complete, is_reestablish, is_epoch, is_own_command, may_return, is_too_early, is_ready, token_in_ready, token_of_return, token_of_attempt, token_by_attempt, token_on, token_row, token_ue, no_context_first}
-use Rattle.law_intervals.proofs.Intervals.{all_filter}
+use Rattle.law_unit_packets.proofs.law_intervals.Intervals.{all_filter}
 use Rattle.law_tunnel_names.specs.Names.{Property, IfAny, UpList, DuList, OwnUpList, OwnDuList, NamesFor}
 use Rattle.law_tunnel_names.specs.CuCps.{asked_du, AwaitedOf, is_at_goal, AttemptNames, ContextNames, TerminalNames}
 use Rattle.law_tunnel_names.proofs.Rows.{dus_not_gnbs, asked_there, RowNames, row_if, attach_has_names, attach_placed_names, attach_fails_names, move_has_names, move_placed_names, acknowledged_names, declined_names, frozen_names, not_frozen_names, offer_has_names, offer_declined_names, offer_placed_names, renewed_names, switched_names, path_names, completes_names, completes_again_names, returns_names, arrives_names, arrives_again_names}

@@ -2,18 +2,18 @@
 use Rattle.std.proofs.Common.{◌≡◌, ℕ, Bool, true, false, cond, List, [], ◌∷◌, map, Option, Some, None, refl, sym, ◌∙◌, subst}
 use Rattle.std.specs.Ordering.{eq_by_cmp}
 use Rattle.std.specs.Cmp.{Equal-is}
-use Rattle.gnb_types.specs.declared.names.NodeId.{NodeId}
-use Rattle.gnb_types.specs.declared.names.NodeId.TheVariants.{CuCp, CuUp, Du, Core, Ue}
-use Rattle.gnb_types.specs.declared.names.UeId.{UeId}
-use Rattle.gnb_types.specs.declared.names.Dir.TheVariants.{Dl}
-use Rattle.gnb_types.specs.declared.keys.Channel.{Channel}
-use Rattle.gnb_types.specs.declared.plans.Peer.{Peer}
-use Rattle.gnb_types.specs.declared.plans.Tunnel.{Tunnel}
-use Rattle.gnb_types.specs.Orders.{ue_cmp}
-use Rattle.gnb_types.proofs.OrderLemmas.{ue_total, ue_exact}
-use Rattle.message_types.specs.declared.xn.CoreMessage.TheVariants as cores
-use Rattle.tables.specs.Tables.{find}
-use Rattle.tables.proofs.TableLaws.{find-put}
+use Rattle.law_unit_packets.specs.gnb_types.declared.names.NodeId.{NodeId}
+use Rattle.law_unit_packets.specs.gnb_types.declared.names.NodeId.TheVariants.{CuCp, CuUp, Du, Core, Ue}
+use Rattle.law_unit_packets.specs.gnb_types.declared.names.UeId.{UeId}
+use Rattle.law_unit_packets.specs.gnb_types.declared.names.Dir.TheVariants.{Dl}
+use Rattle.law_unit_packets.specs.gnb_types.declared.keys.Channel.{Channel}
+use Rattle.law_unit_packets.specs.gnb_types.declared.plans.Peer.{Peer}
+use Rattle.law_unit_packets.specs.gnb_types.declared.plans.Tunnel.{Tunnel}
+use Rattle.law_unit_packets.specs.gnb_types.Orders.{ue_cmp}
+use Rattle.law_unit_packets.proofs.gnb_types.OrderLemmas.{ue_total, ue_exact}
+use Rattle.law_unit_packets.specs.message_types.declared.xn.CoreMessage.TheVariants as cores
+use Rattle.law_unit_packets.specs.tables.Tables.{find}
+use Rattle.law_unit_packets.proofs.tables.TableLaws.{find-put}
 use Rattle.law_unit_packets.specs.unit_defs.Ways.{Message, core, Way}
 use Rattle.law_unit_packets.specs.unit_defs.Messages.{channel}
 use Rattle.law_unit_packets.specs.unit_defs.Transactions.{Kind, request, reply, transfer, kind_of, replied}

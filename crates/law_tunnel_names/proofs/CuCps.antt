@@ -4,22 +4,22 @@ use Rattle.std.specs.Prelude.{if◌then◌else◌}
 use Rattle.std.specs.List.{AllByRecursion}
 use Rattle.std.specs.Ordering.{eq_by_cmp}
 use Rattle.std.specs.Cmp.{Equal-is, tied_itself}
-use Rattle.gnb_types.specs.declared.names.Gnb.{Gnb}
-use Rattle.gnb_types.specs.declared.names.NodeId.{NodeId}
-use Rattle.gnb_types.specs.declared.names.NodeId.TheVariants.{CuCp}
-use Rattle.gnb_types.specs.declared.names.UeId.{UeId}
-use Rattle.gnb_types.specs.declared.keys.Channel.{Channel}
-use Rattle.gnb_types.specs.declared.inputs.Order.{Order}
-use Rattle.gnb_types.specs.declared.inputs.Order.TheVariants as orders
-use Rattle.gnb_types.specs.declared.reasons.DropReason.TheVariants.{Unexpected}
-use Rattle.gnb_types.specs.Orders.{ue_cmp}
-use Rattle.gnb_types.proofs.OrderLemmas.{ue_total, ue_exact}
-use Rattle.message_types.specs.declared.f1.F1.TheVariants as f1s
-use Rattle.message_types.specs.declared.e1.E1Message.TheVariants as e1s
-use Rattle.message_types.specs.declared.xn.XnMessage.TheVariants as xns
-use Rattle.tables.specs.Tables.{find, put}
-use Rattle.tables.proofs.TableLaws.{find-put}
-use Rattle.transaction_defs.specs.Callers.{due, Due, repeats, expires, after_tick, close}
+use Rattle.law_unit_packets.specs.gnb_types.declared.names.Gnb.{Gnb}
+use Rattle.law_unit_packets.specs.gnb_types.declared.names.NodeId.{NodeId}
+use Rattle.law_unit_packets.specs.gnb_types.declared.names.NodeId.TheVariants.{CuCp}
+use Rattle.law_unit_packets.specs.gnb_types.declared.names.UeId.{UeId}
+use Rattle.law_unit_packets.specs.gnb_types.declared.keys.Channel.{Channel}
+use Rattle.law_unit_packets.specs.gnb_types.declared.inputs.Order.{Order}
+use Rattle.law_unit_packets.specs.gnb_types.declared.inputs.Order.TheVariants as orders
+use Rattle.law_unit_packets.specs.gnb_types.declared.reasons.DropReason.TheVariants.{Unexpected}
+use Rattle.law_unit_packets.specs.gnb_types.Orders.{ue_cmp}
+use Rattle.law_unit_packets.proofs.gnb_types.OrderLemmas.{ue_total, ue_exact}
+use Rattle.law_unit_packets.specs.message_types.declared.f1.F1.TheVariants as f1s
+use Rattle.law_unit_packets.specs.message_types.declared.e1.E1Message.TheVariants as e1s
+use Rattle.law_unit_packets.specs.message_types.declared.xn.XnMessage.TheVariants as xns
+use Rattle.law_unit_packets.specs.tables.Tables.{find, put}
+use Rattle.law_unit_packets.proofs.tables.TableLaws.{find-put}
+use Rattle.law_unit_packets.specs.transaction_defs.Callers.{due, Due, repeats, expires, after_tick, close}
 use Rattle.law_unit_packets.specs.unit_defs.declared.StateName.{StateName}
 use Rattle.law_unit_packets.specs.unit_defs.declared.StateName.TheVariants as states
 use Rattle.law_unit_packets.specs.unit_defs.Ways.{Message, f1, e1, xn, Input, control_input, packet_input, radio_input, confirm_input, offer_input, tick_input, order_input, Way, Answer, gives, spent, ◌then◌, nothing, drops}
@@ -27,7 +27,7 @@ use Rattle.law_unit_packets.specs.unit_defs.Messages.{channel, shares_interface}
 use Rattle.law_unit_packets.specs.unit_defs.Transactions.{Kind, request, reply, transfer, kind_of, Waiting, Transactions, Asked, waits_at, with_waiting, ask, ask_at_once, advance, replied, replied_late}
 use Rattle.law_unit_packets.specs.unit_defs.CpRecords.{Awaited, Attempt, CpContext, CpTerminal, CuCpRecord, terminal_in, terminal_of, with_terminal, with_transactions, with_instance_of, is_from, awaiting, begun, on_attempt, on_context, with_attempt, waiting_of, after_begun, after_asked, noted, not_awaited, unawaited, forgotten, Say, asks, cancels, replies, replies_late, sends, fails, ignores, refuses, forgets, say_one, say_all, Row, row, row_spent, carry_out}
 use Rattle.law_unit_packets.specs.unit_defs.CuCp.{at_of, Answered, answers_none, answers_with, answer, is_up_release, without_release, is_setup_failure, after_failed_setup, put_next, closed_at, answered_by, reply_came, with_unit, set_up, asked, token_came, transferred, control_by, control_came, expired_on, due_one, due_each, command_by, command_on, command_each, ues_of, tick, ordered, cu_cp_acts}
-use Rattle.law_intervals.proofs.Intervals.{all_append}
+use Rattle.law_unit_packets.proofs.law_intervals.Intervals.{all_append}
 use Rattle.law_tunnel_names.specs.Names.{Property, Names, NamesFor, ue_of, OrderNames, InputNames, AnswerNames, KeptNames}
 use Rattle.law_tunnel_names.specs.CuCps.{asked_du, AwaitedOf, ContextNames, TerminalNames, CpNames}
 use Rattle.law_tunnel_names.proofs.Kept.{all_mapped, either, after, waits_name, with_waiting_names, closed_names, ask_names, advance_names, at_once_names, replied_names, late_names, on_request_names, on_reply_names, DueNames, due_names, ticked_names}

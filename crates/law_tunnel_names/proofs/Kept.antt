@@ -3,20 +3,20 @@ use Rattle.std.proofs.Common.{◌≡◌, ◌==◌, ℕ, ◌+◌, Bool, true, fal
 use Rattle.std.specs.Prelude.{if◌then◌else◌, unwrap_or}
 use Rattle.std.specs.List.{AllByRecursion, flat_map}
 use Rattle.std.specs.BTreeMap.{is_at}
-use Rattle.gnb_types.specs.declared.names.NodeId.{NodeId}
-use Rattle.gnb_types.specs.declared.keys.Channel.{Channel}
-use Rattle.gnb_types.specs.declared.reasons.DropReason.TheVariants.{Stale}
-use Rattle.gnb_types.specs.Orders.{channel_cmp}
-use Rattle.message_types.specs.declared.f1.F1.TheVariants as f1s
-use Rattle.message_types.specs.declared.e1.E1Message.TheVariants as e1s
-use Rattle.message_types.specs.declared.xn.XnMessage.TheVariants as xns
-use Rattle.message_types.specs.declared.xn.CoreMessage.TheVariants as cores
-use Rattle.tables.specs.Tables.{find, without, at}
-use Rattle.transaction_defs.specs.Callers.{Opened, Caller, last_instance, opened_at, is_open, is_awaited, close, Begin, begun, running, spent as begins_no_more, begun_with, begin_after, begin, with_request, keep_request, Due, repeats, expires, is_last, repeated, due_of, aged, due, after_tick}
-use Rattle.transaction_defs.specs.Callees.{Kept, kept_at, Verdict, new, again, stale, verdict, taken, reply_in, kept_reply, with_reply, keep, newest, is_newest, keep_for}
+use Rattle.law_unit_packets.specs.gnb_types.declared.names.NodeId.{NodeId}
+use Rattle.law_unit_packets.specs.gnb_types.declared.keys.Channel.{Channel}
+use Rattle.law_unit_packets.specs.gnb_types.declared.reasons.DropReason.TheVariants.{Stale}
+use Rattle.law_unit_packets.specs.gnb_types.Orders.{channel_cmp}
+use Rattle.law_unit_packets.specs.message_types.declared.f1.F1.TheVariants as f1s
+use Rattle.law_unit_packets.specs.message_types.declared.e1.E1Message.TheVariants as e1s
+use Rattle.law_unit_packets.specs.message_types.declared.xn.XnMessage.TheVariants as xns
+use Rattle.law_unit_packets.specs.message_types.declared.xn.CoreMessage.TheVariants as cores
+use Rattle.law_unit_packets.specs.tables.Tables.{find, without, at}
+use Rattle.law_unit_packets.specs.transaction_defs.Callers.{Opened, Caller, last_instance, opened_at, is_open, is_awaited, close, Begin, begun, running, spent as begins_no_more, begun_with, begin_after, begin, with_request, keep_request, Due, repeats, expires, is_last, repeated, due_of, aged, due, after_tick}
+use Rattle.law_unit_packets.specs.transaction_defs.Callees.{Kept, kept_at, Verdict, new, again, stale, verdict, taken, reply_in, kept_reply, with_reply, keep, newest, is_newest, keep_for}
 use Rattle.law_unit_packets.specs.unit_defs.Ways.{Message, f1, e1, xn, core, Way, Answer, gives, spent, with_outputs, ◌then◌, nothing, drops}
 use Rattle.law_unit_packets.specs.unit_defs.Transactions.{kind_of, with_instance, Waiting, Transactions, Asked, is_empty, waits_at, waiting_then, with_waiting, begun_as, begin_request, ask, advance_with, advance, ask_at_once, replied, replied_late, answered_again, request_by, on_request, on_reply}
-use Rattle.law_intervals.proofs.Intervals.{all_append, all_filter}
+use Rattle.law_unit_packets.proofs.law_intervals.Intervals.{all_append, all_filter}
 use Rattle.law_unit_packets.proofs.Answers.{found, each_put}
 use Rattle.law_tunnel_names.specs.Names.{Owners, IfAny, Names, Property, OutputNames, AnswerNames, KeptNames}
 

@@ -2,16 +2,16 @@
 use Rattle.std.proofs.Common.{◌≡◌, ◌==◌, ℕ, ◌+◌, Bool, true, false, not, ◌&&◌, ◌||◌, List, [], ◌∷◌, ◌++◌, Option, Some, None, refl, sym, ap, ◌∙◌, subst}
 use Rattle.std.specs.Prelude.{if◌then◌else◌, nat_lt, nat_le}
 use Rattle.std.specs.List.{AllByRecursion}
-use Rattle.gnb_types.specs.declared.names.Gnb.{Gnb}
-use Rattle.gnb_types.specs.declared.names.NodeId.{NodeId}
-use Rattle.gnb_types.specs.declared.names.NodeId.TheVariants.{CuCp}
-use Rattle.gnb_types.specs.declared.names.UeId.{UeId}
-use Rattle.gnb_types.specs.declared.names.SnBits.{SnBits}
-use Rattle.gnb_types.specs.declared.plans.Plan.{Plan}
-use Rattle.gnb_types.specs.declared.plans.Peer.{Peer}
-use Rattle.gnb_types.specs.declared.plans.Tunnel.{Tunnel}
-use Rattle.gnb_types.specs.declared.plans.SnStatus.{SnStatus}
-use Rattle.gnb_types.specs.declared.reasons.CauseName.{CauseName}
+use Rattle.law_unit_packets.specs.gnb_types.declared.names.Gnb.{Gnb}
+use Rattle.law_unit_packets.specs.gnb_types.declared.names.NodeId.{NodeId}
+use Rattle.law_unit_packets.specs.gnb_types.declared.names.NodeId.TheVariants.{CuCp}
+use Rattle.law_unit_packets.specs.gnb_types.declared.names.UeId.{UeId}
+use Rattle.law_unit_packets.specs.gnb_types.declared.names.SnBits.{SnBits}
+use Rattle.law_unit_packets.specs.gnb_types.declared.plans.Plan.{Plan}
+use Rattle.law_unit_packets.specs.gnb_types.declared.plans.Peer.{Peer}
+use Rattle.law_unit_packets.specs.gnb_types.declared.plans.Tunnel.{Tunnel}
+use Rattle.law_unit_packets.specs.gnb_types.declared.plans.SnStatus.{SnStatus}
+use Rattle.law_unit_packets.specs.gnb_types.declared.reasons.CauseName.{CauseName}
 use Rattle.law_unit_packets.specs.unit_defs.declared.StateName.{StateName}
 use Rattle.law_unit_packets.specs.unit_defs.declared.StateName.TheVariants as states
 use Rattle.law_unit_packets.specs.unit_defs.declared.AttemptKind.{AttemptKind}

@@ -1,12 +1,12 @@
 -- What a CU-CP names: the tunnels of its attempts, who it is that an attempt awaits, and how long its terminals' numbers are.
 use Rattle.std.specs.Prelude.{ℕ, ◌≡◌, Bool, true, false, not, if◌then◌else◌, Option, Some, None}
 use Rattle.std.specs.List.{AllByRecursion}
-use Rattle.gnb_types.specs.declared.names.Gnb.{Gnb}
-use Rattle.gnb_types.specs.declared.names.NodeId.{NodeId}
-use Rattle.gnb_types.specs.declared.names.NodeId.TheVariants.{CuCp, CuUp, Du, Core}
-use Rattle.gnb_types.specs.declared.names.UeId.{UeId}
-use Rattle.gnb_types.specs.Orders.{ue_cmp}
-use Rattle.tables.specs.Tables.{find}
+use Rattle.law_unit_packets.specs.gnb_types.declared.names.Gnb.{Gnb}
+use Rattle.law_unit_packets.specs.gnb_types.declared.names.NodeId.{NodeId}
+use Rattle.law_unit_packets.specs.gnb_types.declared.names.NodeId.TheVariants.{CuCp, CuUp, Du, Core}
+use Rattle.law_unit_packets.specs.gnb_types.declared.names.UeId.{UeId}
+use Rattle.law_unit_packets.specs.gnb_types.Orders.{ue_cmp}
+use Rattle.law_unit_packets.specs.tables.Tables.{find}
 use Rattle.law_unit_packets.specs.unit_defs.declared.StateName.{StateName}
 use Rattle.law_unit_packets.specs.unit_defs.declared.StateName.TheVariants as states
 use Rattle.law_unit_packets.specs.unit_defs.declared.AttemptKind.{AttemptKind}

@@ -2,26 +2,26 @@
 -- numbers of a terminal's COUNTs are said to be; and what a unit keeps of such messages.
 use Rattle.std.specs.Prelude.{ℕ, ◌≡◌, Bool, true, List, Option, Some, None}
 use Rattle.std.specs.List.{AllByRecursion}
-use Rattle.gnb_types.specs.declared.names.Gnb.{Gnb}
-use Rattle.gnb_types.specs.declared.names.Gnb.TheVariants.{A}
-use Rattle.gnb_types.specs.declared.names.NodeId.{NodeId}
-use Rattle.gnb_types.specs.declared.names.NodeId.TheVariants.{CuCp, CuUp, Du, Core}
-use Rattle.gnb_types.specs.declared.names.UeId.{UeId}
-use Rattle.gnb_types.specs.declared.names.BearerId.{BearerId}
-use Rattle.gnb_types.specs.declared.names.Dir.{Dir}
-use Rattle.gnb_types.specs.declared.names.Dir.TheVariants.{Dl, Ul}
-use Rattle.gnb_types.specs.declared.names.SnBits.{SnBits}
-use Rattle.gnb_types.specs.declared.inputs.Order.{Order}
-use Rattle.gnb_types.specs.declared.inputs.Order.TheVariants as orders
-use Rattle.gnb_types.specs.declared.keys.Channel.{Channel}
-use Rattle.gnb_types.specs.declared.plans.Peer.{Peer}
-use Rattle.gnb_types.specs.declared.plans.Tunnel.{Tunnel}
-use Rattle.message_types.specs.declared.f1.F1.TheVariants as f1s
-use Rattle.message_types.specs.declared.e1.E1Message.TheVariants as e1s
-use Rattle.message_types.specs.declared.xn.XnMessage.TheVariants as xns
-use Rattle.message_types.specs.declared.xn.CoreMessage.TheVariants as cores
-use Rattle.transaction_defs.specs.Callers.{Opened}
-use Rattle.transaction_defs.specs.Callees.{Kept}
+use Rattle.law_unit_packets.specs.gnb_types.declared.names.Gnb.{Gnb}
+use Rattle.law_unit_packets.specs.gnb_types.declared.names.Gnb.TheVariants.{A}
+use Rattle.law_unit_packets.specs.gnb_types.declared.names.NodeId.{NodeId}
+use Rattle.law_unit_packets.specs.gnb_types.declared.names.NodeId.TheVariants.{CuCp, CuUp, Du, Core}
+use Rattle.law_unit_packets.specs.gnb_types.declared.names.UeId.{UeId}
+use Rattle.law_unit_packets.specs.gnb_types.declared.names.BearerId.{BearerId}
+use Rattle.law_unit_packets.specs.gnb_types.declared.names.Dir.{Dir}
+use Rattle.law_unit_packets.specs.gnb_types.declared.names.Dir.TheVariants.{Dl, Ul}
+use Rattle.law_unit_packets.specs.gnb_types.declared.names.SnBits.{SnBits}
+use Rattle.law_unit_packets.specs.gnb_types.declared.inputs.Order.{Order}
+use Rattle.law_unit_packets.specs.gnb_types.declared.inputs.Order.TheVariants as orders
+use Rattle.law_unit_packets.specs.gnb_types.declared.keys.Channel.{Channel}
+use Rattle.law_unit_packets.specs.gnb_types.declared.plans.Peer.{Peer}
+use Rattle.law_unit_packets.specs.gnb_types.declared.plans.Tunnel.{Tunnel}
+use Rattle.law_unit_packets.specs.message_types.declared.f1.F1.TheVariants as f1s
+use Rattle.law_unit_packets.specs.message_types.declared.e1.E1Message.TheVariants as e1s
+use Rattle.law_unit_packets.specs.message_types.declared.xn.XnMessage.TheVariants as xns
+use Rattle.law_unit_packets.specs.message_types.declared.xn.CoreMessage.TheVariants as cores
+use Rattle.law_unit_packets.specs.transaction_defs.Callers.{Opened}
+use Rattle.law_unit_packets.specs.transaction_defs.Callees.{Kept}
 use Rattle.law_unit_packets.specs.unit_defs.Ways.{Message, f1, e1, xn, core, Load, numbered, frame, uplink, status, Input, control_input, order_input, Output, control, packet, radio, Way, Answer, gives, spent}
 use Rattle.law_unit_packets.specs.unit_defs.Transactions.{Kind, request, reply, transfer, kind_of, Waiting, Transactions}
 use Rattle.law_unit_packets.specs.unit_defs.UpRecords.{TunnelKind, n3, f1u_uplink, forwarding_down, forwarding_up}

@@ -1,9 +1,9 @@
 //! Laws of the tunnels that a CU-CP and the core name. Each function does nothing: its contract is the law.
 #![tactic(auto)]
 
-ghost use Rattle.gnb_types.specs.declared.names.Gnb.{Gnb};
-ghost use Rattle.gnb_types.specs.declared.names.NodeId.{NodeId};
-ghost use Rattle.gnb_types.specs.declared.names.NodeId.TheVariants.{Core, CuCp};
+ghost use Rattle.law_unit_packets.specs.gnb_types.declared.names.Gnb.{Gnb};
+ghost use Rattle.law_unit_packets.specs.gnb_types.declared.names.NodeId.{NodeId};
+ghost use Rattle.law_unit_packets.specs.gnb_types.declared.names.NodeId.TheVariants.{Core, CuCp};
 ghost use Rattle.law_tunnel_names.specs.CuCps.{CoreNames, CpNames};
 ghost use Rattle.law_tunnel_names.specs.Names.{AnswerNames, by_test, InputNames, Names, Test};
 ghost use Rattle.law_unit_packets.specs.unit_defs.Core.{core_acts, CoreRecord};

@@ -20,21 +20,21 @@ use Rattle.gnb_types.specs.declared.reasons.RefuseReason.TheVariants.{Empty, NoR
 use Rattle.gnb_types.specs.Names.{node_text}
 use Rattle.gnb_types.specs.Orders.{bearer_cmp}
 use Rattle.gnb_types.specs.Orders.{ue_cmp}
-use Rattle.unit_defs.specs.UpRecords.{TunnelKind, n3, f1u_uplink, forwarding_down, forwarding_up}
-use Rattle.unit_defs.specs.UpBearers.{teid_in, is_one_of, released}
-use Rattle.unit_defs.specs.Teids.{without_each}
-use Rattle.tables.specs.Tables.{find, put}
-use Rattle.transaction_defs.specs.Callers.{close}
-use Rattle.message_types.specs.declared.e1.E1Message.{E1Message}
-use Rattle.message_types.specs.declared.e1.E1Message.TheVariants as e1s
-use Rattle.unit_defs.specs.Ways.{Message, e1, Taken, no, Input, control_input, packet_input, tick_input, order_input, Output, Way, Answer, gives, spent, ◌then◌, nothing, puts, drops, teids_spent}
-use Rattle.unit_defs.specs.Messages.{cause_busy, cause_quota, mode_uplinks, mode_switch, mode_freeze, mode_status, mode_resume, channel, are_bearers, bearers_of, statuses_of, teid_of}
-use Rattle.unit_defs.specs.Teids.{teids_are_left}
-use Rattle.unit_defs.specs.Transactions.{Kind, request, reply, transfer, kind_of, no_instance, ask, advance, replied}
-use Rattle.unit_defs.specs.UpRecords.{UpBearer, UpContext, CuUp, TunnelKind, UpTunnel, up_at}
-use Rattle.unit_defs.specs.UpBearers.{teids_of_bearer, with_uplink, switched, frozen_to, with_status, resumed, is_over, has_downlink, framed}
-use Rattle.unit_defs.specs.UpItems.{held_reason, took}
-use Rattle.unit_defs.specs.CuUp.{bearers_from, with_context, context_of, with_transactions, up_node, UpStep, steps, stops, step_with, each_bearer, answer_with, ended, ended_if_over, end_where_over, replies, new_context, with_new, makes, fits, set_up_for, setup_response, setup_on, setup, modified, uplinks_from, teids_from, uplinks_given, add_uplinks, as_switched, switch, as_frozen, peer_node, statuses, freeze, as_known, status_each, take_status, as_resumed, resume, names, switch_if, freeze_if, status_if, resume_if, modify_on, as_released, released_on, release, asked, start, set_up, control_by, ue_in, is_own_cp, control_came, with_bearer, taken_by, taken_in, taken_of, taken_on, take, poll_bearer, poll_on, poll, tick, cu_up_acts}
+use Rattle.law_answers.specs.unit_defs.UpRecords.{TunnelKind, n3, f1u_uplink, forwarding_down, forwarding_up}
+use Rattle.law_answers.specs.unit_defs.UpBearers.{teid_in, is_one_of, released}
+use Rattle.law_answers.specs.unit_defs.Teids.{without_each}
+use Rattle.law_answers.specs.tables.Tables.{find, put}
+use Rattle.law_answers.specs.transaction_defs.Callers.{close}
+use Rattle.law_answers.specs.message_types.declared.e1.E1Message.{E1Message}
+use Rattle.law_answers.specs.message_types.declared.e1.E1Message.TheVariants as e1s
+use Rattle.law_answers.specs.unit_defs.Ways.{Message, e1, Taken, no, Input, control_input, packet_input, tick_input, order_input, Output, Way, Answer, gives, spent, ◌then◌, nothing, puts, drops, teids_spent}
+use Rattle.law_answers.specs.unit_defs.Messages.{cause_busy, cause_quota, mode_uplinks, mode_switch, mode_freeze, mode_status, mode_resume, channel, are_bearers, bearers_of, statuses_of, teid_of}
+use Rattle.law_answers.specs.unit_defs.Teids.{teids_are_left}
+use Rattle.law_answers.specs.unit_defs.Transactions.{Kind, request, reply, transfer, kind_of, no_instance, ask, advance, replied}
+use Rattle.law_answers.specs.unit_defs.UpRecords.{UpBearer, UpContext, CuUp, TunnelKind, UpTunnel, up_at}
+use Rattle.law_answers.specs.unit_defs.UpBearers.{teids_of_bearer, with_uplink, switched, frozen_to, with_status, resumed, is_over, has_downlink, framed}
+use Rattle.law_answers.specs.unit_defs.UpItems.{held_reason, took}
+use Rattle.law_answers.specs.unit_defs.CuUp.{bearers_from, with_context, context_of, with_transactions, up_node, UpStep, steps, stops, step_with, each_bearer, answer_with, ended, ended_if_over, end_where_over, replies, new_context, with_new, makes, fits, set_up_for, setup_response, setup_on, setup, modified, uplinks_from, teids_from, uplinks_given, add_uplinks, as_switched, switch, as_frozen, peer_node, statuses, freeze, as_known, status_each, take_status, as_resumed, resume, names, switch_if, freeze_if, status_if, resume_if, modify_on, as_released, released_on, release, asked, start, set_up, control_by, ue_in, is_own_cp, control_came, with_bearer, taken_by, taken_in, taken_of, taken_on, take, poll_bearer, poll_on, poll, tick, cu_up_acts}
 use Rattle.law_owner_facts.proofs.law_teids.Grows.{below_left}
 use Rattle.law_owner_facts.proofs.law_teids.Bearers.{Ends, Stays, Took, ends, closed_by, without_n3, without_uplink, poll_stays, switched_stays, frozen_stays, status_stays, resumed_stays, item_took}
 use Rattle.law_owner_facts.proofs.law_teids.CuUps.{Gives, cu_up_gives}

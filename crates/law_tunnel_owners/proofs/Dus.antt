@@ -23,21 +23,21 @@ use Rattle.gnb_types.specs.declared.outputs.Tag.TheVariants.{Same}
 use Rattle.gnb_types.specs.declared.reasons.DropReason.TheVariants.{Unexpected}
 use Rattle.gnb_types.specs.Names.{node_text}
 use Rattle.gnb_types.specs.Orders.{bearer_cmp}
-use Rattle.tables.specs.Tables.{find, put}
-use Rattle.transaction_defs.specs.Callers.{close}
-use Rattle.message_types.specs.declared.f1.F1.{F1}
-use Rattle.message_types.specs.declared.f1.F1.TheVariants as f1s
-use Rattle.message_types.specs.declared.rrc.Token.{Token}
-use Rattle.unit_defs.specs.Ways.{Message, f1, rrc, uplink, Taken, frame_item, packet, closed, Input, control_input, packet_input, radio_input, confirm_input, offer_input, tick_input, order_input, Way, Answer, gives, spent, ◌then◌, nothing, puts, drops, teids_spent}
-use Rattle.unit_defs.specs.Messages.{channel, is_same_gnb, bearers_of, are_from, are_first_bearers}
-use Rattle.unit_defs.specs.Teids.{teids_are_left, without_each}
-use Rattle.unit_defs.specs.Transactions.{Kind, request, reply, transfer, kind_of, no_instance, ask, advance, replied}
-use Rattle.unit_defs.specs.Du.{DuBearer, DuContext, DuTunnel, Du, du_node, context_of, with_transactions, downlink_list, with_entries, bearers_made, bearers_anew, replies, openings, old_downlinks, replaced, replaces, context_with, setup, context_anew, modify_on, modify, released_on, release, relayed_down, relay_down, relayed_up, relay_up, token_ue, start, set_up, asked, transferred, of_cp, of_terminal, control_came, told, gap_after, carried, with_bearer, frame_came, taken_in, taken_of, taken_on, take, of_bearer, of_context, pass_up, confirmed, confirm, tick, du_acts}
+use Rattle.law_answers.specs.tables.Tables.{find, put}
+use Rattle.law_answers.specs.transaction_defs.Callers.{close}
+use Rattle.law_answers.specs.message_types.declared.f1.F1.{F1}
+use Rattle.law_answers.specs.message_types.declared.f1.F1.TheVariants as f1s
+use Rattle.law_answers.specs.message_types.declared.rrc.Token.{Token}
+use Rattle.law_answers.specs.unit_defs.Ways.{Message, f1, rrc, uplink, Taken, frame_item, packet, closed, Input, control_input, packet_input, radio_input, confirm_input, offer_input, tick_input, order_input, Way, Answer, gives, spent, ◌then◌, nothing, puts, drops, teids_spent}
+use Rattle.law_answers.specs.unit_defs.Messages.{channel, is_same_gnb, bearers_of, are_from, are_first_bearers}
+use Rattle.law_answers.specs.unit_defs.Teids.{teids_are_left, without_each}
+use Rattle.law_answers.specs.unit_defs.Transactions.{Kind, request, reply, transfer, kind_of, no_instance, ask, advance, replied}
+use Rattle.law_answers.specs.unit_defs.Du.{DuBearer, DuContext, DuTunnel, Du, du_node, context_of, with_transactions, downlink_list, with_entries, bearers_made, bearers_anew, replies, openings, old_downlinks, replaced, replaces, context_with, setup, context_anew, modify_on, modify, released_on, release, relayed_down, relay_down, relayed_up, relay_up, token_ue, start, set_up, asked, transferred, of_cp, of_terminal, control_came, told, gap_after, carried, with_bearer, frame_came, taken_in, taken_of, taken_on, take, of_bearer, of_context, pass_up, confirmed, confirm, tick, du_acts}
 use Rattle.gnb_types.specs.Orders.{ue_cmp}
 use Rattle.gnb_types.proofs.OrderLemmas.{ue_total, bearer_total, bearer_exact}
-use Rattle.tables.specs.Tables.{without, IsSorted}
-use Rattle.tables.proofs.TableLaws.{find-put, find-without, sorted-put}
-use Rattle.unit_defs.specs.UpBearers.{is_one_of}
+use Rattle.law_answers.specs.tables.Tables.{without, IsSorted}
+use Rattle.law_answers.proofs.tables.TableLaws.{find-put, find-without, sorted-put}
+use Rattle.law_answers.specs.unit_defs.UpBearers.{is_one_of}
 use Rattle.law_owner_facts.specs.law_teids.Given.{count_from}
 use Rattle.law_owner_facts.proofs.law_teids.Grows.{below_left, fewer_each}
 use Rattle.law_owner_facts.proofs.law_teids.Dus.{Gives, du_gives, made_counted, anew_counted, AreCounted}

@@ -15,15 +15,15 @@ use Rattle.gnb_types.specs.declared.names.NodeId.TheVariants.{CuUp as up_id, Du 
 use Rattle.gnb_types.specs.declared.plans.Plan.{Plan}
 use Rattle.gnb_types.specs.Orders.{node_cmp, ue_cmp, bearer_cmp}
 use Rattle.gnb_types.proofs.OrderLemmas.{node_total}
-use Rattle.tables.specs.Tables.{find, at, IsSorted}
-use Rattle.tables.proofs.TableLaws.{at-put}
-use Rattle.unit_defs.specs.Messages.{bearers_of, are_from}
-use Rattle.unit_defs.specs.Accessors.{place_of, epoch_in}
-use Rattle.unit_defs.specs.CpRecords.{CuCpRecord}
-use Rattle.unit_defs.specs.UpRecords.{CuUp, UpContext, UpTunnel}
-use Rattle.unit_defs.specs.CuUp.{new_cu_up, bearers_from, bearers_made}
-use Rattle.unit_defs.specs.Du.{Du, DuContext, DuTunnel, new_du}
-use Rattle.unit_defs.specs.Static.{with_downlinks, up_context, up_placed, up_has_teids, uplinks_from, du_context, du_placed, du_has_teids, cp_placed, up_set_up, du_set_up}
+use Rattle.law_answers.specs.tables.Tables.{find, at, IsSorted}
+use Rattle.law_answers.proofs.tables.TableLaws.{at-put}
+use Rattle.law_answers.specs.unit_defs.Messages.{bearers_of, are_from}
+use Rattle.law_answers.specs.unit_defs.Accessors.{place_of, epoch_in}
+use Rattle.law_answers.specs.unit_defs.CpRecords.{CuCpRecord}
+use Rattle.law_answers.specs.unit_defs.UpRecords.{CuUp, UpContext, UpTunnel}
+use Rattle.law_answers.specs.unit_defs.CuUp.{new_cu_up, bearers_from, bearers_made}
+use Rattle.law_answers.specs.unit_defs.Du.{Du, DuContext, DuTunnel, new_du}
+use Rattle.law_answers.specs.unit_defs.Static.{with_downlinks, up_context, up_placed, up_has_teids, uplinks_from, du_context, du_placed, du_has_teids, cp_placed, up_set_up, du_set_up}
 use Rattle.law_owner_facts.specs.run_defs.Units.{Units, new_units, cp_of, with_cp, up_of, with_up, du_of, with_du, with_ue}
 use Rattle.law_owner_facts.specs.run_defs.Conditions.{is_held_by_units, units_placed, all_set_up}
 use Rattle.law_owner_facts.proofs.law_teids.Grows.{below_left}

@@ -3,15 +3,15 @@ use Rattle.std.proofs.Common.{◌≡◌, ℕ, Option, Some, None, List, subst}
 use Rattle.gnb_types.specs.declared.names.Gnb.{Gnb}
 use Rattle.gnb_types.specs.declared.names.NodeId.{NodeId}
 use Rattle.gnb_types.specs.declared.names.NodeId.TheVariants.{CuCp, CuUp as up_id, Du as du_id, Core, Ue}
-use Rattle.message_types.specs.declared.rrc.Token.{Token}
-use Rattle.scenario_text.specs.declared.event.Event.{Event}
-use Rattle.unit_defs.specs.Ways.{Message, Pdu, Load, Put, Input, gives, spent}
-use Rattle.unit_defs.specs.Ue.{UeNode, ue_acts}
-use Rattle.unit_defs.specs.UpRecords.{CuUp}
-use Rattle.unit_defs.specs.CuUp.{cu_up_acts}
-use Rattle.unit_defs.specs.Du.{Du, du_acts}
-use Rattle.unit_defs.specs.CpRecords.{CuCpRecord}
-use Rattle.unit_defs.specs.CuCp.{cu_cp_acts}
+use Rattle.law_answers.specs.message_types.declared.rrc.Token.{Token}
+use Rattle.law_owner_facts.specs.scenario_text.declared.event.Event.{Event}
+use Rattle.law_answers.specs.unit_defs.Ways.{Message, Pdu, Load, Put, Input, gives, spent}
+use Rattle.law_answers.specs.unit_defs.Ue.{UeNode, ue_acts}
+use Rattle.law_answers.specs.unit_defs.UpRecords.{CuUp}
+use Rattle.law_answers.specs.unit_defs.CuUp.{cu_up_acts}
+use Rattle.law_answers.specs.unit_defs.Du.{Du, du_acts}
+use Rattle.law_answers.specs.unit_defs.CpRecords.{CuCpRecord}
+use Rattle.law_answers.specs.unit_defs.CuCp.{cu_cp_acts}
 use Rattle.law_owner_facts.specs.run_defs.Units.{Units, cp_of, with_cp, up_of, with_up, du_of, with_du, ue_of, with_ue}
 use Rattle.law_owner_facts.specs.run_defs.Written.{Written, PlainStepped, WrittenStepped, written_step}
 use Rattle.law_owner_facts.specs.run_defs.States.{State, Lengths, stepped, step_spent, goes, RunStep}

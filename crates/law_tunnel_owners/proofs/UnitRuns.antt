@@ -5,16 +5,16 @@ use Rattle.gnb_types.specs.declared.names.Gnb.{Gnb}
 use Rattle.gnb_types.specs.declared.names.NodeId.{NodeId}
 use Rattle.gnb_types.specs.declared.names.NodeId.TheVariants.{CuCp, CuUp as up_id, Du as du_id, Core, Ue}
 use Rattle.gnb_types.specs.declared.inputs.Input.{Input as OctetInput}
-use Rattle.scenario_text.specs.declared.event.Event.{Event}
-use Rattle.unit_defs.specs.Ways.{gives, spent}
-use Rattle.unit_defs.specs.Ue.{UeNode}
-use Rattle.unit_defs.specs.UpRecords.{CuUp}
-use Rattle.unit_defs.specs.CuUp.{cu_up_acts}
-use Rattle.unit_defs.specs.Du.{Du, du_acts}
-use Rattle.unit_defs.specs.CpRecords.{CuCpRecord}
-use Rattle.unit_octet_defs.specs.Codec.{Codec, octet_way}
-use Rattle.unit_octet_defs.specs.Reading.{ReadInput, read_at_cu_up, read_at_du}
-use Rattle.unit_octet_defs.specs.Units.{OctetAnswer, acts_on, cu_cp_steps, cu_up_steps, du_steps, ue_steps}
+use Rattle.law_owner_facts.specs.scenario_text.declared.event.Event.{Event}
+use Rattle.law_answers.specs.unit_defs.Ways.{gives, spent}
+use Rattle.law_answers.specs.unit_defs.Ue.{UeNode}
+use Rattle.law_answers.specs.unit_defs.UpRecords.{CuUp}
+use Rattle.law_answers.specs.unit_defs.CuUp.{cu_up_acts}
+use Rattle.law_answers.specs.unit_defs.Du.{Du, du_acts}
+use Rattle.law_answers.specs.unit_defs.CpRecords.{CuCpRecord}
+use Rattle.law_owner_facts.specs.unit_octet_defs.Codec.{Codec, octet_way}
+use Rattle.law_owner_facts.specs.unit_octet_defs.Reading.{ReadInput, read_at_cu_up, read_at_du}
+use Rattle.law_owner_facts.specs.unit_octet_defs.Units.{OctetAnswer, acts_on, cu_cp_steps, cu_up_steps, du_steps, ue_steps}
 use Rattle.law_owner_facts.specs.run_defs.Units.{cp_of, with_cp, up_of, with_up, du_of, with_du, ue_of, with_ue}
 use Rattle.law_owner_facts.specs.run_defs.States.{State, stepped, step_spent}
 use Rattle.law_owner_facts.specs.run_defs.UnitRuns.{Records, UnitAnswer, unit_gives, unit_spent, OctetStepped, stepped_by, unit_world, answered_with, ue_answers, input_of, tables}

@@ -4,18 +4,18 @@
 ghost use Rattle.law_owner_facts.specs.law_steps.Reached.{reached};
 ghost use Rattle.law_owner_facts.specs.Owned.{up_names, du_names, UpOwns, DuOwns, AreOwned};
 ghost use Rattle.law_answers.specs.After.{HoldsAfter};
-ghost use Rattle.message_types.specs.declared.rrc.Token.{Token};
+ghost use Rattle.law_answers.specs.message_types.declared.rrc.Token.{Token};
 ghost use Rattle.law_owner_facts.specs.run_defs.Runs.{plain_world, Reading};
 ghost use Rattle.law_owner_facts.specs.run_defs.States.{new_state, State};
 ghost use Rattle.law_owner_facts.specs.run_defs.UnitRuns.{tables, unit_world};
 ghost use Rattle.law_owner_facts.specs.run_defs.Written.{Written};
-ghost use Rattle.scenario_text.specs.declared.event.Event.{Event};
+ghost use Rattle.law_owner_facts.specs.scenario_text.declared.event.Event.{Event};
 ghost use Rattle.std.specs.Prelude.{List, Some, ℕ, ◌≡◌, true};
-ghost use Rattle.unit_defs.specs.CuUp.{cu_up_acts};
-ghost use Rattle.unit_defs.specs.Du.{Du, DuTunnel, du_acts};
-ghost use Rattle.unit_defs.specs.UpRecords.{CuUp, UpTunnel};
-ghost use Rattle.unit_octet_defs.specs.Codec.{Codec};
-ghost use Rattle.unit_defs.specs.Ways.{Input, Load, Message, Pdu, Way};
+ghost use Rattle.law_answers.specs.unit_defs.CuUp.{cu_up_acts};
+ghost use Rattle.law_answers.specs.unit_defs.Du.{Du, DuTunnel, du_acts};
+ghost use Rattle.law_answers.specs.unit_defs.UpRecords.{CuUp, UpTunnel};
+ghost use Rattle.law_owner_facts.specs.unit_octet_defs.Codec.{Codec};
+ghost use Rattle.law_answers.specs.unit_defs.Ways.{Input, Load, Message, Pdu, Way};
 
 /// A CU-UP whose open TEIDs are those that its contexts name, each for one context, bearer and kind, is such a one after any
 /// input; so no TEID is ever named twice.

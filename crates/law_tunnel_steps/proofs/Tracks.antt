@@ -16,14 +16,14 @@ use Rattle.gnb_types.specs.Orders.{ue_cmp, tunnel_cmp}
 use Rattle.gnb_types.proofs.OrderLemmas.{tunnel_total, tunnel_exact}
 use Rattle.tables.specs.Tables.{find, at}
 use Rattle.tables.proofs.TableLaws.{find-put, find-without}
-use Rattle.run_defs.specs.unit_defs.Ways.{Put, control, packet, radio, deliver, dropped, held, opened, closed, failed, no}
-use Rattle.run_defs.specs.transport_defs.declared.Item.{Item}
-use Rattle.run_defs.specs.transport_defs.Links.{is_epoch, emptied}
-use Rattle.run_defs.specs.Lines.{RunLine, put_item, lost_items, tunnel_link, radio_link, shown}
-use Rattle.run_defs.specs.Units.{Units}
-use Rattle.run_defs.specs.States.{State, World, Stop, goes, stops, told_before, ◌next◌, goes_on, Ending, Within, entity, radio_of, with_radio}
-use Rattle.run_defs.specs.Steps.{first_outstanding, entities_of, checked_by, check_spans, noted, count_beside, item_of, on_tunnel, put_on_tunnel, put_on_connected, put_on_radio, put_control, opens, closes, radio_lost, lose_each, lose_radios_of, lose_radios, radios_of, same_epoch, epoch_now, connect_in, reconnect, reconnect_node, put_out, put_out_all, carried_out}
-use Rattle.run_defs.specs.Events.{leaves}
+use Rattle.law_steps.specs.unit_defs.Ways.{Put, control, packet, radio, deliver, dropped, held, opened, closed, failed, no}
+use Rattle.law_steps.specs.transport_defs.declared.Item.{Item}
+use Rattle.law_steps.specs.transport_defs.Links.{is_epoch, emptied}
+use Rattle.law_steps.specs.run_defs.Lines.{RunLine, put_item, lost_items, tunnel_link, radio_link, shown}
+use Rattle.law_steps.specs.run_defs.Units.{Units}
+use Rattle.law_steps.specs.run_defs.States.{State, World, Stop, goes, stops, told_before, ◌next◌, goes_on, Ending, Within, entity, radio_of, with_radio}
+use Rattle.law_steps.specs.run_defs.Steps.{first_outstanding, entities_of, checked_by, check_spans, noted, count_beside, item_of, on_tunnel, put_on_tunnel, put_on_connected, put_on_radio, put_control, opens, closes, radio_lost, lose_each, lose_radios_of, lose_radios, radios_of, same_epoch, epoch_now, connect_in, reconnect, reconnect_node, put_out, put_out_all, carried_out}
+use Rattle.law_steps.specs.run_defs.Events.{leaves}
 use Rattle.law_steps.specs.Causes.{Cause, by_order, by_tick, by_octets, by_octets_on, by_attach, by_release, by_offer, by_item, by_air, by_ack, by_letter, node_of, count_of, first_of}
 use Rattle.law_tunnel_steps.specs.Standing.{standing, is_end, with_item, after_put, after_puts, after_taking, put_by, put_on, Leaves}
 

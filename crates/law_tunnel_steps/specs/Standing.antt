@@ -6,10 +6,10 @@ use Rattle.gnb_types.specs.declared.names.NodeId.{NodeId}
 use Rattle.gnb_types.specs.declared.keys.TunnelEnd.{TunnelEnd}
 use Rattle.gnb_types.specs.Orders.{tunnel_cmp}
 use Rattle.tables.specs.Tables.{find}
-use Rattle.run_defs.specs.unit_defs.Ways.{Put, packet, opened, closed}
-use Rattle.run_defs.specs.transport_defs.declared.Item.{Item}
-use Rattle.run_defs.specs.States.{State, entity}
-use Rattle.run_defs.specs.Steps.{count_beside}
+use Rattle.law_steps.specs.unit_defs.Ways.{Put, packet, opened, closed}
+use Rattle.law_steps.specs.transport_defs.declared.Item.{Item}
+use Rattle.law_steps.specs.run_defs.States.{State, entity}
+use Rattle.law_steps.specs.run_defs.Steps.{count_beside}
 use Rattle.law_steps.specs.Causes.{Cause, by_item}
 
 -- none where the tunnel isn't open

@@ -9,12 +9,12 @@ ghost use Rattle.gnb_types.specs.declared.names.UeId.{UeId};
 ghost use Rattle.gnb_types.specs.declared.keys.TunnelEnd.{TunnelEnd};
 ghost use Rattle.law_steps.specs.Causes.{Cause, count_of, first_of, node_of};
 ghost use Rattle.law_tunnel_steps.specs.Standing.{after_puts, after_taking, Leaves, put_on, standing};
-ghost use Rattle.run_defs.specs.Lines.{RunLine};
-ghost use Rattle.run_defs.specs.States.{State, World, goes, ◌next◌};
-ghost use Rattle.run_defs.specs.Steps.{carried_out, check_spans, put_out_all, put_on_tunnel};
-ghost use Rattle.run_defs.specs.transport_defs.declared.Item.{Item};
-ghost use Rattle.run_defs.specs.unit_defs.Ways.{Put};
-ghost use Rattle.run_defs.specs.Units.{Units};
+ghost use Rattle.law_steps.specs.run_defs.Lines.{RunLine};
+ghost use Rattle.law_steps.specs.run_defs.States.{State, World, goes, ◌next◌};
+ghost use Rattle.law_steps.specs.run_defs.Steps.{carried_out, check_spans, put_out_all, put_on_tunnel};
+ghost use Rattle.law_steps.specs.transport_defs.declared.Item.{Item};
+ghost use Rattle.law_steps.specs.unit_defs.Ways.{Put};
+ghost use Rattle.law_steps.specs.run_defs.Units.{Units};
 ghost use Rattle.std.specs.List.{AllByRecursion};
 ghost use Rattle.std.specs.Prelude.{List, Option, Some, ◌++◌, ◌≡◌, ℕ};
 

@@ -7,11 +7,11 @@ use Rattle.std.specs.Ordering.{match_ordering}
 use Rattle.std.specs.Map.{lookup}
 use Rattle.std.specs.BTreeMap.{is_at, insert_entry}
 use Rattle.std.specs.List.{AllByRecursion, flat_map}
-use Rattle.gnb_types.specs.declared.keys.Channel.{Channel}
-use Rattle.gnb_types.specs.declared.reasons.DropReason.TheVariants.{Stale}
-use Rattle.tables.specs.Tables.{find, put}
-use Rattle.transaction_defs.specs.Callers.{is_open, is_awaited, close, Begin, begun, running, spent as begins_no_more, begin}
-use Rattle.transaction_defs.specs.Callees.{Verdict, new, again, stale, verdict, taken as taken_in, kept_reply}
+use Rattle.unit_defs.specs.gnb_types.declared.keys.Channel.{Channel}
+use Rattle.unit_defs.specs.gnb_types.declared.reasons.DropReason.TheVariants.{Stale}
+use Rattle.unit_defs.specs.tables.Tables.{find, put}
+use Rattle.unit_defs.specs.transaction_defs.Callers.{is_open, is_awaited, close, Begin, begun, running, spent as begins_no_more, begin}
+use Rattle.unit_defs.specs.transaction_defs.Callees.{Verdict, new, again, stale, verdict, taken as taken_in, kept_reply}
 use Rattle.unit_defs.specs.Ways.{Message, Way, Answer, gives, spent, with_outputs, ◌then◌, nothing, drops}
 use Rattle.unit_defs.specs.Transactions.{Transactions, Waiting, Asked, is_empty, waits_at, with_waiting, begun_as, begin_request, ask, advance_with, advance, ask_at_once, replied, replied_late, answered_again, request_by, on_request, on_reply}
 use Rattle.law_intervals.proofs.Intervals.{all_append}

@@ -4,30 +4,30 @@ use Rattle.std.specs.Prelude.{if◌then◌else◌}
 use Rattle.std.specs.Ordering.{nat_cmp}
 use Rattle.std.specs.BTreeMap.{is_at}
 use Rattle.std.specs.List.{AllByRecursion, list_all, flat_map}
-use Rattle.gnb_types.specs.declared.names.Gnb.{Gnb}
-use Rattle.gnb_types.specs.declared.names.NodeId.{NodeId}
-use Rattle.gnb_types.specs.declared.names.NodeId.TheVariants.{CuCp, Du as du_id}
-use Rattle.gnb_types.specs.declared.names.UeId.{UeId}
-use Rattle.gnb_types.specs.declared.names.BearerId.{BearerId}
-use Rattle.gnb_types.specs.declared.names.SnBits.{SnBits}
-use Rattle.gnb_types.specs.declared.names.Dir.TheVariants.{Dl, Ul}
-use Rattle.gnb_types.specs.declared.keys.Channel.{Channel}
-use Rattle.gnb_types.specs.declared.plans.Peer.{Peer}
-use Rattle.gnb_types.specs.declared.plans.Plan.{Plan}
-use Rattle.gnb_types.specs.declared.plans.Tunnel.{Tunnel}
-use Rattle.gnb_types.specs.declared.plans.SnStatus.{SnStatus}
-use Rattle.gnb_types.specs.declared.inputs.Order.TheVariants as orders
-use Rattle.gnb_types.specs.declared.outputs.Tag.TheVariants.{Absent}
-use Rattle.gnb_types.specs.declared.reasons.HeldReason.{HeldReason}
-use Rattle.gnb_types.specs.declared.reasons.DropReason.TheVariants.{Unexpected}
-use Rattle.gnb_types.specs.declared.reasons.RefuseReason.TheVariants.{Empty, NoRadio}
-use Rattle.gnb_types.specs.Names.{node_text}
-use Rattle.gnb_types.specs.Orders.{ue_cmp, bearer_cmp}
-use Rattle.gnb_types.proofs.OrderLemmas.{ue_exact, bearer_exact}
-use Rattle.tables.specs.Tables.{find, put, without}
-use Rattle.transaction_defs.specs.Callers.{close, due, Due, repeats, expires}
-use Rattle.message_types.specs.declared.e1.E1Message.{E1Message}
-use Rattle.message_types.specs.declared.e1.E1Message.TheVariants as e1s
+use Rattle.unit_defs.specs.gnb_types.declared.names.Gnb.{Gnb}
+use Rattle.unit_defs.specs.gnb_types.declared.names.NodeId.{NodeId}
+use Rattle.unit_defs.specs.gnb_types.declared.names.NodeId.TheVariants.{CuCp, Du as du_id}
+use Rattle.unit_defs.specs.gnb_types.declared.names.UeId.{UeId}
+use Rattle.unit_defs.specs.gnb_types.declared.names.BearerId.{BearerId}
+use Rattle.unit_defs.specs.gnb_types.declared.names.SnBits.{SnBits}
+use Rattle.unit_defs.specs.gnb_types.declared.names.Dir.TheVariants.{Dl, Ul}
+use Rattle.unit_defs.specs.gnb_types.declared.keys.Channel.{Channel}
+use Rattle.unit_defs.specs.gnb_types.declared.plans.Peer.{Peer}
+use Rattle.unit_defs.specs.gnb_types.declared.plans.Plan.{Plan}
+use Rattle.unit_defs.specs.gnb_types.declared.plans.Tunnel.{Tunnel}
+use Rattle.unit_defs.specs.gnb_types.declared.plans.SnStatus.{SnStatus}
+use Rattle.unit_defs.specs.gnb_types.declared.inputs.Order.TheVariants as orders
+use Rattle.unit_defs.specs.gnb_types.declared.outputs.Tag.TheVariants.{Absent}
+use Rattle.unit_defs.specs.gnb_types.declared.reasons.HeldReason.{HeldReason}
+use Rattle.unit_defs.specs.gnb_types.declared.reasons.DropReason.TheVariants.{Unexpected}
+use Rattle.unit_defs.specs.gnb_types.declared.reasons.RefuseReason.TheVariants.{Empty, NoRadio}
+use Rattle.unit_defs.specs.gnb_types.Names.{node_text}
+use Rattle.unit_defs.specs.gnb_types.Orders.{ue_cmp, bearer_cmp}
+use Rattle.unit_defs.proofs.gnb_types.OrderLemmas.{ue_exact, bearer_exact}
+use Rattle.unit_defs.specs.tables.Tables.{find, put, without}
+use Rattle.unit_defs.specs.transaction_defs.Callers.{close, due, Due, repeats, expires}
+use Rattle.unit_defs.specs.message_types.declared.e1.E1Message.{E1Message}
+use Rattle.unit_defs.specs.message_types.declared.e1.E1Message.TheVariants as e1s
 use Rattle.unit_defs.specs.Ways.{Message, e1, Taken, no, closed, opened, Input, control_input, packet_input, tick_input, order_input, Way, Answer, gives, spent, ◌then◌, nothing, puts, drops, teids_spent}
 use Rattle.unit_defs.specs.Messages.{cause_busy, cause_quota, mode_uplinks, mode_switch, mode_freeze, mode_status, mode_resume, channel, are_bearers, bearers_of, statuses_of, teid_of}
 use Rattle.unit_defs.specs.Teids.{teids_are_left}

@@ -7,7 +7,7 @@ use Rattle.std.specs.Cmp.{Equal-is}
 use Rattle.std.specs.List.{AllByRecursion}
 use Rattle.std.specs.Map.{lookup}
 use Rattle.std.specs.BTreeMap.{is_at, insert_entry}
-use Rattle.tables.specs.Tables.{find, put}
+use Rattle.unit_defs.specs.tables.Tables.{find, put}
 
 module _ {K X : Type 0} (R : K → K → Ordering) (exact : (a b : K) → R a b ≡ Equal → a ≡ b) (Q : K → X → Type 0) where
   abbrev Keyed : List (K × X) → Type 0

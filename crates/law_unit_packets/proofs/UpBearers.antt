@@ -3,16 +3,16 @@ use Rattle.std.proofs.Common.{◌==◌, ℕ, ◌+◌, Bool, true, false, not, �
 use Rattle.std.specs.Prelude.{if◌then◌else◌, nat_lt, filter}
 use Rattle.std.specs.Ordering.{nat_cmp}
 use Rattle.std.specs.List.{AllByRecursion}
-use Rattle.gnb_types.specs.declared.names.NodeId.{NodeId}
-use Rattle.gnb_types.specs.declared.names.Dir.TheVariants.{Dl, Ul}
-use Rattle.gnb_types.specs.declared.keys.EntityKey.{EntityKey}
-use Rattle.gnb_types.specs.declared.outputs.Tag.{Tag}
-use Rattle.gnb_types.specs.declared.outputs.Tag.TheVariants.{Absent, Own, Same}
-use Rattle.gnb_types.specs.declared.plans.SnStatus.{SnStatus}
-use Rattle.gnb_types.specs.declared.reasons.DropReason.TheVariants.{Unexpected, Duplicate}
-use Rattle.pdcp.specs.Near.{last_count}
-use Rattle.pdcp_defs.specs.Senders.{Sender, numbered as with_next, has_room, may_restore, restored, confirmed_by, confirmed_to, is_reported}
-use Rattle.pdcp_defs.specs.Receivers.{Receiver, with_packet, deliver_from, deliver as handed_up, received_bits, is_duplicate, stored}
+use Rattle.unit_defs.specs.gnb_types.declared.names.NodeId.{NodeId}
+use Rattle.unit_defs.specs.gnb_types.declared.names.Dir.TheVariants.{Dl, Ul}
+use Rattle.unit_defs.specs.gnb_types.declared.keys.EntityKey.{EntityKey}
+use Rattle.unit_defs.specs.gnb_types.declared.outputs.Tag.{Tag}
+use Rattle.unit_defs.specs.gnb_types.declared.outputs.Tag.TheVariants.{Absent, Own, Same}
+use Rattle.unit_defs.specs.gnb_types.declared.plans.SnStatus.{SnStatus}
+use Rattle.unit_defs.specs.gnb_types.declared.reasons.DropReason.TheVariants.{Unexpected, Duplicate}
+use Rattle.unit_defs.specs.pdcp.Near.{last_count}
+use Rattle.unit_defs.specs.pdcp_defs.Senders.{Sender, numbered as with_next, has_room, may_restore, restored, confirmed_by, confirmed_to, is_reported}
+use Rattle.unit_defs.specs.pdcp_defs.Receivers.{Receiver, with_packet, deliver_from, deliver as handed_up, received_bits, is_duplicate, stored}
 use Rattle.unit_defs.specs.Ways.{packet_pdu, report_pdu, Content, packet_content, report_content, Load, fresh, numbered, end_marker, Taken, fresh_item, numbered_item, uplink_item, status_item, end_item, Way, Answer, spent, ◌then◌, nothing, puts, drops, closed, counts_spent, frames_spent}
 use Rattle.unit_defs.specs.UpRecords.{Downlink, SourceHop, UpBearer, TunnelKind, n3, f1u_uplink, forwarding_down, forwarding_up, UpAt}
 use Rattle.unit_defs.specs.UpBearers.{last_frame, has_downlink, is_one_of, owed, thawed, no_uplink, bits_in, framed_on, framed, sent, sent_again, number_each, number_waiting, delivered, deliver_stored, put_down, forwarded_down, put_up, forwarded_up, begin_downlink, begin_where_known, switched, forward_numbered, forward_fresh, forward_late, frozen_to, with_status, resumed}

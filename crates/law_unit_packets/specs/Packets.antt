@@ -3,15 +3,15 @@
 use Rattle.std.specs.Prelude.{ℕ, ◌≡◌, Bool, true, List, Option, Some, None}
 use Rattle.std.specs.List.{AllByRecursion}
 use Rattle.std.specs.Ordering.{nat_cmp}
-use Rattle.gnb_types.specs.declared.names.SnBits.{SnBits}
-use Rattle.gnb_types.specs.declared.names.UeId.{UeId}
-use Rattle.gnb_types.specs.declared.names.BearerId.{BearerId}
-use Rattle.gnb_types.specs.declared.names.Dir.{Dir}
-use Rattle.gnb_types.specs.declared.names.Dir.TheVariants.{Dl, Ul}
-use Rattle.gnb_types.specs.declared.keys.EntityKey.{EntityKey}
-use Rattle.tables.specs.Tables.{find}
-use Rattle.pdcp_defs.specs.Senders.{Sender}
-use Rattle.pdcp_defs.specs.Receivers.{Receiver}
+use Rattle.unit_defs.specs.gnb_types.declared.names.SnBits.{SnBits}
+use Rattle.unit_defs.specs.gnb_types.declared.names.UeId.{UeId}
+use Rattle.unit_defs.specs.gnb_types.declared.names.BearerId.{BearerId}
+use Rattle.unit_defs.specs.gnb_types.declared.names.Dir.{Dir}
+use Rattle.unit_defs.specs.gnb_types.declared.names.Dir.TheVariants.{Dl, Ul}
+use Rattle.unit_defs.specs.gnb_types.declared.keys.EntityKey.{EntityKey}
+use Rattle.unit_defs.specs.tables.Tables.{find}
+use Rattle.unit_defs.specs.pdcp_defs.Senders.{Sender}
+use Rattle.unit_defs.specs.pdcp_defs.Receivers.{Receiver}
 use Rattle.unit_defs.specs.Ways.{packet_pdu, report_pdu, Content, packet_content, report_content, Load, fresh, numbered, frame, uplink, status, end_marker, Taken, fresh_item, numbered_item, frame_item, uplink_item, status_item, end_item, Input, packet_input, radio_input, offer_input, Output, packet, radio, deliver, Way, Answer, gives, spent}
 use Rattle.unit_defs.specs.UpRecords.{TunnelKind, n3, f1u_uplink, forwarding_down, forwarding_up, UpBearer, UpContext, UpTunnel, CuUp}
 use Rattle.unit_defs.specs.Du.{DuTunnel, Du}

@@ -23,19 +23,19 @@ use Rattle.gnb_types.specs.declared.reasons.RefuseReason.TheVariants.{Empty, NoR
 use Rattle.gnb_types.specs.Names.{node_text}
 use Rattle.gnb_types.specs.Orders.{ue_cmp, bearer_cmp}
 use Rattle.gnb_types.proofs.OrderLemmas.{ue_exact, bearer_exact}
-use Rattle.tables.specs.Tables.{find, put, without}
-use Rattle.transaction_defs.specs.Callers.{close, due, Due, repeats, expires, after_tick}
-use Rattle.message_types.specs.declared.e1.E1Message.{E1Message}
-use Rattle.message_types.specs.declared.e1.E1Message.TheVariants as e1s
-use Rattle.unit_defs.specs.Ways.{Message, e1, Taken, Output, no, closed, opened, Input, control_input, packet_input, tick_input, order_input, Way, Answer, gives, spent, ◌then◌, nothing, puts, drops, teids_spent}
-use Rattle.unit_defs.specs.Messages.{cause_busy, cause_quota, mode_uplinks, mode_switch, mode_freeze, mode_status, mode_resume, channel, is_same_gnb, are_bearers, bearers_of, statuses_of, teid_of, tunnel_of}
-use Rattle.unit_defs.specs.Teids.{teids_are_left}
-use Rattle.unit_defs.specs.Transactions.{Kind, request, reply, transfer, kind_of, no_instance, Transactions, Asked, ask, advance, replied}
-use Rattle.unit_defs.specs.UpRecords.{TunnelKind, n3, f1u_uplink, forwarding_down, forwarding_up, UpBearer, UpContext, CuUp, UpTunnel, up_at}
-use Rattle.unit_defs.specs.UpBearers.{made, teids_of_bearer, teid_in, with_uplink, switched, frozen_to, with_status, resumed, released, is_over, open_teids, has_downlink, framed}
-use Rattle.unit_defs.specs.UpItems.{held_reason, took}
-use Rattle.unit_defs.specs.CuUp.{bearers_from, bearers_made, entries_of, with_context, context_of, with_transactions, up_node, UpStep, steps, stops, step_with, each_bearer, answer_with, ended, ended_if_over, end_where_over, replies, first_uplink, forward_list, new_context, opened_of, with_new, makes, fits, set_up_for, setup_response, setup_on, setup, modified, uplinks_from, teids_from, uplinks_given, add_uplinks, as_switched, switch, as_frozen, peer_node, statuses, freeze, as_known, status_each, take_status, as_resumed, resume, names, uplinks_if, switch_if, freeze_if, status_if, resume_if, modify_on, as_released, released_on, release, asked, start, set_up, control_by, ue_in, control_came, with_bearer, taken_by, taken_in, taken_of, taken_on, take, poll_bearer, poll_on, poll, due_output, tick, cu_up_acts}
-use Rattle.law_intervals.proofs.Intervals.{all_append, all_filter}
+use Rattle.law_tunnel_names.specs.tables.Tables.{find, put, without}
+use Rattle.law_tunnel_names.specs.transaction_defs.Callers.{close, due, Due, repeats, expires, after_tick}
+use Rattle.law_tunnel_names.specs.message_types.declared.e1.E1Message.{E1Message}
+use Rattle.law_tunnel_names.specs.message_types.declared.e1.E1Message.TheVariants as e1s
+use Rattle.law_tunnel_names.specs.unit_defs.Ways.{Message, e1, Taken, Output, no, closed, opened, Input, control_input, packet_input, tick_input, order_input, Way, Answer, gives, spent, ◌then◌, nothing, puts, drops, teids_spent}
+use Rattle.law_tunnel_names.specs.unit_defs.Messages.{cause_busy, cause_quota, mode_uplinks, mode_switch, mode_freeze, mode_status, mode_resume, channel, is_same_gnb, are_bearers, bearers_of, statuses_of, teid_of, tunnel_of}
+use Rattle.law_tunnel_names.specs.unit_defs.Teids.{teids_are_left}
+use Rattle.law_tunnel_names.specs.unit_defs.Transactions.{Kind, request, reply, transfer, kind_of, no_instance, Transactions, Asked, ask, advance, replied}
+use Rattle.law_tunnel_names.specs.unit_defs.UpRecords.{TunnelKind, n3, f1u_uplink, forwarding_down, forwarding_up, UpBearer, UpContext, CuUp, UpTunnel, up_at}
+use Rattle.law_tunnel_names.specs.unit_defs.UpBearers.{made, teids_of_bearer, teid_in, with_uplink, switched, frozen_to, with_status, resumed, released, is_over, open_teids, has_downlink, framed}
+use Rattle.law_tunnel_names.specs.unit_defs.UpItems.{held_reason, took}
+use Rattle.law_tunnel_names.specs.unit_defs.CuUp.{bearers_from, bearers_made, entries_of, with_context, context_of, with_transactions, up_node, UpStep, steps, stops, step_with, each_bearer, answer_with, ended, ended_if_over, end_where_over, replies, first_uplink, forward_list, new_context, opened_of, with_new, makes, fits, set_up_for, setup_response, setup_on, setup, modified, uplinks_from, teids_from, uplinks_given, add_uplinks, as_switched, switch, as_frozen, peer_node, statuses, freeze, as_known, status_each, take_status, as_resumed, resume, names, uplinks_if, switch_if, freeze_if, status_if, resume_if, modify_on, as_released, released_on, release, asked, start, set_up, control_by, ue_in, control_came, with_bearer, taken_by, taken_in, taken_of, taken_on, take, poll_bearer, poll_on, poll, due_output, tick, cu_up_acts}
+use Rattle.law_tunnel_names.proofs.law_intervals.Intervals.{all_append, all_filter}
 use Rattle.law_tunnel_names.proofs.law_unit_packets.Answers.{all_map, all_flat}
 use Rattle.law_tunnel_names.proofs.law_unit_packets.Keyed.{keyed_found, keyed_put}
 use Rattle.law_tunnel_names.specs.Names.{Property, IfAny, UpList, OwnUpList, Names, SwitchNames, FreezeNames, InputNames, OutputNames, OutputsName, AnswerNames, KeptNames}

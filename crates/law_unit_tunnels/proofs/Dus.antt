@@ -21,18 +21,18 @@ use Rattle.gnb_types.specs.declared.reasons.DropReason.TheVariants.{Unexpected}
 use Rattle.gnb_types.specs.Names.{node_text}
 use Rattle.gnb_types.specs.Orders.{ue_cmp, bearer_cmp}
 use Rattle.gnb_types.proofs.OrderLemmas.{ue_exact, bearer_exact}
-use Rattle.tables.specs.Tables.{find, put, without}
-use Rattle.transaction_defs.specs.Callers.{close, due, Due, repeats, expires, after_tick}
-use Rattle.message_types.specs.declared.f1.F1.{F1}
-use Rattle.message_types.specs.declared.f1.F1.TheVariants as f1s
-use Rattle.message_types.specs.declared.rrc.Token.{Token}
-use Rattle.unit_defs.specs.Ways.{Message, f1, rrc, uplink, status, end_marker, Taken, frame_item, Output, packet, opened, closed, Input, control_input, packet_input, radio_input, confirm_input, tick_input, order_input, Way, Answer, gives, spent, ◌then◌, nothing, puts, drops, teids_spent}
-use Rattle.unit_defs.specs.Messages.{channel, is_same_gnb, bearers_of, are_first_bearers}
-use Rattle.unit_defs.specs.Teids.{teids_are_left}
-use Rattle.unit_defs.specs.Transactions.{Kind, request, reply, transfer, kind_of, no_instance, Transactions, Asked, ask, advance, replied}
-use Rattle.unit_defs.specs.UpRecords.{f1u_uplink}
-use Rattle.unit_defs.specs.Du.{DuBearer, DuContext, DuTunnel, Du, du_node, context_of, with_transactions, downlinks_of, downlink_list, bearers_made, bearers_anew, replies, closings, openings, old_downlinks, replaced, replaces, context_with, setup, context_anew, modify_on, modify, end_markers, released_on, release, relayed_down, relay_down, relayed_up, relay_up, token_ue, start, set_up, asked, transferred, of_cp, of_terminal, control_came, missing, is_missing, told, gap_after, carried, with_bearer, frame_came, taken_in, taken_of, taken_on, take, of_bearer, of_context, pass_up, confirmed, confirm, due_output, tick, du_acts}
-use Rattle.law_intervals.proofs.Intervals.{all_append, all_filter}
+use Rattle.law_tunnel_names.specs.tables.Tables.{find, put, without}
+use Rattle.law_tunnel_names.specs.transaction_defs.Callers.{close, due, Due, repeats, expires, after_tick}
+use Rattle.law_tunnel_names.specs.message_types.declared.f1.F1.{F1}
+use Rattle.law_tunnel_names.specs.message_types.declared.f1.F1.TheVariants as f1s
+use Rattle.law_tunnel_names.specs.message_types.declared.rrc.Token.{Token}
+use Rattle.law_tunnel_names.specs.unit_defs.Ways.{Message, f1, rrc, uplink, status, end_marker, Taken, frame_item, Output, packet, opened, closed, Input, control_input, packet_input, radio_input, confirm_input, tick_input, order_input, Way, Answer, gives, spent, ◌then◌, nothing, puts, drops, teids_spent}
+use Rattle.law_tunnel_names.specs.unit_defs.Messages.{channel, is_same_gnb, bearers_of, are_first_bearers}
+use Rattle.law_tunnel_names.specs.unit_defs.Teids.{teids_are_left}
+use Rattle.law_tunnel_names.specs.unit_defs.Transactions.{Kind, request, reply, transfer, kind_of, no_instance, Transactions, Asked, ask, advance, replied}
+use Rattle.law_tunnel_names.specs.unit_defs.UpRecords.{f1u_uplink}
+use Rattle.law_tunnel_names.specs.unit_defs.Du.{DuBearer, DuContext, DuTunnel, Du, du_node, context_of, with_transactions, downlinks_of, downlink_list, bearers_made, bearers_anew, replies, closings, openings, old_downlinks, replaced, replaces, context_with, setup, context_anew, modify_on, modify, end_markers, released_on, release, relayed_down, relay_down, relayed_up, relay_up, token_ue, start, set_up, asked, transferred, of_cp, of_terminal, control_came, missing, is_missing, told, gap_after, carried, with_bearer, frame_came, taken_in, taken_of, taken_on, take, of_bearer, of_context, pass_up, confirmed, confirm, due_output, tick, du_acts}
+use Rattle.law_tunnel_names.proofs.law_intervals.Intervals.{all_append, all_filter}
 use Rattle.law_tunnel_names.proofs.law_unit_packets.Answers.{all_map}
 use Rattle.law_tunnel_names.proofs.law_unit_packets.Keyed.{keyed_found, keyed_put}
 use Rattle.law_tunnel_names.specs.Names.{Property, Names, PeerList, DuList, InputNames, PutOn, OutputNames, OutputsName, AnswerNames, KeptNames}

@@ -7,10 +7,10 @@ use Rattle.gnb_types.specs.declared.names.NodeId.{NodeId}
 use Rattle.gnb_types.specs.declared.names.UeId.{UeId}
 use Rattle.gnb_types.specs.Orders.{ue_cmp}
 use Rattle.gnb_types.proofs.OrderLemmas.{ue_total}
-use Rattle.tables.specs.Tables.{find, put}
-use Rattle.tables.proofs.TableLaws.{find-put}
-use Rattle.unit_defs.specs.Ways.{Way, Answer, gives, spent, with_outputs, ◌then◌}
-use Rattle.law_intervals.proofs.Intervals.{all_append}
+use Rattle.law_tunnel_names.specs.tables.Tables.{find, put}
+use Rattle.law_tunnel_names.proofs.tables.TableLaws.{find-put}
+use Rattle.law_tunnel_names.specs.unit_defs.Ways.{Way, Answer, gives, spent, with_outputs, ◌then◌}
+use Rattle.law_tunnel_names.proofs.law_intervals.Intervals.{all_append}
 use Rattle.law_tunnel_names.specs.Names.{Property, OutputNames, AnswerNames}
 use Rattle.law_unit_tunnels.specs.Units.{AnswerIf}
 

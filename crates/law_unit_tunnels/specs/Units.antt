@@ -8,12 +8,12 @@ use Rattle.gnb_types.specs.declared.names.NodeId.TheVariants.{CuUp as up_id, Du 
 use Rattle.gnb_types.specs.declared.names.UeId.{UeId}
 use Rattle.gnb_types.specs.declared.names.BearerId.{BearerId}
 use Rattle.gnb_types.specs.Orders.{ue_cmp}
-use Rattle.tables.specs.Tables.{find}
-use Rattle.unit_defs.specs.Ways.{Way, Answer, gives, spent}
-use Rattle.unit_defs.specs.UpRecords.{TunnelKind, n3, f1u_uplink, forwarding_down, forwarding_up, Downlink, SourceHop, UpBearer, UpContext, CuUp}
-use Rattle.unit_defs.specs.UpBearers.{teid_in}
-use Rattle.unit_defs.specs.Du.{DuBearer, DuContext, Du}
-use Rattle.unit_defs.specs.Ue.{UeNode}
+use Rattle.law_tunnel_names.specs.tables.Tables.{find}
+use Rattle.law_tunnel_names.specs.unit_defs.Ways.{Way, Answer, gives, spent}
+use Rattle.law_tunnel_names.specs.unit_defs.UpRecords.{TunnelKind, n3, f1u_uplink, forwarding_down, forwarding_up, Downlink, SourceHop, UpBearer, UpContext, CuUp}
+use Rattle.law_tunnel_names.specs.unit_defs.UpBearers.{teid_in}
+use Rattle.law_tunnel_names.specs.unit_defs.Du.{DuBearer, DuContext, Du}
+use Rattle.law_tunnel_names.specs.unit_defs.Ue.{UeNode}
 use Rattle.law_tunnel_names.specs.Names.{Owners, IfAny, Property, OutputsName, KeptNames}
 
 -- of a table whose keys matter

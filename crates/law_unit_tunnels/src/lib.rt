@@ -7,11 +7,11 @@ ghost use Rattle.gnb_types.specs.declared.names.UeId.{UeId};
 ghost use Rattle.law_tunnel_names.specs.Names.{AnswerNames, by_test, InputNames, Test};
 ghost use Rattle.law_unit_tunnels.specs.Units.{AnswerIf, DuHolds, DuNames, IsLong, NoneIsFree, UpHolds, UpNames};
 ghost use Rattle.std.specs.Prelude.{ℕ};
-ghost use Rattle.unit_defs.specs.CuUp.{cu_up_acts};
-ghost use Rattle.unit_defs.specs.Du.{Du, du_acts};
-ghost use Rattle.unit_defs.specs.Ue.{ue_acts, UeNode};
-ghost use Rattle.unit_defs.specs.UpRecords.{CuUp};
-ghost use Rattle.unit_defs.specs.Ways.{Input, Way};
+ghost use Rattle.law_tunnel_names.specs.unit_defs.CuUp.{cu_up_acts};
+ghost use Rattle.law_tunnel_names.specs.unit_defs.Du.{Du, du_acts};
+ghost use Rattle.law_tunnel_names.specs.unit_defs.Ue.{ue_acts, UeNode};
+ghost use Rattle.law_tunnel_names.specs.unit_defs.UpRecords.{CuUp};
+ghost use Rattle.law_tunnel_names.specs.unit_defs.Ways.{Input, Way};
 
 /// Whatever book says for which terminal, bearer and kind a TEID may be named: where a message that comes, and all that a DU
 /// keeps, name tunnels as the book has it, and the book has the downlinks of its contexts after the step, all that it puts then

@@ -1,23 +1,23 @@
 -- Items of the downlink leave the uplink alone, and so does a poll; and a context that is made.
 use Rattle.std.proofs.Common.{◌≡◌, ℕ, ◌+◌, Bool, true, false, not, ◌||◌, nat_lt, List, [], ◌∷◌, ◌++◌, Option, Some, None, refl, sym, ap, subst, ◌∙◌}
 use Rattle.std.specs.Prelude.{if◌then◌else◌}
-use Rattle.gnb_types.specs.declared.names.UeId.{UeId}
-use Rattle.gnb_types.specs.declared.names.BearerId.{BearerId}
-use Rattle.gnb_types.specs.declared.names.SnBits.{SnBits}
-use Rattle.gnb_types.specs.declared.outputs.Tag.{Tag}
-use Rattle.gnb_types.specs.declared.outputs.Tag.TheVariants.{Absent, Own, Same}
-use Rattle.gnb_types.specs.declared.reasons.DropReason.TheVariants.{Duplicate, Unexpected}
-use Rattle.pdcp.specs.Near.{last_count}
-use Rattle.pdcp_defs.specs.Senders.{numbered as with_next, has_room, may_restore, restored, confirmed_by}
-use Rattle.unit_defs.specs.Ways.{packet_pdu, report_content, Load, fresh, numbered, end_marker, Taken, fresh_item, numbered_item, uplink_item, status_item, end_item, Way, Answer, gives, spent, with_outputs, ◌then◌, nothing, drops, frames_spent, counts_spent}
-use Rattle.unit_defs.specs.UpRecords.{UpBearer, Downlink, SourceHop, TunnelKind, n3, f1u_uplink, forwarding_down}
-use Rattle.unit_defs.specs.UpBearers.{last_frame, has_downlink, framed_on, framed, sent, sent_again, number_each, number_waiting, put_down, forwarded_down}
-use Rattle.unit_defs.specs.UpItems.{took_fresh, closed_n3, n3_ended, restored_at, took_numbered, took_report, confirmed_if, lost_frames, took_delivery_status, took}
-use Rattle.uplink_defs.specs.Parts.{Item, Member, Part, new_member}
-use Rattle.uplink_defs.specs.Orders.{makes, after, run}
-use Rattle.law_chain.proofs.Frames.{set_here}
-use Rattle.law_uplink_rows.specs.Shown.{items_of, delivered_in}
-use Rattle.law_uplink_rows.proofs.Rows.{items-append, delivered-append}
+use Rattle.law_context_orders.specs.gnb_types.declared.names.UeId.{UeId}
+use Rattle.law_context_orders.specs.gnb_types.declared.names.BearerId.{BearerId}
+use Rattle.law_context_orders.specs.gnb_types.declared.names.SnBits.{SnBits}
+use Rattle.law_context_orders.specs.gnb_types.declared.outputs.Tag.{Tag}
+use Rattle.law_context_orders.specs.gnb_types.declared.outputs.Tag.TheVariants.{Absent, Own, Same}
+use Rattle.law_context_orders.specs.gnb_types.declared.reasons.DropReason.TheVariants.{Duplicate, Unexpected}
+use Rattle.law_context_orders.specs.pdcp.Near.{last_count}
+use Rattle.law_context_orders.specs.pdcp_defs.Senders.{numbered as with_next, has_room, may_restore, restored, confirmed_by}
+use Rattle.law_context_orders.specs.unit_defs.Ways.{packet_pdu, report_content, Load, fresh, numbered, end_marker, Taken, fresh_item, numbered_item, uplink_item, status_item, end_item, Way, Answer, gives, spent, with_outputs, ◌then◌, nothing, drops, frames_spent, counts_spent}
+use Rattle.law_context_orders.specs.unit_defs.UpRecords.{UpBearer, Downlink, SourceHop, TunnelKind, n3, f1u_uplink, forwarding_down}
+use Rattle.law_context_orders.specs.unit_defs.UpBearers.{last_frame, has_downlink, framed_on, framed, sent, sent_again, number_each, number_waiting, put_down, forwarded_down}
+use Rattle.law_context_orders.specs.unit_defs.UpItems.{took_fresh, closed_n3, n3_ended, restored_at, took_numbered, took_report, confirmed_if, lost_frames, took_delivery_status, took}
+use Rattle.law_handover_rows.specs.uplink_defs.Parts.{Item, Member, Part, new_member}
+use Rattle.law_handover_rows.specs.uplink_defs.Orders.{makes, after, run}
+use Rattle.law_handover_rows.proofs.law_chain.Frames.{set_here}
+use Rattle.law_handover_rows.specs.law_uplink_rows.Shown.{items_of, delivered_in}
+use Rattle.law_handover_rows.proofs.law_uplink_rows.Rows.{items-append, delivered-append}
 use Rattle.law_context_orders.specs.Orders.{UpPart, kept_in, done, takes, polls}
 use Rattle.law_up_orders.specs.Up.{up_of, IsUp, Went, Shows, IsOfDownlink, new_part}
 use Rattle.law_up_orders.proofs.Items.{went_same}

@@ -1,20 +1,20 @@
 -- Orders of control to a bearer are orders to its uplink.
 use Rattle.std.proofs.Common.{◌≡◌, ◌≢◌, ◌==◌, ℕ, Bool, true, false, if◌then◌else◌, List, [], ◌∷◌, ◌++◌, Option, Some, None, refl, sym, ap, subst, ◌∙◌}
 use Rattle.std.proofs.lemmas.List.{append-nil}
-use Rattle.gnb_types.specs.declared.names.NodeId.{NodeId}
-use Rattle.gnb_types.specs.declared.names.SnBits.{SnBits}
-use Rattle.gnb_types.specs.declared.plans.SnStatus.{SnStatus}
-use Rattle.pdcp_defs.specs.Receivers.{Receiver, Delivery, deliver}
-use Rattle.unit_defs.specs.Ways.{Pdu, Way, Answer, gives, spent}
-use Rattle.unit_defs.specs.UpRecords.{UpBearer, UpFlags, SourceHop}
-use Rattle.unit_defs.specs.UpBearers.{has_downlink, with_uplink, switched, frozen_to, with_status, resumed, thawed, released}
-use Rattle.chain_defs.specs.Parts.{set}
-use Rattle.chain_defs.specs.Orders.{frozen, known, on_downlink}
-use Rattle.uplink_defs.specs.Parts.{Item, Member, Part}
-use Rattle.uplink_defs.specs.Orders.{adds, freezes, knows, switches, resumes, releases, late, changed, handed, after, run}
-use Rattle.law_chain.proofs.Frames.{set_here, set_far}
-use Rattle.law_uplink_rows.specs.Shown.{items_of, delivered_in, Gives}
-use Rattle.law_uplink_rows.proofs.Rows.{freezes as freeze_gives}
+use Rattle.law_context_orders.specs.gnb_types.declared.names.NodeId.{NodeId}
+use Rattle.law_context_orders.specs.gnb_types.declared.names.SnBits.{SnBits}
+use Rattle.law_context_orders.specs.gnb_types.declared.plans.SnStatus.{SnStatus}
+use Rattle.law_context_orders.specs.pdcp_defs.Receivers.{Receiver, Delivery, deliver}
+use Rattle.law_context_orders.specs.unit_defs.Ways.{Pdu, Way, Answer, gives, spent}
+use Rattle.law_context_orders.specs.unit_defs.UpRecords.{UpBearer, UpFlags, SourceHop}
+use Rattle.law_context_orders.specs.unit_defs.UpBearers.{has_downlink, with_uplink, switched, frozen_to, with_status, resumed, thawed, released}
+use Rattle.law_handover_rows.specs.chain_defs.Parts.{set}
+use Rattle.law_handover_rows.specs.chain_defs.Orders.{frozen, known, on_downlink}
+use Rattle.law_handover_rows.specs.uplink_defs.Parts.{Item, Member, Part}
+use Rattle.law_handover_rows.specs.uplink_defs.Orders.{adds, freezes, knows, switches, resumes, releases, late, changed, handed, after, run}
+use Rattle.law_handover_rows.proofs.law_chain.Frames.{set_here, set_far}
+use Rattle.law_handover_rows.specs.law_uplink_rows.Shown.{items_of, delivered_in, Gives}
+use Rattle.law_handover_rows.proofs.law_uplink_rows.Rows.{freezes as freeze_gives}
 use Rattle.law_handover_rows.specs.Shown.{Does, handed_up}
 use Rattle.law_handover_rows.proofs.Rows.{switch_begins, switch_waits, status_begins, status_waits, resume_sends}
 use Rattle.law_context_orders.specs.Orders.{UpPart, UpOrder, on_switch, on_freeze, on_status, on_resume, on_release, kept_in, done}

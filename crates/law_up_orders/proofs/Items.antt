@@ -1,17 +1,17 @@
 -- Items that a bearer takes are orders to its uplink.
 use Rattle.std.proofs.Common.{◌≡◌, ◌==◌, ℕ, Bool, true, false, not, ◌&&◌, if◌then◌else◌, nat_lt, List, [], ◌∷◌, ◌++◌, Option, Some, None, refl, sym, ap, subst, ◌∙◌, eqb-true, true≢false}
 use Rattle.std.proofs.lemmas.List.{append-nil}
-use Rattle.pdcp_defs.specs.Receivers.{Receiver, Delivery, is_duplicate, deliver, stored}
-use Rattle.unit_defs.specs.Ways.{packet_content, Taken, numbered_item, uplink_item, end_item, Way, Answer, gives, spent}
-use Rattle.unit_defs.specs.UpRecords.{UpBearer, SourceHop, TunnelKind, f1u_uplink, forwarding_up}
-use Rattle.unit_defs.specs.UpBearers.{no_uplink}
-use Rattle.unit_defs.specs.UpItems.{took, took_uplink, uplink_ended, up_ended}
-use Rattle.uplink_defs.specs.Parts.{Item, numbered, end_marker, Source, uplink_tunnel, forwarding, Member, Part, with_rest}
-use Rattle.uplink_defs.specs.Orders.{takes, ends_uplink, ends_hop, is_hop_up_done, stores, without_uplink, changed, passed, handed, stored_at, new_at, late_at, taken_at, is_up_over, with_ended, ended_if, ended_at, after, run}
-use Rattle.chain_defs.specs.Parts.{set}
-use Rattle.law_chain.proofs.Frames.{set_here, set_far}
-use Rattle.law_uplink_rows.specs.Shown.{Gives, closed_at, delivered_in}
-use Rattle.law_uplink_rows.proofs.Rows.{takes_new, relays_new, drops_old, passes_late, drops_late, uplink_ends_alone, last_uplink_ends, uplink_ends, hop_ends_alone, last_hop_ends, hop_ends}
+use Rattle.law_context_orders.specs.pdcp_defs.Receivers.{Receiver, Delivery, is_duplicate, deliver, stored}
+use Rattle.law_context_orders.specs.unit_defs.Ways.{packet_content, Taken, numbered_item, uplink_item, end_item, Way, Answer, gives, spent}
+use Rattle.law_context_orders.specs.unit_defs.UpRecords.{UpBearer, SourceHop, TunnelKind, f1u_uplink, forwarding_up}
+use Rattle.law_context_orders.specs.unit_defs.UpBearers.{no_uplink}
+use Rattle.law_context_orders.specs.unit_defs.UpItems.{took, took_uplink, uplink_ended, up_ended}
+use Rattle.law_handover_rows.specs.uplink_defs.Parts.{Item, numbered, end_marker, Source, uplink_tunnel, forwarding, Member, Part, with_rest}
+use Rattle.law_handover_rows.specs.uplink_defs.Orders.{takes, ends_uplink, ends_hop, is_hop_up_done, stores, without_uplink, changed, passed, handed, stored_at, new_at, late_at, taken_at, is_up_over, with_ended, ended_if, ended_at, after, run}
+use Rattle.law_handover_rows.specs.chain_defs.Parts.{set}
+use Rattle.law_handover_rows.proofs.law_chain.Frames.{set_here, set_far}
+use Rattle.law_handover_rows.specs.law_uplink_rows.Shown.{Gives, closed_at, delivered_in}
+use Rattle.law_handover_rows.proofs.law_uplink_rows.Rows.{takes_new, relays_new, drops_old, passes_late, drops_late, uplink_ends_alone, last_uplink_ends, uplink_ends, hop_ends_alone, last_hop_ends, hop_ends}
 use Rattle.law_context_orders.specs.Orders.{UpPart, kept_in, done}
 use Rattle.law_context_orders.specs.Orders as rows
 use Rattle.law_up_orders.specs.Up.{up_of, IsUp, item_orders, Went, Shows, Stands, IsFit}

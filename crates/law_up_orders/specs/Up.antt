@@ -1,17 +1,17 @@
 -- An order to a bearer of a CU-UP, as a list of orders to the uplink of this bearer in the run.
 use Rattle.std.specs.Prelude.{◌≡◌, ◌≢◌, ◌==◌, ℕ, Bool, true, false, if◌then◌else◌, List, [], ◌∷◌, ◌++◌, Option, Some, None}
-use Rattle.gnb_types.specs.declared.plans.SnStatus.{SnStatus}
-use Rattle.gnb_types.specs.declared.names.UeId.{UeId}
-use Rattle.gnb_types.specs.declared.names.BearerId.{BearerId}
-use Rattle.gnb_types.specs.declared.names.SnBits.{SnBits}
-use Rattle.unit_defs.specs.CuUp.{new_flags_of}
-use Rattle.pdcp_defs.specs.Senders.{new_sender}
-use Rattle.unit_defs.specs.Ways.{packet_content, report_content, Taken, fresh_item, numbered_item, uplink_item, status_item, end_item, Output, Answer, gives, spent}
-use Rattle.unit_defs.specs.UpRecords.{UpBearer, SourceHop, TunnelKind, n3, f1u_uplink, forwarding_down, forwarding_up}
-use Rattle.unit_defs.specs.UpBearers.{made, has_downlink}
-use Rattle.uplink_defs.specs.Parts.{Item, uplink_tunnel, forwarding, Member, Part}
-use Rattle.uplink_defs.specs.Orders.{Order, adds, knows, switches, resumes, releases, takes, ends_uplink, ends_hop}
-use Rattle.law_uplink_rows.specs.Shown.{items_of, delivered_in}
+use Rattle.law_context_orders.specs.gnb_types.declared.plans.SnStatus.{SnStatus}
+use Rattle.law_context_orders.specs.gnb_types.declared.names.UeId.{UeId}
+use Rattle.law_context_orders.specs.gnb_types.declared.names.BearerId.{BearerId}
+use Rattle.law_context_orders.specs.gnb_types.declared.names.SnBits.{SnBits}
+use Rattle.law_context_orders.specs.unit_defs.CuUp.{new_flags_of}
+use Rattle.law_context_orders.specs.pdcp_defs.Senders.{new_sender}
+use Rattle.law_context_orders.specs.unit_defs.Ways.{packet_content, report_content, Taken, fresh_item, numbered_item, uplink_item, status_item, end_item, Output, Answer, gives, spent}
+use Rattle.law_context_orders.specs.unit_defs.UpRecords.{UpBearer, SourceHop, TunnelKind, n3, f1u_uplink, forwarding_down, forwarding_up}
+use Rattle.law_context_orders.specs.unit_defs.UpBearers.{made, has_downlink}
+use Rattle.law_handover_rows.specs.uplink_defs.Parts.{Item, uplink_tunnel, forwarding, Member, Part}
+use Rattle.law_handover_rows.specs.uplink_defs.Orders.{Order, adds, knows, switches, resumes, releases, takes, ends_uplink, ends_hop}
+use Rattle.law_handover_rows.specs.law_uplink_rows.Shown.{items_of, delivered_in}
 use Rattle.law_context_orders.specs.Orders.{UpPart, UpOrder}
 use Rattle.law_context_orders.specs.Orders as ups
 

@@ -6,15 +6,15 @@ ghost use Rattle.std.specs.Prelude.{◌≡◌, ◌≢◌, ℕ, true, false, List
 ghost use Rattle.law_context_orders.specs.Orders.{UpPart, UpOrder, begun, done, freezes, makes, polls, takes};
 ghost use Rattle.law_up_orders.specs.Up.{IsUp, item_orders, IsFit, Shows, Stands};
 ghost use Rattle.law_up_orders.specs.Up.{control_orders, IsAsked, IsOfDownlink, new_part, ShowsFrozen};
-ghost use Rattle.gnb_types.specs.declared.names.NodeId.{NodeId};
-ghost use Rattle.gnb_types.specs.declared.names.BearerId.{BearerId};
-ghost use Rattle.gnb_types.specs.declared.names.SnBits.{SnBits};
-ghost use Rattle.gnb_types.specs.declared.names.UeId.{UeId};
-ghost use Rattle.unit_defs.specs.UpRecords.{TunnelKind};
-ghost use Rattle.unit_defs.specs.Ways.{Taken, Way};
-ghost use Rattle.uplink_defs.specs.Orders.{run};
-ghost use Rattle.uplink_defs.specs.Orders as orders;
-ghost use Rattle.uplink_defs.specs.Parts.{Item, Part};
+ghost use Rattle.law_context_orders.specs.gnb_types.declared.names.NodeId.{NodeId};
+ghost use Rattle.law_context_orders.specs.gnb_types.declared.names.BearerId.{BearerId};
+ghost use Rattle.law_context_orders.specs.gnb_types.declared.names.SnBits.{SnBits};
+ghost use Rattle.law_context_orders.specs.gnb_types.declared.names.UeId.{UeId};
+ghost use Rattle.law_context_orders.specs.unit_defs.UpRecords.{TunnelKind};
+ghost use Rattle.law_context_orders.specs.unit_defs.Ways.{Taken, Way};
+ghost use Rattle.law_handover_rows.specs.uplink_defs.Orders.{run};
+ghost use Rattle.law_handover_rows.specs.uplink_defs.Orders as orders;
+ghost use Rattle.law_handover_rows.specs.uplink_defs.Parts.{Item, Part};
 
 /// An item that a bearer takes from an uplink tunnel, or from the source's, is an order to its uplink: where the run's part has
 /// the bearer, it has it after this as the row leaves it; what the row puts on the target's tunnel up is what the order passes

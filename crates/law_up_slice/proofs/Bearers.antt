@@ -6,13 +6,13 @@ use Rattle.gnb_types.specs.declared.names.NodeId.{NodeId}
 use Rattle.gnb_types.specs.declared.plans.SnStatus.{SnStatus}
 use Rattle.gnb_types.specs.declared.outputs.Tag.{Tag}
 use Rattle.gnb_types.specs.declared.outputs.Tag.TheVariants.{Absent, Own as own_tag, Same as same_tag}
-use Rattle.pdcp.specs.Near.{last_count}
-use Rattle.pdcp_defs.specs.Senders.{has_room, numbered as with_next, may_restore, restored, confirmed_by}
-use Rattle.pdcp_defs.specs.Receivers.{is_duplicate, stored, deliver as handed_up, received_bits}
-use Rattle.unit_defs.specs.Ways.{Content, packet_content, report_content, packet_pdu, report_pdu, Load, fresh, numbered, end_marker, Taken, fresh_item, numbered_item, uplink_item, status_item, end_item, closed, Way, Answer, spent, ◌then◌, puts, counts_spent, frames_spent}
-use Rattle.unit_defs.specs.UpRecords.{Downlink, SourceHop, UpBearer, TunnelKind, n3, f1u_uplink, forwarding_down, forwarding_up, UpAt}
-use Rattle.unit_defs.specs.UpBearers.{last_frame, has_downlink, thawed, bits_in, owed, framed_on, framed, sent, sent_again, number_each, number_waiting, delivered, deliver_stored, put_down, forwarded_down, put_up, forwarded_up, with_uplink, begin_downlink, begin_where_known, switched, forward_numbered, forward_fresh, forward_late, frozen_to, begin_where_arrived, with_status, resumed, no_uplink}
-use Rattle.unit_defs.specs.UpItems.{took_fresh, closed_n3, n3_ended, took_numbered, took_uplink, took_report, took_content, confirmed_if, lost_frames, took_delivery_status, up_hop_ends_if, uplink_ended, up_ended, took}
+use Rattle.law_slices.specs.pdcp.Near.{last_count}
+use Rattle.law_slices.specs.pdcp_defs.Senders.{has_room, numbered as with_next, may_restore, restored, confirmed_by}
+use Rattle.law_slices.specs.pdcp_defs.Receivers.{is_duplicate, stored, deliver as handed_up, received_bits}
+use Rattle.law_slices.specs.unit_defs.Ways.{Content, packet_content, report_content, packet_pdu, report_pdu, Load, fresh, numbered, end_marker, Taken, fresh_item, numbered_item, uplink_item, status_item, end_item, closed, Way, Answer, spent, ◌then◌, puts, counts_spent, frames_spent}
+use Rattle.law_slices.specs.unit_defs.UpRecords.{Downlink, SourceHop, UpBearer, TunnelKind, n3, f1u_uplink, forwarding_down, forwarding_up, UpAt}
+use Rattle.law_slices.specs.unit_defs.UpBearers.{last_frame, has_downlink, thawed, bits_in, owed, framed_on, framed, sent, sent_again, number_each, number_waiting, delivered, deliver_stored, put_down, forwarded_down, put_up, forwarded_up, with_uplink, begin_downlink, begin_where_known, switched, forward_numbered, forward_fresh, forward_late, frozen_to, begin_where_arrived, with_status, resumed, no_uplink}
+use Rattle.law_slices.specs.unit_defs.UpItems.{took_fresh, closed_n3, n3_ended, took_numbered, took_uplink, took_report, took_content, confirmed_if, lost_frames, took_delivery_status, up_hop_ends_if, uplink_ended, up_ended, took}
 use Rattle.law_slices.specs.Steps.{IsFor, PutsFor}
 use Rattle.law_slices.proofs.Answers.{puts_then, puts_if}
 

@@ -25,17 +25,17 @@ use Rattle.gnb_types.specs.Orders.{bearer_cmp}
 use Rattle.gnb_types.proofs.OrderLemmas.{ue_total}
 use Rattle.tables.specs.Tables.{find, put, without}
 use Rattle.tables.proofs.TableLaws.{find-put, find-without}
-use Rattle.transaction_defs.specs.Callers.{close}
-use Rattle.message_types.specs.declared.e1.E1Message.{E1Message}
-use Rattle.message_types.specs.declared.e1.E1Message.TheVariants as e1s
-use Rattle.unit_defs.specs.Ways.{Message, e1, Taken, dropped, held, no, Input, control_input, packet_input, order_input, Output, Way, Answer, gives, spent, ◌then◌, nothing, drops}
-use Rattle.unit_defs.specs.Messages.{cause_quota, cause_busy, mode_uplinks, mode_switch, mode_freeze, mode_status, mode_resume, channel, bearers_of, statuses_of, are_bearers, teid_of}
-use Rattle.unit_defs.specs.Teids.{teids_are_left, teid_after, without_each}
-use Rattle.unit_defs.specs.Transactions.{Kind, request, reply, transfer, kind_of, no_instance, Transactions, Waiting, ask}
-use Rattle.unit_defs.specs.UpRecords.{UpBearer, UpContext, UpTunnel, CuUp, up_at}
-use Rattle.unit_defs.specs.UpBearers.{teids_of_bearer, switched, is_over, open_teids, has_downlink, framed}
-use Rattle.unit_defs.specs.UpItems.{held_reason, took}
-use Rattle.unit_defs.specs.CuUp.{context_of, with_context, with_transactions, bearers_from, bearers_made, entries_of, with_entries, closed_in, new_flags_of, UpStep, steps, stops, each_bearer, answer_with, closings, ended, ended_if_over, end_where_over, replies, setup_response, opened_of, with_new, makes, fits, set_up_for, setup_on, setup, modified, uplinks_from, teids_from, uplink_entries, uplinks_given, add_uplinks, as_switched, switch, as_frozen, statuses, freeze, as_known, take_status, as_resumed, resume, names, switch_if, freeze_if, status_if, resume_if, modify_on, as_released, released_on, release, asked, start, set_up, control_by, ue_in as kind_ue, is_own_cp, control_came, with_bearer, taken_by, taken_in, taken_of, taken_on, take, poll_bearer, poll_on, poll, ordered, cu_up_acts}
+use Rattle.law_slices.specs.transaction_defs.Callers.{close}
+use Rattle.law_slices.specs.message_types.declared.e1.E1Message.{E1Message}
+use Rattle.law_slices.specs.message_types.declared.e1.E1Message.TheVariants as e1s
+use Rattle.law_slices.specs.unit_defs.Ways.{Message, e1, Taken, dropped, held, no, Input, control_input, packet_input, order_input, Output, Way, Answer, gives, spent, ◌then◌, nothing, drops}
+use Rattle.law_slices.specs.unit_defs.Messages.{cause_quota, cause_busy, mode_uplinks, mode_switch, mode_freeze, mode_status, mode_resume, channel, bearers_of, statuses_of, are_bearers, teid_of}
+use Rattle.law_slices.specs.unit_defs.Teids.{teids_are_left, teid_after, without_each}
+use Rattle.law_slices.specs.unit_defs.Transactions.{Kind, request, reply, transfer, kind_of, no_instance, Transactions, Waiting, ask}
+use Rattle.law_slices.specs.unit_defs.UpRecords.{UpBearer, UpContext, UpTunnel, CuUp, up_at}
+use Rattle.law_slices.specs.unit_defs.UpBearers.{teids_of_bearer, switched, is_over, open_teids, has_downlink, framed}
+use Rattle.law_slices.specs.unit_defs.UpItems.{held_reason, took}
+use Rattle.law_slices.specs.unit_defs.CuUp.{context_of, with_context, with_transactions, bearers_from, bearers_made, entries_of, with_entries, closed_in, new_flags_of, UpStep, steps, stops, each_bearer, answer_with, closings, ended, ended_if_over, end_where_over, replies, setup_response, opened_of, with_new, makes, fits, set_up_for, setup_on, setup, modified, uplinks_from, teids_from, uplink_entries, uplinks_given, add_uplinks, as_switched, switch, as_frozen, statuses, freeze, as_known, take_status, as_resumed, resume, names, switch_if, freeze_if, status_if, resume_if, modify_on, as_released, released_on, release, asked, start, set_up, control_by, ue_in as kind_ue, is_own_cp, control_came, with_bearer, taken_by, taken_in, taken_of, taken_on, take, poll_bearer, poll_on, poll, ordered, cu_up_acts}
 use Rattle.law_slices.specs.Slices.{Requests, requests_of, ue_in, message_ue, order_ue}
 use Rattle.law_slices.specs.Steps.{seen}
 use Rattle.law_slices.proofs.Answers.{same_then, same_if}

@@ -5,8 +5,8 @@ use Rattle.gnb_types.specs.declared.names.Gnb.{Gnb}
 use Rattle.gnb_types.specs.declared.names.UeId.{UeId}
 use Rattle.gnb_types.specs.Orders.{ue_cmp}
 use Rattle.tables.specs.Tables.{find}
-use Rattle.unit_defs.specs.Ways.{Input, control_input, packet_input, order_input}
-use Rattle.unit_defs.specs.UpRecords.{UpContext, UpTunnel, CuUp, reserved, pool_blocks}
+use Rattle.law_slices.specs.unit_defs.Ways.{Input, control_input, packet_input, order_input}
+use Rattle.law_slices.specs.unit_defs.UpRecords.{UpContext, UpTunnel, CuUp, reserved, pool_blocks}
 use Rattle.law_slices.specs.Slices.{Requests, requests_of, message_ue, order_ue}
 
 -- its context, which open TEIDs are its, and its requests and replies

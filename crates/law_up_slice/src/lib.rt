@@ -8,9 +8,9 @@ ghost use Rattle.law_up_slice.specs.CuUps.{up_part, up_view, up_ue, SameRoom};
 ghost use Rattle.std.specs.Ordering.{nat_cmp};
 ghost use Rattle.std.specs.Prelude.{ℕ, ◌≡◌, Some, None};
 ghost use Rattle.tables.specs.Tables.{find};
-ghost use Rattle.unit_defs.specs.CuUp.{cu_up_acts};
-ghost use Rattle.unit_defs.specs.UpRecords.{CuUp};
-ghost use Rattle.unit_defs.specs.Ways.{drops, packet_input, Input, Taken, Way};
+ghost use Rattle.law_slices.specs.unit_defs.CuUp.{cu_up_acts};
+ghost use Rattle.law_slices.specs.unit_defs.UpRecords.{CuUp};
+ghost use Rattle.law_slices.specs.unit_defs.Ways.{drops, packet_input, Input, Taken, Way};
 
 /// What a CU-UP does with an input that is for a terminal depends on the terminal's slice and on what is shared alone: of two
 /// CU-UPs that have these in common, and of which both or neither have room for a setup, both put out the same, and have

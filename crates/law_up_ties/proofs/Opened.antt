@@ -17,17 +17,17 @@ use Rattle.gnb_types.proofs.OrderLemmas.{node_total, node_exact, tunnel_exact}
 use Rattle.tables.specs.Tables.{find, at}
 use Rattle.tables.proofs.TableLaws.{at-put}
 use Rattle.message_types.specs.declared.rrc.Token.{Token}
-use Rattle.unit_defs.specs.Ways.{Message, Pdu, control, packet, radio, deliver, dropped, held, opened, closed, failed, no, Put, Input, Answer, gives, spent, nothing, ◌then◌}
-use Rattle.unit_defs.specs.UpRecords.{UpBearer, UpContext, UpTunnel, TunnelKind, n3, f1u_uplink, forwarding_down, forwarding_up}
-use Rattle.unit_defs.specs.UpBearers.{teid_in, is_one_of, released, with_uplink, switched, frozen_to, with_status, resumed, framed}
-use Rattle.unit_defs.specs.UpItems.{took}
-use Rattle.unit_defs.specs.CuUp.{new_cu_up, cu_up_acts}
-use Rattle.law_teids.specs.Given.{below, GivesTeids}
-use Rattle.law_teids.proofs.CuUps.{cu_up_gives}
-use Rattle.law_teids.proofs.Bearers.{closed_by, Ends, ends, without_n3, without_uplink, Stays, Took, poll_stays, switched_stays, frozen_stays, status_stays, resumed_stays, item_took}
-use Rattle.law_context_tests.specs.Tests.{is_final, EndsAfter, AreTested}
-use Rattle.law_context_tests.proofs.Tests.{orders_tested}
-use Rattle.law_context_rows.proofs.Rows.{all_does, follows}
+use Rattle.law_run_ties.specs.unit_defs.Ways.{Message, Pdu, control, packet, radio, deliver, dropped, held, opened, closed, failed, no, Put, Input, Answer, gives, spent, nothing, ◌then◌}
+use Rattle.law_run_ties.specs.unit_defs.UpRecords.{UpBearer, UpContext, UpTunnel, TunnelKind, n3, f1u_uplink, forwarding_down, forwarding_up}
+use Rattle.law_run_ties.specs.unit_defs.UpBearers.{teid_in, is_one_of, released, with_uplink, switched, frozen_to, with_status, resumed, framed}
+use Rattle.law_run_ties.specs.unit_defs.UpItems.{took}
+use Rattle.law_run_ties.specs.unit_defs.CuUp.{new_cu_up, cu_up_acts}
+use Rattle.law_run_ties.specs.law_teids.Given.{below, GivesTeids}
+use Rattle.law_run_ties.proofs.law_teids.CuUps.{cu_up_gives}
+use Rattle.law_run_ties.proofs.law_teids.Bearers.{closed_by, Ends, ends, without_n3, without_uplink, Stays, Took, poll_stays, switched_stays, frozen_stays, status_stays, resumed_stays, item_took}
+use Rattle.law_run_ties.specs.law_context_tests.Tests.{is_final, EndsAfter, AreTested}
+use Rattle.law_run_ties.proofs.law_context_tests.Tests.{orders_tested}
+use Rattle.law_run_ties.proofs.law_context_rows.Rows.{all_does, follows}
 use Rattle.law_put_ties.specs.law_tie_facts.law_tunnel_steps.run_defs.transport_defs.declared.Item.{Item}
 use Rattle.law_put_ties.specs.law_tie_facts.law_tunnel_steps.run_defs.Lines.{RunLine}
 use Rattle.law_put_ties.specs.law_tie_facts.law_tunnel_steps.run_defs.Units.{up_of, with_up}

@@ -8,8 +8,8 @@ use Rattle.gnb_types.specs.declared.names.UeId.{UeId}
 use Rattle.gnb_types.specs.declared.names.BearerId.{BearerId}
 use Rattle.gnb_types.specs.declared.keys.TunnelEnd.{TunnelEnd}
 use Rattle.message_types.specs.declared.rrc.Token.{Token}
-use Rattle.unit_defs.specs.Ways.{Pdu, Input}
-use Rattle.unit_defs.specs.UpRecords.{TunnelKind, n3, f1u_uplink, forwarding_down, forwarding_up}
+use Rattle.law_run_ties.specs.unit_defs.Ways.{Pdu, Input}
+use Rattle.law_run_ties.specs.unit_defs.UpRecords.{TunnelKind, n3, f1u_uplink, forwarding_down, forwarding_up}
 use Rattle.law_put_ties.specs.law_tie_facts.law_tunnel_steps.run_defs.Units.{up_of, with_up}
 use Rattle.law_put_ties.specs.law_tie_facts.law_tunnel_steps.run_defs.Runs.{Reading, Plain, plain_world, plain_way}
 use Rattle.law_put_ties.specs.law_tie_facts.law_tunnel_steps.Standing.{standing}
@@ -30,7 +30,7 @@ use Rattle.law_put_ties.proofs.law_tie_facts.law_bearer_lists.law_bearer_orders.
 use Rattle.law_put_ties.specs.law_tie_facts.law_run_units.Happenings.{UpRecord, kept_of}
 use Rattle.law_put_ties.specs.law_tie_facts.law_run_bearers.Things.{PlainUnits, takes as gets, after_things}
 use Rattle.law_put_ties.specs.law_tie_facts.law_run_bearers.Bearers.{Numbering, if_of, at_place, contexts_of, asked, after_changes, instance_in, if_given, changes_over, AllInOrder}
-use Rattle.law_run_bearers.proofs.Bearers.{things_go}
+use Rattle.law_run_ties.proofs.law_run_bearers.Bearers.{things_go}
 use Rattle.law_put_ties.specs.law_tie_facts.Ties.{RunState, RunItem, Owned, owned_at, downs_of, ups_of, IsMirror}
 use Rattle.law_put_ties.specs.law_tie_facts.Asked.{RunCause, IsUpStep, context_at, beside_of, AllAsk, down_after, up_after, AreTied, AreSound, step_asks as its_asks}
 use Rattle.law_put_ties.proofs.law_tie_facts.Puts.{Outs}

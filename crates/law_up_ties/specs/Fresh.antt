@@ -3,7 +3,7 @@ use Rattle.std.specs.Prelude.{◌≡◌, ◌≤◌, ℕ, []}
 use Rattle.gnb_types.specs.declared.names.Gnb.{Gnb}
 use Rattle.gnb_types.specs.declared.names.UeId.{UeId}
 use Rattle.gnb_types.specs.declared.names.BearerId.{BearerId}
-use Rattle.law_teids.specs.Given.{below}
+use Rattle.law_run_ties.specs.law_teids.Given.{below}
 use Rattle.law_put_ties.specs.law_tie_facts.law_tunnel_steps.run_defs.Units.{up_of}
 use Rattle.law_put_ties.specs.law_tie_facts.law_bearer_lists.uplink_defs.Parts as up_parts
 use Rattle.law_put_ties.specs.law_tie_facts.law_run_bearers.Bearers.{Numbering}

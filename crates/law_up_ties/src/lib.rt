@@ -20,7 +20,7 @@ ghost use Rattle.law_put_ties.specs.law_tie_facts.law_tunnel_steps.run_defs.Runs
 ghost use Rattle.law_up_ties.specs.Fresh.{UplinksAreFresh};
 ghost use Rattle.message_types.specs.declared.rrc.Token.{Token};
 ghost use Rattle.std.specs.Prelude.{[], List, None, Some, ◌≡◌, ℕ};
-ghost use Rattle.unit_defs.specs.Ways.{Input, Message, Output, Pdu};
+ghost use Rattle.law_run_ties.specs.unit_defs.Ways.{Input, Message, Output, Pdu};
 
 /// A tunnel that is a bearer's before a step of a CU-UP and after it is of the same context and kind; and on one that the step opens for
 /// the bearer nothing stands after it.

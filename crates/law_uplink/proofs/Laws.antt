@@ -6,22 +6,22 @@ use Rattle.std.specs.Ordering.{nat_cmp, is_eq}
 use Rattle.std.specs.Cmp.{tied_itself}
 use Rattle.std.proofs.lemmas.Cmp.{nat_cmp_total}
 use Rattle.std.proofs.lemmas.List.{take_all}
-use Rattle.tables.specs.Tables.{find}
+use Rattle.law_uplink_takes.specs.tables.Tables.{find}
 use Rattle.law_intervals.specs.Intervals.{segment, upto, reach}
 use Rattle.law_intervals.proofs.Intervals.{all_append, all_upto, upto-length, reach-le}
-use Rattle.law_chain.specs.Words.{IsInPlace}
-use Rattle.law_chain.proofs.Facts.{pairs}
-use Rattle.law_chain.proofs.Frames.{apart}
-use Rattle.law_chain.proofs.Runs.{stream, agrees}
-use Rattle.law_chain.proofs.Laws.{stream_at, first_ones}
-use Rattle.uplink_defs.specs.Parts.{Item, numbered, end_marker, Part, start}
-use Rattle.uplink_defs.specs.Orders.{Order, run, offers_in}
-use Rattle.uplink_defs.specs.Guards.{AreKept}
-use Rattle.uplink_defs.specs.Places.{has, IsAt}
+use Rattle.law_uplink_takes.specs.law_chain.Words.{IsInPlace}
+use Rattle.law_uplink_takes.proofs.law_chain.Facts.{pairs}
+use Rattle.law_uplink_takes.proofs.law_chain.Frames.{apart}
+use Rattle.law_uplink_takes.proofs.law_chain.Runs.{stream, agrees}
+use Rattle.law_uplink_takes.proofs.law_chain.Laws.{stream_at, first_ones}
+use Rattle.law_uplink_takes.specs.uplink_defs.Parts.{Item, numbered, end_marker, Part, start}
+use Rattle.law_uplink_takes.specs.uplink_defs.Orders.{Order, run, offers_in}
+use Rattle.law_uplink_takes.specs.uplink_defs.Guards.{AreKept}
+use Rattle.law_uplink_takes.specs.uplink_defs.Places.{has, IsAt}
 use Rattle.law_uplink.specs.Words.{DeliversInOrder, IsItemInPlace, CountsArePlaces, IsUnderWay, LosesNone, IsQuiet, HasDeliveredAll}
-use Rattle.law_uplink_facts.proofs.Items.{IsRight, IsRightItem, stands-none}
-use Rattle.law_uplink_facts.proofs.Receivers.{rises_has}
-use Rattle.law_uplink_facts.proofs.Facts.{view, StationIs, Own, Beyond, Kept, Good}
+use Rattle.law_uplink_takes.proofs.law_uplink_facts.Items.{IsRight, IsRightItem, stands-none}
+use Rattle.law_uplink_takes.proofs.law_uplink_facts.Receivers.{rises_has}
+use Rattle.law_uplink_takes.proofs.law_uplink_facts.Facts.{view, StationIs, Own, Beyond, Kept, Good}
 use Rattle.law_uplink.proofs.Runs.{all_offered, kept_run, good_start}
 
 -- ---- which COUNTs a sender holds

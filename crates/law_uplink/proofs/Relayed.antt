@@ -1,14 +1,14 @@
 -- What is asked in the worked runs is met.
 use Rattle.std.proofs.Common.{◌≡◌, ◌≢◌, ℕ, ◌<◌, ◌≤◌, ◌-◌, ◌==◌, ◌&&◌, ◌||◌, Bool, true, false, nat_lt, if◌then◌else◌, List, [], ◌∷◌, take, refl, sym, true≢false, arith}
-use Rattle.tables.specs.Tables.{find, put}
-use Rattle.pdcp_defs.specs.Senders.{numbered as with_next, confirmed_to, confirmed_by, is_set, is_reported}
-use Rattle.pdcp_defs.specs.Receivers.{is_duplicate, stored, deliver}
-use Rattle.unit_defs.specs.UpBearers.{made}
-use Rattle.law_chain.specs.Relay.{a, b, c, d}
-use Rattle.law_chain.proofs.Frames.{same, apart}
-use Rattle.uplink_defs.specs.Parts.{Member, start}
-use Rattle.uplink_defs.specs.Orders.{Order, after, run}
-use Rattle.uplink_defs.specs.Guards.{Feeds, IsUnfed, NoEnd, IsReady, IsOwed, AreKept}
+use Rattle.law_uplink_takes.specs.tables.Tables.{find, put}
+use Rattle.law_uplink_takes.specs.pdcp_defs.Senders.{numbered as with_next, confirmed_to, confirmed_by, is_set, is_reported}
+use Rattle.law_uplink_takes.specs.pdcp_defs.Receivers.{is_duplicate, stored, deliver}
+use Rattle.law_uplink_takes.specs.unit_defs.UpBearers.{made}
+use Rattle.law_uplink_takes.specs.law_chain.Relay.{a, b, c, d}
+use Rattle.law_uplink_takes.proofs.law_chain.Frames.{same, apart}
+use Rattle.law_uplink_takes.specs.uplink_defs.Parts.{Member, start}
+use Rattle.law_uplink_takes.specs.uplink_defs.Orders.{Order, after, run}
+use Rattle.law_uplink_takes.specs.uplink_defs.Guards.{Feeds, IsUnfed, NoEnd, IsReady, IsOwed, AreKept}
 use Rattle.law_uplink.specs.Relay.{relay, cancelled}
 
 -- ---- nobody sends on to a context

@@ -2,16 +2,16 @@
 use Rattle.std.proofs.Common.{◌≡◌, ℕ, zero, suc, ◌+◌, ◌-◌, ◌<◌, ◌≤◌, max, Bool, true, false, ◌&&◌, ◌||◌, nat_lt, if◌then◌else◌, List, [], ◌∷◌, ◌++◌, Option, Some, None, length, refl, sym, true≢false, arith}
 use Rattle.std.specs.Prelude.{replicate}
 use Rattle.std.specs.List.{AllByRecursion}
-use Rattle.pdcp_defs.specs.Senders.{is_set, is_reported}
-use Rattle.pdcp_defs.specs.Receivers.{bits_from, received_bits, is_duplicate}
-use Rattle.unit_defs.specs.UpRecords.{SourceHop}
-use Rattle.uplink_defs.specs.Parts.{uplink_tunnel, forwarding, Member, Part, start, with_rest}
-use Rattle.uplink_defs.specs.Orders.{Order, carries, takes, ends_uplink, ends_hop, after, run, stored_at, new_at, late_at, taken_at, ended_if, ended_at, is_up_over, without_uplink, offers_in}
-use Rattle.uplink_defs.specs.Guards.{AreKept}
-use Rattle.law_chain.proofs.Runs.{stream, agrees}
+use Rattle.law_uplink_takes.specs.pdcp_defs.Senders.{is_set, is_reported}
+use Rattle.law_uplink_takes.specs.pdcp_defs.Receivers.{bits_from, received_bits, is_duplicate}
+use Rattle.law_uplink_takes.specs.unit_defs.UpRecords.{SourceHop}
+use Rattle.law_uplink_takes.specs.uplink_defs.Parts.{uplink_tunnel, forwarding, Member, Part, start, with_rest}
+use Rattle.law_uplink_takes.specs.uplink_defs.Orders.{Order, carries, takes, ends_uplink, ends_hop, after, run, stored_at, new_at, late_at, taken_at, ended_if, ended_at, is_up_over, without_uplink, offers_in}
+use Rattle.law_uplink_takes.specs.uplink_defs.Guards.{AreKept}
+use Rattle.law_uplink_takes.proofs.law_chain.Runs.{stream, agrees}
 use Rattle.law_uplink.specs.Words.{Reports}
-use Rattle.law_uplink_facts.proofs.Items.{IsRight}
-use Rattle.law_uplink_facts.proofs.Facts.{Good}
+use Rattle.law_uplink_takes.proofs.law_uplink_facts.Items.{IsRight}
+use Rattle.law_uplink_takes.proofs.law_uplink_facts.Facts.{Good}
 use Rattle.law_uplink.proofs.Runs.{kept_run, good_start}
 
 -- ---- a bit that is set lies before the greatest COUNT that is stored

@@ -1,17 +1,17 @@
 -- The worked run comes to rest: nothing is under way any more.
 use Rattle.std.proofs.Common.{◌≡◌, ℕ, ◌==◌, ◌||◌, ◌++◌, if◌then◌else◌, nat_lt, Bool, true, false, List, [], ◌∷◌, Option, Some, None, refl, sym, ap, subst, ◌∙◌, true≢false, eqb-true}
 use Rattle.std.specs.Prelude.{⊤}
-use Rattle.tables.specs.Tables.{find, put}
-use Rattle.pdcp_defs.specs.Senders.{numbered as with_next, confirmed_to, confirmed_by}
-use Rattle.pdcp_defs.specs.Receivers.{is_duplicate, stored, deliver}
-use Rattle.unit_defs.specs.UpRecords.{SourceHop}
-use Rattle.unit_defs.specs.UpBearers.{made, released, thawed, is_one_of}
-use Rattle.chain_defs.specs.Parts.{set}
-use Rattle.chain_defs.specs.Orders.{frozen, known}
-use Rattle.law_chain.proofs.Frames.{apart}
-use Rattle.uplink_defs.specs.Parts.{Item, numbered, end_marker, Member, Part, start, new_member, no_member, uplink_tunnel, forwarding, with_rest}
-use Rattle.uplink_defs.specs.Orders.{Order, carries, marks, makes, adds, freezes, knows, switches, resumes, releases, closes, discards, takes, ends_uplink, ends_hop, late, stores, without_uplink, passed, stored_at, new_at, late_at, taken_at, is_up_over, with_ended, ended_if, ended_at, after, run}
-use Rattle.uplink_defs.specs.Guards.{IsOpen}
+use Rattle.law_uplink_takes.specs.tables.Tables.{find, put}
+use Rattle.law_uplink_takes.specs.pdcp_defs.Senders.{numbered as with_next, confirmed_to, confirmed_by}
+use Rattle.law_uplink_takes.specs.pdcp_defs.Receivers.{is_duplicate, stored, deliver}
+use Rattle.law_uplink_takes.specs.unit_defs.UpRecords.{SourceHop}
+use Rattle.law_uplink_takes.specs.unit_defs.UpBearers.{made, released, thawed, is_one_of}
+use Rattle.law_uplink_takes.specs.chain_defs.Parts.{set}
+use Rattle.law_uplink_takes.specs.chain_defs.Orders.{frozen, known}
+use Rattle.law_uplink_takes.proofs.law_chain.Frames.{apart}
+use Rattle.law_uplink_takes.specs.uplink_defs.Parts.{Item, numbered, end_marker, Member, Part, start, new_member, no_member, uplink_tunnel, forwarding, with_rest}
+use Rattle.law_uplink_takes.specs.uplink_defs.Orders.{Order, carries, marks, makes, adds, freezes, knows, switches, resumes, releases, closes, discards, takes, ends_uplink, ends_hop, late, stores, without_uplink, passed, stored_at, new_at, late_at, taken_at, is_up_over, with_ended, ended_if, ended_at, after, run}
+use Rattle.law_uplink_takes.specs.uplink_defs.Guards.{IsOpen}
 use Rattle.law_uplink.specs.Relay.{relay}
 use Rattle.law_uplink.specs.Words.{IsQuiet}
 

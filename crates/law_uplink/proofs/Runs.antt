@@ -2,21 +2,21 @@
 use Rattle.std.proofs.Common.{◌≡◌, ℕ, ◌+◌, ◌<◌, Bool, true, false, nat_lt, List, [], ◌∷◌, inl, inr, ◌⊎◌, ◌≢◌, Option, Some, None, length, refl, sym, ap, subst, ◌∙◌, true≢false, arith}
 use Rattle.std.specs.Prelude.{⊤}
 use Rattle.law_intervals.specs.Intervals.{segment, upto, HasNoGap, reach}
-use Rattle.pdcp_defs.specs.Receivers.{is_duplicate}
-use Rattle.unit_defs.specs.UpRecords.{SourceHop}
-use Rattle.unit_defs.specs.UpBearers.{made}
-use Rattle.chain_defs.specs.Parts.{set}
-use Rattle.law_chain.proofs.Frames.{apart}
-use Rattle.law_chain.proofs.Runs.{Agrees}
-use Rattle.uplink_defs.specs.Parts.{Item, numbered, Source, forwarding, uplink_tunnel, Member, Part, start, new_member, no_member, with_rest}
-use Rattle.uplink_defs.specs.Orders.{Order, offers, numbers, connects, leaves, arrives, carries, acknowledges, reports, marks, makes, adds, freezes, knows, switches, resumes, releases, closes, discards, takes, ends_uplink, ends_hop, after, stored_at, new_at, late_at, taken_at, ended_if, ended_at, is_up_over, without_uplink, run, offers_in}
-use Rattle.uplink_defs.specs.Guards.{IsTaken, IsReady, IsOwed, AreKept}
-use Rattle.law_uplink_facts.proofs.Items.{NoData, EndsLast}
-use Rattle.law_uplink_facts.proofs.Receivers.{Rises, is_old}
-use Rattle.law_uplink_facts.proofs.Facts.{Ghost, view, Fine, Passed, Kept, Good}
-use Rattle.law_uplink_facts.proofs.Frames.{either, put_one}
+use Rattle.law_uplink_takes.specs.pdcp_defs.Receivers.{is_duplicate}
+use Rattle.law_uplink_takes.specs.unit_defs.UpRecords.{SourceHop}
+use Rattle.law_uplink_takes.specs.unit_defs.UpBearers.{made}
+use Rattle.law_uplink_takes.specs.chain_defs.Parts.{set}
+use Rattle.law_uplink_takes.proofs.law_chain.Frames.{apart}
+use Rattle.law_uplink_takes.proofs.law_chain.Runs.{Agrees}
+use Rattle.law_uplink_takes.specs.uplink_defs.Parts.{Item, numbered, Source, forwarding, uplink_tunnel, Member, Part, start, new_member, no_member, with_rest}
+use Rattle.law_uplink_takes.specs.uplink_defs.Orders.{Order, offers, numbers, connects, leaves, arrives, carries, acknowledges, reports, marks, makes, adds, freezes, knows, switches, resumes, releases, closes, discards, takes, ends_uplink, ends_hop, after, stored_at, new_at, late_at, taken_at, ended_if, ended_at, is_up_over, without_uplink, run, offers_in}
+use Rattle.law_uplink_takes.specs.uplink_defs.Guards.{IsTaken, IsReady, IsOwed, AreKept}
+use Rattle.law_uplink_takes.proofs.law_uplink_facts.Items.{NoData, EndsLast}
+use Rattle.law_uplink_takes.proofs.law_uplink_facts.Receivers.{Rises, is_old}
+use Rattle.law_uplink_takes.proofs.law_uplink_facts.Facts.{Ghost, view, Fine, Passed, Kept, Good}
+use Rattle.law_uplink_takes.proofs.law_uplink_facts.Frames.{either, put_one}
 use Rattle.law_uplink_moves.proofs.Terminals.{kept_offers, kept_numbers, kept_connects, kept_leaves, kept_acknowledges, kept_reports}
-use Rattle.law_uplink_facts.proofs.Contexts.{kept_marks, kept_makes, kept_adds, kept_knows, kept_releases, kept_closes, kept_discards}
+use Rattle.law_uplink_takes.proofs.law_uplink_facts.Contexts.{kept_marks, kept_makes, kept_adds, kept_knows, kept_releases, kept_closes, kept_discards}
 use Rattle.law_uplink_takes.proofs.Takes.{kept_drops, passes}
 use Rattle.law_uplink_takes.proofs.Relays.{kept_relays, kept_passes}
 use Rattle.law_uplink_takes.proofs.Handing.{kept_switches, kept_resumes, kept_delivers}

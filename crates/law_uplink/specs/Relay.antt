@@ -1,9 +1,9 @@
 -- Runs that meet what is asked: packets forwarded through three contexts, and a handover that is cancelled.
 use Rattle.std.specs.Prelude.{ℕ, List, [], ◌∷◌, None}
-use Rattle.gnb_types.specs.declared.plans.SnStatus.{SnStatus}
-use Rattle.law_chain.specs.Relay.{a, b, c, d, hop_to}
-use Rattle.uplink_defs.specs.Parts.{numbered, end_marker, uplink_tunnel, forwarding}
-use Rattle.uplink_defs.specs.Orders.{Order, offers, numbers, connects, leaves, arrives, carries, acknowledges, reports, marks, makes, adds, freezes, knows, switches, resumes, releases, closes, discards, takes, ends_uplink, ends_hop}
+use Rattle.law_uplink_takes.specs.gnb_types.declared.plans.SnStatus.{SnStatus}
+use Rattle.law_uplink_takes.specs.law_chain.Relay.{a, b, c, d, hop_to}
+use Rattle.law_uplink_takes.specs.uplink_defs.Parts.{numbered, end_marker, uplink_tunnel, forwarding}
+use Rattle.law_uplink_takes.specs.uplink_defs.Orders.{Order, offers, numbers, connects, leaves, arrives, carries, acknowledges, reports, marks, makes, adds, freezes, knows, switches, resumes, releases, closes, discards, takes, ends_uplink, ends_hop}
 
 abbrev pub first_is : ℕ → SnStatus
 first_is count = record { bearer = record { 0 = 1 }; dl_next = 0; ul_first = count; ul_received = None }

@@ -1,12 +1,12 @@
 -- What the laws say of the uplink of one bearer, after some orders that offered these packets.
 use Rattle.std.specs.Prelude.{◌≡◌, ◌⊎◌, ℕ, ◌<◌, true, false, List, [], length, take, ⊤}
 use Rattle.std.specs.List.{AllByRecursion, enumerate_from}
-use Rattle.pdcp_defs.specs.Senders.{is_reported}
-use Rattle.pdcp_defs.specs.Receivers.{received_bits}
-use Rattle.law_chain.specs.Words.{IsInPlace}
-use Rattle.uplink_defs.specs.Parts.{Item, numbered, end_marker, uplink_tunnel, Part}
-use Rattle.uplink_defs.specs.Guards.{IsOpen}
-use Rattle.uplink_defs.specs.Places.{has, IsAt}
+use Rattle.law_uplink_takes.specs.pdcp_defs.Senders.{is_reported}
+use Rattle.law_uplink_takes.specs.pdcp_defs.Receivers.{received_bits}
+use Rattle.law_uplink_takes.specs.law_chain.Words.{IsInPlace}
+use Rattle.law_uplink_takes.specs.uplink_defs.Parts.{Item, numbered, end_marker, uplink_tunnel, Part}
+use Rattle.law_uplink_takes.specs.uplink_defs.Guards.{IsOpen}
+use Rattle.law_uplink_takes.specs.uplink_defs.Places.{has, IsAt}
 
 -- what was delivered is a prefix of what was offered, each packet once, and the COUNTs are 0, 1, 2 and so on
 unfoldable pub DeliversInOrder : List (List ℕ) → Part → Type 0

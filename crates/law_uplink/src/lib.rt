@@ -3,10 +3,10 @@
 #![tactic(auto)]
 
 ghost use Rattle.std.specs.Prelude.{◌≡◌, ◌<◌, ℕ, List, [], ◌∷◌};
-ghost use Rattle.uplink_defs.specs.Parts.{start};
-ghost use Rattle.uplink_defs.specs.Orders.{Order, run, offers_in};
-ghost use Rattle.uplink_defs.specs.Guards.{AreKept};
-ghost use Rattle.law_chain.specs.Relay.{a, b, c, d};
+ghost use Rattle.law_uplink_takes.specs.uplink_defs.Parts.{start};
+ghost use Rattle.law_uplink_takes.specs.uplink_defs.Orders.{Order, run, offers_in};
+ghost use Rattle.law_uplink_takes.specs.uplink_defs.Guards.{AreKept};
+ghost use Rattle.law_uplink_takes.specs.law_chain.Relay.{a, b, c, d};
 ghost use Rattle.law_uplink.specs.Relay.{relay, cancelled};
 ghost use Rattle.law_uplink.specs.Words.{DeliversInOrder, CountsArePlaces, LosesNone};
 ghost use Rattle.law_uplink.specs.Words.{IsQuiet, HasDeliveredAll, Reports};

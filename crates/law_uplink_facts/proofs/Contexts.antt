@@ -3,12 +3,12 @@
 use Rattle.std.proofs.Common.{inl, inr, ◌≡◌, ◌≢◌, ◌⊎◌, ℕ, ◌+◌, ◌<◌, ◌≤◌, Bool, true, false, not, ◌||◌, ◌==◌, List, [], ◌∷◌, ◌++◌, refl, sym, ap, subst, ◌∙◌, true≢false, arith}
 use Rattle.std.proofs.lemmas.List.Folds.{list_any-append}
 use Rattle.std.specs.List.{AllByRecursion}
-use Rattle.gnb_types.specs.declared.plans.SnStatus.{SnStatus}
-use Rattle.law_intervals.proofs.Intervals.{all_append}
-use Rattle.tables.specs.Tables.{find}
-use Rattle.unit_defs.specs.UpBearers.{made, is_one_of, no_uplink, released}
-use Rattle.chain_defs.specs.Parts.{set}
-use Rattle.chain_defs.specs.Orders.{known}
+use Rattle.law_chain.specs.gnb_types.declared.plans.SnStatus.{SnStatus}
+use Rattle.law_chain.proofs.law_intervals.Intervals.{all_append}
+use Rattle.uplink_defs.specs.tables.Tables.{find}
+use Rattle.law_chain.specs.unit_defs.UpBearers.{made, is_one_of, no_uplink, released}
+use Rattle.law_chain.specs.chain_defs.Parts.{set}
+use Rattle.law_chain.specs.chain_defs.Orders.{known}
 use Rattle.law_chain.proofs.Frames.{apart, set_here}
 use Rattle.uplink_defs.specs.Parts.{Item, end_marker, Member, Part, new_member, no_member}
 use Rattle.uplink_defs.specs.Orders.{marks, makes, adds, knows, releases, closes, discards, is_hop_up_done, after}

@@ -2,9 +2,9 @@
 -- stands on the way: on a tunnel of a context that the terminal was at, or stored where it is.
 use Rattle.std.specs.Prelude.{◌≡◌, ◌≢◌, ◌⊎◌, ℕ, ◌+◌, ◌<◌, ◌≤◌, Bool, true, false, List, [], ◌++◌, Option, Some, None}
 use Rattle.std.specs.List.{AllByRecursion}
-use Rattle.unit_defs.specs.UpRecords.{SourceHop}
-use Rattle.unit_defs.specs.UpBearers.{no_uplink}
-use Rattle.law_intervals.specs.Intervals.{upto, HasNoGap, reach}
+use Rattle.law_chain.specs.unit_defs.UpRecords.{SourceHop}
+use Rattle.law_chain.specs.unit_defs.UpBearers.{no_uplink}
+use Rattle.law_chain.specs.law_intervals.Intervals.{upto, HasNoGap, reach}
 use Rattle.law_chain.proofs.Facts.{pairs}
 use Rattle.uplink_defs.specs.Parts.{Item, Member, Part}
 use Rattle.uplink_defs.specs.Orders.{is_hop_up_done}

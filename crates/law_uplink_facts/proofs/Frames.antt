@@ -1,6 +1,6 @@
 -- One context changes; all others stay, also while more is delivered and carried up.
 use Rattle.std.proofs.Common.{inl, inr, ◌≡◌, ◌≢◌, ◌⊎◌, ℕ, ◌+◌, ◌<◌, ◌≤◌, ◌==◌, nat_lt, Bool, true, false, List, refl, sym, subst, ◌∙◌, eqb-true, arith}
-use Rattle.chain_defs.specs.Parts.{set}
+use Rattle.law_chain.specs.chain_defs.Parts.{set}
 use Rattle.law_chain.proofs.Frames.{apart, same, set_here, set_far, put_each, put_pairs}
 use Rattle.uplink_defs.specs.Parts.{Item, Member, Part}
 use Rattle.uplink_defs.specs.Guards.{Feeds, IsUnfed}

@@ -4,7 +4,7 @@ use Rattle.std.specs.Prelude.{⊤}
 use Rattle.std.specs.List.{AllByRecursion}
 use Rattle.std.specs.declared.cmp.Ordering.TheVariants.{Less, Equal, Greater}
 use Rattle.std.specs.Ordering.{nat_cmp, is_eq}
-use Rattle.tables.specs.Tables.{find}
+use Rattle.uplink_defs.specs.tables.Tables.{find}
 use Rattle.uplink_defs.specs.Parts.{Item, numbered, end_marker}
 use Rattle.uplink_defs.specs.Guards.{NoEnd}
 use Rattle.uplink_defs.specs.Places.{has, Stands}

@@ -3,3 +3,4 @@ pub mod Receivers
 pub mod Facts
 pub mod Frames
 pub mod Contexts
+pub use Rattle.law_chain.proofs as law_chain

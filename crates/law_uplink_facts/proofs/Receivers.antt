@@ -5,11 +5,11 @@ use Rattle.std.specs.List.{AllByRecursion}
 use Rattle.std.specs.declared.cmp.Ordering.TheVariants.{Less, Equal, Greater}
 use Rattle.std.specs.Ordering.{nat_cmp, is_eq, match_ordering, eq_by_cmp}
 use Rattle.std.proofs.lemmas.Cmp.{nat_cmp_total}
-use Rattle.tables.specs.Tables.{find, put}
-use Rattle.tables.proofs.TableLaws.{find-put, find-put-same}
-use Rattle.law_intervals.specs.Intervals.{upto}
-use Rattle.law_intervals.proofs.Intervals.{upto-nil, upto-cons}
-use Rattle.pdcp_defs.specs.Receivers.{Receiver, Delivery, is_duplicate, deliver, deliver_from, with_packet}
+use Rattle.uplink_defs.specs.tables.Tables.{find, put}
+use Rattle.uplink_defs.proofs.tables.TableLaws.{find-put, find-put-same}
+use Rattle.law_chain.specs.law_intervals.Intervals.{upto}
+use Rattle.law_chain.proofs.law_intervals.Intervals.{upto-nil, upto-cons}
+use Rattle.law_chain.specs.pdcp_defs.Receivers.{Receiver, Delivery, is_duplicate, deliver, deliver_from, with_packet}
 use Rattle.law_chain.proofs.Facts.{pairs}
 use Rattle.uplink_defs.specs.Places.{has}
 use Rattle.law_uplink_facts.proofs.Items.{IsRight, at_is}

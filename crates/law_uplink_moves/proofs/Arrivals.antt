@@ -3,12 +3,12 @@ use Rattle.std.proofs.Common.{inl, inr, ◌≡◌, ◌≢◌, ◌⊎◌, ℕ, �
 use Rattle.std.specs.List.{AllByRecursion}
 use Rattle.law_intervals.specs.Intervals.{HasNoGap, reach}
 use Rattle.law_intervals.proofs.Intervals.{all_append, reach-le}
-use Rattle.chain_defs.specs.Parts.{set}
-use Rattle.law_chain.proofs.Frames.{set_here, set_far, put_pairs}
-use Rattle.uplink_defs.specs.Parts.{Item, numbered, uplink_tunnel, Member, Part}
-use Rattle.uplink_defs.specs.Orders.{carries, arrives, after}
-use Rattle.uplink_defs.specs.Guards.{IsOpen, Feeds, NoEnd}
-use Rattle.uplink_defs.specs.Places.{has, Stands, IsAt}
+use Rattle.law_uplink_facts.specs.chain_defs.Parts.{set}
+use Rattle.law_uplink_facts.proofs.law_chain.Frames.{set_here, set_far, put_pairs}
+use Rattle.law_uplink_facts.specs.uplink_defs.Parts.{Item, numbered, uplink_tunnel, Member, Part}
+use Rattle.law_uplink_facts.specs.uplink_defs.Orders.{carries, arrives, after}
+use Rattle.law_uplink_facts.specs.uplink_defs.Guards.{IsOpen, Feeds, NoEnd}
+use Rattle.law_uplink_facts.specs.uplink_defs.Places.{has, Stands, IsAt}
 use Rattle.law_uplink_facts.proofs.Items.{IsRightItem, EndsLast, ends_last-put, stands-left, stands-right, stands-first}
 use Rattle.law_uplink_facts.proofs.Facts.{Ghost, View, view, Own, StationIs, Fine, Link, into, out, Linked, Ahead, Beyond, Passed, Radio, Kept, Good}
 use Rattle.law_uplink_facts.proofs.Frames.{either, put_one, tunnels_later, holds_later, kept_one, at_here}

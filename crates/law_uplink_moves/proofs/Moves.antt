@@ -1,14 +1,14 @@
 -- A handover keeps all: the context that the terminal is at freezes, and the terminal comes to the next one.
 use Rattle.std.proofs.Common.{inl, inr, ◌≡◌, ◌≢◌, ℕ, zero, suc, ◌<◌, true, false, List, ◌++◌, refl, sym, subst, ◌∙◌, true≢false, arith}
 use Rattle.law_intervals.proofs.Intervals.{all_append}
-use Rattle.unit_defs.specs.UpRecords.{SourceHop}
-use Rattle.chain_defs.specs.Parts.{set}
-use Rattle.chain_defs.specs.Orders.{frozen}
-use Rattle.law_chain.proofs.Frames.{apart, set_here, set_far}
-use Rattle.uplink_defs.specs.Parts.{Member, Part}
-use Rattle.uplink_defs.specs.Orders.{freezes, late, after}
-use Rattle.uplink_defs.specs.Guards.{IsUnfed, IsUntouched, NoEnd}
-use Rattle.uplink_defs.specs.Places.{has, Stands, IsAt}
+use Rattle.law_uplink_facts.specs.unit_defs.UpRecords.{SourceHop}
+use Rattle.law_uplink_facts.specs.chain_defs.Parts.{set}
+use Rattle.law_uplink_facts.specs.chain_defs.Orders.{frozen}
+use Rattle.law_uplink_facts.proofs.law_chain.Frames.{apart, set_here, set_far}
+use Rattle.law_uplink_facts.specs.uplink_defs.Parts.{Member, Part}
+use Rattle.law_uplink_facts.specs.uplink_defs.Orders.{freezes, late, after}
+use Rattle.law_uplink_facts.specs.uplink_defs.Guards.{IsUnfed, IsUntouched, NoEnd}
+use Rattle.law_uplink_facts.specs.uplink_defs.Places.{has, Stands, IsAt}
 use Rattle.law_uplink_facts.proofs.Items.{IsRightItem, late_right, late_no_end, late_stands, no_end-ends_last, ends_last-put, no_end-put, stands-left, stands-right}
 use Rattle.law_uplink_facts.proofs.Facts.{Ghost, View, view, Own, StationIs, out, into, Link, Passed, Kept, Good}
 use Rattle.law_uplink_facts.proofs.Frames.{kept_one, later_same, kept_ghost}

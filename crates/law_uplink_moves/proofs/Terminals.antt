@@ -5,11 +5,11 @@ use Rattle.std.proofs.lemmas.List.Elements.{filter-append}
 use Rattle.std.specs.List.{AllByRecursion}
 use Rattle.law_intervals.specs.Intervals.{upto, HasNoGap, reach}
 use Rattle.law_intervals.proofs.Intervals.{all_append, all_filter, all_upto, upto-snoc, upto-join, upto-head, upto-kept, upto-no_gap, upto-reach, reach-append, HasNoGap-append}
-use Rattle.pdcp_defs.specs.Senders.{numbered as with_next, confirmed_to, confirmed_by, is_reported}
-use Rattle.law_chain.proofs.Facts.{pairs}
-use Rattle.law_chain.proofs.Frames.{apart}
-use Rattle.uplink_defs.specs.Parts.{Part}
-use Rattle.uplink_defs.specs.Orders.{offers, numbers, connects, leaves, acknowledges, reports, after}
+use Rattle.law_uplink_facts.specs.pdcp_defs.Senders.{numbered as with_next, confirmed_to, confirmed_by, is_reported}
+use Rattle.law_uplink_facts.proofs.law_chain.Facts.{pairs}
+use Rattle.law_uplink_facts.proofs.law_chain.Frames.{apart}
+use Rattle.law_uplink_facts.specs.uplink_defs.Parts.{Part}
+use Rattle.law_uplink_facts.specs.uplink_defs.Orders.{offers, numbers, connects, leaves, acknowledges, reports, after}
 use Rattle.law_uplink_facts.proofs.Items.{IsRight, right_later}
 use Rattle.law_uplink_facts.proofs.Facts.{Ghost, Sends, Radio, Terminal, Kept, Good}
 use Rattle.law_uplink_facts.proofs.Frames.{kept_rest}

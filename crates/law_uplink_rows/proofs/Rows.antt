@@ -1,16 +1,16 @@
 -- The rows of a CU-UP on the uplink of one bearer, by what their orders do.
 use Rattle.std.proofs.Common.{◌≡◌, ℕ, Bool, true, false, not, ◌&&◌, if◌then◌else◌, nat_lt, List, [], ◌∷◌, ◌++◌, map, Some, None, refl, sym, ap, subst, ◌∙◌, append_assoc}
-use Rattle.gnb_types.specs.declared.reasons.DropReason.TheVariants.{Duplicate, Unexpected}
-use Rattle.gnb_types.specs.declared.names.NodeId.{NodeId}
-use Rattle.gnb_types.specs.declared.names.Dir.TheVariants.{Ul}
-use Rattle.gnb_types.specs.declared.outputs.Tag.TheVariants.{Absent, Own, Same}
-use Rattle.pdcp_defs.specs.Receivers.{is_duplicate, stored, deliver as handed_up}
-use Rattle.unit_defs.specs.Ways.{Load, Output, packet, deliver, closed, Way, Answer, gives, ◌then◌, nothing, puts, drops}
-use Rattle.unit_defs.specs.Ways as ways
-use Rattle.unit_defs.specs.UpRecords.{UpBearer, SourceHop, UpAt}
-use Rattle.unit_defs.specs.UpBearers.{forwarded_up, frozen_to, deliver_stored, delivered, no_uplink}
-use Rattle.unit_defs.specs.UpItems.{took_uplink, uplink_ended, up_ended, up_hop_ends, up_hop_ends_if}
-use Rattle.chain_defs.specs.Orders.{frozen}
+use Rattle.uplink_defs.specs.gnb_types.declared.reasons.DropReason.TheVariants.{Duplicate, Unexpected}
+use Rattle.uplink_defs.specs.gnb_types.declared.names.NodeId.{NodeId}
+use Rattle.uplink_defs.specs.gnb_types.declared.names.Dir.TheVariants.{Ul}
+use Rattle.uplink_defs.specs.gnb_types.declared.outputs.Tag.TheVariants.{Absent, Own, Same}
+use Rattle.uplink_defs.specs.pdcp_defs.Receivers.{is_duplicate, stored, deliver as handed_up}
+use Rattle.uplink_defs.specs.unit_defs.Ways.{Load, Output, packet, deliver, closed, Way, Answer, gives, ◌then◌, nothing, puts, drops}
+use Rattle.uplink_defs.specs.unit_defs.Ways as ways
+use Rattle.uplink_defs.specs.unit_defs.UpRecords.{UpBearer, SourceHop, UpAt}
+use Rattle.uplink_defs.specs.unit_defs.UpBearers.{forwarded_up, frozen_to, deliver_stored, delivered, no_uplink}
+use Rattle.uplink_defs.specs.unit_defs.UpItems.{took_uplink, uplink_ended, up_ended, up_hop_ends, up_hop_ends_if}
+use Rattle.uplink_defs.specs.chain_defs.Orders.{frozen}
 use Rattle.law_chain_rows.proofs.Rows.{down, up, put_up_is, numbered_are, fresh_are, late_are}
 use Rattle.uplink_defs.specs.Parts.{numbered, end_marker}
 use Rattle.uplink_defs.specs.Orders.{late, is_hop_up_done}

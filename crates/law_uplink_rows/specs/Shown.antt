@@ -1,9 +1,9 @@
 -- What a row gives to the uplink of its bearer: items for the next context, packets that are delivered, and the bearer.
 use Rattle.std.specs.Prelude.{◌≡◌, ◌==◌, ℕ, not, List, [], ◌∷◌, ◌++◌, filter, ⊤}
-use Rattle.gnb_types.specs.declared.names.Dir.TheVariants.{Ul}
-use Rattle.unit_defs.specs.Ways.{Load, Output, packet, deliver, Answer, gives, spent}
-use Rattle.unit_defs.specs.Ways as ways
-use Rattle.unit_defs.specs.UpRecords.{UpBearer}
+use Rattle.uplink_defs.specs.gnb_types.declared.names.Dir.TheVariants.{Ul}
+use Rattle.uplink_defs.specs.unit_defs.Ways.{Load, Output, packet, deliver, Answer, gives, spent}
+use Rattle.uplink_defs.specs.unit_defs.Ways as ways
+use Rattle.uplink_defs.specs.unit_defs.UpRecords.{UpBearer}
 use Rattle.uplink_defs.specs.Parts.{Item, numbered, end_marker}
 
 -- what goes up to the next context, in order

@@ -3,14 +3,14 @@
 #![tactic(auto)]
 
 ghost use Rattle.std.specs.Prelude.{◌≡◌, ℕ, Bool, true, false, not, ◌&&◌, nat_lt, List, [], ◌∷◌, Some, None};
-ghost use Rattle.gnb_types.specs.declared.names.NodeId.{NodeId};
-ghost use Rattle.message_types.specs.declared.rrc.Token.{Token};
-ghost use Rattle.pdcp_defs.specs.Receivers.{is_duplicate, stored, deliver};
-ghost use Rattle.unit_defs.specs.Ways.{Message, Pdu, Way};
-ghost use Rattle.unit_defs.specs.UpRecords.{UpBearer, SourceHop, UpAt};
-ghost use Rattle.unit_defs.specs.UpBearers.{frozen_to, deliver_stored, no_uplink};
-ghost use Rattle.unit_defs.specs.UpItems.{took_uplink, uplink_ended, up_ended};
-ghost use Rattle.chain_defs.specs.Orders.{frozen};
+ghost use Rattle.uplink_defs.specs.gnb_types.declared.names.NodeId.{NodeId};
+ghost use Rattle.uplink_defs.specs.message_types.declared.rrc.Token.{Token};
+ghost use Rattle.uplink_defs.specs.pdcp_defs.Receivers.{is_duplicate, stored, deliver};
+ghost use Rattle.uplink_defs.specs.unit_defs.Ways.{Message, Pdu, Way};
+ghost use Rattle.uplink_defs.specs.unit_defs.UpRecords.{UpBearer, SourceHop, UpAt};
+ghost use Rattle.uplink_defs.specs.unit_defs.UpBearers.{frozen_to, deliver_stored, no_uplink};
+ghost use Rattle.uplink_defs.specs.unit_defs.UpItems.{took_uplink, uplink_ended, up_ended};
+ghost use Rattle.uplink_defs.specs.chain_defs.Orders.{frozen};
 ghost use Rattle.uplink_defs.specs.Parts.{numbered, end_marker};
 ghost use Rattle.uplink_defs.specs.Orders.{late, is_hop_up_done};
 ghost use Rattle.law_uplink_rows.specs.Shown.{Gives, closed_at};

@@ -1,14 +1,14 @@
 -- The End Markers of the uplink tunnels and of the hop keep all: nothing stands after one, and the one that goes on comes last.
 use Rattle.std.proofs.Common.{inl, inr, ◌≡◌, ◌≢◌, ◌⊎◌, ℕ, Bool, true, false, not, ◌&&◌, ◌||◌, ◌==◌, List, [], ◌∷◌, filter, cond, Option, Some, None, refl, sym, ap, subst, ◌∙◌, true≢false, eqb-true, arith}
 use Rattle.std.specs.List.{AllByRecursion}
-use Rattle.unit_defs.specs.UpRecords.{SourceHop}
-use Rattle.unit_defs.specs.UpBearers.{is_one_of, no_uplink}
-use Rattle.chain_defs.specs.Parts.{set}
-use Rattle.law_chain.proofs.Frames.{apart, set_here, set_far}
-use Rattle.uplink_defs.specs.Parts.{Item, end_marker, uplink_tunnel, forwarding, Member, Part}
-use Rattle.uplink_defs.specs.Orders.{ends_uplink, ends_hop, is_up_over, ended_if, ended_at, put_on, passed, after}
-use Rattle.uplink_defs.specs.Guards.{IsTaken, NoEnd}
-use Rattle.uplink_defs.specs.Places.{Stands, IsOnTunnel, IsAt}
+use Rattle.law_uplink_facts.specs.unit_defs.UpRecords.{SourceHop}
+use Rattle.law_uplink_facts.specs.unit_defs.UpBearers.{is_one_of, no_uplink}
+use Rattle.law_uplink_facts.specs.chain_defs.Parts.{set}
+use Rattle.law_uplink_facts.proofs.law_chain.Frames.{apart, set_here, set_far}
+use Rattle.law_uplink_facts.specs.uplink_defs.Parts.{Item, end_marker, uplink_tunnel, forwarding, Member, Part}
+use Rattle.law_uplink_facts.specs.uplink_defs.Orders.{ends_uplink, ends_hop, is_up_over, ended_if, ended_at, put_on, passed, after}
+use Rattle.law_uplink_facts.specs.uplink_defs.Guards.{IsTaken, NoEnd}
+use Rattle.law_uplink_facts.specs.uplink_defs.Places.{Stands, IsOnTunnel, IsAt}
 use Rattle.law_uplink_facts.proofs.Items.{IsRightItem, NoData, EndsLast, no_data-put, no_data-stands, no_data-ends_last, ends_last-end, rest_no_data, rest_right, end_is_there, stands-end}
 use Rattle.law_uplink_facts.proofs.Facts.{Ghost, View, view, is_ended, Tunnels, Own, Passed, Kept, Good}
 use Rattle.law_uplink_facts.proofs.Frames.{either, put_one, kept_one, later_same}

@@ -3,18 +3,18 @@ use Rattle.std.proofs.Common.{inl, inr, ◌≡◌, ◌⊎◌, ℕ, ◌+◌, ◌<
 use Rattle.std.proofs.lemmas.List.{append-nil}
 use Rattle.std.specs.List.{AllByRecursion}
 use Rattle.std.specs.Ordering.{nat_cmp}
-use Rattle.tables.specs.Tables.{put}
+use Rattle.law_uplink_facts.specs.tables.Tables.{put}
 use Rattle.law_intervals.specs.Intervals.{upto}
 use Rattle.law_intervals.proofs.Intervals.{upto-join}
-use Rattle.pdcp_defs.specs.Receivers.{Receiver, Delivery, is_duplicate, stored, deliver, deliver_from}
-use Rattle.unit_defs.specs.UpBearers.{thawed, no_uplink}
-use Rattle.chain_defs.specs.Parts.{set}
-use Rattle.law_chain.proofs.Facts.{pairs}
-use Rattle.law_chain.proofs.Frames.{apart}
-use Rattle.uplink_defs.specs.Parts.{Item, numbered, Source, uplink_tunnel, forwarding, Member, Part, items_at, forwarded_left, with_rest}
-use Rattle.uplink_defs.specs.Orders.{switches, resumes, stores, is_hop_up_done, handed, after}
-use Rattle.uplink_defs.specs.Guards.{IsTaken, NoEnd}
-use Rattle.uplink_defs.specs.Places.{has, IsOnTunnel, IsAt}
+use Rattle.law_uplink_facts.specs.pdcp_defs.Receivers.{Receiver, Delivery, is_duplicate, stored, deliver, deliver_from}
+use Rattle.law_uplink_facts.specs.unit_defs.UpBearers.{thawed, no_uplink}
+use Rattle.law_uplink_facts.specs.chain_defs.Parts.{set}
+use Rattle.law_uplink_facts.proofs.law_chain.Facts.{pairs}
+use Rattle.law_uplink_facts.proofs.law_chain.Frames.{apart}
+use Rattle.law_uplink_facts.specs.uplink_defs.Parts.{Item, numbered, Source, uplink_tunnel, forwarding, Member, Part, items_at, forwarded_left, with_rest}
+use Rattle.law_uplink_facts.specs.uplink_defs.Orders.{switches, resumes, stores, is_hop_up_done, handed, after}
+use Rattle.law_uplink_facts.specs.uplink_defs.Guards.{IsTaken, NoEnd}
+use Rattle.law_uplink_facts.specs.uplink_defs.Places.{has, IsOnTunnel, IsAt}
 use Rattle.law_uplink_facts.proofs.Items.{IsRight, rest_no_end}
 use Rattle.law_uplink_facts.proofs.Receivers.{Rises, rises_less, rises_put, right_put, has_more, has_new, is_new, hands}
 use Rattle.law_uplink_facts.proofs.Facts.{Ghost, View, view, Tunnels, Flags, Own, StationIs, Beyond, Kept, Good}

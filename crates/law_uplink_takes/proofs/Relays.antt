@@ -1,14 +1,14 @@
 -- What a frozen or a released context takes goes on to the next one.
 use Rattle.std.proofs.Common.{inl, inr, ◌≡◌, ◌≢◌, ◌⊎◌, ℕ, ◌+◌, ◌<◌, ◌==◌, Bool, true, false, if◌then◌else◌, List, [], ◌∷◌, refl, sym, ap, subst, ◌∙◌, eqb-true, arith}
 use Rattle.std.specs.Ordering.{nat_cmp}
-use Rattle.tables.specs.Tables.{put}
-use Rattle.pdcp_defs.specs.Receivers.{is_duplicate, stored}
-use Rattle.chain_defs.specs.Parts.{set}
-use Rattle.law_chain.proofs.Frames.{apart, set_here, set_far}
-use Rattle.uplink_defs.specs.Parts.{Item, numbered, Source, Member, Part, with_rest}
-use Rattle.uplink_defs.specs.Orders.{stores, is_hop_up_done, put_on, passed}
-use Rattle.uplink_defs.specs.Guards.{IsTaken, Feeds, NoEnd}
-use Rattle.uplink_defs.specs.Places.{has, Stands}
+use Rattle.law_uplink_facts.specs.tables.Tables.{put}
+use Rattle.law_uplink_facts.specs.pdcp_defs.Receivers.{is_duplicate, stored}
+use Rattle.law_uplink_facts.specs.chain_defs.Parts.{set}
+use Rattle.law_uplink_facts.proofs.law_chain.Frames.{apart, set_here, set_far}
+use Rattle.law_uplink_facts.specs.uplink_defs.Parts.{Item, numbered, Source, Member, Part, with_rest}
+use Rattle.law_uplink_facts.specs.uplink_defs.Orders.{stores, is_hop_up_done, put_on, passed}
+use Rattle.law_uplink_facts.specs.uplink_defs.Guards.{IsTaken, Feeds, NoEnd}
+use Rattle.law_uplink_facts.specs.uplink_defs.Places.{has, Stands}
 use Rattle.law_uplink_facts.proofs.Items.{EndsLast, ends_last-put, no_end-put, stands-left, stands-right, stands-first}
 use Rattle.law_uplink_facts.proofs.Receivers.{rises_put, right_put, has_more, has_new, has_either, is_new}
 use Rattle.law_uplink_facts.proofs.Facts.{Ghost, View, view, is_ended, Holds, Own, Link, into, out, Beyond, Passed, Kept}

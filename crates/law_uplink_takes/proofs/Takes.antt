@@ -3,15 +3,15 @@
 use Rattle.std.proofs.Common.{inl, inr, ◌≡◌, ◌≢◌, ◌⊎◌, ℕ, ◌+◌, ◌<◌, ◌≤◌, Bool, true, false, not, List, [], ◌∷◌, ◌++◌, None, refl, sym, ap, subst, arith}
 use Rattle.std.specs.List.{AllByRecursion}
 use Rattle.law_intervals.proofs.Intervals.{all_append}
-use Rattle.gnb_types.specs.declared.reasons.HeldReason.TheVariants.{NoStatus, NotArrived, Early}
-use Rattle.unit_defs.specs.UpBearers.{no_uplink}
-use Rattle.unit_defs.specs.UpItems.{first_held, held_as_target}
-use Rattle.chain_defs.specs.Parts.{set}
-use Rattle.law_chain.proofs.Frames.{apart}
-use Rattle.uplink_defs.specs.Parts.{Item, numbered, Source, uplink_tunnel, forwarding, Member, Part, items_at, standing, uplink_left, forwarded_left, with_rest}
-use Rattle.uplink_defs.specs.Orders.{is_hop_up_done, changed, put_on}
-use Rattle.uplink_defs.specs.Guards.{IsOpen, IsTaken, Feeds, NoEnd, kind_of}
-use Rattle.uplink_defs.specs.Places.{has, Stands, IsOnTunnel, IsAt}
+use Rattle.law_uplink_facts.specs.gnb_types.declared.reasons.HeldReason.TheVariants.{NoStatus, NotArrived, Early}
+use Rattle.law_uplink_facts.specs.unit_defs.UpBearers.{no_uplink}
+use Rattle.law_uplink_facts.specs.unit_defs.UpItems.{first_held, held_as_target}
+use Rattle.law_uplink_facts.specs.chain_defs.Parts.{set}
+use Rattle.law_uplink_facts.proofs.law_chain.Frames.{apart}
+use Rattle.law_uplink_facts.specs.uplink_defs.Parts.{Item, numbered, Source, uplink_tunnel, forwarding, Member, Part, items_at, standing, uplink_left, forwarded_left, with_rest}
+use Rattle.law_uplink_facts.specs.uplink_defs.Orders.{is_hop_up_done, changed, put_on}
+use Rattle.law_uplink_facts.specs.uplink_defs.Guards.{IsOpen, IsTaken, Feeds, NoEnd, kind_of}
+use Rattle.law_uplink_facts.specs.uplink_defs.Places.{has, Stands, IsOnTunnel, IsAt}
 use Rattle.law_uplink_facts.proofs.Items.{IsRightItem, NoData, EndsLast, rest_ends_last, rest_no_end, data_is_there, first_right, stands-left, stands-one}
 use Rattle.law_uplink_facts.proofs.Facts.{Ghost, View, view, is_ended, Tunnels, Holds, Own, Beyond, Passed, Kept}
 use Rattle.law_uplink_facts.proofs.Frames.{either, put_one, kept_one, later_same, at_here, at_far}

@@ -11,7 +11,7 @@ use Rattle.aper_types.specs.Types.{tree}
 use Rattle.law_json_modules.proofs.Law.{shown, readable}
 use Rattle.json_shown_defs.specs.Printed.{shown_as}
 use Rattle.json_type_defs.specs.Types.{named}
-use Rattle.values_json.specs.Texts.{IsReadAgain, IsTextOf}
+use Rattle.command_values.specs.values_json.Texts.{IsReadAgain, IsTextOf}
 use Rattle.command_values.specs.declared.way.Way.TheVariants.{Encode, Decode}
 use Rattle.command_values.specs.Answers.{IsAnswered}
 

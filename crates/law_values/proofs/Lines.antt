@@ -24,7 +24,7 @@ use Rattle.json_shown_defs.specs.Printed.{shown_as}
 use Rattle.json_type_defs.specs.Types.{named}
 use Rattle.json_proof_lawful.proofs.Law.{exact, not_both}
 use Rattle.json_proof_modules.proofs.Bounded.{bounded}
-use Rattle.values_json.specs.Texts.{IsJson, IsTextOf}
+use Rattle.command_values.specs.values_json.Texts.{IsJson, IsTextOf}
 use Rattle.command_values.specs.declared.way.Way.{Way}
 use Rattle.command_values.specs.declared.way.Way.TheVariants.{Encode, Decode}
 use Rattle.command_values.specs.declared.answer.Wrong.{Wrong}

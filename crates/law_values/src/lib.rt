@@ -10,7 +10,7 @@ ghost use Rattle.aper_defs.specs.Membership.{Has};
 ghost use Rattle.aper_types.specs.Types.{tree};
 ghost use Rattle.json_shown_defs.specs.Printed.{shown_as};
 ghost use Rattle.json_type_defs.specs.Types.{named};
-ghost use Rattle.values_json.specs.Texts.{IsReadAgain, IsTextOf};
+ghost use Rattle.command_values.specs.values_json.Texts.{IsReadAgain, IsTextOf};
 ghost use Rattle.command_values.specs.declared.way.Way.{Way};
 ghost use Rattle.command_values.specs.declared.way.Way.TheVariants.{Encode, Decode};
 ghost use Rattle.command_values.specs.declared.answer.Wrong.{Wrong};

@@ -3,9 +3,9 @@ use Rattle.std.proofs.Common.{◌≡◌, ℕ, ◌+◌, ◌≤◌, max, Bool, tru
 use Rattle.std.proofs.lemmas.List.{append-nil}
 use Rattle.law_intervals.specs.Intervals.{HasNoGap, reach}
 use Rattle.law_intervals.proofs.Intervals.{reach-le, reach-append}
-use Rattle.chain_defs.specs.Parts.{Part}
-use Rattle.unit_defs.specs.Ways.{Pdu, packet_pdu, report_pdu}
-use Rattle.unit_defs.specs.Du.{DuBearer}
+use Rattle.law_heard_packets.specs.chain_defs.Parts.{Part}
+use Rattle.law_downlink_path.specs.unit_defs.Ways.{Pdu, packet_pdu, report_pdu}
+use Rattle.law_downlink_path.specs.unit_defs.Du.{DuBearer}
 use Rattle.law_downlink_path.specs.Paths.{Frame, carried_by, gap_after, taken_by}
 use Rattle.law_heard_packets.specs.Heard.{WasPut}
 use Rattle.law_waiting_frames.specs.Frames.{Fits, MayPut, needed_after, Stand, IsLine}

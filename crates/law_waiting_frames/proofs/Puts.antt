@@ -4,10 +4,10 @@ use Rattle.std.proofs.lemmas.List.{append_assoc, append-nil}
 use Rattle.std.specs.List.{AllByRecursion}
 use Rattle.law_intervals.specs.Intervals.{HasNoGap, reach}
 use Rattle.law_intervals.proofs.Intervals.{reach-le}
-use Rattle.chain_defs.specs.Parts.{Part}
-use Rattle.unit_defs.specs.Ways.{Pdu, packet_pdu, report_pdu}
-use Rattle.unit_defs.specs.UpRecords.{Downlink, UpBearer}
-use Rattle.unit_defs.specs.Du.{DuBearer}
+use Rattle.law_heard_packets.specs.chain_defs.Parts.{Part}
+use Rattle.law_downlink_path.specs.unit_defs.Ways.{Pdu, packet_pdu, report_pdu}
+use Rattle.law_downlink_path.specs.unit_defs.UpRecords.{Downlink, UpBearer}
+use Rattle.law_downlink_path.specs.unit_defs.Du.{DuBearer}
 use Rattle.law_downlink_path.specs.Paths.{Frame, Sending, frame_on, packets_sent}
 use Rattle.law_downlink_path.proofs.Puts.{then_needs}
 use Rattle.law_heard_packets.specs.Heard.{WasPut}

@@ -1,11 +1,11 @@
 -- The frames that stand on a DU's downlink tunnel, between the chain of contexts and the radio down: what the DU takes next, if nothing
--- more is lost, leaves no gap behind what waits on the radio. Which numbers the frames needn't have: any may be lost.
+-- more is lost, leaves no gap after what waits on the radio. Which numbers the frames needn't have: any may be lost.
 use Rattle.std.specs.Prelude.{◌≡◌, ℕ, ◌+◌, ◌≤◌, max, Bool, true, false, if◌then◌else◌, List, [], ◌∷◌, Option, Some, None, ⊤}
 use Rattle.std.specs.List.{AllByRecursion}
 use Rattle.law_intervals.specs.Intervals.{HasNoGap, reach}
-use Rattle.chain_defs.specs.Parts.{Part}
-use Rattle.unit_defs.specs.Ways.{Pdu, packet_pdu, report_pdu}
-use Rattle.unit_defs.specs.Du.{DuBearer}
+use Rattle.law_heard_packets.specs.chain_defs.Parts.{Part}
+use Rattle.law_downlink_path.specs.unit_defs.Ways.{Pdu, packet_pdu, report_pdu}
+use Rattle.law_downlink_path.specs.unit_defs.Du.{DuBearer}
 use Rattle.law_downlink_path.specs.Paths.{Frame}
 use Rattle.law_heard_packets.specs.Heard.{WasPut}
 

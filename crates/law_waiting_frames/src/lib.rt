@@ -5,15 +5,15 @@
 ghost use Rattle.std.specs.Prelude.{max, ◌≡◌, ◌+◌, ◌≤◌, ℕ, false, List, [], ◌∷◌, ◌++◌, Some, length};
 ghost use Rattle.std.specs.List.{AllByRecursion};
 ghost use Rattle.law_intervals.specs.Intervals.{HasNoGap, reach};
-ghost use Rattle.chain_defs.specs.Parts.{Part};
-ghost use Rattle.unit_defs.specs.UpRecords.{Downlink, UpBearer};
-ghost use Rattle.unit_defs.specs.Du.{DuBearer};
+ghost use Rattle.law_heard_packets.specs.chain_defs.Parts.{Part};
+ghost use Rattle.law_downlink_path.specs.unit_defs.UpRecords.{Downlink, UpBearer};
+ghost use Rattle.law_downlink_path.specs.unit_defs.Du.{DuBearer};
 ghost use Rattle.law_downlink_path.specs.Paths.{carried_by, Frame, gap_after, packets_sent, taken_by};
 ghost use Rattle.law_heard_packets.specs.Heard.{WasPut};
 ghost use Rattle.law_waiting_frames.specs.Frames.{Fits, from_here, IsLine, MayPutAll, needed_by};
 
 /// Where the frames on its tunnel are so, what the DU takes from the first one, and puts on the radio, fits there; and those that are
-/// left are so behind it.
+/// left are so after it.
 pub fn a_du_puts_what_fits()
     ensures { (d : Part) (b : DuBearer) (f : Frame) (rest : List Frame)
         (waits : List (ℕ × List ℕ)) (next needed : ℕ)

@@ -3,3 +3,8 @@
 #![tactic(auto)]
 
 pub mod tallies;
+
+/// Of `transport_defs`, for crates above.
+pub mod from_transport_defs {
+    pub use transport_defs::{Item, Letter};
+}

@@ -12,11 +12,11 @@ use Rattle.gnb_types.specs.Orders.{entity_cmp}
 use Rattle.gnb_types.proofs.OrderLemmas.{entity_total}
 use Rattle.tables.specs.Tables.{find, put, without, at}
 use Rattle.tables.proofs.TableLaws.{sorted-put, sorted-without}
-use Rattle.transport_defs.specs.declared.Item.{Item}
-use Rattle.transport_defs.specs.Links.{Radio, silent, nth}
-use Rattle.link_tallies.specs.Tallies.{Tallies, entered, left, all_left}
-use Rattle.link_tallies.specs.Tied.{AreTallies, weight}
-use Rattle.link_tallies.proofs.TiedLemmas.{StandThere, stand_found, tallies-put, tallies-take, tallies-same, tallies-without, tallies-none, tallies-undone}
+use Rattle.links_bag.specs.transport_defs.declared.Item.{Item}
+use Rattle.links_bag.specs.transport_defs.Links.{Radio, silent, nth}
+use Rattle.links_bag.specs.link_tallies.Tallies.{Tallies, entered, left, all_left}
+use Rattle.links_bag.specs.link_tallies.Tied.{AreTallies, weight}
+use Rattle.links_bag.proofs.link_tallies.TiedLemmas.{StandThere, stand_found, tallies-put, tallies-take, tallies-same, tallies-without, tallies-none, tallies-undone}
 use Rattle.links.specs.Radios.{with_item, carried_on, Confirms}
 use Rattle.links.specs.inside.Kept.{RadiosAreKept}
 use Rattle.links_bag.proofs.Entries.{sorted_none}

@@ -8,7 +8,7 @@ use Rattle.gnb_types.specs.declared.keys.TunnelEnd.{TunnelEnd}
 use Rattle.gnb_types.specs.declared.keys.EntityKey.{EntityKey}
 use Rattle.gnb_types.specs.Orders.{tunnel_cmp}
 use Rattle.tables.specs.Tables.{find, put, without, at, first_entry, entry_after}
-use Rattle.transport_defs.specs.declared.Item.{Item}
+use Rattle.links_bag.specs.transport_defs.declared.Item.{Item}
 use Rattle.links_bag.specs.declared.error.LinkError.TheVariants as errors
 use Rattle.links_bag.specs.Answers.{Answer, gives, refuses}
 

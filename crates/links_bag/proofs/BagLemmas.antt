@@ -17,8 +17,8 @@ use Rattle.gnb_types.proofs.Choices.{by_test}
 use Rattle.tables.specs.Tables.{find, put, without, at, first_entry, IsSorted}
 use Rattle.tables.specs.Queues.{first_item}
 use Rattle.tables.proofs.TableLaws.{at-put, sorted-put, sorted-without, sum-without}
-use Rattle.transport_defs.specs.declared.Letter.{Letter}
-use Rattle.transport_defs.specs.Links.{Bag, most_letters, put_letter, letter, landed, is_in, is_of, in_flight_of, nth}
+use Rattle.link_tallies.specs.transport_defs.declared.Letter.{Letter}
+use Rattle.link_tallies.specs.transport_defs.Links.{Bag, most_letters, put_letter, letter, landed, is_in, is_of, in_flight_of, nth}
 use Rattle.link_tallies.specs.Tied.{one_if}
 use Rattle.link_tallies.specs.Tallies.{key_in}
 use Rattle.links_bag.specs.declared.error.LinkError.TheVariants as errors

@@ -10,7 +10,7 @@ use Rattle.std.specs.BTreeMap.{is_at, insert_entry}
 use Rattle.std.proofs.lemmas.Bool.Decides.{nat_tests}
 use Rattle.std.proofs.lemmas.Map.Keys.{sorted_from_all_adjacent}
 use Rattle.tables.specs.Tables.{find, put, without, IsSorted}
-use Rattle.transport_defs.specs.Links.{nth}
+use Rattle.link_tallies.specs.transport_defs.Links.{nth}
 
 pub sorted_none : {K X : Type 0} {R : K → K → Ordering} (o : IsTotalOrder R) (k : K) (m : List (K × X)) → m ≡ [] → IsSorted R m
 sorted_none {K = K} {X = X} {R = R} o k m is =

@@ -1,8 +1,8 @@
 -- The control messages that were ever put, and what the calls of their bag give. Message n is the n-th that was put.
 use Rattle.std.specs.Prelude.{ℕ, ◌+◌, nat_lt, if◌then◌else◌, List, length, Option, Some, None}
 use Rattle.gnb_types.specs.declared.names.NodeId.{NodeId}
-use Rattle.transport_defs.specs.declared.Letter.{Letter}
-use Rattle.transport_defs.specs.Links.{Bag, most_letters, put_letter, letter, landed, is_in, in_flight_of}
+use Rattle.link_tallies.specs.transport_defs.declared.Letter.{Letter}
+use Rattle.link_tallies.specs.transport_defs.Links.{Bag, most_letters, put_letter, letter, landed, is_in, in_flight_of}
 use Rattle.links_bag.specs.declared.error.LinkError.TheVariants as errors
 use Rattle.links_bag.specs.Answers.{Answer, gives, refuses}
 

@@ -5,7 +5,7 @@ ghost use Rattle.std.specs.List.Sorted.{IsStrictlySortedBy};
 ghost use Rattle.std.specs.Ordering.{nat_cmp};
 ghost use Rattle.tables.specs.Queues.{first_item};
 ghost use Rattle.tables.specs.Tables.{find, put as put_at, at};
-ghost use Rattle.transport_defs.specs.Links.{no_letters, most_letters, letter, landed, is_in, in_flight_of};
+ghost use Rattle.link_tallies.specs.transport_defs.Links.{no_letters, most_letters, letter, landed, is_in, in_flight_of};
 ghost use Rattle.links_bag.specs.Answers.{Answers, AnswersSurely};
 ghost use Rattle.links_bag.specs.Bags.{message, put, give, lose, in_flight};
 ghost use Rattle.links_bag.specs.inside.Messages.{fewer_of};
@@ -14,10 +14,10 @@ use crate::error::LinkError;
 use gnb_types::items::Memory;
 use gnb_types::names::NodeId;
 use gnb_types::octets::Octets;
+use link_tallies::from_transport_defs::Letter;
 use std::alloc::Global;
 use std::marker::Model;
 use tables::table::Table;
-use transport_defs::Letter;
 
 /// A control message: its ends, its terminal (0: none), and its octets.
 pub type Message = Letter<Octets>;
@@ -38,7 +38,7 @@ pub struct Bag {
 impl Model for Bag {
     ghost use Rattle.std.specs.Prelude.{List, ℕ};
     ghost use Rattle.std.specs.Map.{keys_of};
-    ghost use Rattle.transport_defs.specs.Links.{Bag};
+    ghost use Rattle.link_tallies.specs.transport_defs.Links.{Bag};
 
     ghost Value = { Bag (List ℕ) };
 

@@ -3,3 +3,15 @@
 
 pub mod bag;
 pub mod error;
+
+/// Of `transport_defs`, for crates above.
+pub mod from_transport_defs {
+    pub use link_tallies::from_transport_defs::Item;
+}
+
+/// Of `link_tallies`, for crates above.
+pub mod from_link_tallies {
+    pub mod tallies {
+        pub use link_tallies::tallies::Tallies;
+    }
+}

@@ -16,7 +16,9 @@ ghost use Rattle.message_codec.specs.Reasons.{reason_of};
 
 use gnb_types::items::Memory;
 use gnb_types::reasons::DropReason;
-use message_octets::{MsgError, core_octets, e1_octets, f1_octets, token_octets, xn_octets};
+use message_proof_codec::from_message_octets::{
+    MsgError, core_octets, e1_octets, f1_octets, token_octets, xn_octets,
+};
 use message_types::Token;
 use profile_module::Profile;
 use std::alloc::Global;

@@ -9,12 +9,12 @@ use Rattle.unit_octet_defs.specs.unit_defs.message_types.declared.rrc.Token.{Tok
 use Rattle.unit_octet_defs.specs.unit_defs.Ways.{Message, f1, e1, xn, core, rrc}
 use Rattle.unit_octet_defs.specs.Codec.{Codec}
 use Rattle.aper_octet_defs.specs.Octets.{spelled_as}
-use Rattle.message_defs.specs.profile_defs.Profile.{f1_type, e1_type, xn_type, core_type, token_type}
-use Rattle.message_defs.specs.F1.{written_f1, heard_f1}
-use Rattle.message_defs.specs.E1.{written_e1, heard_e1}
-use Rattle.message_defs.specs.Xn.{written_xn, heard_xn}
-use Rattle.message_defs.specs.Core.{written_core, heard_core}
-use Rattle.message_defs.specs.Tokens.{written_token, heard_token}
+use Rattle.message_octets.specs.profile_defs.Profile.{f1_type, e1_type, xn_type, core_type, token_type}
+use Rattle.message_octets.specs.message_defs.F1.{written_f1, heard_f1}
+use Rattle.message_octets.specs.message_defs.E1.{written_e1, heard_e1}
+use Rattle.message_octets.specs.message_defs.Xn.{written_xn, heard_xn}
+use Rattle.message_octets.specs.message_defs.Core.{written_core, heard_core}
+use Rattle.message_octets.specs.message_defs.Tokens.{written_token, heard_token}
 use Rattle.message_octets.specs.Reading.{read_as}
 use Rattle.link_read_defs.specs.Items.{item_on}
 use Rattle.link_read_defs.specs.Pdus.{pdu_on}

@@ -6,8 +6,8 @@ use Rattle.unit_octet_defs.specs.unit_defs.Ways.{e1}
 use Rattle.unit_octet_defs.specs.Codec.{Codec}
 use Rattle.aper_octet_defs.specs.aper_defs.Values.{Value}
 use Rattle.aper_octet_defs.specs.aper_defs.Reading.{decoded}
-use Rattle.message_defs.specs.profile_defs.Profile.{e1_type}
-use Rattle.message_defs.specs.E1.{heard_e1}
+use Rattle.message_octets.specs.profile_defs.Profile.{e1_type}
+use Rattle.message_octets.specs.message_defs.E1.{heard_e1}
 
 -- the octets say this message: it is heard in the value that they spell
 abbrev pub SaysInOctets : List ℕ → E1Message → Type 0

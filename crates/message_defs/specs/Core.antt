@@ -2,8 +2,8 @@
 use Rattle.std.specs.Prelude.{ℕ, [], ◌∷◌, Result, Err, if◌then◌else◌}
 use Rattle.message_types.specs.declared.xn.CoreMessage.{CoreMessage}
 use Rattle.message_types.specs.declared.xn.CoreMessage.TheVariants as cores
-use Rattle.aper_defs.specs.Values.{Value, Ies}
-use Rattle.aper_defs.specs.Values.{message, no_options}
+use Rattle.profile_defs.specs.aper_defs.Values.{Value, Ies}
+use Rattle.profile_defs.specs.aper_defs.Values.{message, no_options}
 use Rattle.profile_defs.specs.Elements as ies
 use Rattle.profile_defs.specs.Tables.{is_at}
 use Rattle.profile_defs.specs.Messages.{path_switch_request, path_switch_acknowledge}

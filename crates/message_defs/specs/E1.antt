@@ -2,8 +2,8 @@
 use Rattle.std.specs.Prelude.{ℕ, [], ◌∷◌, Result, Err, if◌then◌else◌}
 use Rattle.message_types.specs.declared.e1.E1Message.{E1Message}
 use Rattle.message_types.specs.declared.e1.E1Message.TheVariants as e1s
-use Rattle.aper_defs.specs.Values.{Value, Ies}
-use Rattle.aper_defs.specs.Values.{truth, enumeral, text, message, no_options}
+use Rattle.profile_defs.specs.aper_defs.Values.{Value, Ies}
+use Rattle.profile_defs.specs.aper_defs.Values.{truth, enumeral, text, message, no_options}
 use Rattle.profile_defs.specs.Elements as ies
 use Rattle.profile_defs.specs.Tables.{is_at}
 use Rattle.profile_defs.specs.Messages.{e1_setup_request, e1_setup_response, bearer_context_setup_request, bearer_context_setup_response, bearer_context_setup_failure, bearer_context_modification_request, bearer_context_modification_response, bearer_context_modification_failure, bearer_context_release_command, bearer_context_release_complete}

@@ -2,8 +2,8 @@
 use Rattle.std.specs.Prelude.{ℕ, List, [], ◌∷◌, Result, Err, if◌then◌else◌}
 use Rattle.message_types.specs.declared.f1.F1.{F1}
 use Rattle.message_types.specs.declared.f1.F1.TheVariants as f1s
-use Rattle.aper_defs.specs.Values.{Value, Ies}
-use Rattle.aper_defs.specs.Values.{octets, text, message, no_options}
+use Rattle.profile_defs.specs.aper_defs.Values.{Value, Ies}
+use Rattle.profile_defs.specs.aper_defs.Values.{octets, text, message, no_options}
 use Rattle.profile_defs.specs.Elements as ies
 use Rattle.profile_defs.specs.Tables.{is_at}
 use Rattle.profile_defs.specs.Messages.{f1_setup_request, f1_setup_response, ue_context_setup_request, ue_context_setup_response, ue_context_modification_request, ue_context_modification_response, ue_context_release_command, ue_context_release_complete, dl_rrc_message_transfer, ul_rrc_message_transfer}

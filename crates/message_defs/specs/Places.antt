@@ -1,7 +1,7 @@
 -- The fields of a message at their places: which information elements they are, and in which order, is told by the profile's table alone.
 use Rattle.std.specs.Prelude.{◌==◌, List, [], ◌∷◌, Option, Some, None, option_map, if◌then◌else◌}
-use Rattle.aper_defs.specs.Values.{Value, Options, Ies}
-use Rattle.aper_defs.specs.Values.{raw, components, elements, message, no_options, present, no_ies, ie}
+use Rattle.profile_defs.specs.aper_defs.Values.{Value, Options, Ies}
+use Rattle.profile_defs.specs.aper_defs.Values.{raw, components, elements, message, no_options, present, no_ies, ie}
 use Rattle.profile_defs.specs.Elements.{Element}
 use Rattle.profile_defs.specs.Tables.{Use, Message}
 

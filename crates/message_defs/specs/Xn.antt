@@ -2,8 +2,8 @@
 use Rattle.std.specs.Prelude.{ℕ, List, [], ◌∷◌, Option, Some, None, Result, Err, if◌then◌else◌}
 use Rattle.message_types.specs.declared.xn.XnMessage.{XnMessage}
 use Rattle.message_types.specs.declared.xn.XnMessage.TheVariants as xns
-use Rattle.aper_defs.specs.Values.{Value, Options, Ies}
-use Rattle.aper_defs.specs.Values.{enumeral, text, message, no_options, present}
+use Rattle.profile_defs.specs.aper_defs.Values.{Value, Options, Ies}
+use Rattle.profile_defs.specs.aper_defs.Values.{enumeral, text, message, no_options, present}
 use Rattle.profile_defs.specs.Elements as ies
 use Rattle.profile_defs.specs.Tables.{is_at}
 use Rattle.profile_defs.specs.Messages.{handover_request, handover_request_acknowledge, handover_preparation_failure, sn_status_transfer, handover_cancel, ue_context_release, transport_confirm}

@@ -6,9 +6,9 @@ use Rattle.aper_loose_defs.specs.Wrong.{WrongAt}
 use Rattle.profile.specs.declared.version.Version.{Version}
 use Rattle.profile.specs.declared.version.Version.TheVariants.{One, Two}
 use Rattle.profile.specs.Versions.{number_of}
-use Rattle.profile_defs.specs.Profile.{xn_type}
+use Rattle.message_proof_refusals.specs.profile_defs.Profile.{xn_type}
 use Rattle.message_types.specs.declared.xn.XnMessage.{XnMessage}
-use Rattle.message_defs.specs.Xn.{heard_xn}
+use Rattle.xn_messages.specs.message_defs.Xn.{heard_xn}
 use Rattle.message_proof_refusals.proofs.Types.{xn1, xn2}
 use Rattle.profile_xn.specs.Alike.{IsAlike}
 use Rattle.profile_xn.proofs.Spellings.{spells, spelled, same_decoded}

@@ -8,8 +8,8 @@ use Rattle.message_codec_defs.specs.aper_octet_defs.aper_defs.Membership.{HasRow
 use Rattle.message_codec_defs.specs.message_defs.profile_defs.Elements.{Element}
 use Rattle.message_codec_defs.specs.message_defs.profile_defs.Tables.{Use}
 use Rattle.message_codec_defs.specs.message_defs.Places.{element_of, or_empty, the, any}
-use Rattle.message_proof_elements.proofs.Ordered.{ie_of, is_mandatory, there, body_of}
-use Rattle.message_proof_elements.proofs.Matched.{its_rows, AreIts}
+use Rattle.message_codec_defs.proofs.message_proof_elements.Ordered.{ie_of, is_mandatory, there, body_of}
+use Rattle.message_codec_defs.proofs.message_proof_elements.Matched.{its_rows, AreIts}
 
 same_element : (e : Element) (ies : Ies) → element_of e ies ≡ ie_of e.id ies
 same_element e no_ies = refl

@@ -18,8 +18,8 @@ use Rattle.message_codec_defs.specs.message_defs.Fields.{to_number, to_statuses}
 use Rattle.message_codec_defs.specs.message_defs.Places.{the, any, elements_in}
 use Rattle.message_codec_defs.specs.message_defs.Heard.{Cause, unless_rejected}
 use Rattle.message_codec_defs.specs.message_defs.E1.{e1_at, heard_e1}
-use Rattle.message_proof_elements.proofs.Matched.{inside, its_tree, are_its, code_is, outcome_is, answer_is}
-use Rattle.aper_proof_octets.proofs.Bounded.{test, parts_test, rows_test, procedures_test, outcome_test, bounded}
+use Rattle.message_codec_defs.proofs.message_proof_elements.Matched.{inside, its_tree, are_its, code_is, outcome_is, answer_is}
+use Rattle.message_codec_defs.proofs.aper_proof_octets.Bounded.{test, parts_test, rows_test, procedures_test, outcome_test, bounded}
 use Rattle.message_codec_defs.specs.unit_octet_defs.unit_defs.Ways.{Message, f1, e1, xn, core, rrc}
 use Rattle.message_codec_defs.specs.unit_octet_defs.Codec.{Codec}
 use Rattle.codec_range_defs.specs.Ranges.{IsSetupInRange, AreShortStatuses, IsE1InRange, IsInRange}

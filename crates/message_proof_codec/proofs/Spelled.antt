@@ -6,8 +6,8 @@ use Rattle.message_codec_defs.specs.aper_octet_defs.aper_defs.Fields.{Field}
 use Rattle.message_codec_defs.specs.aper_octet_defs.aper_defs.Bits.{put_all, octet_count, closed}
 use Rattle.message_codec_defs.specs.aper_octet_defs.aper_defs.Reading.{Fault, decoded}
 use Rattle.message_codec_defs.specs.aper_octet_defs.Octets.{octets_of, laid_out, is_found, spelled_as}
-use Rattle.profile_xn.specs.Alike.{IsAlike}
-use Rattle.profile_xn.proofs.Spellings.{same_decoded}
+use Rattle.message_codec_defs.specs.profile_xn.Alike.{IsAlike}
+use Rattle.message_codec_defs.proofs.profile_xn.Spellings.{same_decoded}
 
 pub spelled_alike : (a b : Tree) (v : Value) → IsAlike a b → spelled_as a v ≡ spelled_as b v
 unfolding spelled_as

@@ -1,11 +1,11 @@
 -- What is read from a message's elements, and written again, is what its type knows of them.
 use Rattle.std.proofs.Common.{◌≡◌, ℕ, ◌==◌, Bool, true, false, cond, List, [], ◌∷◌, Option, Some, None, option_map, Ok, refl, sym, ap, subst, ◌∙◌, arith}
 use Rattle.std.specs.Prelude.{codes, ◌&&◌}
-use Rattle.aper_defs.specs.Trees.{Tree, Parts, Rows, slots, sequence, container, part, no_parts}
-use Rattle.aper_defs.specs.Values.{Value, Options, Ies, components, elements, no_options, absent, present, no_ies, ie}
-use Rattle.aper_defs.specs.Fields.{Path}
-use Rattle.aper_defs.specs.Fields as fields
-use Rattle.aper_defs.specs.Membership.{Has, HasComponents, HasAdditions, HasRow, AreElements}
+use Rattle.aper_proof_answers.specs.aper_defs.Trees.{Tree, Parts, Rows, slots, sequence, container, part, no_parts}
+use Rattle.aper_proof_answers.specs.aper_defs.Values.{Value, Options, Ies, components, elements, no_options, absent, present, no_ies, ie}
+use Rattle.aper_proof_answers.specs.aper_defs.Fields.{Path}
+use Rattle.aper_proof_answers.specs.aper_defs.Fields as fields
+use Rattle.aper_proof_answers.specs.aper_defs.Membership.{Has, HasComponents, HasAdditions, HasRow, AreElements}
 use Rattle.aper_proof_answers.proofs.NumberFacts.{same}
 use Rattle.message_defs.specs.profile_defs.Forms.{rows}
 use Rattle.message_defs.specs.profile_defs.Elements.{Element}

@@ -1,9 +1,9 @@
 -- The information elements of a set that stand in a value: in the order of the set, each once.
 use Rattle.std.proofs.Common.{◌≡◌, ℕ, suc, ◌≤◌, ◌==◌, Bool, true, false, cond, List, [], ◌∷◌, Option, Some, None, option_map, refl, sym, ap, ◌∙◌, subst, arith}
 use Rattle.std.specs.Prelude.{not, ◌&&◌, if◌then◌else◌}
-use Rattle.aper_defs.specs.Trees.{Slot, slots_left, slots_before, slots_after, has_slot, mandatory_count}
-use Rattle.aper_defs.specs.Values.{Value, Ies, no_ies, ie}
-use Rattle.aper_defs.specs.Membership.{Either, AreElements}
+use Rattle.aper_proof_answers.specs.aper_defs.Trees.{Slot, slots_left, slots_before, slots_after, has_slot, mandatory_count}
+use Rattle.aper_proof_answers.specs.aper_defs.Values.{Value, Ies, no_ies, ie}
+use Rattle.aper_proof_answers.specs.aper_defs.Membership.{Either, AreElements}
 use Rattle.aper_proof_answers.proofs.NumberFacts.{same}
 use Rattle.message_defs.specs.Known.{known_elements}
 

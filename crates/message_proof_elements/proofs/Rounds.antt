@@ -1,12 +1,12 @@
 -- A field that is read from a value of its type, and written again, is what the type knows of the value.
 use Rattle.std.proofs.Common.{◌≡◌, ℕ, zero, suc, ◌<◌, Bool, true, false, ◌∷◌, refl, ap, ◌∙◌, arith}
 use Rattle.std.specs.Prelude.{codes, pos, negsuc, ◌||◌, nat_lt}
-use Rattle.aper_defs.specs.Trees.{Tree, integer, enumerated}
-use Rattle.aper_defs.specs.Values.{Value, Values, Options}
-use Rattle.aper_defs.specs.Values.{truth, number, enumeral, bits, octets, text, components, list, no_values, value, no_options, absent, present}
-use Rattle.aper_defs.specs.Fields.{Path}
-use Rattle.aper_defs.specs.Fields as fields
-use Rattle.aper_defs.specs.Membership.{Has, HasComponents, EachFrom, is_index_of}
+use Rattle.aper_proof_answers.specs.aper_defs.Trees.{Tree, integer, enumerated}
+use Rattle.aper_proof_answers.specs.aper_defs.Values.{Value, Values, Options}
+use Rattle.aper_proof_answers.specs.aper_defs.Values.{truth, number, enumeral, bits, octets, text, components, list, no_values, value, no_options, absent, present}
+use Rattle.aper_proof_answers.specs.aper_defs.Fields.{Path}
+use Rattle.aper_proof_answers.specs.aper_defs.Fields as fields
+use Rattle.aper_proof_answers.specs.aper_defs.Membership.{Has, HasComponents, EachFrom, is_index_of}
 use Rattle.aper_proof_answers.proofs.NumberFacts.{below}
 use Rattle.message_defs.specs.profile_defs.Forms.{Components, component, no_components, bit_string, sized, tree, parts}
 use Rattle.message_defs.specs.profile_defs.BaseTypes as types

@@ -7,7 +7,7 @@ use Rattle.std.proofs.lemmas.Bool.Decides.{nat_tests}
 use Rattle.std.proofs.lemmas.Option.{slice_get_past}
 use Rattle.std.proofs.lemmas.List.{length-take}
 use Rattle.gnb_types.specs.Orders.{entity_cmp}
-use Rattle.tables.specs.Tables.{find, at}
+use Rattle.pool_defs.specs.tables.Tables.{find, at}
 use Rattle.pool_defs.specs.Pools.{Stored, used, quota, reserved, is_parked, packet_of, packet_by, packet_at, AreApart, IsPool}
 use Rattle.pool_defs.proofs.PoolLaws.{found_parked, held_apart}
 use Rattle.packet_pool.specs.declared.region.Block.{Block}

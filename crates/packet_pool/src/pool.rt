@@ -4,7 +4,7 @@ ghost use Rattle.std.specs.Prelude.{◌≡◌, ◌<◌, ◌≤◌, ◌+◌, leng
 ghost use Rattle.std.specs.Option.{option_map};
 ghost use Rattle.std.specs.Ordering.{nat_cmp};
 ghost use Rattle.gnb_types.specs.Orders.{entity_cmp};
-ghost use Rattle.tables.specs.Tables.{find};
+ghost use Rattle.pool_defs.specs.tables.Tables.{find};
 ghost use Rattle.pool_defs.specs.Pools.{quota, used, reserved, packet_of, packet_at, new_pool, with_quota, without_quota, with_packet, without_packet, with_place, without_place, is_parked, IsPool};
 
 use crate::accounts::{Accounts, QuotaError, QuotaUsed};

@@ -9,8 +9,8 @@ use Rattle.gnb_types.specs.declared.inputs.Input.TheVariants as ins
 use Rattle.gnb_types.specs.declared.outputs.Output.{Output}
 use Rattle.script_words.specs.Ranges.{IsPacket}
 use Rattle.script_words.specs.Places.{InPlaces}
-use Rattle.scenario_text.specs.Grammar.{plan_places}
-use Rattle.scenario_text.specs.Texts.{plan_values}
+use Rattle.run_defs.specs.scenario_text.Grammar.{plan_places}
+use Rattle.run_defs.specs.scenario_text.Texts.{plan_values}
 use Rattle.run_defs.specs.unit_defs.Static.{up_has_room, up_has_teids, du_has_teids}
 use Rattle.run_defs.specs.unit_defs.Ue.{UeNode, new_ue}
 use Rattle.run_defs.specs.unit_octet_defs.Codec.{Codec}

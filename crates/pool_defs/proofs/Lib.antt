@@ -1,1 +1,2 @@
 pub mod PoolLaws
+pub use Rattle.tables.proofs as tables

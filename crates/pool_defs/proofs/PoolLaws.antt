@@ -13,8 +13,8 @@ use Rattle.std.proofs.lemmas.Map.Lookups.{exact_unsigned}
 use Rattle.std.proofs.lemmas.Map.Entries.{none_past_head}
 use Rattle.std.proofs.lemmas.Map.Keys.{sorted_tail, IsDistinct-from_sorted}
 use Rattle.std.proofs.lemmas.Map.{lookup-none}
-use Rattle.gnb_types.specs.declared.keys.EntityKey.{EntityKey}
-use Rattle.gnb_types.specs.Orders.{entity_cmp}
+use Rattle.tables.specs.gnb_types.declared.keys.EntityKey.{EntityKey}
+use Rattle.tables.specs.gnb_types.Orders.{entity_cmp}
 use Rattle.tables.specs.Tables.{find, put, without, IsKeyOrder, IsSorted}
 use Rattle.tables.proofs.TableLaws.{find-put-same, find-put-other, find-without-same, find-without-other, other_key, sum-put, sum-without}
 use Rattle.pool_defs.specs.Pools.{Stored, PoolState, is_of, used, is_parked, packet_of, packet_by, packet_at, with_packet, without_packet, with_place, without_place, AreApart, IsPool}

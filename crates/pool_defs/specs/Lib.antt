@@ -1,1 +1,2 @@
 pub mod Pools
+pub use Rattle.tables.specs as tables

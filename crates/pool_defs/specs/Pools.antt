@@ -4,8 +4,8 @@ use Rattle.std.specs.Prelude.{◌≡◌, ◌==◌, ℕ, ◌≤◌, Bool, List, [
 use Rattle.std.specs.Ordering.{nat_cmp, eq_by_cmp}
 use Rattle.std.specs.List.{count_by, sum, list_any, AllByRecursion}
 use Rattle.std.specs.Map.{values_of}
-use Rattle.gnb_types.specs.declared.keys.EntityKey.{EntityKey}
-use Rattle.gnb_types.specs.Orders.{entity_cmp}
+use Rattle.tables.specs.gnb_types.declared.keys.EntityKey.{EntityKey}
+use Rattle.tables.specs.gnb_types.Orders.{entity_cmp}
 use Rattle.tables.specs.Tables.{find, put, without, at, IsSorted}
 
 -- the bytes of a packet, and the bearer and direction that it is of

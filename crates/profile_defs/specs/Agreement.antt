@@ -2,12 +2,12 @@
 -- module has no further type. The names of sets don't matter, nor does the order of assignments; what a set holds does.
 use Rattle.std.specs.Prelude.{◌≡◌, ℕ, ◌==◌, List, [], ◌∷◌, Bool, true, false, Option, Some, None, option_map, slice_get, nat_lt, ◌&&◌, ◌||◌, not, if◌then◌else◌, ℤ}
 use Rattle.std.specs.Int.Signed.{le_z}
-use Rattle.asn1_tokens.specs.Words.{is_text}
-use Rattle.asn1_types.specs.declared.definition.TypeId.{TypeId}
-use Rattle.asn1_types.specs.declared.definition.Size.{Size}
-use Rattle.asn1_types.specs.declared.definition.Component.{Component}
-use Rattle.asn1_types.specs.declared.definition.Definition.{Definition}
-use Rattle.asn1_types.specs.declared.definition.Definition.TheVariants as types
+use Rattle.asn1_module.specs.asn1_tokens.Words.{is_text}
+use Rattle.aper_defs.specs.asn1_types.declared.definition.TypeId.{TypeId}
+use Rattle.aper_defs.specs.asn1_types.declared.definition.Size.{Size}
+use Rattle.aper_defs.specs.asn1_types.declared.definition.Component.{Component}
+use Rattle.aper_defs.specs.asn1_types.declared.definition.Definition.{Definition}
+use Rattle.aper_defs.specs.asn1_types.declared.definition.Definition.TheVariants as types
 use Rattle.asn1_module.specs.asn1_assignments.declared.assignment.Criticality.{Criticality}
 use Rattle.asn1_module.specs.asn1_assignments.declared.assignment.Criticality.TheVariants.{Reject, Ignore, Notify}
 use Rattle.asn1_module.specs.asn1_assignments.declared.assignment.Presence.{Presence}

@@ -1,7 +1,7 @@
 -- Types as a module writes them (ITU-T X.680), in the forms that the profile has. A type that is referred to by its name stands
 -- behind it.
 use Rattle.std.specs.Prelude.{ℕ, List, [], length, Bool, true, false, Option, Some, ℤ}
-use Rattle.asn1_types.specs.declared.definition.Size.{Size}
+use Rattle.aper_defs.specs.asn1_types.declared.definition.Size.{Size}
 use Rattle.aper_defs.specs.Trees.{Tree, Parts, Rows, Procedures, Outcome}
 use Rattle.aper_defs.specs.Trees as trees
 

@@ -9,3 +9,6 @@ pub mod Profile
 pub mod Agreement
 pub use Rattle.asn1_module.specs as asn1_module
 pub use Rattle.asn1_module.specs.asn1_defs as asn1_defs
+pub use Rattle.aper_defs.specs.asn1_types as asn1_types
+pub use Rattle.asn1_module.specs.asn1_assignments as asn1_assignments
+pub use Rattle.aper_defs.specs as aper_defs

@@ -6,14 +6,14 @@ use Rattle.std.proofs.lemmas.Int.{ints}
 use Rattle.std.proofs.lemmas.Slice.Eq.{bytes_eq-Decides}
 use Rattle.gnb_types.proofs.Choices.{both}
 use Rattle.asn1_tokens.specs.Words.{is_text}
-use Rattle.asn1_types.specs.declared.definition.Size.{Size}
-use Rattle.asn1_types.specs.declared.definition.TypeId.{TypeId}
-use Rattle.asn1_types.specs.declared.definition.Component.{Component}
-use Rattle.asn1_types.specs.declared.definition.Definition.{Definition}
-use Rattle.asn1_types.specs.declared.definition.Definition.TheVariants as types
-use Rattle.asn1_assignments.specs.declared.assignment.IeRow.{IeRow}
-use Rattle.asn1_assignments.specs.declared.assignment.ProcedureRow.{ProcedureRow}
-use Rattle.asn1_assignments.specs.declared.assignment.Syntax.{Syntax}
+use Rattle.asn1_module.specs.asn1_types.declared.definition.Size.{Size}
+use Rattle.asn1_module.specs.asn1_types.declared.definition.TypeId.{TypeId}
+use Rattle.asn1_module.specs.asn1_types.declared.definition.Component.{Component}
+use Rattle.asn1_module.specs.asn1_types.declared.definition.Definition.{Definition}
+use Rattle.asn1_module.specs.asn1_types.declared.definition.Definition.TheVariants as types
+use Rattle.asn1_module.specs.asn1_assignments.declared.assignment.IeRow.{IeRow}
+use Rattle.asn1_module.specs.asn1_assignments.declared.assignment.ProcedureRow.{ProcedureRow}
+use Rattle.asn1_module.specs.asn1_assignments.declared.assignment.Syntax.{Syntax}
 use Rattle.asn1_module.specs.asn1_defs.Targets.{find_type, ie_rows, procedure_rows}
 use Rattle.profile_proof_text.specs.profile_defs.Forms.{Form, Components, ElementRows, ProcedureRows, OutcomeForm, name_of, meaning_of}
 use Rattle.profile_proof_text.specs.profile_defs.Forms.{boolean, integer, enumerated, bit_string, octet_string, printable_string, sequence, choice, sequence_of, container, pdu, named, no_components, component, no_elements, element, no_procedures, procedure, no_form, some_form}

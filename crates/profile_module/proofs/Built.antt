@@ -1,7 +1,7 @@
 -- What reading a text of the profile comes to.
 use Rattle.std.proofs.Common.{◌≡◌, ℕ, List, length, true, refl, sym, subst}
-use Rattle.asn1_types.specs.declared.fault.ModuleReason.{ModuleReason}
-use Rattle.asn1_assignments.specs.declared.assignment.Syntax.{Syntax}
+use Rattle.asn1_module.specs.asn1_types.declared.fault.ModuleReason.{ModuleReason}
+use Rattle.asn1_module.specs.asn1_assignments.declared.assignment.Syntax.{Syntax}
 use Rattle.asn1_module.specs.asn1_defs.Readings.{Reads, WrongText}
 use Rattle.asn1_module.specs.asn1_defs.Targets.{type_ids}
 use Rattle.asn1_module.specs.asn1_defs.Judgement.{sound}

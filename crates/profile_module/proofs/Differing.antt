@@ -3,12 +3,12 @@ use Rattle.std.proofs.Common.{◌≡◌, ℕ, ◌==◌, List, [], ◌∷◌, Boo
 use Rattle.std.specs.Prelude.{Option, Some, None, ◌||◌, not, if◌then◌else◌}
 use Rattle.gnb_types.proofs.Choices.{both}
 use Rattle.asn1_tokens.specs.Words.{is_text}
-use Rattle.asn1_types.specs.declared.definition.TypeId.{TypeId}
-use Rattle.asn1_assignments.specs.declared.assignment.Body.{Body}
-use Rattle.asn1_assignments.specs.declared.assignment.Body.TheVariants as bodies
-use Rattle.asn1_assignments.specs.declared.assignment.Assignment.{Assignment}
-use Rattle.asn1_assignments.specs.declared.assignment.Syntax.{Syntax}
-use Rattle.asn1_assignments.specs.Module.{is_type_body}
+use Rattle.asn1_module.specs.asn1_types.declared.definition.TypeId.{TypeId}
+use Rattle.asn1_module.specs.asn1_assignments.declared.assignment.Body.{Body}
+use Rattle.asn1_module.specs.asn1_assignments.declared.assignment.Body.TheVariants as bodies
+use Rattle.asn1_module.specs.asn1_assignments.declared.assignment.Assignment.{Assignment}
+use Rattle.asn1_module.specs.asn1_assignments.declared.assignment.Syntax.{Syntax}
+use Rattle.asn1_module.specs.asn1_assignments.Module.{is_type_body}
 use Rattle.asn1_module.specs.asn1_defs.Modules.{IsModule}
 use Rattle.asn1_module.specs.asn1_defs.Targets.{type_of, put_type, type_ids, type_name, is_body_of}
 use Rattle.asn1_module.specs.asn1_defs.Links.{AreParted}

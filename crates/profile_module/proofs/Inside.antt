@@ -1,10 +1,10 @@
 -- The types inside a type of a module have numbers of the module.
 use Rattle.std.proofs.Common.{◌≡◌, ℕ, ◌<◌, List, [], ◌∷◌, subst, arith}
-use Rattle.asn1_types.specs.declared.definition.Component.{Component}
-use Rattle.asn1_types.specs.declared.definition.Extensible.{Extensible}
-use Rattle.asn1_types.specs.declared.definition.Definition.{Definition}
-use Rattle.asn1_types.specs.declared.definition.Definition.TheVariants as types
-use Rattle.asn1_types.specs.Members.{additions_of}
+use Rattle.asn1_module.specs.asn1_types.declared.definition.Component.{Component}
+use Rattle.asn1_module.specs.asn1_types.declared.definition.Extensible.{Extensible}
+use Rattle.asn1_module.specs.asn1_types.declared.definition.Definition.{Definition}
+use Rattle.asn1_module.specs.asn1_types.declared.definition.Definition.TheVariants as types
+use Rattle.asn1_module.specs.asn1_types.Members.{additions_of}
 use Rattle.asn1_module.specs.asn1_defs.Links.{AreBelow, PartsBelow, IsInside}
 
 below_up : (n k : ℕ) (cs : List Component) → n < k → AreBelow n cs → AreBelow k cs

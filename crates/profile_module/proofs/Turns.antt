@@ -1,8 +1,8 @@
 -- The types of a module, looked at one after another.
 use Rattle.std.proofs.Common.{◌≡◌, ℕ, zero, suc, ◌+◌, List, [], ◌∷◌, drop, slice_get, Bool, true, false, ap, ◌∙◌, arith}
 use Rattle.std.specs.Prelude.{Some, if◌then◌else◌}
-use Rattle.asn1_types.specs.declared.definition.TypeId.{TypeId}
-use Rattle.asn1_assignments.specs.declared.assignment.Assignment.{Assignment}
+use Rattle.asn1_module.specs.asn1_types.declared.definition.TypeId.{TypeId}
+use Rattle.asn1_module.specs.asn1_assignments.declared.assignment.Assignment.{Assignment}
 use Rattle.asn1_module.specs.asn1_defs.Targets.{type_name}
 use Rattle.profile_module.specs.inside.Same.{is_among, first_new}
 

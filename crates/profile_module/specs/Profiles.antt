@@ -1,7 +1,7 @@
 -- The profile's module as a value, and what `agrees` says of a module.
 use Rattle.std.specs.Prelude.{◌≡◌, ℕ, List, length, true, Some, Result, Ok, Err}
 use Rattle.asn1_tokens.specs.Words.{is_text}
-use Rattle.asn1_assignments.specs.declared.assignment.Syntax.{Syntax}
+use Rattle.asn1_module.specs.asn1_assignments.declared.assignment.Syntax.{Syntax}
 use Rattle.asn1_module.specs.asn1_defs.Readings.{Reads}
 use Rattle.asn1_module.specs.asn1_defs.Targets.{type_ids}
 use Rattle.profile.specs.declared.version.Version.{Version}

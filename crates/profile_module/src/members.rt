@@ -4,7 +4,7 @@ ghost use Rattle.std.specs.Prelude.{◌≡◌, ◌<◌, length, Some, option_map
 ghost use Rattle.asn1_module.specs.asn1_defs.Links.{AreBelow, PartsBelow, IsInside};
 ghost use Rattle.profile_module.specs.inside.Same.{same_inner_at, same_parts, same_added, same_additions, same_type, is_bare_alike};
 ghost use Rattle.profile_proof_text.specs.profile_defs.Agreement.{definition_at, is_same_size};
-ghost use Rattle.asn1_types.specs.Members.{additions_of};
+ghost use Rattle.asn1_module.specs.asn1_types.Members.{additions_of};
 
 use crate::plain::{is_bare_alike, is_same_size};
 use crate::sets::is_same_inner;

@@ -3,12 +3,12 @@ use Rattle.std.proofs.Common.{◌≡◌, ℕ, zero, suc, ◌+◌, ◌<◌, ◌�
 use Rattle.std.specs.Prelude.{◌&&◌, nat_lt, nat_le, slice_index, slice_set, replicate, is_none, if◌then◌else◌}
 use Rattle.std.specs.List.{list_all}
 use Rattle.std.proofs.lemmas.Bool.Decides.{nat_tests}
-use Rattle.asn1_assignments.specs.declared.assignment.Syntax.{Syntax}
-use Rattle.asn1_graph.specs.asn1_defs.declared.graph.Edge.{Edge}
-use Rattle.asn1_graph.specs.asn1_defs.Graph.{vertex_count, edges_of}
-use Rattle.asn1_graph.specs.asn1_defs.Paths.{IsAmong, IsStep, Leads, Nests, IsFirst, first, further, alone, around}
-use Rattle.asn1_graph.specs.asn1_defs.Names.{first_unknown}
-use Rattle.asn1_graph.specs.asn1_defs.Judgement.{weights_of, IsSound}
+use Rattle.profile_defs.specs.asn1_assignments.declared.assignment.Syntax.{Syntax}
+use Rattle.profile_defs.specs.asn1_defs.declared.graph.Edge.{Edge}
+use Rattle.profile_defs.specs.asn1_defs.Graph.{vertex_count, edges_of}
+use Rattle.profile_defs.specs.asn1_defs.Paths.{IsAmong, IsStep, Leads, Nests, IsFirst, first, further, alone, around}
+use Rattle.profile_defs.specs.asn1_defs.Names.{first_unknown}
+use Rattle.profile_defs.specs.asn1_defs.Judgement.{weights_of, IsSound}
 
 -- ---- numbers for vertices, found in so many rounds
 unfoldable pub raise : List ℕ → ℕ → ℕ → List ℕ

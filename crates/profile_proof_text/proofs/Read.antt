@@ -2,12 +2,12 @@
 use Rattle.std.proofs.Common.{◌≡◌, ℕ, ◌==◌, Bool, true, false, List, length, Option, Some, None, Result, Ok, Err, refl, arith}
 use Rattle.std.specs.Prelude.{◌&&◌, is_none}
 use Rattle.asn1_tokens.specs.Words.{is_text}
-use Rattle.asn1_types.specs.declared.fault.Fault.{Fault}
-use Rattle.asn1_assignments.specs.declared.assignment.Syntax.{Syntax}
-use Rattle.asn1_assignments.specs.Module.{syntax_of}
+use Rattle.profile_defs.specs.asn1_types.declared.fault.Fault.{Fault}
+use Rattle.profile_defs.specs.asn1_assignments.declared.assignment.Syntax.{Syntax}
+use Rattle.profile_defs.specs.asn1_assignments.inside.Module.{syntax_of}
 use Rattle.profile_defs.proofs.asn1_proof_reading.Readings.{is_text_of}
-use Rattle.asn1_graph.specs.asn1_defs.Targets.{type_ids}
-use Rattle.asn1_graph.specs.asn1_defs.Names.{first_unknown}
+use Rattle.profile_defs.specs.asn1_defs.Targets.{type_ids}
+use Rattle.profile_defs.specs.asn1_defs.Names.{first_unknown}
 use Rattle.profile_defs.specs.Forms.{Form}
 use Rattle.profile_defs.specs.Profile.{module_name}
 use Rattle.profile_defs.specs.Agreement.{differs}

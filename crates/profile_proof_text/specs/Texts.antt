@@ -1,10 +1,10 @@
 -- Texts of the profile: what is read of them is a module of its types alone.
 use Rattle.std.specs.Prelude.{◌≡◌, ℕ, List, length, true}
 use Rattle.asn1_tokens.specs.Words.{is_text}
-use Rattle.asn1_assignments.specs.declared.assignment.Syntax.{Syntax}
-use Rattle.asn1_graph.specs.asn1_defs.Texts.{IsTextOf}
-use Rattle.asn1_graph.specs.asn1_defs.Targets.{type_ids}
-use Rattle.asn1_graph.specs.asn1_defs.Judgement.{IsSound}
+use Rattle.profile_defs.specs.asn1_assignments.declared.assignment.Syntax.{Syntax}
+use Rattle.profile_defs.specs.asn1_defs.Texts.{IsTextOf}
+use Rattle.profile_defs.specs.asn1_defs.Targets.{type_ids}
+use Rattle.profile_defs.specs.asn1_defs.Judgement.{IsSound}
 use Rattle.profile_defs.specs.Forms.{Form}
 use Rattle.profile_defs.specs.Profile.{module_name}
 use Rattle.profile_defs.specs.Agreement.{Agrees}

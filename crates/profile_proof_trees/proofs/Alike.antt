@@ -13,18 +13,18 @@ use Rattle.asn1_types.specs.declared.definition.Definition.{Definition}
 use Rattle.asn1_types.specs.declared.definition.Definition.TheVariants as types
 use Rattle.asn1_types.specs.declared.definition.Node.{Node}
 use Rattle.asn1_types.specs.Members.{additions_of}
-use Rattle.asn1_assignments.specs.declared.assignment.Presence.{Presence}
-use Rattle.asn1_assignments.specs.declared.assignment.Presence.TheVariants.{Mandatory, Optional}
-use Rattle.asn1_assignments.specs.declared.assignment.IeRow.{IeRow}
-use Rattle.asn1_assignments.specs.declared.assignment.ProcedureRow.{ProcedureRow}
-use Rattle.asn1_assignments.specs.declared.assignment.Syntax.{Syntax}
-use Rattle.asn1_module.specs.asn1_defs.Targets.{find_type, ie_rows, procedure_rows, definition_of, all_of}
-use Rattle.asn1_module.specs.asn1_defs.Modules.{IsModule}
-use Rattle.asn1_module.proofs.Facts.{type_below}
+use Rattle.profile_defs.specs.asn1_assignments.declared.assignment.Presence.{Presence}
+use Rattle.profile_defs.specs.asn1_assignments.declared.assignment.Presence.TheVariants.{Mandatory, Optional}
+use Rattle.profile_defs.specs.asn1_assignments.declared.assignment.IeRow.{IeRow}
+use Rattle.profile_defs.specs.asn1_assignments.declared.assignment.ProcedureRow.{ProcedureRow}
+use Rattle.profile_defs.specs.asn1_assignments.declared.assignment.Syntax.{Syntax}
+use Rattle.profile_defs.specs.asn1_defs.Targets.{find_type, ie_rows, procedure_rows, definition_of, all_of}
+use Rattle.profile_defs.specs.asn1_defs.Modules.{IsModule}
+use Rattle.profile_defs.proofs.asn1_module.Facts.{type_below}
 use Rattle.aper_types.specs.asn1_proof_ranks.Leading.{EachPart, OfOption, EachIe, EachProcedure, EachOf, Lesser}
 use Rattle.aper_types.proofs.asn1_proof_ranks.Ranks.{rank}
 use Rattle.aper_types.proofs.asn1_proof_ranks.Inside.{each_more, ranks_fall}
-use Rattle.aper_defs.specs.Trees as trees
+use Rattle.aper_proof_answers.specs.aper_defs.Trees as trees
 use Rattle.aper_types.specs.Types as modules
 use Rattle.aper_types.specs.Types.{parts_of, rows_of, outcome_of, procedures_of, named_tree, definition_tree}
 use Rattle.aper_types.proofs.TreeLaws.{tree_is}

@@ -2,7 +2,7 @@
 use Rattle.std.proofs.Common.{◌≡◌, ℕ, zero, suc, List, [], ◌∷◌, Bool, true, false, cond, refl, subst}
 use Rattle.std.specs.Prelude.{Option, Some, None, slice_get}
 use Rattle.aper_proof_answers.proofs.NumberFacts.{by_cases}
-use Rattle.asn1_assignments.specs.declared.assignment.Syntax.{Syntax}
+use Rattle.profile_defs.specs.asn1_assignments.declared.assignment.Syntax.{Syntax}
 use Rattle.profile_defs.specs.Forms.{Form, name_of}
 use Rattle.profile_defs.specs.Agreement.{has_type, goes_before, placed, by_name, first_wrong, first_further, or_else, Agrees}
 

@@ -1,7 +1,7 @@
 -- The PDUs of the profile and its tokens have the types of their names in a module that agrees.
 use Rattle.std.proofs.Common.{◌≡◌, ℕ, true, refl}
 use Rattle.std.specs.Prelude.{Some, slice_get}
-use Rattle.asn1_assignments.specs.declared.assignment.Syntax.{Syntax}
+use Rattle.profile_defs.specs.asn1_assignments.declared.assignment.Syntax.{Syntax}
 use Rattle.profile_defs.specs.Forms.{Form}
 use Rattle.profile_defs.specs.BaseTypes as types
 use Rattle.profile_defs.specs.Compounds as compounds

@@ -1,8 +1,8 @@
 -- A type of the profile in a module, with its tree.
 use Rattle.std.specs.Prelude.{◌≡◌, ◌<◌, length, Some}
 use Rattle.asn1_types.specs.declared.definition.TypeId.{TypeId}
-use Rattle.asn1_assignments.specs.declared.assignment.Syntax.{Syntax}
-use Rattle.asn1_module.specs.asn1_defs.Targets.{find_type}
+use Rattle.profile_defs.specs.asn1_assignments.declared.assignment.Syntax.{Syntax}
+use Rattle.profile_defs.specs.asn1_defs.Targets.{find_type}
 use Rattle.aper_types.specs.Types as modules
 use Rattle.profile_defs.specs.Forms.{Form, name_of, tree}
 

@@ -3,8 +3,8 @@
 #![tactic(auto)]
 
 ghost use Rattle.std.specs.Prelude.{ℕ};
-ghost use Rattle.asn1_assignments.specs.declared.assignment.Syntax.{Syntax};
-ghost use Rattle.asn1_module.specs.asn1_defs.Modules.{IsModule};
+ghost use Rattle.profile_defs.specs.asn1_assignments.declared.assignment.Syntax.{Syntax};
+ghost use Rattle.profile_defs.specs.asn1_defs.Modules.{IsModule};
 ghost use Rattle.profile_defs.specs.Profile.{profile_types, f1ap_pdu, e1ap_pdu, xnap_pdu, core_pdu};
 ghost use Rattle.profile_defs.specs.Tokens.{rrc_token};
 ghost use Rattle.profile_defs.specs.Agreement.{Agrees};

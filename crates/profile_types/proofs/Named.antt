@@ -2,8 +2,8 @@
 use Rattle.std.proofs.Common.{◌≡◌, ap, subst, ◌∙◌, Option, Some}
 use Rattle.asn1_types.specs.declared.definition.TypeId.{TypeId}
 use Rattle.asn1_assignments.specs.declared.assignment.Syntax.{Syntax}
-use Rattle.asn1_module.specs.asn1_defs.Targets.{find_type}
-use Rattle.profile_defs.specs.Forms.{Form, name_of, tree}
+use Rattle.profile_module.specs.asn1_defs.Targets.{find_type}
+use Rattle.profile_module.specs.profile_defs.Forms.{Form, name_of, tree}
 use Rattle.profile_proof_trees.specs.Trees.{HasTree}
 use Rattle.profile_types.specs.Types.{IsTypeOf}
 

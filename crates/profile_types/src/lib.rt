@@ -1,12 +1,17 @@
 //! The types that messages and tokens are of, in the module of a profile.
 #![tactic(auto)]
 
-ghost use Rattle.profile_defs.specs.Profile.{f1_type, e1_type, core_type, token_type};
+ghost use Rattle.profile_module.specs.profile_defs.Profile.{f1_type, e1_type, core_type, token_type};
 ghost use Rattle.profile_types.specs.Types.{IsTypeOf};
 
 use asn1_types::TypeId;
 use profile_module::Profile;
 use profile_proof_trees::agreeing_modules_have_the_trees;
+
+/// Of `profile_module`, for crates above.
+pub mod from_profile_module {
+    pub use profile_module::Profile;
+}
 
 /// F1AP-PDU (TS 38.473).
 pub fn f1_pdu(profile: &Profile) -> TypeId

@@ -11,9 +11,9 @@ use Rattle.aper_defs.specs.Layouts.{message_head, layout, addition_fields, body_
 use Rattle.aper_defs.specs.Membership.{Has, HasAdditions, HasBody, HasOutcome}
 use Rattle.aper_defs.specs.Questions.{Prog, done, ask, ask_aligned, ask_extension, ask_flags, ask_open, ask_raw}
 use Rattle.aper_defs.specs.Asking.{ask_marks, asks, ask_components, ask_additions, ask_outcome, ask_body, asks_whole}
-use Rattle.profile_defs.specs.Forms.{tree, parts, rows, procedures, outcome_tree, some_form}
-use Rattle.profile_defs.specs.Tables.{message_form, procedure_rows}
-use Rattle.profile_defs.specs.Messages.{handover_request_acknowledge, handover_preparation_failure}
+use Rattle.profile_module.specs.profile_defs.Forms.{tree, parts, rows, procedures, outcome_tree, some_form}
+use Rattle.profile_module.specs.profile_defs.Tables.{message_form, procedure_rows}
+use Rattle.profile_module.specs.profile_defs.Messages.{handover_request_acknowledge, handover_preparation_failure}
 use Rattle.profile_xn.specs.Alike.{IsAlike}
 use Rattle.profile_xn.proofs.XnForms.{additions, root, later_messages, messages, xn_form, request_tree}
 

@@ -1,10 +1,10 @@
 -- XnAP-PDU of version 2, with OPTIONAL at the addition of HandoverRequest or not.
 use Rattle.std.specs.Prelude.{List, ◌∷◌, [], Bool, false, codes}
 use Rattle.aper_defs.specs.Trees.{Tree}
-use Rattle.profile_defs.specs.Forms.{Form, Components, component, no_components, container, tree}
-use Rattle.profile_defs.specs.BaseTypes as base
-use Rattle.profile_defs.specs.Tables.{Message, element_rows, message_form, pdu_form}
-use Rattle.profile_defs.specs.Messages.{handover_request, handover_request_acknowledge, handover_preparation_failure, sn_status_transfer, handover_cancel, ue_context_release, transport_confirm}
+use Rattle.profile_module.specs.profile_defs.Forms.{Form, Components, component, no_components, container, tree}
+use Rattle.profile_module.specs.profile_defs.BaseTypes as base
+use Rattle.profile_module.specs.profile_defs.Tables.{Message, element_rows, message_form, pdu_form}
+use Rattle.profile_module.specs.profile_defs.Messages.{handover_request, handover_request_acknowledge, handover_preparation_failure, sn_status_transfer, handover_cancel, ue_context_release, transport_confirm}
 
 abbrev pub additions : Bool → Components
 additions optional = component (codes "origin") optional base.name no_components

@@ -13,26 +13,26 @@ use Rattle.asn1_types.specs.declared.definition.Node.{Node}
 use Rattle.asn1_types.specs.Members.{additions_of}
 use Rattle.asn1_assignments.specs.declared.assignment.ProcedureRow.{ProcedureRow}
 use Rattle.asn1_assignments.specs.declared.assignment.Syntax.{Syntax}
-use Rattle.asn1_module.specs.asn1_defs.Targets.{find_type, procedure_rows, definition_of, all_of}
-use Rattle.asn1_module.specs.asn1_defs.Modules.{IsModule}
-use Rattle.asn1_module.proofs.Facts.{type_below}
-use Rattle.asn1_proof_ranks.specs.Leading.{EachPart, OfOption, EachProcedure, EachOf, Lesser}
-use Rattle.asn1_proof_ranks.proofs.Ranks.{rank}
-use Rattle.asn1_proof_ranks.proofs.Inside.{each_more, ranks_fall}
+use Rattle.profile_module.specs.asn1_defs.Targets.{find_type, procedure_rows, definition_of, all_of}
+use Rattle.profile_module.specs.asn1_defs.Modules.{IsModule}
+use Rattle.profile_module.proofs.asn1_module.Facts.{type_below}
+use Rattle.profile_proof_trees.specs.asn1_proof_ranks.Leading.{EachPart, OfOption, EachProcedure, EachOf, Lesser}
+use Rattle.profile_proof_trees.proofs.asn1_proof_ranks.Ranks.{rank}
+use Rattle.profile_proof_trees.proofs.asn1_proof_ranks.Inside.{each_more, ranks_fall}
 use Rattle.aper_defs.specs.Trees as trees
 use Rattle.aper_defs.specs.Trees.{Tree}
-use Rattle.aper_types.specs.Types as modules
-use Rattle.aper_types.specs.Types.{parts_of, procedures_of, named_tree, definition_tree}
-use Rattle.aper_types.proofs.TreeLaws.{tree_is}
-use Rattle.profile_defs.specs.Forms.{Form, ProcedureRows, tree, parts, procedures, outcome_tree}
-use Rattle.profile_defs.specs.Forms.{sequence, pdu, some_form}
-use Rattle.profile_defs.specs.BaseTypes as base
-use Rattle.profile_defs.specs.Compounds as compounds
-use Rattle.profile_defs.specs.Tables as tables
-use Rattle.profile_defs.specs.Tables.{message_form, element_rows}
-use Rattle.profile_defs.specs.Messages as all_messages
-use Rattle.profile_defs.specs.Profile.{profile_types, xnap_pdu, xn_type}
-use Rattle.profile_defs.specs.Agreement.{definition_at, is_form, are_additions, are_procedures, is_found, Agrees}
+use Rattle.profile_proof_trees.specs.aper_types.Types as modules
+use Rattle.profile_proof_trees.specs.aper_types.Types.{parts_of, procedures_of, named_tree, definition_tree}
+use Rattle.profile_proof_trees.proofs.aper_types.TreeLaws.{tree_is}
+use Rattle.profile_module.specs.profile_defs.Forms.{Form, ProcedureRows, tree, parts, procedures, outcome_tree}
+use Rattle.profile_module.specs.profile_defs.Forms.{sequence, pdu, some_form}
+use Rattle.profile_module.specs.profile_defs.BaseTypes as base
+use Rattle.profile_module.specs.profile_defs.Compounds as compounds
+use Rattle.profile_module.specs.profile_defs.Tables as tables
+use Rattle.profile_module.specs.profile_defs.Tables.{message_form, element_rows}
+use Rattle.profile_module.specs.profile_defs.Messages as all_messages
+use Rattle.profile_module.specs.profile_defs.Profile.{profile_types, xnap_pdu, xn_type}
+use Rattle.profile_module.specs.profile_defs.Agreement.{definition_at, is_form, are_additions, are_procedures, is_found, Agrees}
 use Rattle.profile_proof_trees.proofs.Alike.{Known, KnownParts, KnownElements, KnownProcedures, KnownOutcome, has_tree, form_step, parts_step, procedures_step, outcomes_step}
 use Rattle.profile_proof_trees.proofs.Known.{HasEach, xn_known}
 use Rattle.profile_proof_trees.proofs.Found.{found}

@@ -8,7 +8,7 @@ use Rattle.aper_defs.specs.Values.{Value}
 use Rattle.aper_defs.specs.Layouts.{layout}
 use Rattle.aper_defs.specs.Membership.{Has}
 use Rattle.aper_defs.specs.Asking.{asks_whole}
-use Rattle.aper_types.specs.Types.{tree}
+use Rattle.profile_proof_trees.specs.aper_types.Types.{tree}
 
 -- They have the same values, a value is laid out alike, and the same is asked of octets.
 pub record IsAlike (a b : Tree) : Type 0 where

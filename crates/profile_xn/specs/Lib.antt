@@ -1,1 +1,2 @@
 pub mod Alike
+pub use Rattle.profile_proof_trees.specs.aper_types as aper_types

@@ -7,9 +7,9 @@ use Rattle.aper_defs.specs.Fields.{Path}
 use Rattle.aper_defs.specs.Fields as fields
 use Rattle.aper_defs.specs.Membership.{Has, HasComponents, HasAlternative, HasAdded, Either, IsRaw}
 use Rattle.aper_proof_answers.proofs.NumberFacts.{by_cases}
-use Rattle.profile_defs.specs.Forms.{Components, component, no_components, tree, parts}
-use Rattle.profile_defs.specs.Profile.{token_type}
-use Rattle.profile_defs.specs.Tokens as forms
+use Rattle.message_defs.specs.profile_defs.Forms.{Components, component, no_components, tree, parts}
+use Rattle.message_defs.specs.profile_defs.Profile.{token_type}
+use Rattle.message_defs.specs.profile_defs.Tokens as forms
 use Rattle.message_defs.specs.Tokens.{components_in}
 use Rattle.message_values.proofs.Fits.{ue_one, epoch_one, du_one}
 use Rattle.rrc_tokens.specs.Fitting.{AreFittingParts}

@@ -3,7 +3,7 @@
 
 ghost use Rattle.std.specs.Prelude.{◌≡◌, ◌≢◌, [], Err};
 ghost use Rattle.aper_defs.specs.Membership.{Has};
-ghost use Rattle.profile_defs.specs.Profile.{token_type};
+ghost use Rattle.message_defs.specs.profile_defs.Profile.{token_type};
 ghost use Rattle.aper_values.specs.Views.{view};
 ghost use Rattle.message_defs.specs.Fields.{to_number, to_ue, to_index, gnb_at};
 ghost use Rattle.message_defs.specs.Tokens.{component_in, components_in, token_at, heard_token};

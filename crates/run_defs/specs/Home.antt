@@ -1,16 +1,16 @@
 -- From which states settling ends: the bearers fit, and the terminals are at home.
 use Rattle.std.specs.Prelude.{ℕ, ◌≡◌, ◌==◌, ◌-◌, Bool, true, false, not, ◌&&◌, ◌||◌, nat_le, List, [], ◌∷◌, ◌++◌, length, map, Option, Some, None}
 use Rattle.std.specs.List.{flat_map, list_all, list_any}
-use Rattle.gnb_types.specs.declared.names.Gnb.TheVariants.{A, B}
-use Rattle.gnb_types.specs.declared.names.NodeId.{NodeId}
-use Rattle.gnb_types.specs.declared.names.NodeId.TheVariants.{CuCp}
-use Rattle.gnb_types.specs.declared.names.UeId.{UeId}
-use Rattle.gnb_types.specs.declared.names.Dir.{Dir}
-use Rattle.gnb_types.specs.declared.names.Dir.TheVariants.{Dl, Ul}
-use Rattle.gnb_types.specs.declared.keys.EntityKey.{EntityKey}
-use Rattle.gnb_types.specs.declared.plans.Plan.{Plan}
-use Rattle.gnb_types.specs.Orders.{ue_cmp, bearer_cmp}
-use Rattle.tables.specs.Tables.{find}
+use Rattle.scenario_text.specs.gnb_types.declared.names.Gnb.TheVariants.{A, B}
+use Rattle.scenario_text.specs.gnb_types.declared.names.NodeId.{NodeId}
+use Rattle.scenario_text.specs.gnb_types.declared.names.NodeId.TheVariants.{CuCp}
+use Rattle.scenario_text.specs.gnb_types.declared.names.UeId.{UeId}
+use Rattle.scenario_text.specs.gnb_types.declared.names.Dir.{Dir}
+use Rattle.scenario_text.specs.gnb_types.declared.names.Dir.TheVariants.{Dl, Ul}
+use Rattle.scenario_text.specs.gnb_types.declared.keys.EntityKey.{EntityKey}
+use Rattle.scenario_text.specs.gnb_types.declared.plans.Plan.{Plan}
+use Rattle.scenario_text.specs.gnb_types.Orders.{ue_cmp, bearer_cmp}
+use Rattle.transport_defs.specs.tables.Tables.{find}
 use Rattle.unit_octet_defs.specs.transaction_defs.Callers.{is_open}
 use Rattle.unit_octet_defs.specs.pdcp_defs.Senders.{window}
 use Rattle.unit_octet_defs.specs.unit_defs.declared.AttemptKind.{AttemptKind}

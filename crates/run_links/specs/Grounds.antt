@@ -7,7 +7,7 @@ use Rattle.gnb_types.specs.declared.outputs.Output.{Output}
 use Rattle.gnb_types.specs.declared.outputs.Output.TheVariants as outs
 use Rattle.gnb_types.specs.Orders.{entity_cmp}
 use Rattle.tables.specs.Tables.{put, at}
-use Rattle.transport_defs.specs.Links.{no_letters}
+use Rattle.run_defs.specs.transport_defs.Links.{no_letters}
 use Rattle.links.specs.Tunnels.{no_tunnels}
 use Rattle.links.specs.Radios.{no_radios}
 use Rattle.run_links.specs.declared.ground.Ground.{Ground}

@@ -14,15 +14,15 @@ use Rattle.gnb_types.specs.declared.outputs.Output.TheVariants as outs
 use Rattle.gnb_types.specs.declared.reasons.HeldReason.{HeldReason}
 use Rattle.gnb_types.specs.declared.reasons.RefuseReason.{RefuseReason}
 use Rattle.tables.specs.Tables.{find}
-use Rattle.run_defs.specs.unit_defs.Accessors.{is_set_up}
-use Rattle.run_defs.specs.unit_defs.CpRecords.{CuCpRecord}
-use Rattle.run_defs.specs.unit_defs.Static.{up_has_room, up_has_teids, du_has_teids}
-use Rattle.run_defs.specs.unit_defs.Ways.{teids_spent}
-use Rattle.run_defs.specs.Units.{cp_of, up_of, du_of}
-use Rattle.run_defs.specs.Conditions.{units_placed, all_set_up}
-use Rattle.run_defs.specs.UnitRuns.{Records, Meaning, UnitAnswer, unit_gives, unit_spent}
-use Rattle.unit_steps.specs.declared.StepError.{StepError}
-use Rattle.unit_steps.specs.declared.StepError.TheVariants as errors
+use Rattle.ue_node.specs.unit_defs.Accessors.{is_set_up}
+use Rattle.ue_node.specs.unit_defs.CpRecords.{CuCpRecord}
+use Rattle.ue_node.specs.unit_defs.Static.{up_has_room, up_has_teids, du_has_teids}
+use Rattle.ue_node.specs.unit_defs.Ways.{teids_spent}
+use Rattle.plain_defs.specs.run_defs.Units.{cp_of, up_of, du_of}
+use Rattle.plain_defs.specs.run_defs.Conditions.{units_placed, all_set_up}
+use Rattle.plain_defs.specs.run_defs.UnitRuns.{Records, Meaning, UnitAnswer, unit_gives, unit_spent}
+use Rattle.du_node.specs.unit_steps.declared.StepError.{StepError}
+use Rattle.du_node.specs.unit_steps.declared.StepError.TheVariants as errors
 use Rattle.cu_user.specs.up_rows.up_contexts.declared.placing.PlaceError.{PlaceError}
 use Rattle.cu_user.specs.up_rows.up_contexts.declared.placing.PlaceError.TheVariants as places
 

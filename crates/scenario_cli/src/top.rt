@@ -5,7 +5,7 @@ ghost use Rattle.std.specs.String.{string_bytes};
 ghost use Rattle.gnb_base.specs.Outside.{Rose};
 ghost use Rattle.command_defs.specs.Ends.{StopsAtLine, UsageMeets};
 ghost use Rattle.command_defs.specs.Outside.{outside, CallsTo};
-ghost use Rattle.message_codec_defs.specs.Codecs.{profile_codec};
+ghost use Rattle.message_codec.specs.message_codec_defs.Codecs.{profile_codec};
 ghost use Rattle.command_run.specs.Ends.{StopsAtEvent as StopsAtStep};
 ghost use Rattle.command_run.specs.Run.{setting_of, run_of};
 ghost use Rattle.command_run.specs.Whole.{RunsWholly};
@@ -32,6 +32,7 @@ use command_dup::{DupConfig, run_duplicate};
 use command_generate::run_generated;
 use command_output::{common_status, stop_line, write_lines};
 use command_profile::write_profile;
+use command_run::from_world_steps::Units;
 use command_run::run_script;
 use command_um::{UmConfig, run_um};
 use command_values::{Way, run_values};
@@ -40,7 +41,6 @@ use message_codec::ProfileCodec;
 use profile::Version;
 use script_words::forms::{number, sn_bits};
 use std::alloc::Global;
-use world_steps::Units;
 
 /// The ticks of a timer at most.
 const MOST_TICKS: u32 = 1000;

@@ -5,10 +5,10 @@ use Rattle.std.specs.Option.{ok_or}
 use Rattle.std.specs.List.{find, join_with_byte, list_any, list_all}
 use Rattle.std.proofs.lemmas.List.Splits.{join_with_byte-slice_split}
 use Rattle.std.proofs.lemmas.List.Folds.{list_all-append}
-use Rattle.gnb_types.specs.Names.{node_text}
-use Rattle.gnb_types.specs.declared.names.Gnb.TheVariants.{A, B}
-use Rattle.gnb_types.specs.declared.names.NodeId.{NodeId}
-use Rattle.gnb_types.specs.declared.names.NodeId.TheVariants.{CuCp, CuUp, Du, Core, Ue}
+use Rattle.script_words.specs.gnb_types.Names.{node_text}
+use Rattle.script_words.specs.gnb_types.declared.names.Gnb.TheVariants.{A, B}
+use Rattle.script_words.specs.gnb_types.declared.names.NodeId.{NodeId}
+use Rattle.script_words.specs.gnb_types.declared.names.NodeId.TheVariants.{CuCp, CuUp, Du, Core, Ue}
 use Rattle.std.specs.Fmt.{decimal}
 use Rattle.script_words.specs.declared.reason.TextReason.{TextReason}
 use Rattle.script_words.specs.declared.reason.TextReason.TheVariants.{Word}

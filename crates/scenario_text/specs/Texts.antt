@@ -1,7 +1,7 @@
 -- The same from the event to the line: the words of each event, how it is written, and which lines are texts of it.
 use Rattle.std.specs.Prelude.{◌≡◌, ℕ, List, [], ◌∷◌}
 use Rattle.std.specs.List.{join_with_byte}
-use Rattle.gnb_types.specs.declared.plans.Plan.{Plan}
+use Rattle.script_words.specs.gnb_types.declared.plans.Plan.{Plan}
 use Rattle.scenario_text.specs.declared.event.Event.{Event}
 use Rattle.scenario_text.specs.declared.event.Event.TheVariants as events
 use Rattle.scenario_text.specs.declared.event.Keyword.TheVariants as keywords

@@ -2,7 +2,7 @@
 
 ghost use Rattle.std.specs.Prelude.{◌≡◌, Some, IfOk};
 ghost use Rattle.std.specs.List.{join_with_byte};
-ghost use Rattle.gnb_types.specs.Hex.{hex_of};
+ghost use Rattle.script_words.specs.gnb_types.Hex.{hex_of};
 ghost use Rattle.script_words.specs.Places.{sn_bits_text, value_words};
 ghost use Rattle.scenario_text.specs.Grammar.{plan_places, radio_places, bearer_places};
 ghost use Rattle.scenario_text.specs.Texts.{plan_values, event_text};
@@ -10,9 +10,9 @@ ghost use Rattle.scenario_text.specs.Print.{link_text, count_text, item_text, me
 
 use crate::event::Event;
 use crate::line::{Item, Link, Message, OutLine};
-use gnb_types::names::{BearerId, Dir, SnBits, UeId};
-use gnb_types::octets::{Memory, Octets};
-use gnb_types::plans::Plan;
+use script_words::from_gnb_types::names::{BearerId, Dir, SnBits, UeId};
+use script_words::from_gnb_types::octets::{Memory, Octets};
+use script_words::from_gnb_types::plans::Plan;
 use std::alloc::Global;
 use std::fmt;
 

@@ -10,9 +10,9 @@ ghost use Rattle.scenario_text.specs.Texts.{InRange, plan_values};
 ghost use Rattle.scenario_text.specs.declared.event.Keyword.TheVariants as keywords;
 
 use crate::event::{Event, Keyword};
-use gnb_types::names::{BearerId, Dir, NodeId, UeId};
-use gnb_types::octets::Octets;
-use gnb_types::plans::Plan;
+use script_words::from_gnb_types::names::{BearerId, Dir, NodeId, UeId};
+use script_words::from_gnb_types::octets::Octets;
+use script_words::from_gnb_types::plans::Plan;
 pub use script_words::reason::TextError;
 use script_words::reason::TextReason;
 use script_words::words::Words;

@@ -17,9 +17,9 @@ use Rattle.run_defs.specs.unit_defs.CpRecords.{new_cu_cp}
 use Rattle.run_defs.specs.unit_defs.Static.{up_set_up, du_set_up}
 use Rattle.run_defs.specs.Units.{new_units, ups_rest}
 use Rattle.run_defs.specs.Conditions.{all_set_up}
-use Rattle.cu_control.specs.Units.{ControlUnit}
-use Rattle.cu_user.specs.Users.{User, new_user}
-use Rattle.du_node.specs.Nodes.{Node, new_node}
+use Rattle.site_proof_leaves.specs.cu_control.Units.{ControlUnit}
+use Rattle.site_tables.specs.cu_user.Users.{User, new_user}
+use Rattle.site_tables.specs.du_node.Nodes.{Node, new_node}
 use Rattle.site.specs.declared.unit_set.UnitSet.{UnitSet}
 use Rattle.site.specs.Each.{EachIs}
 use Rattle.site_tables.specs.Users.{Users, first_users, as_set_up as user_set_up}

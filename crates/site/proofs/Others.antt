@@ -16,8 +16,8 @@ use Rattle.run_defs.specs.Conditions.{all_set_up}
 use Rattle.run_defs.specs.UnitRuns.{Records}
 use Rattle.unit_steps.specs.declared.StepError.{StepError}
 use Rattle.unit_steps.specs.declared.StepError.TheVariants as errors
-use Rattle.cu_control.specs.Units.{ControlUnit, PlacesFrom}
-use Rattle.du_node.specs.Nodes.{Node}
+use Rattle.site_proof_leaves.specs.cu_control.Units.{ControlUnit, PlacesFrom}
+use Rattle.site_tables.specs.du_node.Nodes.{Node}
 use Rattle.ue_node.specs.Nodes.{NodeState, new_node}
 use Rattle.site_tables.specs.Nodes.{Nodes, node_at, PlacesNode}
 use Rattle.site_tables.specs.Terminals.{Terminals, as_placed}

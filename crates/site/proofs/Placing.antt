@@ -5,10 +5,10 @@ use Rattle.gnb_types.specs.declared.names.Gnb.{Gnb}
 use Rattle.gnb_types.specs.declared.names.Gnb.TheVariants.{A, B}
 use Rattle.gnb_types.specs.declared.plans.Plan.{Plan}
 use Rattle.run_defs.specs.unit_defs.Teids.{teids_are_left, last_teid}
-use Rattle.cu_user.specs.up_rows.up_contexts.Placing.{downlinks_fit}
-use Rattle.du_contexts.specs.Placing.{uplinks_fit}
-use Rattle.cu_user.specs.up_rows.up_contexts.declared.placing.PlaceError.{PlaceError}
-use Rattle.cu_user.specs.up_rows.up_contexts.declared.placing.PlaceError.TheVariants as places
+use Rattle.site_tables.specs.up_contexts.Placing.{downlinks_fit}
+use Rattle.site_tables.specs.du_contexts.Placing.{uplinks_fit}
+use Rattle.site_tables.specs.up_contexts.declared.placing.PlaceError.{PlaceError}
+use Rattle.site_tables.specs.up_contexts.declared.placing.PlaceError.TheVariants as places
 use Rattle.unit_steps.specs.declared.StepError.{StepError}
 use Rattle.unit_steps.specs.declared.StepError.TheVariants as errors
 use Rattle.gnb_types.specs.declared.names.NodeId.TheVariants.{CuUp as up_id}
@@ -22,9 +22,9 @@ use Rattle.run_defs.specs.unit_defs.Static.{up_has_room, up_has_teids, up_placed
 use Rattle.run_defs.specs.Units.{cp_of, with_cp, up_of, with_up, du_of, with_du, with_ue}
 use Rattle.run_defs.specs.Conditions.{units_placed, all_set_up, is_held_by_units}
 use Rattle.run_defs.specs.UnitRuns.{Records}
-use Rattle.run_units.specs.Steps.{has_room, has_teids, PlacingGives}
-use Rattle.cu_user.specs.Users.{User}
-use Rattle.du_node.specs.Nodes.{Node}
+use Rattle.site_proof_leaves.specs.run_units.Steps.{has_room, has_teids, PlacingGives}
+use Rattle.site_tables.specs.cu_user.Users.{User}
+use Rattle.site_tables.specs.du_node.Nodes.{Node}
 use Rattle.site.specs.declared.unit_set.UnitSet.{UnitSet}
 use Rattle.site_tables.specs.Users.{Users, user_at, PlacesUser}
 use Rattle.site_tables.specs.Nodes.{node_at}

@@ -11,9 +11,9 @@ use Rattle.run_defs.specs.unit_octet_defs.Codec.{Codec}
 use Rattle.run_defs.specs.Units.{new_units, with_ue}
 use Rattle.run_defs.specs.UnitRuns.{Records, tables}
 use Rattle.plain_defs.specs.Plain.{IsGiven, IsPlanned}
-use Rattle.run_units.specs.Steps.{StepGives, PlacingGives}
-use Rattle.cu_user.specs.up_rows.up_contexts.declared.placing.PlaceError.{PlaceError}
-use Rattle.cu_user.specs.up_rows.up_contexts.declared.placing.PlaceError.TheVariants as places
+use Rattle.site_proof_leaves.specs.run_units.Steps.{StepGives, PlacingGives}
+use Rattle.site_tables.specs.up_contexts.declared.placing.PlaceError.{PlaceError}
+use Rattle.site_tables.specs.up_contexts.declared.placing.PlaceError.TheVariants as places
 use Rattle.unit_steps.specs.declared.StepError.{StepError}
 use Rattle.ue_node.specs.Nodes.{HasPacket}
 use Rattle.site_proof_leaves.specs.Settled.{AreSettled}

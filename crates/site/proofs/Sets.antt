@@ -22,13 +22,13 @@ use Rattle.run_defs.specs.unit_octet_defs.Codec.{Codec}
 use Rattle.run_defs.specs.unit_octet_defs.Units.{OctetAnswer, cu_cp_steps, cu_up_steps, du_steps, ue_steps}
 use Rattle.run_defs.specs.Units.{up_of, with_up, du_of, with_du, with_cp, with_ue}
 use Rattle.run_defs.specs.UnitRuns.{Records, UnitAnswer, unit_gives, unit_spent, answered_with, ue_answers, tables}
-use Rattle.run_units.specs.Steps.{StepGives}
+use Rattle.site_proof_leaves.specs.run_units.Steps.{StepGives}
 use Rattle.unit_steps.specs.declared.StepError.{StepError}
 use Rattle.unit_steps.specs.declared.StepError.TheVariants as errors
 use Rattle.unit_steps.specs.Steps.{Step, stepped, stopped, step_after}
-use Rattle.cu_control.specs.Units.{ControlUnit, StepsFrom, StepsTo}
-use Rattle.cu_user.specs.Users.{User, new_user}
-use Rattle.du_node.specs.Nodes.{Node, new_node}
+use Rattle.site_proof_leaves.specs.cu_control.Units.{ControlUnit, StepsFrom, StepsTo}
+use Rattle.site_tables.specs.cu_user.Users.{User, new_user}
+use Rattle.site_tables.specs.du_node.Nodes.{Node, new_node}
 use Rattle.ue_node.specs.Nodes.{NodeState}
 use Rattle.site_tables.specs.Steps.{Kind, Steps}
 use Rattle.site_tables.specs.Users.{Users, user_kind, user_at}

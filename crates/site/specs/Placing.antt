@@ -11,7 +11,7 @@ use Rattle.run_defs.specs.Conditions.{all_set_up}
 use Rattle.run_defs.specs.UnitRuns.{Records}
 use Rattle.unit_steps.specs.declared.StepError.{StepError}
 use Rattle.unit_steps.specs.declared.StepError.TheVariants as errors
-use Rattle.du_contexts.specs.Placing.{may_place}
+use Rattle.site_tables.specs.du_contexts.Placing.{may_place}
 use Rattle.site.specs.declared.unit_set.UnitSet.{UnitSet}
 use Rattle.site_tables.specs.Nodes.{node_at}
 use Rattle.site.specs.Sites.{records_of, AreWorking}

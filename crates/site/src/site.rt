@@ -3,16 +3,16 @@
 ghost use Rattle.std.specs.Prelude.{◌≡◌, None};
 
 use crate::unit_set::UnitSet;
-use cu_control::CuControl;
-use cu_user::{CuUser, PlaceError};
-use du_node::DuNode;
 use gnb_types::inputs::Input;
 use gnb_types::items::{Items, Memory};
 use gnb_types::names::{BearerId, Gnb, NodeId, UeId};
 use gnb_types::outputs::Outputs;
 use gnb_types::plans::Plan;
 use lawful_codecs::LawfulCodec;
-use run_units::units::Units;
+use site_proof_leaves::from_cu_control::CuControl;
+use site_proof_leaves::from_run_units::units::Units;
+use site_tables::from_cu_user::{CuUser, PlaceError};
+use site_tables::from_du_node::DuNode;
 use std::alloc::Global;
 use ue_node::UeNode;
 use unit_steps::StepError;

@@ -19,9 +19,9 @@ use Rattle.cu_user.specs.up_rows.up_contexts.Tables.{OctetUp}
 use Rattle.cu_user.specs.up_rows.up_contexts.declared.placing.PlaceError.{PlaceError}
 use Rattle.cu_user.specs.up_rows.up_contexts.declared.placing.PlaceError.TheVariants as places
 use Rattle.cu_user.specs.up_rows.up_contexts.Placing.{IsPlaced}
-use Rattle.du_contexts.specs.Tables.{OctetDu}
+use Rattle.du_node.specs.du_contexts.Tables.{OctetDu}
 use Rattle.du_node.specs.Nodes.{Node, outputs_in as node_outputs, failure_in}
-use Rattle.du_contexts.specs.Placing.{IsPlaced as IsNodePlaced}
+use Rattle.du_node.specs.du_contexts.Placing.{IsPlaced as IsNodePlaced}
 use Rattle.site_tables.specs.Steps.{Kind, Steps}
 use Rattle.site_tables.specs.Users.{Users, user_kind, user_at, PlacesUser}
 use Rattle.site_tables.specs.Nodes.{Nodes, node_kind, node_at, PlacesNode}

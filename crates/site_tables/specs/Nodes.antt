@@ -9,8 +9,8 @@ use Rattle.gnb_types.specs.Orders.{node_cmp}
 use Rattle.tables.specs.Tables.{at, put}
 use Rattle.run_defs.specs.unit_defs.Static.{du_set_up}
 use Rattle.unit_steps.specs.declared.StepError.{StepError}
-use Rattle.du_contexts.specs.Tables.{OctetDu}
-use Rattle.du_contexts.specs.Placing.{IsPlaced}
+use Rattle.du_node.specs.du_contexts.Tables.{OctetDu}
+use Rattle.du_node.specs.du_contexts.Placing.{IsPlaced}
 use Rattle.du_node.specs.Nodes.{Node, new_node}
 use Rattle.site_tables.specs.Steps.{Kind}
 

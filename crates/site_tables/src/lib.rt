@@ -5,3 +5,13 @@ pub mod names;
 pub mod nodes;
 pub mod terminals;
 pub mod users;
+
+/// Of `du_node`, for crates above.
+pub mod from_du_node {
+    pub use du_node::DuNode;
+}
+
+/// Of `cu_user`, for crates above.
+pub mod from_cu_user {
+    pub use cu_user::{CuUser, PlaceError};
+}

@@ -3,12 +3,12 @@
 ghost use Rattle.std.specs.Prelude.{◌<◌, ◌^◌, length};
 
 use crate::vectors::{Row, SHOWN, TYPES};
-use aper::decode;
 use asn1_module::{Module, TypeId, read_module};
 use gnb_types::hex::hex_bytes;
 use std::alloc::Global;
 use std::process::Abort;
 use std::test::Fail;
+use values_json::from_aper::decode;
 use values_json::json_of_value;
 
 /// Whether the value of these octets has this text.

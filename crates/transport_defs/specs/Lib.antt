@@ -1,1 +1,2 @@
 pub mod Links
+pub use Rattle.tables.specs as tables

@@ -9,12 +9,12 @@ use Rattle.std.specs.Map.{values_of}
 use Rattle.gnb_types.specs.declared.names.SnBits.{SnBits}
 use Rattle.gnb_types.specs.declared.keys.EntityKey.{EntityKey}
 use Rattle.gnb_types.specs.Orders.{entity_cmp}
-use Rattle.tables.specs.Tables.{find, put, without, at, map_values}
-use Rattle.tables.proofs.TableLaws.{find-mapped}
-use Rattle.pdcp_defs.specs.Counts.{near_count}
-use Rattle.pdcp_defs.specs.Receivers.{Receiver, Delivery, is_duplicate, is_ahead, stored, deliver, deliver_from, with_packet, bits_from, received_bits}
-use Rattle.pool_defs.specs.Pools.{Stored, PoolState, is_of, quota, used, packet_of, without_packet, with_quota, new_pool, IsPool}
-use Rattle.pool_defs.proofs.PoolLaws.{packet_at_take}
+use Rattle.pdcp_entities.specs.tables.Tables.{find, put, without, at, map_values}
+use Rattle.pdcp_entities.proofs.tables.TableLaws.{find-mapped}
+use Rattle.pdcp_entities.specs.pdcp_defs.Counts.{near_count}
+use Rattle.pdcp_entities.specs.pdcp_defs.Receivers.{Receiver, Delivery, is_duplicate, is_ahead, stored, deliver, deliver_from, with_packet, bits_from, received_bits}
+use Rattle.pdcp_entities.specs.pool_defs.Pools.{Stored, PoolState, is_of, quota, used, packet_of, without_packet, with_quota, new_pool, IsPool}
+use Rattle.pdcp_entities.proofs.pool_defs.PoolLaws.{packet_at_take}
 use Rattle.pdcp_entities.specs.declared.rx.Taken.{Taken}
 use Rattle.pdcp_entities.specs.declared.rx.Ahead.{Ahead}
 use Rattle.pdcp_entities.specs.Packets.{AreParked, Puts, Unparks, bytes_of, octets_at, octets_in}

@@ -7,10 +7,10 @@ use Rattle.std.specs.Map.{lookup}
 use Rattle.std.specs.BTreeMap.{is_at}
 use Rattle.std.proofs.lemmas.Cmp.{nat_cmp_total}
 use Rattle.std.specs.Cmp.{Equal-is}
-use Rattle.tables.specs.Tables.{find, without}
-use Rattle.tables.proofs.TableLaws.{find-without, find-without-other, other_key}
-use Rattle.pool_defs.specs.Pools.{Stored, PoolState, packet_by, packet_at, without_packet, without_place, AreApart, IsPool}
-use Rattle.pool_defs.proofs.PoolLaws.{numbers_ordered}
+use Rattle.pdcp_entities.specs.tables.Tables.{find, without}
+use Rattle.pdcp_entities.proofs.tables.TableLaws.{find-without, find-without-other, other_key}
+use Rattle.pdcp_entities.specs.pool_defs.Pools.{Stored, PoolState, packet_by, packet_at, without_packet, without_place, AreApart, IsPool}
+use Rattle.pdcp_entities.proofs.pool_defs.PoolLaws.{numbers_ordered}
 use Rattle.pdcp_entities.specs.Packets.{HasNone, freed, freed_by, all_freed}
 use Rattle.ue_bearers.proofs.RefLemmas.{length_without}
 

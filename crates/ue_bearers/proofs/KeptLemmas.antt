@@ -6,10 +6,10 @@ use Rattle.std.proofs.lemmas.List.Filters.{length-filter_both}
 use Rattle.gnb_types.specs.declared.names.SnBits.{SnBits}
 use Rattle.gnb_types.specs.declared.keys.EntityKey.{EntityKey}
 use Rattle.gnb_types.specs.Orders.{entity_cmp}
-use Rattle.tables.specs.Tables.{at, map_values}
-use Rattle.pdcp_defs.specs.Senders.{Sender, confirmed_to, confirmed_by, is_reported}
-use Rattle.pdcp_defs.specs.Counts.{count_below}
-use Rattle.pool_defs.specs.Pools.{PoolState, quota, packet_at, with_quota, new_pool, AreApart, IsPool}
+use Rattle.pdcp_entities.specs.tables.Tables.{at, map_values}
+use Rattle.pdcp_entities.specs.pdcp_defs.Senders.{Sender, confirmed_to, confirmed_by, is_reported}
+use Rattle.pdcp_entities.specs.pdcp_defs.Counts.{count_below}
+use Rattle.pdcp_entities.specs.pool_defs.Pools.{PoolState, quota, packet_at, with_quota, new_pool, AreApart, IsPool}
 use Rattle.pdcp_entities.specs.Bits.{bits_of}
 use Rattle.pdcp_entities.specs.Packets.{AreParked, HasNone, Frees, all_freed, octets_at, octets_in}
 use Rattle.pdcp_entities.specs.Entities.{TxState, new_tx, sender_in, confirmed_if, confirmed_number, confirmed_report, named_by_number, named_by_report, up_to}

@@ -9,3 +9,4 @@ pub mod SeenLemmas
 pub mod StoreLemmas
 pub mod StoredLemmas
 pub mod UpLemmas
+pub use Rattle.unit_steps.proofs as unit_steps

@@ -6,10 +6,10 @@ use Rattle.std.specs.List.{AllByRecursion}
 use Rattle.gnb_types.specs.declared.names.SnBits.{SnBits}
 use Rattle.gnb_types.specs.declared.keys.EntityKey.{EntityKey}
 use Rattle.gnb_types.specs.Orders.{entity_cmp}
-use Rattle.tables.specs.Queues.{first_item}
-use Rattle.tables.specs.Tables.{find, at}
-use Rattle.pdcp_defs.specs.Senders.{Sender, numbered}
-use Rattle.pool_defs.specs.Pools.{PoolState, quota, used, packet_of, with_packet, without_packet, IsPool}
+use Rattle.pdcp_entities.specs.tables.Queues.{first_item}
+use Rattle.pdcp_entities.specs.tables.Tables.{find, at}
+use Rattle.pdcp_entities.specs.pdcp_defs.Senders.{Sender, numbered}
+use Rattle.pdcp_entities.specs.pool_defs.Pools.{PoolState, quota, used, packet_of, with_packet, without_packet, IsPool}
 use Rattle.pdcp_entities.specs.declared.tx.NumberError.{NumberError}
 use Rattle.pdcp_entities.specs.declared.tx.NumberError.TheVariants as refusals
 use Rattle.pdcp_entities.specs.Packets.{AreParked, Parks, bytes_of}

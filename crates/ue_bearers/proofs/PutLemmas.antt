@@ -6,10 +6,10 @@ use Rattle.std.specs.List.{AllByRecursion}
 use Rattle.gnb_types.specs.declared.names.SnBits.{SnBits}
 use Rattle.gnb_types.specs.declared.keys.EntityKey.{EntityKey}
 use Rattle.gnb_types.specs.Orders.{entity_cmp}
-use Rattle.tables.specs.Tables.{find, without, at}
-use Rattle.pdcp_defs.specs.Senders.{Sender}
-use Rattle.pool_defs.specs.Pools.{Stored, PoolState, quota, used, packet_of, packet_at, with_packet, without_packet, IsPool}
-use Rattle.pool_defs.proofs.PoolLaws.{packet_of_put, packet_at_put, packet_at_take, put_held}
+use Rattle.pdcp_entities.specs.tables.Tables.{find, without, at}
+use Rattle.pdcp_entities.specs.pdcp_defs.Senders.{Sender}
+use Rattle.pdcp_entities.specs.pool_defs.Pools.{Stored, PoolState, quota, used, packet_of, packet_at, with_packet, without_packet, IsPool}
+use Rattle.pdcp_entities.proofs.pool_defs.PoolLaws.{packet_of_put, packet_at_put, packet_at_take, put_held}
 use Rattle.pdcp_entities.specs.Packets.{AreParked, bytes_of}
 use Rattle.pdcp_entities.specs.Entities.{TxState, sender_in}
 use Rattle.pdcp_entities.proofs.ParkLemmas.{AllSame, octets_same, parked_put, parked_taken}

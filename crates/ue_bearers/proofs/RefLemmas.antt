@@ -10,10 +10,10 @@ use Rattle.std.specs.Map.{lookup, values_of}
 use Rattle.std.specs.BTreeMap.{is_at, insert_entry}
 use Rattle.gnb_types.specs.declared.keys.EntityKey.{EntityKey}
 use Rattle.gnb_types.specs.Orders.{entity_cmp}
-use Rattle.tables.specs.Tables.{find, put, without, at}
+use Rattle.pdcp_entities.specs.tables.Tables.{find, put, without, at}
 use Rattle.gnb_types.proofs.OrderLemmas.{entity_total}
-use Rattle.tables.proofs.TableLaws.{find-put-same}
-use Rattle.pool_defs.specs.Pools.{Stored, PoolState, used, is_of, is_parked, packet_of, reserved, new_pool}
+use Rattle.pdcp_entities.proofs.tables.TableLaws.{find-put-same}
+use Rattle.pdcp_entities.specs.pool_defs.Pools.{Stored, PoolState, used, is_of, is_parked, packet_of, reserved, new_pool}
 
 module _ {X : Type 0} where
   -- a new key is one entry more

@@ -7,9 +7,9 @@ use Rattle.gnb_types.specs.declared.names.SnBits.{SnBits}
 use Rattle.gnb_types.specs.declared.keys.EntityKey.{EntityKey}
 use Rattle.gnb_types.specs.Orders.{entity_cmp}
 use Rattle.std.specs.Ordering.{nat_cmp}
-use Rattle.tables.specs.Tables.{find, at, map_values}
-use Rattle.pdcp_defs.specs.Senders.{Sender, last_of, is_above, window, may_restore, restored, new_sender, emptied}
-use Rattle.pool_defs.specs.Pools.{PoolState, quota, packet_of, with_packet, IsPool}
+use Rattle.pdcp_entities.specs.tables.Tables.{find, at, map_values}
+use Rattle.pdcp_entities.specs.pdcp_defs.Senders.{Sender, last_of, is_above, window, may_restore, restored, new_sender, emptied}
+use Rattle.pdcp_entities.specs.pool_defs.Pools.{PoolState, quota, packet_of, with_packet, IsPool}
 use Rattle.pdcp_entities.specs.Packets.{AreParked, Parks, Frees, all_freed, bytes_of, octets_at, octets_in}
 use Rattle.pdcp_entities.specs.Entities.{TxState, new_tx, sender_in}
 use Rattle.ue_bearers.specs.Uplinks.{UplinkState, used as in_use, IsPacket}

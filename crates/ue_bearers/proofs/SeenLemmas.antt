@@ -5,8 +5,8 @@ use Rattle.std.specs.Option.{option_map}
 use Rattle.std.specs.List.{AllByRecursion}
 use Rattle.gnb_types.specs.declared.names.SnBits.{SnBits}
 use Rattle.gnb_types.specs.declared.keys.EntityKey.{EntityKey}
-use Rattle.tables.specs.Tables.{map_values}
-use Rattle.pool_defs.specs.Pools.{PoolState, packet_at}
+use Rattle.pdcp_entities.specs.tables.Tables.{map_values}
+use Rattle.pdcp_entities.specs.pool_defs.Pools.{PoolState, packet_at}
 use Rattle.pdcp_entities.specs.Packets.{octets_at, octets_in}
 use Rattle.pdcp_entities.specs.Entities.{TxState, sender_in}
 use Rattle.ue_bearers.specs.Uplinks.{UplinkState, from_on, IsPacket}

@@ -11,9 +11,9 @@ use Rattle.std.specs.List.{AllByRecursion}
 use Rattle.gnb_types.specs.declared.names.SnBits.{SnBits}
 use Rattle.gnb_types.specs.declared.keys.EntityKey.{EntityKey}
 use Rattle.gnb_types.specs.Orders.{entity_cmp}
-use Rattle.tables.specs.Tables.{find, at, map_values}
-use Rattle.pdcp_defs.specs.Receivers.{new_receiver, bits_from, received_bits}
-use Rattle.pool_defs.specs.Pools.{Stored, PoolState, quota, used, packet_by, packet_at, IsPool}
+use Rattle.pdcp_entities.specs.tables.Tables.{find, at, map_values}
+use Rattle.pdcp_entities.specs.pdcp_defs.Receivers.{new_receiver, bits_from, received_bits}
+use Rattle.pdcp_entities.specs.pool_defs.Pools.{Stored, PoolState, quota, used, packet_by, packet_at, IsPool}
 use Rattle.pdcp_entities.specs.Packets.{Frees, all_freed, octets_at, octets_in}
 use Rattle.pdcp_entities.specs.Entities.{RxState, new_rx, receiver_in, cleared}
 use Rattle.ue_bearers.specs.Uplinks.{from_on}

@@ -9,9 +9,9 @@ use Rattle.std.specs.declared.cmp.Ordering.TheVariants.{Less, Equal, Greater}
 use Rattle.std.specs.BTreeMap.{insert_entry}
 use Rattle.gnb_types.specs.declared.keys.EntityKey.{EntityKey}
 use Rattle.gnb_types.specs.Orders.{entity_cmp}
-use Rattle.tables.specs.Tables.{put, without}
-use Rattle.pool_defs.specs.Pools.{Stored, PoolState, used, packet_of, without_packet, IsPool}
-use Rattle.pool_defs.proofs.PoolLaws.{used_take}
+use Rattle.pdcp_entities.specs.tables.Tables.{put, without}
+use Rattle.pdcp_entities.specs.pool_defs.Pools.{Stored, PoolState, used, packet_of, without_packet, IsPool}
+use Rattle.pdcp_entities.proofs.pool_defs.PoolLaws.{used_take}
 use Rattle.ue_bearers.specs.inside.Views.{IsAscending}
 use Rattle.ue_bearers.proofs.RefLemmas.{length_without, held_found, used_few}
 

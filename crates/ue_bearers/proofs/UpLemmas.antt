@@ -5,10 +5,10 @@ use Rattle.std.specs.List.{AllByRecursion, filter}
 use Rattle.std.proofs.lemmas.Bool.Decides.{nat_tests}
 use borrow.Author.Tests.{leb-true}
 use Rattle.gnb_types.specs.declared.names.SnBits.{SnBits}
-use Rattle.tables.specs.Tables.{map_values}
-use Rattle.pdcp.specs.Near.{last_count}
-use Rattle.pdcp_defs.specs.Senders.{Sender, first, first_of, window, has_room, numbered}
-use Rattle.pool_defs.specs.Pools.{PoolState}
+use Rattle.pdcp_entities.specs.tables.Tables.{map_values}
+use Rattle.pdcp_entities.specs.pdcp.Near.{last_count}
+use Rattle.pdcp_entities.specs.pdcp_defs.Senders.{Sender, first, first_of, window, has_room, numbered}
+use Rattle.pdcp_entities.specs.pool_defs.Pools.{PoolState}
 use Rattle.pdcp_entities.specs.declared.tx.NumberError.{NumberError}
 use Rattle.pdcp_entities.specs.declared.tx.NumberError.TheVariants as errors
 use Rattle.pdcp_entities.specs.Packets.{octets_at, octets_in}

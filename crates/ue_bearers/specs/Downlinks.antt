@@ -2,7 +2,7 @@
 use Rattle.std.specs.Prelude.{◌≡◌, ℕ, ◌+◌, ◌-◌, ◌^◌, ◌<◌, ◌≤◌, if◌then◌else◌, List, [], ◌∷◌, length, Option, Some, None, Result, Ok, Err}
 use Rattle.std.specs.Borrow.{Bor}
 use Rattle.gnb_types.specs.declared.names.SnBits.{SnBits}
-use Rattle.pdcp_defs.specs.Receivers.{Receiver, new_receiver, is_duplicate, is_ahead, stored, deliver, with_packet}
+use Rattle.pdcp_entities.specs.pdcp_defs.Receivers.{Receiver, new_receiver, is_duplicate, is_ahead, stored, deliver, with_packet}
 use Rattle.pdcp_entities.specs.declared.rx.Taken.{Taken}
 use Rattle.pdcp_entities.specs.declared.rx.Ahead.{Ahead}
 use Rattle.ue_bearers.specs.Uplinks.{from_on}

@@ -2,9 +2,9 @@
 use Rattle.std.specs.Prelude.{◌≡◌, ℕ, ◌+◌, ◌-◌, ◌^◌, ◌<◌, ◌≤◌, Bool, not, nat_lt, nat_le, if◌then◌else◌, List, [], ◌∷◌, length, filter, Option, Some, None, Result, Ok, Err}
 use Rattle.std.specs.Borrow.{Bor}
 use Rattle.gnb_types.specs.declared.names.SnBits.{SnBits}
-use Rattle.pdcp.specs.Near.{last_count}
-use Rattle.pdcp.specs.Pdus.{radio_data}
-use Rattle.pdcp_defs.specs.Senders.{Sender, new_sender, has_room, numbered, restored}
+use Rattle.pdcp_entities.specs.pdcp.Near.{last_count}
+use Rattle.pdcp_entities.specs.pdcp.Pdus.{radio_data}
+use Rattle.pdcp_entities.specs.pdcp_defs.Senders.{Sender, new_sender, has_room, numbered, restored}
 use Rattle.pdcp_entities.specs.declared.tx.NumberError.{NumberError}
 use Rattle.pdcp_entities.specs.declared.tx.NumberError.TheVariants as refusals
 use Rattle.unit_steps.specs.unit_defs.Ways.{counts_spent}

@@ -1,10 +1,10 @@
 //! The blocks for the packets of one direction of a bearer.
 
 ghost use Rattle.std.specs.Prelude.{◌≡◌, ◌≤◌, IfOk};
-ghost use Rattle.pool_defs.specs.Pools.{new_pool, with_quota};
+ghost use Rattle.pdcp_entities.specs.pool_defs.Pools.{new_pool, with_quota};
 
 use gnb_types::octets::Memory;
-use packet_pool::{Key, Pool, QuotaError};
+use pdcp_entities::from_packet_pool::{Key, Pool, QuotaError};
 use std::alloc::Global;
 
 /// A pool of so many blocks, all of them for one key.

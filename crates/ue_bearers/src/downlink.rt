@@ -1,17 +1,17 @@
 //! The downlink of a bearer: packets are stored, and delivered in the order of their COUNTs (TS 38.323, 5.2.2).
 
 ghost use Rattle.std.specs.Prelude.{◌≡◌, ◌<◌, ◌≤◌, [], length, IfOk, OnOk, OnErr};
-ghost use Rattle.pdcp_defs.specs.Counts.{near_count};
-ghost use Rattle.pdcp_defs.specs.Receivers.{new_receiver, received_bits};
-ghost use Rattle.packet_pool.specs.declared.region.TheConstants.{BLOCK};
+ghost use Rattle.pdcp_entities.specs.pdcp_defs.Counts.{near_count};
+ghost use Rattle.pdcp_entities.specs.pdcp_defs.Receivers.{new_receiver, received_bits};
+ghost use Rattle.pdcp_entities.specs.packet_pool.declared.region.TheConstants.{BLOCK};
 ghost use Rattle.ue_bearers.specs.Downlinks.{new_downlink, reception_of, received, IsDelivered, IsLeastStored};
 
 use crate::blocks::own_pool;
 use gnb_types::bits::Bits;
 use gnb_types::names::SnBits;
 use gnb_types::octets::{Memory, Octets};
-use packet_pool::{Key, Pool};
-use pdcp::near;
+use pdcp_entities::from_packet_pool::{Key, Pool};
+use pdcp_entities::from_pdcp::near;
 use pdcp_entities::{Ahead, Rx, Taken};
 use std::alloc::Global;
 use std::marker::Model;

@@ -8,3 +8,13 @@ pub mod uplink;
 
 pub use downlink::{Delivered, Downlink, Reception};
 pub use uplink::{Counted, Numbered, Uplink};
+
+/// Of `unit_defs`, for crates above.
+pub mod from_unit_defs {
+    pub use unit_steps::from_unit_defs::UeState;
+}
+
+/// Of `unit_steps`, for crates above.
+pub mod from_unit_steps {
+    pub use unit_steps::StepError;
+}

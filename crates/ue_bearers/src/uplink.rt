@@ -4,20 +4,20 @@ ghost use Rattle.std.specs.Prelude.{◌≡◌, ◌==◌, ◌+◌, ◌<◌, ◌�
 ghost use Rattle.std.specs.List.{AllByRecursion};
 ghost use Rattle.std.specs.VecDeque.Iter.{deque_iter_rest, deque_iter_steps};
 ghost use Rattle.std.specs.Iterator.Runs.{YieldsRefsInOrder};
-ghost use Rattle.pdcp_defs.specs.Senders.{may_restore, new_sender, emptied};
+ghost use Rattle.pdcp_entities.specs.pdcp_defs.Senders.{may_restore, new_sender, emptied};
 ghost use Rattle.pdcp_entities.specs.Entities.{confirmed_number, confirmed_report};
 ghost use Rattle.ue_bearers.specs.Uplinks.{new_uplink, used, refusal, numbering, restoring, IsCounting, IsNumbering, IsLeastFrom, IsPacket};
 
 use crate::blocks::own_pool;
 use gnb_types::names::SnBits;
 use gnb_types::octets::{Memory, Octets};
-use packet_pool::{Key, Pool};
-use pdcp::write_pdu;
+use pdcp_entities::from_packet_pool::{Key, Pool};
+use pdcp_entities::from_pdcp::write_pdu;
+use pdcp_entities::from_tables::queue::Queue;
 use pdcp_entities::{NumberError, Tx};
 use std::alloc::Global;
 use std::collections::vec_deque::Iter;
 use std::marker::Model;
-use tables::queue::Queue;
 use unit_steps::StepError;
 
 /// The counter of COUNTs.

@@ -7,7 +7,7 @@ ghost use Rattle.codec_defs.specs.Reading.{ReadsPdus};
 ghost use Rattle.unit_defs.specs.Ue.{ordered};
 ghost use Rattle.unit_octet_defs.specs.Codec.{Codec, octet_way};
 ghost use Rattle.unit_octet_defs.specs.Units.{ue_steps};
-ghost use Rattle.unit_steps.specs.Steps.{step_after, IsStep};
+ghost use Rattle.ue_rows.specs.unit_steps.Steps.{step_after, IsStep};
 ghost use Rattle.ue_rows.specs.Records.{record_of, IsRecord};
 ghost use Rattle.ue_node.specs.Nodes.{HasPacket, IsHeard, token_in};
 
@@ -20,9 +20,9 @@ use link_packets::read_radio;
 use message_types::Token;
 use std::alloc::Global;
 use ue_rows::UeRecord;
+use ue_rows::from_unit_messages::{Message, MessageCodec};
+use ue_rows::from_unit_steps::StepError;
 use ue_rows::says::drop_input;
-use unit_messages::{Message, MessageCodec};
-use unit_steps::StepError;
 
 /// The token that a message is, None where it is another message.
 fn token_in(message: &Message) -> Option<Token>

@@ -14,9 +14,9 @@ use gnb_types::plans::Plan;
 use std::alloc::Global;
 use std::marker::Model;
 use ue_rows::UeRecord;
+use ue_rows::from_unit_messages::MessageCodec;
+use ue_rows::from_unit_steps::StepError;
 use unit_defs::UeState;
-use unit_messages::MessageCodec;
-use unit_steps::StepError;
 
 /// A terminal. Contracts see the record of the procedure tables, and the error with which a step failed.
 #[derive(Drop)]

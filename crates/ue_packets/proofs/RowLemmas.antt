@@ -15,21 +15,21 @@ use Rattle.gnb_types.specs.declared.reasons.HeldReason.TheVariants.{Ahead}
 use Rattle.gnb_types.specs.declared.reasons.RefuseReason.TheVariants.{Size, Quota}
 use Rattle.pdcp.specs.Near.{last_count}
 use Rattle.pdcp.specs.Pdus.{radio_data, report_octets}
-use Rattle.pdcp_defs.specs.Counts.{count_below}
-use Rattle.pdcp_defs.specs.Senders.{Sender, has_room, numbered, confirmed_by}
-use Rattle.pdcp_defs.specs.Receivers.{Receiver, Delivery, is_duplicate, is_ahead, stored, deliver as handed_up, with_packet, received_bits}
-use Rattle.pdcp_entities.specs.Bits.{octet_bits, bits_of as entity_bits}
-use Rattle.pdcp_entities.specs.Entities.{confirmed_number, confirmed_report, confirmed_if as entity_if}
-use Rattle.unit_defs.specs.Ways.{gives, spent, ◌then◌, nothing, puts, drops, held, no, counts_spent, report_pdu}
-use Rattle.unit_defs.specs.Ue.{UeBearer, UeNode, on_air, data_output, unconfirmed_outputs, number_each, number_waiting, connect_bearer, delivered, took_data, is_connected, used_uplink, confirmed_if}
-use Rattle.unit_octet_defs.specs.Codec.{Codec, octet_way}
-use Rattle.unit_octet_defs.specs.Reading.{bits_of}
-use Rattle.unit_octet_defs.specs.Units.{OctetAnswer}
-use Rattle.unit_octet_defs.specs.Writing.{outputs_of}
-use Rattle.unit_steps.specs.Steps.{Step, stepped, stopped, step_after, IsStep}
-use Rattle.unit_steps.proofs.StepLaws.{step_with}
-use Rattle.unit_steps.specs.declared.StepError.{StepError}
-use Rattle.unit_steps.specs.declared.StepError.TheVariants as errors
+use Rattle.ue_bearers.specs.pdcp_defs.Counts.{count_below}
+use Rattle.ue_bearers.specs.pdcp_defs.Senders.{Sender, has_room, numbered, confirmed_by}
+use Rattle.ue_bearers.specs.pdcp_defs.Receivers.{Receiver, Delivery, is_duplicate, is_ahead, stored, deliver as handed_up, with_packet, received_bits}
+use Rattle.ue_bearers.specs.pdcp_entities.Bits.{octet_bits, bits_of as entity_bits}
+use Rattle.ue_bearers.specs.pdcp_entities.Entities.{confirmed_number, confirmed_report, confirmed_if as entity_if}
+use Rattle.ue_bearers.specs.unit_defs.Ways.{gives, spent, ◌then◌, nothing, puts, drops, held, no, counts_spent, report_pdu}
+use Rattle.ue_bearers.specs.unit_defs.Ue.{UeBearer, UeNode, on_air, data_output, unconfirmed_outputs, number_each, number_waiting, connect_bearer, delivered, took_data, is_connected, used_uplink, confirmed_if}
+use Rattle.ue_bearers.specs.unit_octet_defs.Codec.{Codec, octet_way}
+use Rattle.ue_bearers.specs.unit_octet_defs.Reading.{bits_of}
+use Rattle.ue_bearers.specs.unit_octet_defs.Units.{OctetAnswer}
+use Rattle.ue_bearers.specs.unit_octet_defs.Writing.{outputs_of}
+use Rattle.ue_bearers.specs.unit_steps.Steps.{Step, stepped, stopped, step_after, IsStep}
+use Rattle.ue_bearers.proofs.unit_steps.StepLaws.{step_with}
+use Rattle.ue_bearers.specs.unit_steps.declared.StepError.{StepError}
+use Rattle.ue_bearers.specs.unit_steps.declared.StepError.TheVariants as errors
 use Rattle.ue_bearers.specs.declared.uplink.Numbered.{Numbered}
 use Rattle.ue_bearers.specs.declared.downlink.Delivered.{Delivered}
 use Rattle.ue_bearers.specs.declared.downlink.Reception.{Reception}

@@ -2,8 +2,8 @@
 use Rattle.std.specs.Prelude.{◌≡◌, ℕ, ◌++◌, List, [], ◌∷◌, length, None, nat_lt, nat_le, if◌then◌else◌}
 use Rattle.gnb_types.specs.declared.names.BearerId.{BearerId}
 use Rattle.gnb_types.specs.declared.reasons.RefuseReason.TheVariants.{Size, Quota}
-use Rattle.unit_defs.specs.Ways.{Way, Answer, no, puts}
-use Rattle.unit_defs.specs.Ue.{UeBearer, UeNode, largest_packet, used_uplink, number_waiting}
+use Rattle.ue_bearers.specs.unit_defs.Ways.{Way, Answer, no, puts}
+use Rattle.ue_bearers.specs.unit_defs.Ue.{UeBearer, UeNode, largest_packet, used_uplink, number_waiting}
 use Rattle.ue_packets.specs.declared.terminal.Terminal.{Terminal}
 use Rattle.ue_packets.specs.declared.bearer.Bearer.{Bearer}
 

@@ -1,17 +1,17 @@
 //! A bearer of a terminal.
 
 ghost use Rattle.std.specs.Prelude.{◌≡◌, ℕ, ◌≤◌, ◌++◌, List, length, IfOk, OnOk};
-ghost use Rattle.packet_pool.specs.declared.region.TheConstants.{BLOCK};
+ghost use Rattle.ue_bearers.specs.packet_pool.declared.region.TheConstants.{BLOCK};
 ghost use Rattle.gnb_types.specs.declared.outputs.Output.TheVariants as outs;
 ghost use Rattle.gnb_types.specs.declared.names.Dir.TheVariants.{Ul as up};
-ghost use Rattle.pdcp_defs.specs.Counts.{near_count, count_below};
-ghost use Rattle.pdcp_defs.specs.Receivers.{deliver as handed_up};
-ghost use Rattle.unit_defs.specs.Ue.{number_waiting, connect_bearer, handed, took, confirmed, unconfirmed_outputs};
-ghost use Rattle.unit_defs.specs.Ways.{packet_content, report_content};
-ghost use Rattle.unit_octet_defs.specs.Codec.{Codec, octet_way};
-ghost use Rattle.unit_octet_defs.specs.Reading.{bits_of};
-ghost use Rattle.unit_octet_defs.specs.Writing.{outputs_of};
-ghost use Rattle.unit_steps.specs.Steps.{step_after, IsStep};
+ghost use Rattle.ue_bearers.specs.pdcp_defs.Counts.{near_count, count_below};
+ghost use Rattle.ue_bearers.specs.pdcp_defs.Receivers.{deliver as handed_up};
+ghost use Rattle.ue_bearers.specs.unit_defs.Ue.{number_waiting, connect_bearer, handed, took, confirmed, unconfirmed_outputs};
+ghost use Rattle.ue_bearers.specs.unit_defs.Ways.{packet_content, report_content};
+ghost use Rattle.ue_bearers.specs.unit_octet_defs.Codec.{Codec, octet_way};
+ghost use Rattle.ue_bearers.specs.unit_octet_defs.Reading.{bits_of};
+ghost use Rattle.ue_bearers.specs.unit_octet_defs.Writing.{outputs_of};
+ghost use Rattle.ue_bearers.specs.unit_steps.Steps.{step_after, IsStep};
 ghost use Rattle.ue_bearers.specs.Uplinks.{new_uplink, IsPacket};
 ghost use Rattle.ue_bearers.specs.Downlinks.{new_downlink};
 ghost use Rattle.ue_packets.specs.Bearers.{kept, terminal_of, IsOf, offered_at};
@@ -27,8 +27,8 @@ use gnb_types::reasons::{DropReason, HeldReason, RefuseReason};
 use pdcp::{PACKET_LIMIT, write_pdu, write_report};
 use results::beside;
 use std::alloc::Global;
+use ue_bearers::from_unit_steps::StepError;
 use ue_bearers::{Delivered, Downlink, Numbered, Reception, Uplink};
-use unit_steps::StepError;
 
 /// What a terminal keeps of a bearer.
 #[derive(Drop)]

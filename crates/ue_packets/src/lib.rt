@@ -7,3 +7,13 @@ pub mod terminal;
 
 pub use bearer::Bearer;
 pub use terminal::Terminal;
+
+/// Of `unit_steps`, for crates above.
+pub mod from_unit_steps {
+    pub use ue_bearers::from_unit_steps::StepError;
+}
+
+/// Of `ue_bearers`, for crates above.
+pub mod from_ue_bearers {
+    pub use ue_bearers::Reception;
+}

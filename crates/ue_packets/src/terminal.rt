@@ -1,10 +1,10 @@
 //! What a terminal is to its bearers.
 
 ghost use Rattle.std.specs.Prelude.{◌≡◌};
-ghost use Rattle.unit_defs.specs.Ue.{is_connected};
+ghost use Rattle.ue_bearers.specs.unit_defs.Ue.{is_connected};
 
 use gnb_types::plans::Plan;
-use unit_defs::UeState;
+use ue_bearers::from_unit_defs::UeState;
 
 /// What the packet rules read of a terminal.
 #[derive(Clone, Copy)]

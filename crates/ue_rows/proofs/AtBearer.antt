@@ -13,17 +13,17 @@ use Rattle.gnb_types.specs.declared.reasons.DropReason.TheVariants.{NoContext}
 use Rattle.gnb_types.specs.Orders.{bearer_cmp}
 use Rattle.tables.specs.Tables.{find, put}
 use Rattle.pdcp.specs.Pdus.{Content as PduContent, data_pdu, status_report}
-use Rattle.pdcp_defs.specs.Counts.{near_count, count_below}
+use Rattle.unit_defs.specs.pdcp_defs.Counts.{near_count, count_below}
 use Rattle.unit_defs.specs.Accessors.{ue_bearer_rests, ue_rests}
 use Rattle.unit_defs.specs.Ways.{Content, packet_content, report_content, drops}
 use Rattle.unit_defs.specs.Ue.{UeBearer, UeNode, offered, offer, take, confirm, took, confirmed, of_bearer, with_bearer}
-use Rattle.unit_octet_defs.specs.Codec.{Codec, octet_way}
-use Rattle.unit_octet_defs.specs.Reading.{bits_of, content_by, count_received_in, count_confirmed_in, bearer_at}
-use Rattle.unit_octet_defs.specs.Units.{OctetAnswer}
-use Rattle.unit_steps.specs.declared.StepError.{StepError}
-use Rattle.unit_steps.specs.declared.StepError.TheVariants as errors
-use Rattle.unit_steps.specs.Steps.{stepped, step_after, IsStep}
-use Rattle.ue_bearers.specs.Uplinks.{used}
+use Rattle.unit_messages.specs.unit_octet_defs.Codec.{Codec, octet_way}
+use Rattle.unit_messages.specs.unit_octet_defs.Reading.{bits_of, content_by, count_received_in, count_confirmed_in, bearer_at}
+use Rattle.unit_messages.specs.unit_octet_defs.Units.{OctetAnswer}
+use Rattle.ue_packets.specs.unit_steps.declared.StepError.{StepError}
+use Rattle.ue_packets.specs.unit_steps.declared.StepError.TheVariants as errors
+use Rattle.ue_packets.specs.unit_steps.Steps.{stepped, step_after, IsStep}
+use Rattle.ue_packets.specs.ue_bearers.Uplinks.{used}
 use Rattle.ue_packets.specs.Bearers.{kept, terminal_of, offered_at, IsOf}
 use Rattle.ue_packets.specs.declared.bearer.Bearer.{Bearer}
 use Rattle.ue_packets.specs.declared.terminal.Terminal.{Terminal}

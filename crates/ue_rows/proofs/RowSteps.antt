@@ -22,22 +22,22 @@ use Rattle.unit_defs.specs.declared.TokenKind.TheVariants as says
 use Rattle.gnb_types.specs.Orders.{bearer_cmp}
 use Rattle.tables.specs.Tables.{find}
 use Rattle.pdcp.specs.Near.{last_count}
-use Rattle.pdcp_defs.specs.Senders.{has_room, numbered as numbered_sender, confirmed_by}
+use Rattle.unit_defs.specs.pdcp_defs.Senders.{has_room, numbered as numbered_sender, confirmed_by}
 use Rattle.unit_defs.specs.Ways.{Content, packet_content, report_content, gives, spent, with_outputs, ◌then◌, nothing, puts, no, drops, counts_spent, epochs_spent, report_pdu}
 use Rattle.unit_defs.specs.Ue.{UeBearer, UeNode, is_connected, on_air, data_output, unconfirmed_outputs, number_each, number_waiting, connect_bearer, with_bearer, of_bearer, at_bearer, took, confirmed, confirmed_if, used_uplink, largest_packet, offered, offer, connect_each, connect, with_bearers, accept, accepted_in, obey, told, arrive, arrived, said, says_it, is_accessing, last_epoch}
-use Rattle.unit_octet_defs.specs.Codec.{Codec, octet_way}
-use Rattle.unit_octet_defs.specs.Units.{OctetAnswer}
-use Rattle.unit_steps.specs.declared.StepError.{StepError}
-use Rattle.unit_steps.specs.declared.StepError.TheVariants as errors
-use Rattle.unit_steps.specs.Steps.{Step, stepped, stopped, step_after, IsStep}
-use Rattle.unit_octet_defs.specs.Writing.{outputs_of}
-use Rattle.unit_steps.proofs.StepLaws.{OctetPut, step_with, step_then, step_stops}
+use Rattle.unit_messages.specs.unit_octet_defs.Codec.{Codec, octet_way}
+use Rattle.unit_messages.specs.unit_octet_defs.Units.{OctetAnswer}
+use Rattle.ue_packets.specs.unit_steps.declared.StepError.{StepError}
+use Rattle.ue_packets.specs.unit_steps.declared.StepError.TheVariants as errors
+use Rattle.ue_packets.specs.unit_steps.Steps.{Step, stepped, stopped, step_after, IsStep}
+use Rattle.unit_messages.specs.unit_octet_defs.Writing.{outputs_of}
+use Rattle.ue_packets.proofs.unit_steps.StepLaws.{OctetPut, step_with, step_then, step_stops}
 use Rattle.ue_packets.specs.Bearers.{kept, offered_at, terminal_of}
 use Rattle.ue_packets.specs.declared.terminal.Terminal.{Terminal}
 use Rattle.ue_packets.specs.declared.bearer.Bearer.{Bearer}
 use Rattle.ue_rows.specs.Records.{numbered, IsTerminalOf}
 use Rattle.ue_rows.proofs.BearerLemmas.{numbered_push}
-use Rattle.pdcp_defs.specs.Receivers.{received_bits}
+use Rattle.unit_defs.specs.pdcp_defs.Receivers.{received_bits}
 
 -- ---- what the rows at a bearer read of a terminal
 

@@ -2,8 +2,8 @@
 
 ghost use Rattle.std.specs.Prelude.{◌≡◌, OnOk};
 ghost use Rattle.unit_defs.specs.Ue.{obey, arrive, come_back, accept, fail, connect, connect_each, told, UeNode};
-ghost use Rattle.unit_octet_defs.specs.Codec.{Codec, octet_way};
-ghost use Rattle.unit_steps.specs.Steps.{step_after, IsStep};
+ghost use Rattle.unit_messages.specs.unit_octet_defs.Codec.{Codec, octet_way};
+ghost use Rattle.ue_packets.specs.unit_steps.Steps.{step_after, IsStep};
 ghost use Rattle.ue_rows.specs.Records.{record_of, numbered, ArePlanned, IsRecord, IsTerminalOf};
 
 use crate::record::UeRecord;
@@ -13,10 +13,10 @@ use gnb_types::outputs::Outputs;
 use gnb_types::reasons::{DropReason, RefuseReason};
 use message_types::Token;
 use std::alloc::Global;
+use ue_packets::from_unit_steps::StepError;
 use ue_packets::{Bearer, Terminal};
 use unit_defs::{TokenKind, UeState};
 use unit_messages::MessageCodec;
-use unit_steps::StepError;
 
 /// The counter of epochs.
 const EPOCHS: u8 = 5;

@@ -8,3 +8,13 @@ pub mod record;
 pub mod says;
 
 pub use record::UeRecord;
+
+/// Of `unit_steps`, for crates above.
+pub mod from_unit_steps {
+    pub use ue_packets::from_unit_steps::StepError;
+}
+
+/// Of `unit_messages`, for crates above.
+pub mod from_unit_messages {
+    pub use unit_messages::{Message, MessageCodec};
+}

@@ -3,9 +3,9 @@
 ghost use Rattle.std.specs.Prelude.{◌≡◌, ◌≤◌, OnOk, length};
 ghost use Rattle.pdcp.specs.Pdus.{content_of};
 ghost use Rattle.unit_defs.specs.Ue.{offer, take, confirm};
-ghost use Rattle.unit_octet_defs.specs.Codec.{Codec, octet_way};
-ghost use Rattle.unit_octet_defs.specs.Reading.{content_by, count_received_in, count_confirmed_in, bearer_at};
-ghost use Rattle.unit_steps.specs.Steps.{step_after, IsStep};
+ghost use Rattle.unit_messages.specs.unit_octet_defs.Codec.{Codec, octet_way};
+ghost use Rattle.unit_messages.specs.unit_octet_defs.Reading.{content_by, count_received_in, count_confirmed_in, bearer_at};
+ghost use Rattle.ue_packets.specs.unit_steps.Steps.{step_after, IsStep};
 ghost use Rattle.ue_rows.specs.Records.{record_of, IsRecord, IsSizedPdu};
 
 use crate::record::{UeRecord, index_of};
@@ -16,7 +16,7 @@ use gnb_types::outputs::Outputs;
 use gnb_types::reasons::DropReason;
 use pdcp::pdu::Pdu;
 use std::alloc::Global;
-use unit_steps::StepError;
+use ue_packets::from_unit_steps::StepError;
 
 impl UeRecord {
     /// A packet from above: it waits, and is numbered and sent while the terminal is connected. It is refused for its size, and where

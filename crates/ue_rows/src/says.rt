@@ -3,9 +3,9 @@
 ghost use Rattle.std.specs.Prelude.{◌≡◌, ◌++◌, ◌∷◌, [], OnOk, IfErr};
 ghost use Rattle.gnb_types.specs.declared.outputs.Output.TheVariants as outs;
 ghost use Rattle.unit_defs.specs.Ue.{said, token_of};
-ghost use Rattle.unit_octet_defs.specs.Codec.{octet_way};
-ghost use Rattle.unit_octet_defs.specs.Writing.{outputs_of};
-ghost use Rattle.unit_steps.specs.declared.StepError.TheVariants as step_errors;
+ghost use Rattle.unit_messages.specs.unit_octet_defs.Codec.{octet_way};
+ghost use Rattle.unit_messages.specs.unit_octet_defs.Writing.{outputs_of};
+ghost use Rattle.ue_packets.specs.unit_steps.declared.StepError.TheVariants as step_errors;
 ghost use Rattle.ue_rows.specs.Records.{record_of};
 
 use crate::record::UeRecord;
@@ -14,9 +14,9 @@ use gnb_types::outputs::{Output, Outputs};
 use gnb_types::reasons::{DropReason, RefuseReason};
 use message_types::Token;
 use std::alloc::Global;
+use ue_packets::from_unit_steps::StepError;
 use unit_defs::TokenKind;
 use unit_messages::{Message, MessageCodec, spelled};
-use unit_steps::StepError;
 
 /// The input is ignored for this reason.
 pub fn drop_input(out: &mut Outputs, reason: DropReason) -> Result<(), StepError>

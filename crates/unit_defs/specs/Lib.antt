@@ -15,8 +15,8 @@ pub mod Core
 pub mod Static
 pub mod Accessors
 pub use Rattle.pdcp_defs.specs as pdcp_defs
-pub use Rattle.tables.specs as tables
-pub use Rattle.pdcp.specs as pdcp
+pub use Rattle.transaction_defs.specs.tables as tables
+pub use Rattle.pdcp_defs.specs.pdcp as pdcp
 pub use Rattle.message_types.specs as message_types
-pub use Rattle.gnb_types.specs as gnb_types
+pub use Rattle.message_types.specs.gnb_types as gnb_types
 pub use Rattle.transaction_defs.specs as transaction_defs

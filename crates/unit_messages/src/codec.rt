@@ -9,8 +9,8 @@ use gnb_types::items::Memory;
 use gnb_types::names::NodeId;
 use gnb_types::octets::Octets;
 use gnb_types::reasons::DropReason;
-use message_types::Token;
 use std::alloc::Global;
+use unit_defs::from_message_types::Token;
 
 /// Reads and spells control messages. The member `codec` says which octets a message has, and what octets say: the rows of units
 /// are stated over it. Memory is the one error of each call.

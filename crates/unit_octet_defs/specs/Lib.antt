@@ -7,3 +7,6 @@ pub use Rattle.unit_defs.specs as unit_defs
 pub use Rattle.link_defs.specs as link_defs
 pub use Rattle.unit_defs.specs.pdcp_defs as pdcp_defs
 pub use Rattle.unit_defs.specs.transaction_defs as transaction_defs
+pub use Rattle.unit_defs.specs.gnb_types as gnb_types
+pub use Rattle.unit_defs.specs.message_types as message_types
+pub use Rattle.unit_defs.specs.pdcp as pdcp

@@ -3,8 +3,8 @@ use Rattle.std.specs.Prelude.{ℕ, Bool, List, [], map, Option, Some, None}
 use Rattle.unit_defs.specs.gnb_types.declared.names.SnBits.{SnBits}
 use Rattle.unit_defs.specs.gnb_types.declared.outputs.Output.{Output}
 use Rattle.unit_defs.specs.gnb_types.declared.outputs.Output.TheVariants as outs
-use Rattle.nr_user_plane.specs.declared.frames.Frame.TheVariants.{Data}
-use Rattle.gtpu.specs.Packets.{gtpu_octets}
+use Rattle.link_defs.specs.nr_user_plane.declared.frames.Frame.TheVariants.{Data}
+use Rattle.link_defs.specs.gtpu.Packets.{gtpu_octets}
 use Rattle.unit_defs.specs.pdcp.Pdus.{radio_data, report_octets}
 use Rattle.unit_defs.specs.pdcp_defs.Counts.{number_of}
 use Rattle.link_defs.specs.GPdus.{pdu_with}

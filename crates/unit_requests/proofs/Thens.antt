@@ -5,7 +5,7 @@ use Rattle.std.specs.Prelude.{Result, Ok, Err}
 use Rattle.gnb_types.specs.declared.outputs.Output.{Output}
 use Rattle.unit_defs.specs.Ways.{◌then◌, nothing}
 use Rattle.unit_defs.specs.Transactions.{Asked}
-use Rattle.unit_octet_defs.specs.Units.{OctetAnswer}
+use Rattle.unit_steps.specs.unit_octet_defs.Units.{OctetAnswer}
 use Rattle.unit_steps.specs.declared.StepError.{StepError}
 use Rattle.unit_steps.specs.declared.StepError.TheVariants as errors
 use Rattle.unit_steps.specs.Steps.{Step, stepped, step_after, IsStep}

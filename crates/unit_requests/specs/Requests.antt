@@ -4,9 +4,9 @@ use Rattle.gnb_types.specs.declared.keys.Channel.{Channel}
 use Rattle.gnb_types.specs.declared.items.Memory.{Memory}
 use Rattle.gnb_types.specs.declared.outputs.Output.{Output}
 use Rattle.gnb_types.specs.declared.outputs.Output.TheVariants.{Control}
-use Rattle.transaction_defs.specs.Callers.{Caller, Begin, begun, running, spent}
-use Rattle.transaction_defs.specs.Callees.{taken, verdict}
-use Rattle.transaction_defs.specs.Callees as callees
+use Rattle.unit_defs.specs.transaction_defs.Callers.{Caller, Begin, begun, running, spent}
+use Rattle.unit_defs.specs.transaction_defs.Callees.{taken, verdict}
+use Rattle.unit_defs.specs.transaction_defs.Callees as callees
 use Rattle.transactions.specs.declared.callee.Verdict.{Verdict}
 use Rattle.transactions.specs.declared.callee.Verdict.TheVariants.{New, Again, Stale}
 use Rattle.unit_defs.specs.Ways.{instances_spent}

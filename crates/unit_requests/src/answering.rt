@@ -1,8 +1,8 @@
 //! Requests of other nodes, and the replies to them.
 
 ghost use Rattle.std.specs.Prelude.{◌≡◌, ◌++◌, OnOk, IfErr};
-ghost use Rattle.transaction_defs.specs.Callees.{kept_reply};
-ghost use Rattle.unit_octet_defs.specs.Codec.{octet_way};
+ghost use Rattle.unit_defs.specs.transaction_defs.Callees.{kept_reply};
+ghost use Rattle.unit_steps.specs.unit_octet_defs.Codec.{octet_way};
 ghost use Rattle.unit_messages.specs.Messages.{message_as};
 ghost use Rattle.unit_defs.specs.Transactions.{replied, replied_late};
 ghost use Rattle.unit_steps.specs.Steps.{step_after, IsStep};

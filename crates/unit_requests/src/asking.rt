@@ -1,8 +1,8 @@
 //! Requests: each is put at once, or waits for the one that is open.
 
 ghost use Rattle.std.specs.Prelude.{◌≡◌, [], ◌∷◌, ◌++◌, IfOk, OnOk, IfNone};
-ghost use Rattle.transaction_defs.specs.Callers.{begin, keep_request};
-ghost use Rattle.unit_octet_defs.specs.Codec.{octet_way};
+ghost use Rattle.unit_defs.specs.transaction_defs.Callers.{begin, keep_request};
+ghost use Rattle.unit_steps.specs.unit_octet_defs.Codec.{octet_way};
 ghost use Rattle.unit_defs.specs.Transactions.{with_instance, begin_request, ask, advance, ask_at_once};
 ghost use Rattle.unit_steps.specs.Steps.{step_after};
 ghost use Rattle.unit_requests.specs.Requests.{AskGives, OpenGives};

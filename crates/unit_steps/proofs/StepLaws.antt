@@ -1,6 +1,6 @@
 -- One answer after another, as steps.
 use Rattle.std.proofs.Common.{◌≡◌, ℕ, List, [], ◌∷◌, ◌++◌, map, refl, sym, ap, ◌∙◌, append_assoc}
-use Rattle.gnb_types.specs.declared.outputs.Output.{Output}
+use Rattle.unit_octet_defs.specs.gnb_types.declared.outputs.Output.{Output}
 use Rattle.unit_octet_defs.specs.unit_defs.Ways.{Put, Load, gives, spent, with_outputs, ◌then◌, puts}
 use Rattle.unit_octet_defs.specs.Units.{OctetAnswer}
 use Rattle.unit_octet_defs.specs.Writing.{output_of, outputs_of}

@@ -1,6 +1,6 @@
 -- What the code of a row gives, against what the row's definition says. Outputs are put at the end of those that were made before.
 use Rattle.std.specs.Prelude.{◌≡◌, ℕ, List, ◌++◌, Result, Ok, Err}
-use Rattle.gnb_types.specs.declared.outputs.Output.{Output}
+use Rattle.unit_octet_defs.specs.gnb_types.declared.outputs.Output.{Output}
 use Rattle.unit_octet_defs.specs.unit_defs.Ways.{gives, spent}
 use Rattle.unit_octet_defs.specs.Units.{OctetAnswer}
 use Rattle.unit_octet_defs.specs.Writing.{outputs_of}

@@ -1,8 +1,13 @@
 //! What a step of a unit answers: its outputs in order, or why there are none.
 #![tactic(auto)]
 
-use gnb_types::octets::Memory as NoMemory;
 use thiserror::Error;
+use unit_octet_defs::from_gnb_types::octets::Memory as NoMemory;
+
+/// Of `unit_defs`, for crates above.
+pub mod from_unit_defs {
+    pub use unit_octet_defs::from_unit_defs::{AttemptKind, UeState};
+}
 
 /// Why a unit makes no step. It is of no use from then on.
 #[derive(Clone, Copy, Debug, PartialEq, Eq, Error)]

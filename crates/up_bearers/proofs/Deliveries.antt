@@ -4,18 +4,18 @@ use Rattle.std.specs.List.{AllByRecursion}
 use Rattle.gnb_types.specs.declared.names.Dir.TheVariants.{Ul}
 use Rattle.gnb_types.specs.declared.outputs.Output.{Output}
 use Rattle.gnb_types.specs.declared.outputs.Output.TheVariants as outs
-use Rattle.pdcp_defs.specs.Receivers.{Receiver, Delivery, deliver as handed_up, deliver_from, with_packet}
+use Rattle.unit_defs.specs.pdcp_defs.Receivers.{Receiver, Delivery, deliver as handed_up, deliver_from, with_packet}
 use Rattle.unit_defs.specs.Ways.{gives}
 use Rattle.unit_defs.specs.UpRecords.{UpBearer}
 use Rattle.unit_defs.specs.UpBearers.{delivered, deliver_stored}
-use Rattle.unit_octet_defs.specs.Codec.{Codec, octet_way}
-use Rattle.unit_octet_defs.specs.Units.{OctetAnswer}
-use Rattle.unit_octet_defs.specs.Writing.{outputs_of}
-use Rattle.unit_steps.specs.Steps.{stepped, step_after}
-use Rattle.ue_bearers.specs.declared.downlink.Delivered.{Delivered}
-use Rattle.ue_bearers.specs.Downlinks.{DownlinkState, IsDelivered}
-use Rattle.up_tunnels.specs.declared.at.At.{At}
-use Rattle.up_tunnels.specs.Tunnels.{at_as}
+use Rattle.up_downlink.specs.unit_octet_defs.Codec.{Codec, octet_way}
+use Rattle.up_downlink.specs.unit_octet_defs.Units.{OctetAnswer}
+use Rattle.up_downlink.specs.unit_octet_defs.Writing.{outputs_of}
+use Rattle.up_downlink.specs.unit_steps.Steps.{stepped, step_after}
+use Rattle.up_downlink.specs.ue_bearers.declared.downlink.Delivered.{Delivered}
+use Rattle.up_downlink.specs.ue_bearers.Downlinks.{DownlinkState, IsDelivered}
+use Rattle.up_downlink.specs.up_tunnels.declared.at.At.{At}
+use Rattle.up_downlink.specs.up_tunnels.Tunnels.{at_as}
 use Rattle.up_bearers.specs.Bearers.{with_receiver}
 
 module _ (codec : Codec) (a : At) (b : UpBearer) where

@@ -6,19 +6,19 @@ use Rattle.gnb_types.specs.declared.names.Dir.TheVariants.{Dl, Ul}
 use Rattle.gnb_types.specs.declared.outputs.Output.{Output}
 use Rattle.gnb_types.specs.declared.outputs.Output.TheVariants as outs
 use Rattle.gnb_types.specs.declared.outputs.Tag.TheVariants.{Absent, Own}
-use Rattle.link_defs.specs.Layouts.{forwarded_numbered, forwarded_fresh}
+use Rattle.up_downlink.specs.link_defs.Layouts.{forwarded_numbered, forwarded_fresh}
 use Rattle.unit_defs.specs.Ways.{fresh, numbered, packet, ◌then◌, with_outputs}
 use Rattle.unit_defs.specs.UpRecords.{SourceHop, UpBearer}
 use Rattle.unit_defs.specs.UpBearers.{forward_numbered, forward_fresh, forward_late, forwarded_down, forwarded_up, put_down, put_up}
-use Rattle.unit_octet_defs.specs.Codec.{Codec, octet_way}
-use Rattle.unit_octet_defs.specs.Units.{OctetAnswer}
-use Rattle.unit_octet_defs.specs.Writing.{output_of}
-use Rattle.unit_steps.specs.Steps.{stepped, step_after}
-use Rattle.unit_steps.proofs.StepLaws.{OctetPut, step_with}
-use Rattle.ue_bearers.specs.Uplinks.{from_on, IsPacket}
-use Rattle.up_tunnels.specs.declared.at.At.{At}
-use Rattle.up_tunnels.specs.declared.hop.Hop.{Hop}
-use Rattle.up_tunnels.specs.Tunnels.{at_as, hop_as, hop_teid}
+use Rattle.up_downlink.specs.unit_octet_defs.Codec.{Codec, octet_way}
+use Rattle.up_downlink.specs.unit_octet_defs.Units.{OctetAnswer}
+use Rattle.up_downlink.specs.unit_octet_defs.Writing.{output_of}
+use Rattle.up_downlink.specs.unit_steps.Steps.{stepped, step_after}
+use Rattle.up_downlink.proofs.unit_steps.StepLaws.{OctetPut, step_with}
+use Rattle.up_downlink.specs.ue_bearers.Uplinks.{from_on, IsPacket}
+use Rattle.up_downlink.specs.up_tunnels.declared.at.At.{At}
+use Rattle.up_downlink.specs.up_tunnels.declared.hop.Hop.{Hop}
+use Rattle.up_downlink.specs.up_tunnels.Tunnels.{at_as, hop_as, hop_teid}
 
 one_more : (start : List Output) (o : OctetPut) (more : OctetAnswer UpBearer) (b : UpBearer) (outputs : List Output)
     → ((before : List Output) → step_after before more ≡ stepped (before ++ outputs) b)

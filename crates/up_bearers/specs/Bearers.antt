@@ -2,10 +2,10 @@
 use Rattle.std.specs.Prelude.{◌≡◌}
 use Rattle.std.specs.List.{AllByRecursion}
 use Rattle.unit_defs.specs.UpRecords.{UpBearer}
-use Rattle.ue_bearers.specs.Downlinks.{DownlinkState}
-use Rattle.ue_bearers.specs.Uplinks.{IsPacket}
-use Rattle.up_tunnels.specs.declared.at.At.{At}
-use Rattle.up_tunnels.specs.Tunnels.{downlink_as, hop_as}
+use Rattle.up_downlink.specs.ue_bearers.Downlinks.{DownlinkState}
+use Rattle.up_downlink.specs.ue_bearers.Uplinks.{IsPacket}
+use Rattle.up_downlink.specs.up_tunnels.declared.at.At.{At}
+use Rattle.up_downlink.specs.up_tunnels.Tunnels.{downlink_as, hop_as}
 use Rattle.up_downlink.specs.Downlinks.{IsDown}
 use Rattle.up_bearers.specs.declared.bearer.Bearer.{Bearer}
 

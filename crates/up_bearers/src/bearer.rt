@@ -8,9 +8,9 @@ use gnb_types::items::{Items, Memory};
 use gnb_types::keys::EntityKey;
 use gnb_types::names::Dir;
 use std::alloc::Global;
-use ue_bearers::{Downlink as Receiving, Uplink as Sending};
 use up_downlink::DownSide;
-use up_tunnels::{At, Frames, Hop};
+use up_downlink::from_ue_bearers::{Downlink as Receiving, Uplink as Sending};
+use up_downlink::from_up_tunnels::{At, Frames, Hop};
 
 /// What a CU-UP keeps of a bearer. Of the tunnels that end here N3 and the uplinks are there while they are open; the two of forwarding
 /// stay open as long as the context.

@@ -3,16 +3,16 @@
 ghost use Rattle.std.specs.Prelude.{◌≡◌, Some, OnOk};
 ghost use Rattle.unit_defs.specs.UpRecords.{UpBearer};
 ghost use Rattle.unit_defs.specs.UpBearers.{forward_numbered, forward_fresh};
-ghost use Rattle.unit_octet_defs.specs.Codec.{Codec, octet_way};
-ghost use Rattle.unit_steps.specs.Steps.{stepped, step_after};
-ghost use Rattle.up_tunnels.specs.Tunnels.{at_as, hop_as};
+ghost use Rattle.up_downlink.specs.unit_octet_defs.Codec.{Codec, octet_way};
+ghost use Rattle.up_downlink.specs.unit_steps.Steps.{stepped, step_after};
+ghost use Rattle.up_downlink.specs.up_tunnels.Tunnels.{at_as, hop_as};
 
 use gnb_types::items::Memory;
 use gnb_types::names::Dir;
 use gnb_types::outputs::{Outputs, Tag};
 use std::alloc::Global;
-use ue_bearers::Uplink as Sending;
-use up_tunnels::{At, Hop, ShownCount};
+use up_downlink::from_ue_bearers::Uplink as Sending;
+use up_downlink::from_up_tunnels::{At, Hop, ShownCount};
 
 /// Downlink packets that nothing confirmed, each with its COUNT.
 pub fn forward_unconfirmed(

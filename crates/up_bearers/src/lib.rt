@@ -8,3 +8,18 @@ pub mod late;
 pub mod uplink;
 
 pub use bearer::Bearer;
+
+/// Of `unit_steps`, for crates above.
+pub mod from_unit_steps {
+    pub use up_downlink::from_unit_steps::StepError;
+}
+
+/// Of `up_tunnels`, for crates above.
+pub mod from_up_tunnels {
+    pub use up_downlink::from_up_tunnels::{At, Downlink, Flags, Frames, Hop, ShownCount};
+}
+
+/// Of `up_downlink`, for crates above.
+pub mod from_up_downlink {
+    pub use up_downlink::DownSide;
+}

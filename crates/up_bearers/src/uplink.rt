@@ -3,17 +3,17 @@
 ghost use Rattle.std.specs.Prelude.{OnOk};
 ghost use Rattle.unit_defs.specs.UpRecords.{UpBearer};
 ghost use Rattle.unit_defs.specs.UpBearers.{deliver_stored};
-ghost use Rattle.unit_octet_defs.specs.Codec.{Codec, octet_way};
-ghost use Rattle.unit_steps.specs.Steps.{IsStep, step_after};
-ghost use Rattle.up_tunnels.specs.Tunnels.{at_as};
+ghost use Rattle.up_downlink.specs.unit_octet_defs.Codec.{Codec, octet_way};
+ghost use Rattle.up_downlink.specs.unit_steps.Steps.{IsStep, step_after};
+ghost use Rattle.up_downlink.specs.up_tunnels.Tunnels.{at_as};
 ghost use Rattle.up_bearers.specs.Bearers.{with_receiver, IsUp};
 
 use gnb_types::names::Dir;
 use gnb_types::outputs::{Output, Outputs};
 use std::alloc::Global;
-use ue_bearers::{Delivered, Downlink as Receiving};
-use unit_steps::StepError;
-use up_tunnels::At;
+use up_downlink::from_ue_bearers::{Delivered, Downlink as Receiving};
+use up_downlink::from_unit_steps::StepError;
+use up_downlink::from_up_tunnels::At;
 
 /// Delivers in order what is stored.
 pub fn deliver_stored(

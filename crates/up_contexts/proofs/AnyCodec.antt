@@ -1,7 +1,7 @@
 -- A codec, where any will do.
 use Rattle.std.specs.Prelude.{[], None, Err}
 use Rattle.gnb_types.specs.declared.reasons.DropReason.TheVariants.{Unexpected}
-use Rattle.unit_octet_defs.specs.Codec.{Codec}
+use Rattle.bearer_context.specs.unit_octet_defs.Codec.{Codec}
 
 abbrev pub any_codec : Codec
 any_codec = record {

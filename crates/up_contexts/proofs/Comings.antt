@@ -12,23 +12,23 @@ use Rattle.gnb_types.specs.declared.reasons.HeldReason.{HeldReason}
 use Rattle.gnb_types.specs.Orders.{ue_cmp, bearer_cmp}
 use Rattle.std.specs.Prelude.{Result, Ok, Err}
 use Rattle.tables.specs.Tables.{find, put}
-use Rattle.link_defs.specs.Decoding.{Item}
+use Rattle.bearer_context.specs.link_defs.Decoding.{Item}
 use Rattle.unit_defs.specs.Ways.{Taken, gives, spent, control, packet, radio, deliver, dropped, held, opened, closed, failed, no, nothing, ◌then◌}
 use Rattle.unit_defs.specs.UpRecords.{UpBearer, UpContext, UpTunnel, up_at}
 use Rattle.unit_defs.specs.UpItems.{held_reason, took}
 use Rattle.unit_defs.specs.Teids.{without_each}
 use Rattle.unit_defs.specs.CuUp.{with_context, closed_in, with_bearer, taken_by, taken_in, taken_of, taken_on, take, end_where_over, cu_up_acts}
-use Rattle.unit_octet_defs.specs.Codec.{Codec, octet_way}
-use Rattle.unit_octet_defs.specs.Reading.{up_item, link_of, up_item_read, read_up_bearer, read_up_context, read_up_item, read_at_cu_up}
-use Rattle.unit_octet_defs.specs.Units.{OctetAnswer, acts_on, cu_up_steps}
-use Rattle.unit_octet_defs.specs.Writing.{output_of, outputs_of}
-use Rattle.unit_steps.specs.declared.StepError.{StepError}
-use Rattle.unit_steps.specs.declared.StepError.TheVariants as errors
-use Rattle.unit_steps.specs.Steps.{Step, stepped, stopped, step_after, IsStep}
-use Rattle.unit_steps.proofs.StepLaws.{OctetPut, step_with}
-use Rattle.up_items.specs.Items.{kind_as}
-use Rattle.up_items.specs.Coming.{Came, stays, takes, came, came_item, came_held}
-use Rattle.up_items.specs.declared.items.Kind.{Kind}
+use Rattle.bearer_context.specs.unit_octet_defs.Codec.{Codec, octet_way}
+use Rattle.bearer_context.specs.unit_octet_defs.Reading.{up_item, link_of, up_item_read, read_up_bearer, read_up_context, read_up_item, read_at_cu_up}
+use Rattle.bearer_context.specs.unit_octet_defs.Units.{OctetAnswer, acts_on, cu_up_steps}
+use Rattle.bearer_context.specs.unit_octet_defs.Writing.{output_of, outputs_of}
+use Rattle.bearer_context.specs.unit_steps.declared.StepError.{StepError}
+use Rattle.bearer_context.specs.unit_steps.declared.StepError.TheVariants as errors
+use Rattle.bearer_context.specs.unit_steps.Steps.{Step, stepped, stopped, step_after, IsStep}
+use Rattle.bearer_context.proofs.unit_steps.StepLaws.{OctetPut, step_with}
+use Rattle.bearer_context.specs.up_items.Items.{kind_as}
+use Rattle.bearer_context.specs.up_items.Coming.{Came, stays, takes, came, came_item, came_held}
+use Rattle.bearer_context.specs.up_items.declared.items.Kind.{Kind}
 use Rattle.bearer_context.specs.Contexts.{at_in, with_one}
 use Rattle.bearer_context.specs.Items.{came_in, IsCameIn}
 use Rattle.up_contexts.specs.Tables.{OctetUp, UpTables, with_tables}

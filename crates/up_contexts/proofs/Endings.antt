@@ -13,12 +13,12 @@ use Rattle.unit_defs.specs.UpRecords.{UpBearer, UpContext, UpTunnel}
 use Rattle.unit_defs.specs.UpBearers.{open_teids}
 use Rattle.unit_defs.specs.Teids.{without_each}
 use Rattle.unit_defs.specs.CuUp.{ended, with_context, ended_if_over, end_where_over, as_released, released_on}
-use Rattle.unit_octet_defs.specs.Codec.{Codec, octet_way}
-use Rattle.unit_octet_defs.specs.Writing.{outputs_of}
-use Rattle.unit_octet_defs.specs.Units.{OctetAnswer}
-use Rattle.unit_steps.specs.declared.StepError.{StepError}
-use Rattle.unit_steps.specs.Steps.{Step, stepped, step_after, IsStep}
-use Rattle.unit_steps.proofs.StepLaws.{OctetPut, outputs_append}
+use Rattle.bearer_context.specs.unit_octet_defs.Codec.{Codec, octet_way}
+use Rattle.bearer_context.specs.unit_octet_defs.Writing.{outputs_of}
+use Rattle.bearer_context.specs.unit_octet_defs.Units.{OctetAnswer}
+use Rattle.bearer_context.specs.unit_steps.declared.StepError.{StepError}
+use Rattle.bearer_context.specs.unit_steps.Steps.{Step, stepped, step_after, IsStep}
+use Rattle.bearer_context.proofs.unit_steps.StepLaws.{OctetPut, outputs_append}
 use Rattle.bearer_context.specs.Contexts.{all_open, is_all_over}
 use Rattle.up_contexts.specs.Tables.{OctetUp, UpTables, with_tables}
 use Rattle.up_contexts.specs.Rows.{ended_at}

@@ -15,11 +15,11 @@ use Rattle.unit_defs.specs.Teids.{teids_are_left, teid_after}
 use Rattle.unit_defs.specs.UpRecords.{UpBearer, UpContext, UpTunnel}
 use Rattle.unit_defs.specs.UpBearers.{teids_of_bearer}
 use Rattle.unit_defs.specs.CuUp.{entries_of, opened_of, with_entries, with_new, makes, answer_with, with_context, teids_from, uplinks_from, uplink_entries, uplinks_given}
-use Rattle.unit_octet_defs.specs.Codec.{Codec, octet_way}
-use Rattle.unit_octet_defs.specs.Writing.{outputs_of}
-use Rattle.unit_steps.specs.declared.StepError.{StepError}
-use Rattle.unit_steps.specs.Steps.{Step, stepped, step_after, IsStep}
-use Rattle.unit_steps.proofs.StepLaws.{outputs_append}
+use Rattle.bearer_context.specs.unit_octet_defs.Codec.{Codec, octet_way}
+use Rattle.bearer_context.specs.unit_octet_defs.Writing.{outputs_of}
+use Rattle.bearer_context.specs.unit_steps.declared.StepError.{StepError}
+use Rattle.bearer_context.specs.unit_steps.Steps.{Step, stepped, step_after, IsStep}
+use Rattle.bearer_context.proofs.unit_steps.StepLaws.{outputs_append}
 use Rattle.bearer_context.specs.Contexts.{made_from}
 use Rattle.bearer_context.specs.Answers.{entry_as}
 use Rattle.bearer_context.specs.declared.context.ContextSetup.{ContextSetup}

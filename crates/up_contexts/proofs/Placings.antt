@@ -9,7 +9,7 @@ use Rattle.unit_defs.specs.Teids.{teids_are_left, teid_after}
 use Rattle.unit_defs.specs.UpRecords.{UpContext}
 use Rattle.unit_defs.specs.CuUp.{bearers_from, bearers_made, entries_of, with_entries, fits}
 use Rattle.unit_defs.specs.Static.{with_downlinks, up_has_room, up_has_teids, up_placed}
-use Rattle.unit_octet_defs.specs.Codec.{octet_way}
+use Rattle.bearer_context.specs.unit_octet_defs.Codec.{octet_way}
 use Rattle.bearer_context.specs.Contexts.{made_from}
 use Rattle.bearer_context.specs.declared.context.ContextSetup.{ContextSetup}
 use Rattle.up_contexts.specs.Tables.{OctetUp, UpTables, with_tables}

@@ -14,9 +14,9 @@ use Rattle.unit_defs.specs.Ways.{spent, packet, frame, no, nothing, puts, ◌the
 use Rattle.unit_defs.specs.UpRecords.{Downlink, UpBearer, UpContext, UpTunnel, up_at}
 use Rattle.unit_defs.specs.UpBearers.{last_frame, has_downlink, framed, framed_on}
 use Rattle.unit_defs.specs.CuUp.{with_context, with_bearer, poll_bearer, poll_on, poll}
-use Rattle.unit_octet_defs.specs.Codec.{Codec, octet_way}
-use Rattle.unit_steps.specs.declared.StepError.{StepError}
-use Rattle.unit_steps.specs.Steps.{Step, stepped, step_after, IsStep}
+use Rattle.bearer_context.specs.unit_octet_defs.Codec.{Codec, octet_way}
+use Rattle.bearer_context.specs.unit_steps.declared.StepError.{StepError}
+use Rattle.bearer_context.specs.unit_steps.Steps.{Step, stepped, step_after, IsStep}
 use Rattle.bearer_context.specs.Contexts.{with_one}
 use Rattle.bearer_context.specs.Items.{polled}
 use Rattle.bearer_context.proofs.Steps.{map_step, mapped}

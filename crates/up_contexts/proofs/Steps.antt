@@ -7,10 +7,10 @@ use Rattle.gnb_types.specs.Orders.{ue_cmp}
 use Rattle.tables.specs.Tables.{find, put}
 use Rattle.unit_defs.specs.UpRecords.{UpContext, UpTunnel}
 use Rattle.unit_defs.specs.CuUp.{UpStep, steps, stops, answer_with, with_context}
-use Rattle.unit_octet_defs.specs.Codec.{Codec, octet_way}
-use Rattle.unit_octet_defs.specs.Units.{OctetAnswer}
-use Rattle.unit_steps.specs.declared.StepError.{StepError}
-use Rattle.unit_steps.specs.Steps.{Step, step_after, IsStep}
+use Rattle.bearer_context.specs.unit_octet_defs.Codec.{Codec, octet_way}
+use Rattle.bearer_context.specs.unit_octet_defs.Units.{OctetAnswer}
+use Rattle.bearer_context.specs.unit_steps.declared.StepError.{StepError}
+use Rattle.bearer_context.specs.unit_steps.Steps.{Step, step_after, IsStep}
 use Rattle.bearer_context.specs.Orders.{context_after}
 use Rattle.bearer_context.proofs.Steps.{map_step, mapped}
 use Rattle.up_contexts.specs.Tables.{OctetUp, UpTables, with_tables}

@@ -6,10 +6,10 @@ use Rattle.gnb_types.specs.declared.reasons.DropReason.TheVariants.{NoContext}
 use Rattle.gnb_types.specs.Orders.{ue_cmp, bearer_cmp}
 use Rattle.tables.specs.Tables.{find, put}
 use Rattle.unit_defs.specs.UpRecords.{UpContext, UpTunnel}
-use Rattle.unit_octet_defs.specs.Codec.{Codec}
-use Rattle.unit_steps.specs.declared.StepError.{StepError}
-use Rattle.unit_steps.specs.declared.StepError.TheVariants as errors
-use Rattle.up_items.specs.Items.{kind_as}
+use Rattle.bearer_context.specs.unit_octet_defs.Codec.{Codec}
+use Rattle.bearer_context.specs.unit_steps.declared.StepError.{StepError}
+use Rattle.bearer_context.specs.unit_steps.declared.StepError.TheVariants as errors
+use Rattle.bearer_context.specs.up_items.Items.{kind_as}
 use Rattle.bearer_context.specs.Items.{came_in, IsCameIn}
 use Rattle.up_contexts.specs.Tables.{UpTables}
 use Rattle.up_contexts.specs.declared.packets.TunnelPlace.{TunnelPlace}

@@ -3,3 +3,4 @@ pub mod Tables
 pub mod Rows
 pub mod Placing
 pub mod Comings
+pub use Rattle.bearer_context.specs.codec_defs as codec_defs

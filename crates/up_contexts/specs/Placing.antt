@@ -3,8 +3,8 @@ use Rattle.std.specs.Prelude.{◌≡◌, ℕ, ◌+◌, ◌^◌, Bool, true, fals
 use Rattle.gnb_types.specs.declared.plans.Plan.{Plan}
 use Rattle.unit_defs.specs.Ways.{teids_spent}
 use Rattle.unit_defs.specs.Static.{up_has_room, up_has_teids, up_placed}
-use Rattle.unit_steps.specs.declared.StepError.{StepError}
-use Rattle.unit_steps.specs.declared.StepError.TheVariants as steps
+use Rattle.bearer_context.specs.unit_steps.declared.StepError.{StepError}
+use Rattle.bearer_context.specs.unit_steps.declared.StepError.TheVariants as steps
 use Rattle.up_contexts.specs.declared.placing.PlaceError.{PlaceError}
 use Rattle.up_contexts.specs.declared.placing.PlaceError.TheVariants as errors
 use Rattle.up_contexts.specs.Tables.{OctetUp}

@@ -10,8 +10,8 @@ use Rattle.unit_defs.specs.Ways.{spent, nothing, teids_spent}
 use Rattle.unit_defs.specs.Teids.{teids_are_left}
 use Rattle.unit_defs.specs.UpRecords.{UpContext}
 use Rattle.unit_defs.specs.CuUp.{answer_with, as_switched, as_frozen, as_known, as_resumed, status_each, teids_from, uplinks_from, uplinks_given, ended}
-use Rattle.unit_octet_defs.specs.Codec.{Codec, octet_way}
-use Rattle.unit_octet_defs.specs.Units.{OctetAnswer}
+use Rattle.bearer_context.specs.unit_octet_defs.Codec.{Codec, octet_way}
+use Rattle.bearer_context.specs.unit_octet_defs.Units.{OctetAnswer}
 use Rattle.bearer_context.specs.Orders.{switched_each, frozen_each, resumed_each}
 use Rattle.up_contexts.specs.Tables.{OctetUp}
 

@@ -5,15 +5,15 @@ ghost use Rattle.gnb_types.specs.Orders.{ue_cmp};
 ghost use Rattle.tables.specs.Tables.{find};
 ghost use Rattle.unit_defs.specs.Accessors.{up_has_context, is_unconfirmed, up_rests};
 ghost use Rattle.unit_defs.specs.CuUp.{fits};
-ghost use Rattle.unit_octet_defs.specs.Codec.{Codec, octet_way};
+ghost use Rattle.bearer_context.specs.unit_octet_defs.Codec.{Codec, octet_way};
 ghost use Rattle.up_contexts.specs.Tables.{OctetUp, with_tables, no_tables};
 
 use bearer_context::Context;
+use bearer_context::from_up_items::Kind;
 use gnb_types::names::{BearerId, UeId};
 use std::alloc::Global;
 use std::marker::Model;
 use tables::table::Table;
-use up_items::Kind;
 
 /// How many blocks there are in all.
 const POOL_BLOCKS: u64 = 8_192;
@@ -29,7 +29,7 @@ pub(crate) struct UpTunnel {
 
 impl Model for UpTunnel {
     ghost use Rattle.unit_defs.specs.UpRecords.{UpTunnel};
-    ghost use Rattle.up_items.specs.Items.{kind_as};
+    ghost use Rattle.bearer_context.specs.up_items.Items.{kind_as};
 
     ghost Value = { UpTunnel };
 

@@ -3,17 +3,17 @@
 ghost use Rattle.gnb_types.specs.Orders.{ue_cmp};
 ghost use Rattle.tables.specs.Tables.{find};
 ghost use Rattle.unit_defs.specs.CuUp.{end_where_over, released_on};
-ghost use Rattle.unit_octet_defs.specs.Codec.{Codec, octet_way};
-ghost use Rattle.unit_steps.specs.Steps.{IsStep, step_after};
+ghost use Rattle.bearer_context.specs.unit_octet_defs.Codec.{Codec, octet_way};
+ghost use Rattle.bearer_context.specs.unit_steps.Steps.{IsStep, step_after};
 ghost use Rattle.up_contexts.specs.Tables.{OctetUp, with_tables};
 ghost use Rattle.up_contexts.specs.Rows.{ended_at};
 
 use crate::contexts::Contexts;
 use crate::tunnels::close_each;
+use bearer_context::from_unit_steps::StepError;
 use gnb_types::names::UeId;
 use gnb_types::outputs::Outputs;
 use std::alloc::Global;
-use unit_steps::StepError;
 
 impl Contexts {
     /// The context of a terminal ends, if there is one: its open tunnels are closed.

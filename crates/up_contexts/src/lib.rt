@@ -10,6 +10,6 @@ pub mod packets;
 pub mod placing;
 pub mod tunnels;
 
+pub use bearer_context::from_up_items::Kind;
 pub use bearer_context::{Context, ContextSetup};
 pub use contexts::Contexts;
-pub use up_items::Kind;

@@ -6,14 +6,15 @@ ghost use Rattle.gnb_types.specs.Orders.{ue_cmp};
 ghost use Rattle.tables.specs.Tables.{find, put};
 ghost use Rattle.unit_defs.specs.Teids.{teids_are_left, teid_after};
 ghost use Rattle.unit_defs.specs.CuUp.{makes, entries_of, opened_of, with_entries};
-ghost use Rattle.unit_octet_defs.specs.Codec.{Codec, octet_way};
-ghost use Rattle.unit_octet_defs.specs.Writing.{outputs_of};
-ghost use Rattle.unit_steps.specs.Steps.{IsStep, step_after};
+ghost use Rattle.bearer_context.specs.unit_octet_defs.Codec.{Codec, octet_way};
+ghost use Rattle.bearer_context.specs.unit_octet_defs.Writing.{outputs_of};
+ghost use Rattle.bearer_context.specs.unit_steps.Steps.{IsStep, step_after};
 ghost use Rattle.up_contexts.specs.Tables.{OctetUp, with_tables};
 ghost use Rattle.up_contexts.specs.Rows.{added_at, uplinks_at};
 
 use crate::contexts::{Contexts, UpTunnel};
 use crate::tunnels::{TEIDS, open_each, open_uplinks, show_opened, teid_after, teids_are_left};
+use bearer_context::from_unit_steps::StepError;
 use bearer_context::{Context, ContextSetup};
 use gnb_types::items::{Items, Memory};
 use gnb_types::names::UeId;
@@ -21,7 +22,6 @@ use gnb_types::outputs::Outputs;
 use gnb_types::plans::TunnelList;
 use std::alloc::Global;
 use tables::table::Table;
-use unit_steps::StepError;
 
 /// The run shows that the tunnels of a new context are opened.
 fn show_context(alloc: Global, context: &Context, out: &mut Outputs) -> Result<(), Memory>

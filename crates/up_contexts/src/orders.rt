@@ -4,18 +4,18 @@ ghost use Rattle.std.specs.Prelude.{◌≡◌, true, false, Some};
 ghost use Rattle.gnb_types.specs.Orders.{ue_cmp};
 ghost use Rattle.tables.specs.Tables.{find};
 ghost use Rattle.unit_defs.specs.UpRecords.{UpContext};
-ghost use Rattle.unit_octet_defs.specs.Codec.{Codec};
-ghost use Rattle.unit_steps.specs.Steps.{IsStep, step_after};
+ghost use Rattle.bearer_context.specs.unit_octet_defs.Codec.{Codec};
+ghost use Rattle.bearer_context.specs.unit_steps.Steps.{IsStep, step_after};
 ghost use Rattle.bearer_context.specs.Orders.{AreShort};
 ghost use Rattle.up_contexts.specs.Tables.{OctetUp, with_tables};
 ghost use Rattle.up_contexts.specs.Rows.{switched_at, frozen_at, known_at, resumed_at};
 
 use crate::contexts::Contexts;
+use bearer_context::from_unit_steps::StepError;
 use gnb_types::names::{NodeId, UeId};
 use gnb_types::outputs::Outputs;
 use gnb_types::plans::{SnStatus, Tunnel};
 use std::alloc::Global;
-use unit_steps::StepError;
 
 impl Contexts {
     /// The frozen state ends, the terminal is there, and the downlinks go to these tunnels of a DU from now on.

@@ -6,23 +6,23 @@ ghost use Rattle.std.specs.Ordering.{nat_cmp};
 ghost use Rattle.gnb_types.specs.declared.inputs.Input.TheVariants as ins;
 ghost use Rattle.tables.specs.Tables.{find};
 ghost use Rattle.unit_defs.specs.CuUp.{poll};
-ghost use Rattle.codec_defs.specs.Reading.{ReadsItems};
-ghost use Rattle.unit_octet_defs.specs.Codec.{Codec, octet_way};
-ghost use Rattle.unit_octet_defs.specs.Reading.{up_link};
-ghost use Rattle.unit_octet_defs.specs.Units.{cu_up_steps};
-ghost use Rattle.unit_steps.specs.Steps.{IsStep, step_after};
+ghost use Rattle.bearer_context.specs.codec_defs.Reading.{ReadsItems};
+ghost use Rattle.bearer_context.specs.unit_octet_defs.Codec.{Codec, octet_way};
+ghost use Rattle.bearer_context.specs.unit_octet_defs.Reading.{up_link};
+ghost use Rattle.bearer_context.specs.unit_octet_defs.Units.{cu_up_steps};
+ghost use Rattle.bearer_context.specs.unit_steps.Steps.{IsStep, step_after};
 ghost use Rattle.up_contexts.specs.Tables.{OctetUp, with_tables};
 ghost use Rattle.up_contexts.specs.Comings.{IsPlaceOf, HasCome};
 
 use crate::contexts::Contexts;
 use crate::tunnels::close_shown;
+use bearer_context::from_unit_steps::StepError;
+use bearer_context::from_up_items::Kind;
+use bearer_context::from_up_items::items::read_item;
 use gnb_types::names::{BearerId, UeId};
 use gnb_types::outputs::{Output, Outputs};
 use gnb_types::reasons::{DropReason, RefuseReason};
 use std::alloc::Global;
-use unit_steps::StepError;
-use up_items::Kind;
-use up_items::items::read_item;
 
 /// Whose a tunnel is, and its kind.
 #[derive(Clone, Copy)]

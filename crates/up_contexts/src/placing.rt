@@ -8,11 +8,11 @@ ghost use Rattle.up_contexts.specs.Placing.{downlinks_fit, IsPut, IsPlaced};
 
 use crate::contexts::Contexts;
 use crate::tunnels::TEIDS;
+use bearer_context::from_unit_steps::StepError;
 use bearer_context::{Context, ContextSetup};
 use gnb_types::names::Gnb;
 use gnb_types::plans::Plan;
 use std::alloc::Global;
-use unit_steps::StepError;
 
 /// Why a terminal was not placed.
 #[derive(Clone, Copy, Debug, PartialEq, Eq)]

@@ -11,12 +11,12 @@ ghost use Rattle.up_contexts.specs.Rows.{closed_of};
 
 use crate::contexts::{Contexts, UpTunnel};
 use bearer_context::answers::Opening;
+use bearer_context::from_up_items::Kind;
 use gnb_types::items::Memory;
 use gnb_types::names::UeId;
 use gnb_types::outputs::{Output, Outputs};
 use gnb_types::plans::Tunnel;
 use tables::table::Table;
-use up_items::Kind;
 
 /// The number of the counter of TEIDs.
 pub(crate) const TEIDS: u8 = 2;

@@ -6,16 +6,16 @@ use Rattle.std.proofs.lemmas.Result.{err_from_is_err_and}
 use Rattle.gnb_types.specs.declared.names.SnBits.{SnBits}
 use Rattle.gnb_types.specs.declared.outputs.Output.{Output}
 use Rattle.gnb_types.specs.declared.outputs.Tag.TheVariants.{Own}
-use Rattle.pdcp.specs.Near.{last_count}
-use Rattle.pdcp_defs.specs.Senders.{Sender, has_room, numbered}
-use Rattle.unit_defs.specs.Ways.{spent, ◌then◌, nothing, counts_spent}
-use Rattle.unit_defs.specs.UpRecords.{UpBearer}
-use Rattle.unit_defs.specs.UpBearers.{number_each, number_waiting, has_downlink, sent}
-use Rattle.unit_steps.specs.unit_octet_defs.Codec.{Codec, octet_way}
-use Rattle.unit_steps.specs.unit_octet_defs.Units.{OctetAnswer}
-use Rattle.unit_steps.specs.declared.StepError.{StepError}
-use Rattle.unit_steps.specs.declared.StepError.TheVariants as errors
-use Rattle.unit_steps.specs.Steps.{Step, IsStep, stopped}
+use Rattle.up_tunnels.specs.pdcp.Near.{last_count}
+use Rattle.ue_bearers.specs.pdcp_defs.Senders.{Sender, has_room, numbered}
+use Rattle.ue_bearers.specs.unit_defs.Ways.{spent, ◌then◌, nothing, counts_spent}
+use Rattle.ue_bearers.specs.unit_defs.UpRecords.{UpBearer}
+use Rattle.ue_bearers.specs.unit_defs.UpBearers.{number_each, number_waiting, has_downlink, sent}
+use Rattle.ue_bearers.specs.unit_octet_defs.Codec.{Codec, octet_way}
+use Rattle.ue_bearers.specs.unit_octet_defs.Units.{OctetAnswer}
+use Rattle.ue_bearers.specs.unit_steps.declared.StepError.{StepError}
+use Rattle.ue_bearers.specs.unit_steps.declared.StepError.TheVariants as errors
+use Rattle.ue_bearers.specs.unit_steps.Steps.{Step, IsStep, stopped}
 use Rattle.ue_bearers.specs.declared.uplink.Counted.{Counted}
 use Rattle.ue_bearers.specs.Uplinks.{UplinkState, Numbering, numbers, stays, ends, numbering, numbering_of, IsCounting, IsPacket}
 use Rattle.up_tunnels.specs.declared.at.At.{At}

@@ -2,11 +2,11 @@
 use Rattle.std.proofs.Common.{◌≡◌, ℕ, ◌+◌, ◌<◌, Bool, true, false, cond, nat_le, List, [], ◌∷◌, length, Some, refl, sym, ap, ◌∙◌, arith}
 use Rattle.std.proofs.lemmas.Bool.Decides.{nat_tests}
 use Rattle.gnb_types.specs.declared.outputs.Tag.TheVariants.{Own}
-use Rattle.unit_defs.specs.Ways.{◌then◌, nothing}
-use Rattle.unit_defs.specs.UpRecords.{UpBearer}
-use Rattle.unit_defs.specs.UpBearers.{sent, sent_again, is_one_of}
-use Rattle.unit_steps.specs.unit_octet_defs.Codec.{Codec, octet_way}
-use Rattle.unit_steps.specs.unit_octet_defs.Units.{OctetAnswer}
+use Rattle.ue_bearers.specs.unit_defs.Ways.{◌then◌, nothing}
+use Rattle.ue_bearers.specs.unit_defs.UpRecords.{UpBearer}
+use Rattle.ue_bearers.specs.unit_defs.UpBearers.{sent, sent_again, is_one_of}
+use Rattle.ue_bearers.specs.unit_octet_defs.Codec.{Codec, octet_way}
+use Rattle.ue_bearers.specs.unit_octet_defs.Units.{OctetAnswer}
 use Rattle.ue_bearers.specs.Uplinks.{from_on}
 use Rattle.up_tunnels.specs.declared.at.At.{At}
 use Rattle.up_tunnels.specs.Tunnels.{at_as}

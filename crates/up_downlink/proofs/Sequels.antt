@@ -4,12 +4,12 @@ use Rattle.std.specs.Prelude.{Result}
 use Rattle.std.specs.Result.{IsErrAnd}
 use Rattle.std.proofs.lemmas.Result.{err_from_is_err_and}
 use Rattle.gnb_types.specs.declared.outputs.Output.{Output}
-use Rattle.unit_defs.specs.Ways.{◌then◌}
-use Rattle.unit_steps.specs.unit_octet_defs.Units.{OctetAnswer}
-use Rattle.unit_steps.specs.declared.StepError.{StepError}
-use Rattle.unit_steps.specs.declared.StepError.TheVariants as errors
-use Rattle.unit_steps.specs.Steps.{Step, IsStep, stepped, stopped, step_after}
-use Rattle.unit_steps.proofs.StepLaws.{step_then, step_stops}
+use Rattle.ue_bearers.specs.unit_defs.Ways.{◌then◌}
+use Rattle.ue_bearers.specs.unit_octet_defs.Units.{OctetAnswer}
+use Rattle.ue_bearers.specs.unit_steps.declared.StepError.{StepError}
+use Rattle.ue_bearers.specs.unit_steps.declared.StepError.TheVariants as errors
+use Rattle.ue_bearers.specs.unit_steps.Steps.{Step, IsStep, stepped, stopped, step_after}
+use Rattle.ue_bearers.proofs.unit_steps.StepLaws.{step_then, step_stops}
 
 -- nothing more is put out
 pub nothing_more : {R : Type 0} (before : List Output) (b : R) → stepped (before ++ []) b ≡ stepped before b

@@ -1,7 +1,7 @@
 -- The downlink of a bearer of a CU-UP, as the procedure tables have it.
 use Rattle.std.specs.Prelude.{◌≡◌, ℕ, List, filter}
-use Rattle.unit_defs.specs.UpRecords.{UpBearer}
-use Rattle.unit_defs.specs.UpBearers.{is_one_of}
+use Rattle.ue_bearers.specs.unit_defs.UpRecords.{UpBearer}
+use Rattle.ue_bearers.specs.unit_defs.UpBearers.{is_one_of}
 use Rattle.up_tunnels.specs.declared.at.At.{At}
 use Rattle.up_tunnels.specs.Tunnels.{downlink_as}
 use Rattle.up_downlink.specs.declared.down.DownSide.{DownSide}

@@ -1,17 +1,17 @@
 //! The downlink of a bearer: packets wait, get a COUNT, are sent in frames, and are held until they are confirmed (TS 38.323, 5.2.1).
 
 ghost use Rattle.std.specs.Prelude.{◌≡◌, OnOk};
-ghost use Rattle.unit_defs.specs.UpRecords.{UpBearer};
-ghost use Rattle.unit_defs.specs.UpBearers.{number_each, number_waiting, sent_again};
-ghost use Rattle.unit_steps.specs.unit_octet_defs.Codec.{Codec, octet_way};
-ghost use Rattle.unit_steps.specs.Steps.{IsStep, step_after};
+ghost use Rattle.ue_bearers.specs.unit_defs.UpRecords.{UpBearer};
+ghost use Rattle.ue_bearers.specs.unit_defs.UpBearers.{number_each, number_waiting, sent_again};
+ghost use Rattle.ue_bearers.specs.unit_octet_defs.Codec.{Codec, octet_way};
+ghost use Rattle.ue_bearers.specs.unit_steps.Steps.{IsStep, step_after};
 ghost use Rattle.up_tunnels.specs.Tunnels.{at_as};
 ghost use Rattle.up_downlink.specs.Downlinks.{with_down, taken_of, IsDown};
 
 use gnb_types::outputs::{Outputs, Tag};
 use std::alloc::Global;
+use ue_bearers::from_unit_steps::StepError;
 use ue_bearers::{Counted, Uplink as Sending};
-use unit_steps::StepError;
 use up_tunnels::{At, Frames};
 
 /// The transmitting entity of a bearer, with the packets that wait, and its frames. Contracts of calls hold whatever else the bearer

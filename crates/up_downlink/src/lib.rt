@@ -5,3 +5,18 @@
 pub mod down;
 
 pub use down::DownSide;
+
+/// Of `unit_steps`, for crates above.
+pub mod from_unit_steps {
+    pub use ue_bearers::from_unit_steps::StepError;
+}
+
+/// Of `ue_bearers`, for crates above.
+pub mod from_ue_bearers {
+    pub use ue_bearers::{Delivered, Downlink, Uplink};
+}
+
+/// Of `up_tunnels`, for crates above.
+pub mod from_up_tunnels {
+    pub use up_tunnels::{At, Downlink, Flags, Frames, Hop, ShownCount};
+}

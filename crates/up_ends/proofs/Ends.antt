@@ -3,14 +3,14 @@ use Rattle.std.proofs.Common.{◌≡◌, ℕ, Option, Some, None, refl, ap, ◌�
 use Rattle.gnb_types.specs.declared.names.Dir.TheVariants.{Dl}
 use Rattle.gnb_types.specs.declared.outputs.Tag.TheVariants.{Absent}
 use Rattle.gnb_types.specs.declared.reasons.DropReason.TheVariants.{Unexpected}
-use Rattle.unit_defs.specs.Ways.{drops, end_marker, ◌then◌}
-use Rattle.unit_defs.specs.UpRecords.{UpBearer}
-use Rattle.unit_defs.specs.UpItems.{n3_ended, closed_n3}
-use Rattle.unit_octet_defs.specs.Codec.{Codec, octet_way}
-use Rattle.unit_octet_defs.specs.Units.{OctetAnswer}
-use Rattle.up_tunnels.specs.declared.at.At.{At}
-use Rattle.up_tunnels.specs.declared.hop.Hop.{Hop}
-use Rattle.up_tunnels.specs.Tunnels.{at_as, hop_as}
+use Rattle.up_packets.specs.unit_defs.Ways.{drops, end_marker, ◌then◌}
+use Rattle.up_packets.specs.unit_defs.UpRecords.{UpBearer}
+use Rattle.up_packets.specs.unit_defs.UpItems.{n3_ended, closed_n3}
+use Rattle.up_packets.specs.unit_octet_defs.Codec.{Codec, octet_way}
+use Rattle.up_packets.specs.unit_octet_defs.Units.{OctetAnswer}
+use Rattle.up_packets.specs.up_tunnels.declared.at.At.{At}
+use Rattle.up_packets.specs.up_tunnels.declared.hop.Hop.{Hop}
+use Rattle.up_packets.specs.up_tunnels.Tunnels.{at_as, hop_as}
 use Rattle.up_packets.specs.Passing.{passed_on}
 
 module _ (codec : Codec) (a : At) (b : UpBearer) (o : Option Hop) where

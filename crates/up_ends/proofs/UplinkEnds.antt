@@ -7,17 +7,17 @@ use Rattle.gnb_types.specs.declared.outputs.Output.{Output}
 use Rattle.gnb_types.specs.declared.outputs.Output.TheVariants as outs
 use Rattle.gnb_types.specs.declared.outputs.Tag.TheVariants.{Absent}
 use Rattle.gnb_types.specs.declared.reasons.DropReason.TheVariants.{Unexpected}
-use Rattle.unit_defs.specs.Ways.{nothing, drops, closed, end_marker}
-use Rattle.unit_defs.specs.UpRecords.{UpBearer}
-use Rattle.unit_defs.specs.UpBearers.{no_uplink}
-use Rattle.unit_defs.specs.UpItems.{up_hop_ends_if, uplink_ended, up_ended}
-use Rattle.unit_octet_defs.specs.Codec.{Codec, octet_way}
-use Rattle.unit_octet_defs.specs.Units.{OctetAnswer}
-use Rattle.unit_steps.specs.Steps.{step_after}
-use Rattle.unit_steps.proofs.StepLaws.{step_with}
-use Rattle.up_tunnels.specs.declared.at.At.{At}
-use Rattle.up_tunnels.specs.declared.hop.Hop.{Hop}
-use Rattle.up_tunnels.specs.Tunnels.{at_as, hop_as}
+use Rattle.up_packets.specs.unit_defs.Ways.{nothing, drops, closed, end_marker}
+use Rattle.up_packets.specs.unit_defs.UpRecords.{UpBearer}
+use Rattle.up_packets.specs.unit_defs.UpBearers.{no_uplink}
+use Rattle.up_packets.specs.unit_defs.UpItems.{up_hop_ends_if, uplink_ended, up_ended}
+use Rattle.up_packets.specs.unit_octet_defs.Codec.{Codec, octet_way}
+use Rattle.up_packets.specs.unit_octet_defs.Units.{OctetAnswer}
+use Rattle.up_packets.specs.unit_steps.Steps.{step_after}
+use Rattle.up_packets.proofs.unit_steps.StepLaws.{step_with}
+use Rattle.up_packets.specs.up_tunnels.declared.at.At.{At}
+use Rattle.up_packets.specs.up_tunnels.declared.hop.Hop.{Hop}
+use Rattle.up_packets.specs.up_tunnels.Tunnels.{at_as, hop_as}
 use Rattle.up_packets.specs.Passing.{passed_on}
 
 -- ---- no uplink is left

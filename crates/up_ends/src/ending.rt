@@ -2,23 +2,23 @@
 
 ghost use Rattle.std.specs.Prelude.{◌≡◌, Some};
 ghost use Rattle.gnb_types.specs.declared.outputs.Tag.TheVariants.{Absent};
-ghost use Rattle.unit_defs.specs.UpRecords.{UpBearer};
-ghost use Rattle.unit_defs.specs.UpItems.{n3_ended, closed_n3};
-ghost use Rattle.unit_defs.specs.Ways.{end_marker};
-ghost use Rattle.unit_octet_defs.specs.Codec.{Codec, octet_way};
-ghost use Rattle.unit_steps.specs.Steps.{IsStep, step_after};
-ghost use Rattle.up_tunnels.specs.Tunnels.{at_as, hop_as};
-ghost use Rattle.up_bearers.specs.Bearers.{kept};
+ghost use Rattle.up_packets.specs.unit_defs.UpRecords.{UpBearer};
+ghost use Rattle.up_packets.specs.unit_defs.UpItems.{n3_ended, closed_n3};
+ghost use Rattle.up_packets.specs.unit_defs.Ways.{end_marker};
+ghost use Rattle.up_packets.specs.unit_octet_defs.Codec.{Codec, octet_way};
+ghost use Rattle.up_packets.specs.unit_steps.Steps.{IsStep, step_after};
+ghost use Rattle.up_packets.specs.up_tunnels.Tunnels.{at_as, hop_as};
+ghost use Rattle.up_packets.specs.up_bearers.Bearers.{kept};
 ghost use Rattle.up_packets.specs.Passing.{passed_on};
 
 use gnb_types::names::Dir;
 use gnb_types::outputs::{Output, Outputs};
 use gnb_types::reasons::DropReason;
 use std::alloc::Global;
-use unit_steps::StepError;
-use up_bearers::Bearer;
+use up_packets::from_unit_steps::StepError;
+use up_packets::from_up_bearers::Bearer;
+use up_packets::from_up_tunnels::{At, Hop};
 use up_packets::passing::drop_item;
-use up_tunnels::{At, Hop};
 
 /// The End Marker of a direction goes to the target.
 pub(crate) fn pass_end(

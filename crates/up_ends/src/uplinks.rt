@@ -1,12 +1,12 @@
 //! The ends of uplinks, and of the hop's uplink from the source: the end of the hop to the target waits for both.
 
 ghost use Rattle.std.specs.Prelude.{◌≡◌, ◌==◌, not, ◌&&◌, ◌||◌, filter, IfOk};
-ghost use Rattle.unit_defs.specs.UpBearers.{no_uplink};
-ghost use Rattle.unit_defs.specs.UpItems.{up_hop_ends_if, uplink_ended, up_ended};
-ghost use Rattle.unit_octet_defs.specs.Codec.{Codec, octet_way};
-ghost use Rattle.unit_steps.specs.Steps.{IsStep, step_after};
-ghost use Rattle.up_tunnels.specs.Tunnels.{at_as};
-ghost use Rattle.up_bearers.specs.Bearers.{kept};
+ghost use Rattle.up_packets.specs.unit_defs.UpBearers.{no_uplink};
+ghost use Rattle.up_packets.specs.unit_defs.UpItems.{up_hop_ends_if, uplink_ended, up_ended};
+ghost use Rattle.up_packets.specs.unit_octet_defs.Codec.{Codec, octet_way};
+ghost use Rattle.up_packets.specs.unit_steps.Steps.{IsStep, step_after};
+ghost use Rattle.up_packets.specs.up_tunnels.Tunnels.{at_as};
+ghost use Rattle.up_packets.specs.up_bearers.Bearers.{kept};
 
 use crate::ending::pass_end;
 use gnb_types::items::{Items, Memory};
@@ -14,10 +14,10 @@ use gnb_types::names::Dir;
 use gnb_types::outputs::{Output, Outputs};
 use gnb_types::reasons::DropReason;
 use std::alloc::Global;
-use unit_steps::StepError;
-use up_bearers::Bearer;
+use up_packets::from_unit_steps::StepError;
+use up_packets::from_up_bearers::Bearer;
+use up_packets::from_up_tunnels::{At, Hop};
 use up_packets::passing::drop_item;
-use up_tunnels::{At, Hop};
 
 /// Whether the end of the hop to the target is due: all uplinks are closed, the own hop from the source has ended, and it wasn't put
 /// yet.

@@ -3,7 +3,7 @@ use Rattle.std.proofs.Common.{◌≡◌, ℕ, ◌+◌, ◌<◌, ◌≤◌, Bool,
 use Rattle.std.proofs.lemmas.Bool.Decides.{nat_tests}
 use Rattle.gnb_types.specs.declared.reasons.HeldReason.{HeldReason}
 use Rattle.gnb_types.specs.declared.reasons.HeldReason.TheVariants.{NoStatus, NotArrived, Early, Quota, Ahead}
-use Rattle.pdcp_defs.specs.Receivers.{is_ahead}
+use Rattle.unit_defs.specs.pdcp_defs.Receivers.{is_ahead}
 use Rattle.unit_defs.specs.Ways.{Taken}
 use Rattle.unit_defs.specs.UpRecords.{UpBearer, UpAt, TunnelKind}
 use Rattle.unit_defs.specs.UpBearers.{used_downlink}

@@ -4,8 +4,8 @@ use Rattle.std.specs.Prelude.{IfSome, IsSomeAnd}
 use Rattle.std.specs.Option.{option_map}
 use Rattle.gnb_types.specs.declared.names.SnBits.{SnBits}
 use Rattle.pdcp.specs.Pdus.{data_pdu, status_report}
-use Rattle.link_defs.specs.Decoding.{Link, n3, f1u_uplink, forwarding_down, forwarding_up, Item, fresh, numbered, pdu, framed, poll, status, end_of_tunnel, DecodesOn}
-use Rattle.unit_octet_defs.specs.Codec.{Codec}
+use Rattle.link_packets.specs.link_defs.Decoding.{Link, n3, f1u_uplink, forwarding_down, forwarding_up, Item, fresh, numbered, pdu, framed, poll, status, end_of_tunnel, DecodesOn}
+use Rattle.codec_defs.specs.unit_octet_defs.Codec.{Codec}
 use Rattle.codec_defs.specs.Reading.{ReadsItems}
 use Rattle.up_items.specs.Items.{IsSizedItem}
 

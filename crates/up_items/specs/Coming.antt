@@ -4,18 +4,18 @@ use Rattle.gnb_types.specs.declared.outputs.Output.{Output}
 use Rattle.gnb_types.specs.declared.outputs.Output.TheVariants as outs
 use Rattle.gnb_types.specs.declared.reasons.DropReason.TheVariants.{Undecodable}
 use Rattle.gnb_types.specs.declared.reasons.HeldReason.{HeldReason}
-use Rattle.link_defs.specs.Decoding.{Item}
+use Rattle.link_packets.specs.link_defs.Decoding.{Item}
 use Rattle.unit_defs.specs.Ways.{Taken}
 use Rattle.unit_defs.specs.UpRecords.{UpBearer}
 use Rattle.unit_defs.specs.UpItems.{held_reason, took}
-use Rattle.unit_octet_defs.specs.Codec.{Codec, octet_way}
-use Rattle.unit_octet_defs.specs.Reading.{up_item, link_of}
-use Rattle.unit_octet_defs.specs.Units.{OctetAnswer}
-use Rattle.unit_steps.specs.declared.StepError.{StepError}
-use Rattle.unit_steps.specs.declared.StepError.TheVariants as errors
-use Rattle.unit_steps.specs.Steps.{IsStep, step_after}
-use Rattle.up_tunnels.specs.declared.at.At.{At}
-use Rattle.up_tunnels.specs.Tunnels.{at_as}
+use Rattle.codec_defs.specs.unit_octet_defs.Codec.{Codec, octet_way}
+use Rattle.codec_defs.specs.unit_octet_defs.Reading.{up_item, link_of}
+use Rattle.codec_defs.specs.unit_octet_defs.Units.{OctetAnswer}
+use Rattle.up_uplinks.specs.unit_steps.declared.StepError.{StepError}
+use Rattle.up_uplinks.specs.unit_steps.declared.StepError.TheVariants as errors
+use Rattle.up_uplinks.specs.unit_steps.Steps.{IsStep, step_after}
+use Rattle.up_uplinks.specs.up_tunnels.declared.at.At.{At}
+use Rattle.up_uplinks.specs.up_tunnels.Tunnels.{at_as}
 use Rattle.up_items.specs.Items.{kind_as, item_as}
 use Rattle.up_items.specs.declared.items.Kind.{Kind}
 use Rattle.up_items.specs.declared.items.UpItem.{UpItem}

@@ -2,9 +2,9 @@
 use Rattle.std.specs.Prelude.{ℕ, List, Option, Some, None}
 use Rattle.std.specs.Borrow.{Bor}
 use Rattle.pdcp.specs.Pdus.{Content, data_pdu, status_report, content_of}
-use Rattle.link_defs.specs.Decoding.{Item, fresh, numbered, pdu, framed, poll, status, end_of_tunnel}
+use Rattle.link_packets.specs.link_defs.Decoding.{Item, fresh, numbered, pdu, framed, poll, status, end_of_tunnel}
 use Rattle.unit_defs.specs.UpRecords.{TunnelKind, n3, f1u_uplink, forwarding_down, forwarding_up}
-use Rattle.ue_bearers.specs.Uplinks.{IsPacket}
+use Rattle.up_uplinks.specs.ue_bearers.Uplinks.{IsPacket}
 use Rattle.up_items.specs.declared.items.Kind.{Kind}
 use Rattle.up_items.specs.declared.items.Kind.TheVariants.{N3, F1uUplink, ForwardingDown, ForwardingUp}
 use Rattle.up_items.specs.declared.items.UpItem.{UpItem}

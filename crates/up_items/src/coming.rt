@@ -1,8 +1,8 @@
 //! An item comes to a bearer.
 
 ghost use Rattle.codec_defs.specs.Reading.{ReadsItems};
-ghost use Rattle.unit_octet_defs.specs.Codec.{Codec};
-ghost use Rattle.up_bearers.specs.Bearers.{kept, IsOf};
+ghost use Rattle.codec_defs.specs.unit_octet_defs.Codec.{Codec};
+ghost use Rattle.up_uplinks.specs.up_bearers.Bearers.{kept, IsOf};
 ghost use Rattle.up_items.specs.Items.{item_as, IsSizedItem};
 ghost use Rattle.up_items.specs.Coming.{came, came_as, IsCame};
 ghost use Rattle.std.specs.Prelude.{◌≡◌, false, OnOk};
@@ -13,9 +13,9 @@ use crate::taking::take;
 use gnb_types::outputs::{Output, Outputs};
 use gnb_types::reasons::DropReason;
 use std::alloc::Global;
-use unit_steps::StepError;
-use up_bearers::Bearer;
-use up_tunnels::At;
+use up_uplinks::from_unit_steps::StepError;
+use up_uplinks::from_up_bearers::Bearer;
+use up_uplinks::from_up_tunnels::At;
 
 /// An item comes: it is held, or taken. Says whether it was taken. Before the SN status each is held.
 fn come_as(

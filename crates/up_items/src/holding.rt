@@ -2,18 +2,18 @@
 //! the source still forwards, and where it has no room.
 
 ghost use Rattle.std.specs.Prelude.{◌≡◌, ◌++◌, [], if◌then◌else◌};
-ghost use Rattle.pdcp_defs.specs.Counts.{near_count};
+ghost use Rattle.unit_defs.specs.pdcp_defs.Counts.{near_count};
 ghost use Rattle.unit_defs.specs.UpItems.{first_held, held_as_target, held_downlink, held_uplink, held_by_room, held_reason, is_n3};
-ghost use Rattle.unit_octet_defs.specs.Reading.{up_item, link_of};
-ghost use Rattle.up_tunnels.specs.Tunnels.{at_as, flags_as};
-ghost use Rattle.up_bearers.specs.Bearers.{kept, IsOf};
+ghost use Rattle.codec_defs.specs.unit_octet_defs.Reading.{up_item, link_of};
+ghost use Rattle.up_uplinks.specs.up_tunnels.Tunnels.{at_as, flags_as};
+ghost use Rattle.up_uplinks.specs.up_bearers.Bearers.{kept, IsOf};
 ghost use Rattle.up_items.specs.Items.{kind_as, item_as};
 
 use crate::items::{Kind, UpItem};
 use gnb_types::reasons::HeldReason;
 use pdcp::pdu::Pdu;
-use up_bearers::Bearer;
-use up_tunnels::At;
+use up_uplinks::from_up_bearers::Bearer;
+use up_uplinks::from_up_tunnels::At;
 
 fn is_n3(kind: Kind) -> bool
     ensures { result ≡ is_n3 (kind_as kind) }

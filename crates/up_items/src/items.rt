@@ -2,12 +2,12 @@
 
 ghost use Rattle.std.specs.Prelude.{◌≡◌, IfSome};
 ghost use Rattle.gnb_types.specs.declared.names.SnBits.{SnBits as Bits};
-ghost use Rattle.link_defs.specs.Decoding.{n3, f1u_uplink, forwarding_down, forwarding_up};
+ghost use Rattle.link_packets.specs.link_defs.Decoding.{n3, f1u_uplink, forwarding_down, forwarding_up};
 ghost use Rattle.std.specs.Option.{option_map};
 ghost use Rattle.codec_defs.specs.Reading.{ReadsItems};
 ghost use Rattle.link_packets.specs.Items.{n3_item, uplink_item, forwarded_item};
-ghost use Rattle.unit_octet_defs.specs.Codec.{Codec};
-ghost use Rattle.unit_octet_defs.specs.Reading.{link_of};
+ghost use Rattle.codec_defs.specs.unit_octet_defs.Codec.{Codec};
+ghost use Rattle.codec_defs.specs.unit_octet_defs.Reading.{link_of};
 ghost use Rattle.up_items.specs.Items.{kind_as, item_as, IsSizedItem};
 
 use gnb_types::names::SnBits;

@@ -2,14 +2,14 @@
 
 ghost use Rattle.std.specs.Prelude.{◌≡◌, None, false, OnOk};
 ghost use Rattle.pdcp.specs.Pdus.{content_of};
-ghost use Rattle.pdcp_defs.specs.Counts.{near_count, count_below};
+ghost use Rattle.unit_defs.specs.pdcp_defs.Counts.{near_count, count_below};
 ghost use Rattle.unit_defs.specs.UpRecords.{n3, f1u_uplink, forwarding_down, forwarding_up};
 ghost use Rattle.unit_defs.specs.UpItems.{took, took_content, first_held, held_content};
-ghost use Rattle.unit_octet_defs.specs.Codec.{Codec, octet_way};
-ghost use Rattle.unit_octet_defs.specs.Reading.{content_by};
-ghost use Rattle.unit_steps.specs.Steps.{IsStep, step_after};
-ghost use Rattle.up_tunnels.specs.Tunnels.{at_as};
-ghost use Rattle.up_bearers.specs.Bearers.{kept, IsOf};
+ghost use Rattle.codec_defs.specs.unit_octet_defs.Codec.{Codec, octet_way};
+ghost use Rattle.codec_defs.specs.unit_octet_defs.Reading.{content_by};
+ghost use Rattle.up_uplinks.specs.unit_steps.Steps.{IsStep, step_after};
+ghost use Rattle.up_uplinks.specs.up_tunnels.Tunnels.{at_as};
+ghost use Rattle.up_uplinks.specs.up_bearers.Bearers.{kept, IsOf};
 ghost use Rattle.up_items.specs.Items.{kind_as, item_as, IsSizedItem, IsSizedContent};
 ghost use Rattle.up_items.specs.declared.items.Kind.TheVariants as kinds;
 ghost use Rattle.up_items.specs.Coming.{said, held_of};
@@ -22,14 +22,14 @@ use gnb_types::outputs::Outputs;
 use gnb_types::reasons::DropReason;
 use pdcp::pdu::Pdu;
 use std::alloc::Global;
-use unit_steps::StepError;
-use up_bearers::Bearer;
 use up_ends::ending::end_n3;
 use up_ends::uplinks::{end_up, end_uplink};
-use up_packets::confirming::{take_delivery_status, take_report};
-use up_packets::passing::drop_item;
-use up_packets::taking::{end_down, take_fresh, take_numbered};
-use up_tunnels::At;
+use up_uplinks::from_unit_steps::StepError;
+use up_uplinks::from_up_bearers::Bearer;
+use up_uplinks::from_up_packets::confirming::{take_delivery_status, take_report};
+use up_uplinks::from_up_packets::passing::drop_item;
+use up_uplinks::from_up_packets::taking::{end_down, take_fresh, take_numbered};
+use up_uplinks::from_up_tunnels::At;
 use up_uplinks::taking::take_uplink;
 
 /// An item of N3.

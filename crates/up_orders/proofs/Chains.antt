@@ -4,10 +4,10 @@ use Rattle.std.specs.Prelude.{Result}
 use Rattle.std.specs.Result.{IsErrAnd}
 use Rattle.gnb_types.specs.declared.outputs.Output.{Output}
 use Rattle.unit_defs.specs.Ways.{◌then◌}
-use Rattle.unit_octet_defs.specs.Units.{OctetAnswer}
-use Rattle.unit_steps.specs.declared.StepError.{StepError}
-use Rattle.unit_steps.specs.Steps.{IsStep, step_after}
-use Rattle.up_downlink.proofs.Sequels.{goes_on, ends_with}
+use Rattle.up_bearers.specs.unit_octet_defs.Units.{OctetAnswer}
+use Rattle.up_bearers.specs.unit_steps.declared.StepError.{StepError}
+use Rattle.up_bearers.specs.unit_steps.Steps.{IsStep, step_after}
+use Rattle.up_bearers.proofs.up_downlink.Sequels.{goes_on, ends_with}
 
 module _ {R : Type 0} (before : List Output) (a : OctetAnswer R) (f g : R → OctetAnswer R) where
   abbrev pub three : OctetAnswer R

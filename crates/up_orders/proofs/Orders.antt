@@ -5,19 +5,19 @@ use Rattle.gnb_types.specs.declared.names.NodeId.{NodeId}
 use Rattle.gnb_types.specs.declared.outputs.Output.{Output}
 use Rattle.gnb_types.specs.declared.outputs.Tag.TheVariants.{Absent}
 use Rattle.gnb_types.specs.declared.plans.SnStatus.{SnStatus}
-use Rattle.pdcp_defs.specs.Receivers.{Receiver, Delivery, deliver as handed_up, deliver_from, received_bits}
+use Rattle.unit_defs.specs.pdcp_defs.Receivers.{Receiver, Delivery, deliver as handed_up, deliver_from, received_bits}
 use Rattle.unit_defs.specs.Ways.{report_pdu, nothing, ◌then◌}
 use Rattle.unit_defs.specs.UpRecords.{UpBearer, SourceHop}
 use Rattle.unit_defs.specs.UpBearers.{framed, sent_again, number_waiting, deliver_stored, begin_downlink, begin_where_known, begin_where_arrived, switched, frozen_to, with_status, resumed, thawed, bits_in}
-use Rattle.unit_octet_defs.specs.Codec.{Codec, octet_way}
-use Rattle.unit_octet_defs.specs.Units.{OctetAnswer}
-use Rattle.unit_steps.specs.Steps.{stepped, step_after}
-use Rattle.ue_bearers.specs.Downlinks.{DownlinkState}
-use Rattle.up_tunnels.specs.declared.at.At.{At}
-use Rattle.up_tunnels.specs.declared.hop.Hop.{Hop}
-use Rattle.up_tunnels.specs.Tunnels.{at_as, hop_as}
-use Rattle.up_downlink.specs.declared.down.DownSide.{DownSide}
-use Rattle.up_downlink.specs.Downlinks.{with_down, taken_of}
+use Rattle.up_bearers.specs.unit_octet_defs.Codec.{Codec, octet_way}
+use Rattle.up_bearers.specs.unit_octet_defs.Units.{OctetAnswer}
+use Rattle.up_bearers.specs.unit_steps.Steps.{stepped, step_after}
+use Rattle.up_bearers.specs.ue_bearers.Downlinks.{DownlinkState}
+use Rattle.up_bearers.specs.up_tunnels.declared.at.At.{At}
+use Rattle.up_bearers.specs.up_tunnels.declared.hop.Hop.{Hop}
+use Rattle.up_bearers.specs.up_tunnels.Tunnels.{at_as, hop_as}
+use Rattle.up_bearers.specs.up_downlink.declared.down.DownSide.{DownSide}
+use Rattle.up_bearers.specs.up_downlink.Downlinks.{with_down, taken_of}
 use Rattle.up_bearers.specs.declared.bearer.Bearer.{Bearer}
 use Rattle.up_bearers.specs.Bearers.{kept, with_receiver}
 use Rattle.up_bearers.proofs.Deliveries.{delivers, delivers_none}

@@ -1,14 +1,14 @@
 -- What the orders of control leave of a bearer, and what they find.
 use Rattle.std.specs.Prelude.{◌≡◌, ℕ, Bool, false, ◌||◌, if◌then◌else◌, List, [], None}
 use Rattle.gnb_types.specs.declared.plans.SnStatus.{SnStatus}
-use Rattle.pdcp_defs.specs.Senders.{new_sender}
-use Rattle.pdcp_defs.specs.Receivers.{new_receiver}
+use Rattle.unit_defs.specs.pdcp_defs.Senders.{new_sender}
+use Rattle.unit_defs.specs.pdcp_defs.Receivers.{new_receiver}
 use Rattle.unit_defs.specs.Ways.{Way, Answer, ◌then◌}
 use Rattle.unit_defs.specs.UpRecords.{UpBearer, UpAt}
 use Rattle.unit_defs.specs.UpBearers.{forward_numbered, forward_fresh, forward_late}
-use Rattle.up_tunnels.specs.declared.at.At.{At}
-use Rattle.up_downlink.specs.declared.down.DownSide.{DownSide}
-use Rattle.up_downlink.specs.Downlinks.{taken_of}
+use Rattle.up_bearers.specs.up_tunnels.declared.at.At.{At}
+use Rattle.up_bearers.specs.up_downlink.declared.down.DownSide.{DownSide}
+use Rattle.up_bearers.specs.up_downlink.Downlinks.{taken_of}
 use Rattle.up_bearers.specs.declared.bearer.Bearer.{Bearer}
 
 -- nothing was sent, and nothing is stored

@@ -2,10 +2,10 @@
 
 ghost use Rattle.std.specs.Prelude.{◌≡◌, Some, false, IfOk, OnOk};
 ghost use Rattle.unit_defs.specs.UpBearers.{some_bits, status_of, frozen_to, released};
-ghost use Rattle.unit_octet_defs.specs.Codec.{Codec, octet_way};
-ghost use Rattle.unit_steps.specs.Steps.{IsStep, step_after, stepped};
-ghost use Rattle.up_tunnels.specs.declared.at.At.{At};
-ghost use Rattle.up_tunnels.specs.Tunnels.{at_as, hop_as};
+ghost use Rattle.up_bearers.specs.unit_octet_defs.Codec.{Codec, octet_way};
+ghost use Rattle.up_bearers.specs.unit_steps.Steps.{IsStep, step_after, stepped};
+ghost use Rattle.up_bearers.specs.up_tunnels.declared.at.At.{At};
+ghost use Rattle.up_bearers.specs.up_tunnels.Tunnels.{at_as, hop_as};
 ghost use Rattle.up_bearers.specs.Bearers.{kept, IsOf};
 ghost use Rattle.up_orders.specs.Orders.{IsEmpty, all_given};
 
@@ -16,11 +16,11 @@ use gnb_types::names::BearerId;
 use gnb_types::outputs::Outputs;
 use gnb_types::plans::SnStatus;
 use std::alloc::Global;
-use unit_steps::StepError;
 use up_bearers::Bearer;
 use up_bearers::forwarding::{forward_unconfirmed, forward_waiting};
+use up_bearers::from_unit_steps::StepError;
+use up_bearers::from_up_tunnels::{At, Hop};
 use up_bearers::late::forward_stored;
-use up_tunnels::{At, Hop};
 
 /// All that is held goes to the target: what nothing confirmed, what waits, and what is stored of the uplink.
 fn give_all(

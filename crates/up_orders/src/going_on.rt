@@ -3,10 +3,10 @@
 ghost use Rattle.std.specs.Prelude.{◌≡◌, ◌≤◌, length, OnOk};
 ghost use Rattle.unit_defs.specs.UpRecords.{UpBearer};
 ghost use Rattle.unit_defs.specs.UpBearers.{bits_in, begin_downlink, begin_where_arrived, with_status, resumed, sent_again};
-ghost use Rattle.unit_octet_defs.specs.Codec.{Codec, octet_way};
-ghost use Rattle.unit_steps.specs.Steps.{IsStep, step_after};
-ghost use Rattle.up_tunnels.specs.Tunnels.{at_as};
-ghost use Rattle.up_downlink.specs.Downlinks.{with_down, IsDown};
+ghost use Rattle.up_bearers.specs.unit_octet_defs.Codec.{Codec, octet_way};
+ghost use Rattle.up_bearers.specs.unit_steps.Steps.{IsStep, step_after};
+ghost use Rattle.up_bearers.specs.up_tunnels.Tunnels.{at_as};
+ghost use Rattle.up_bearers.specs.up_downlink.Downlinks.{with_down, IsDown};
 ghost use Rattle.up_bearers.specs.Bearers.{kept, IsOf};
 ghost use Rattle.up_orders.specs.Orders.{IsEmpty, status_bearer, owed_of, marked};
 
@@ -16,11 +16,11 @@ use gnb_types::items::Memory;
 use gnb_types::outputs::Outputs;
 use gnb_types::plans::SnStatus;
 use std::alloc::Global;
-use unit_steps::StepError;
 use up_bearers::Bearer;
+use up_bearers::from_unit_steps::StepError;
+use up_bearers::from_up_downlink::DownSide;
+use up_bearers::from_up_tunnels::At;
 use up_bearers::uplink::deliver_stored;
-use up_downlink::DownSide;
-use up_tunnels::At;
 
 /// The entities go on where those of the source stand.
 fn go_on_at(bearer: &mut Bearer, alloc: Global, status: &SnStatus) -> Result<(), Memory>

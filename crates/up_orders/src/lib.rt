@@ -5,3 +5,18 @@
 pub mod freezing;
 pub mod going_on;
 pub mod serving;
+
+/// Of `unit_steps`, for crates above.
+pub mod from_unit_steps {
+    pub use up_bearers::from_unit_steps::StepError;
+}
+
+/// Of `up_tunnels`, for crates above.
+pub mod from_up_tunnels {
+    pub use up_bearers::from_up_tunnels::{At, Downlink, Flags, Hop};
+}
+
+/// Of `up_bearers`, for crates above.
+pub mod from_up_bearers {
+    pub use up_bearers::Bearer;
+}

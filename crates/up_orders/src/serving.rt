@@ -1,13 +1,13 @@
 //! A further uplink; and the downlink begins: on a new tunnel, or where the SN status says.
 
 ghost use Rattle.std.specs.Prelude.{◌≡◌, ◌≤◌, length, OnOk};
-ghost use Rattle.pdcp_defs.specs.Receivers.{received_bits};
+ghost use Rattle.unit_defs.specs.pdcp_defs.Receivers.{received_bits};
 ghost use Rattle.unit_defs.specs.UpRecords.{UpBearer};
 ghost use Rattle.unit_defs.specs.UpBearers.{with_uplink, begin_downlink, switched};
-ghost use Rattle.unit_octet_defs.specs.Codec.{Codec, octet_way};
-ghost use Rattle.unit_steps.specs.Steps.{IsStep, step_after};
-ghost use Rattle.up_tunnels.specs.Tunnels.{at_as};
-ghost use Rattle.up_downlink.specs.Downlinks.{with_down, IsDown};
+ghost use Rattle.up_bearers.specs.unit_octet_defs.Codec.{Codec, octet_way};
+ghost use Rattle.up_bearers.specs.unit_steps.Steps.{IsStep, step_after};
+ghost use Rattle.up_bearers.specs.up_tunnels.Tunnels.{at_as};
+ghost use Rattle.up_bearers.specs.up_downlink.Downlinks.{with_down, IsDown};
 ghost use Rattle.up_bearers.specs.Bearers.{kept, IsOf};
 ghost use Rattle.up_orders.specs.Orders.{IsIdle, thawed_bearer};
 
@@ -16,11 +16,11 @@ use gnb_types::items::Items;
 use gnb_types::names::NodeId;
 use gnb_types::outputs::{Output, Outputs};
 use std::alloc::Global;
-use unit_steps::StepError;
 use up_bearers::Bearer;
+use up_bearers::from_unit_steps::StepError;
+use up_bearers::from_up_downlink::DownSide;
+use up_bearers::from_up_tunnels::{At, Downlink, Frames};
 use up_bearers::uplink::deliver_stored;
-use up_downlink::DownSide;
-use up_tunnels::{At, Downlink, Frames};
 
 /// One more uplink tunnel.
 #[tactic(auto, unfolding(unit_defs::specs::UpBearers::with_uplink))]

@@ -1,23 +1,23 @@
 -- What confirms packets down.
 use Rattle.std.proofs.Common.{◌≡◌, ◌==◌, ℕ, Bool, true, false, cond, List, [], ◌∷◌, length, Option, Some, None, refl, sym, ap, ◌∙◌, arith, eqb-true}
 use Rattle.gnb_types.specs.declared.names.SnBits.{SnBits}
-use Rattle.pdcp_defs.specs.Counts.{count_below}
-use Rattle.pdcp_defs.specs.Senders.{confirmed_by}
-use Rattle.pdcp_entities.specs.Entities.{confirmed_number, confirmed_report, confirmed_if as entity_if}
-use Rattle.unit_defs.specs.Ways.{nothing, ◌then◌}
-use Rattle.unit_defs.specs.UpRecords.{UpBearer}
-use Rattle.unit_defs.specs.UpBearers.{sent_again, number_waiting}
-use Rattle.unit_defs.specs.UpItems.{took_report, took_delivery_status, lost_frames, confirmed_if}
-use Rattle.unit_octet_defs.specs.Codec.{Codec, octet_way}
-use Rattle.unit_octet_defs.specs.Reading.{bits_of, count_confirmed}
-use Rattle.unit_octet_defs.specs.Units.{OctetAnswer}
-use Rattle.ue_bearers.specs.Uplinks.{UplinkState}
+use Rattle.up_bearers.specs.pdcp_defs.Counts.{count_below}
+use Rattle.up_bearers.specs.pdcp_defs.Senders.{confirmed_by}
+use Rattle.ue_packets.specs.pdcp_entities.Entities.{confirmed_number, confirmed_report, confirmed_if as entity_if}
+use Rattle.up_bearers.specs.unit_defs.Ways.{nothing, ◌then◌}
+use Rattle.up_bearers.specs.unit_defs.UpRecords.{UpBearer}
+use Rattle.up_bearers.specs.unit_defs.UpBearers.{sent_again, number_waiting}
+use Rattle.up_bearers.specs.unit_defs.UpItems.{took_report, took_delivery_status, lost_frames, confirmed_if}
+use Rattle.up_bearers.specs.unit_octet_defs.Codec.{Codec, octet_way}
+use Rattle.up_bearers.specs.unit_octet_defs.Reading.{bits_of, count_confirmed}
+use Rattle.up_bearers.specs.unit_octet_defs.Units.{OctetAnswer}
+use Rattle.ue_packets.specs.ue_bearers.Uplinks.{UplinkState}
 use Rattle.ue_packets.proofs.RowLemmas.{same_bits}
-use Rattle.up_tunnels.specs.declared.at.At.{At}
-use Rattle.up_tunnels.specs.declared.frames.Frames.{Frames}
-use Rattle.up_tunnels.specs.Tunnels.{at_as}
-use Rattle.up_downlink.specs.Downlinks.{with_down}
-use Rattle.up_downlink.proofs.Numberings.{side}
+use Rattle.up_bearers.specs.up_tunnels.declared.at.At.{At}
+use Rattle.up_bearers.specs.up_tunnels.declared.frames.Frames.{Frames}
+use Rattle.up_bearers.specs.up_tunnels.Tunnels.{at_as}
+use Rattle.up_bearers.specs.up_downlink.Downlinks.{with_down}
+use Rattle.up_bearers.proofs.up_downlink.Numberings.{side}
 
 module _ (codec : Codec) (a : At) (b : UpBearer) where
   -- ---- a status report

@@ -6,15 +6,15 @@ use Rattle.gnb_types.specs.declared.outputs.Output.{Output}
 use Rattle.gnb_types.specs.declared.outputs.Output.TheVariants as outs
 use Rattle.gnb_types.specs.declared.outputs.Tag.{Tag}
 use Rattle.std.proofs.Common.{ℕ, sym}
-use Rattle.unit_defs.specs.Ways.{Load}
-use Rattle.unit_defs.specs.UpRecords.{SourceHop, UpBearer}
-use Rattle.unit_defs.specs.UpBearers.{forwarded_down, forwarded_up, put_down, put_up}
-use Rattle.unit_octet_defs.specs.Codec.{Codec, octet_way}
-use Rattle.unit_octet_defs.specs.Writing.{load_octets}
-use Rattle.unit_steps.specs.Steps.{stepped, step_after}
-use Rattle.up_tunnels.specs.declared.at.At.{At}
-use Rattle.up_tunnels.specs.declared.hop.Hop.{Hop}
-use Rattle.up_tunnels.specs.Tunnels.{at_as, hop_as, hop_teid}
+use Rattle.up_bearers.specs.unit_defs.Ways.{Load}
+use Rattle.up_bearers.specs.unit_defs.UpRecords.{SourceHop, UpBearer}
+use Rattle.up_bearers.specs.unit_defs.UpBearers.{forwarded_down, forwarded_up, put_down, put_up}
+use Rattle.up_bearers.specs.unit_octet_defs.Codec.{Codec, octet_way}
+use Rattle.up_bearers.specs.unit_octet_defs.Writing.{load_octets}
+use Rattle.ue_packets.specs.unit_steps.Steps.{stepped, step_after}
+use Rattle.up_bearers.specs.up_tunnels.declared.at.At.{At}
+use Rattle.up_bearers.specs.up_tunnels.declared.hop.Hop.{Hop}
+use Rattle.up_bearers.specs.up_tunnels.Tunnels.{at_as, hop_as, hop_teid}
 use Rattle.up_packets.specs.Passing.{passed_on}
 
 module _ (codec : Codec) (a : At) (tag : Tag) (load : Load (List ℕ)) (b : UpBearer) (before : List Output) (o : Option Hop) (same : b.hop ≡ hop_as o) where

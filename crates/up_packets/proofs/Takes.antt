@@ -7,18 +7,18 @@ use Rattle.gnb_types.specs.declared.outputs.Output.{Output}
 use Rattle.gnb_types.specs.declared.names.Dir.TheVariants.{Dl}
 use Rattle.gnb_types.specs.declared.outputs.Tag.TheVariants.{Absent, Same}
 use Rattle.gnb_types.specs.declared.reasons.DropReason.TheVariants.{Duplicate}
-use Rattle.pdcp_defs.specs.Senders.{may_restore, restored}
-use Rattle.unit_defs.specs.Ways.{fresh, numbered, drops}
-use Rattle.unit_defs.specs.UpRecords.{UpBearer}
-use Rattle.unit_defs.specs.UpBearers.{sent, number_waiting}
-use Rattle.unit_defs.specs.UpItems.{took_fresh, took_numbered, restored_at}
-use Rattle.unit_octet_defs.specs.Codec.{Codec, octet_way}
-use Rattle.unit_octet_defs.specs.Units.{OctetAnswer}
-use Rattle.unit_steps.specs.declared.StepError.{StepError}
-use Rattle.unit_steps.specs.declared.StepError.TheVariants as errors
-use Rattle.unit_steps.specs.Steps.{Step, IsStep}
-use Rattle.up_tunnels.specs.declared.at.At.{At}
-use Rattle.up_tunnels.specs.Tunnels.{at_as}
+use Rattle.up_bearers.specs.pdcp_defs.Senders.{may_restore, restored}
+use Rattle.up_bearers.specs.unit_defs.Ways.{fresh, numbered, drops}
+use Rattle.up_bearers.specs.unit_defs.UpRecords.{UpBearer}
+use Rattle.up_bearers.specs.unit_defs.UpBearers.{sent, number_waiting}
+use Rattle.up_bearers.specs.unit_defs.UpItems.{took_fresh, took_numbered, restored_at}
+use Rattle.up_bearers.specs.unit_octet_defs.Codec.{Codec, octet_way}
+use Rattle.up_bearers.specs.unit_octet_defs.Units.{OctetAnswer}
+use Rattle.ue_packets.specs.unit_steps.declared.StepError.{StepError}
+use Rattle.ue_packets.specs.unit_steps.declared.StepError.TheVariants as errors
+use Rattle.ue_packets.specs.unit_steps.Steps.{Step, IsStep}
+use Rattle.up_bearers.specs.up_tunnels.declared.at.At.{At}
+use Rattle.up_bearers.specs.up_tunnels.Tunnels.{at_as}
 use Rattle.up_packets.specs.Passing.{passed_on}
 
 fails_by : {R : Type 0} (X Y : Type 0) (s : Step R) (out : List Output) (r : R) (e : StepError) → IsStep {X = X} s out r (Err e)

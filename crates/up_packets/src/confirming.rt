@@ -2,21 +2,21 @@
 
 ghost use Rattle.std.specs.Prelude.{◌≡◌, OnOk};
 ghost use Rattle.gnb_types.specs.declared.names.SnBits.{SnBits};
-ghost use Rattle.unit_defs.specs.UpRecords.{UpBearer};
-ghost use Rattle.unit_defs.specs.UpItems.{took_report, took_delivery_status, lost_frames, confirmed_if};
-ghost use Rattle.unit_octet_defs.specs.Codec.{Codec, octet_way};
-ghost use Rattle.unit_octet_defs.specs.Reading.{bits_of, count_confirmed};
-ghost use Rattle.unit_steps.specs.Steps.{IsStep, step_after};
-ghost use Rattle.up_tunnels.specs.Tunnels.{at_as};
-ghost use Rattle.up_downlink.specs.Downlinks.{with_down};
+ghost use Rattle.up_bearers.specs.unit_defs.UpRecords.{UpBearer};
+ghost use Rattle.up_bearers.specs.unit_defs.UpItems.{took_report, took_delivery_status, lost_frames, confirmed_if};
+ghost use Rattle.up_bearers.specs.unit_octet_defs.Codec.{Codec, octet_way};
+ghost use Rattle.up_bearers.specs.unit_octet_defs.Reading.{bits_of, count_confirmed};
+ghost use Rattle.ue_packets.specs.unit_steps.Steps.{IsStep, step_after};
+ghost use Rattle.up_bearers.specs.up_tunnels.Tunnels.{at_as};
+ghost use Rattle.up_bearers.specs.up_downlink.Downlinks.{with_down};
 ghost use Rattle.up_bearers.specs.Bearers.{kept, IsOf};
 
 use gnb_types::outputs::Outputs;
 use std::alloc::Global;
-use unit_steps::StepError;
+use ue_packets::from_unit_steps::StepError;
 use up_bearers::Bearer;
-use up_downlink::DownSide;
-use up_tunnels::At;
+use up_bearers::from_up_downlink::DownSide;
+use up_bearers::from_up_tunnels::At;
 
 /// A status report confirms, and makes room for what waits.
 pub fn take_report(

@@ -5,3 +5,27 @@
 pub mod confirming;
 pub mod passing;
 pub mod taking;
+
+/// Of `unit_steps`, for crates above.
+pub mod from_unit_steps {
+    pub use ue_packets::from_unit_steps::StepError;
+}
+
+/// Of `ue_bearers`, for crates above.
+pub mod from_ue_bearers {
+    pub use ue_packets::from_ue_bearers::Reception;
+}
+
+/// Of `up_tunnels`, for crates above.
+pub mod from_up_tunnels {
+    pub use up_bearers::from_up_tunnels::{At, Hop, ShownCount};
+}
+
+/// Of `up_bearers`, for crates above.
+pub mod from_up_bearers {
+    pub use up_bearers::Bearer;
+
+    pub mod uplink {
+        pub use up_bearers::uplink::deliver_stored;
+    }
+}

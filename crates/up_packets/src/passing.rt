@@ -3,20 +3,20 @@
 ghost use Rattle.std.specs.Prelude.{◌≡◌};
 ghost use Rattle.gnb_types.specs.declared.names.Dir.TheVariants.{Dl};
 ghost use Rattle.gnb_types.specs.declared.outputs.Tag.TheVariants.{Absent};
-ghost use Rattle.link_defs.specs.Decoding.{IsSized};
-ghost use Rattle.unit_defs.specs.UpRecords.{UpBearer};
-ghost use Rattle.unit_defs.specs.Ways.{fresh, numbered, drops};
-ghost use Rattle.unit_octet_defs.specs.Codec.{Codec, octet_way};
-ghost use Rattle.unit_steps.specs.Steps.{IsStep, step_after};
-ghost use Rattle.up_tunnels.specs.Tunnels.{at_as, hop_as};
+ghost use Rattle.up_bearers.specs.link_defs.Decoding.{IsSized};
+ghost use Rattle.up_bearers.specs.unit_defs.UpRecords.{UpBearer};
+ghost use Rattle.up_bearers.specs.unit_defs.Ways.{fresh, numbered, drops};
+ghost use Rattle.up_bearers.specs.unit_octet_defs.Codec.{Codec, octet_way};
+ghost use Rattle.ue_packets.specs.unit_steps.Steps.{IsStep, step_after};
+ghost use Rattle.up_bearers.specs.up_tunnels.Tunnels.{at_as, hop_as};
 ghost use Rattle.up_packets.specs.Passing.{passed_on};
 
 use gnb_types::names::Dir;
 use gnb_types::outputs::{Output, Outputs};
 use gnb_types::reasons::DropReason;
 use std::alloc::Global;
-use unit_steps::StepError;
-use up_tunnels::{At, Hop, ShownCount};
+use ue_packets::from_unit_steps::StepError;
+use up_bearers::from_up_tunnels::{At, Hop, ShownCount};
 
 /// The item is ignored for this reason.
 pub fn drop_item(out: &mut Outputs, reason: DropReason) -> Result<(), StepError>

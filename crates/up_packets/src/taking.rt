@@ -1,11 +1,11 @@
 //! Packets down: items of N3 and of the hop's downlink tunnel.
 
 ghost use Rattle.std.specs.Prelude.{◌≡◌, ◌<◌, false, OnOk};
-ghost use Rattle.ue_bearers.specs.Uplinks.{used, IsPacket};
-ghost use Rattle.unit_defs.specs.UpItems.{took_fresh, took_numbered, down_ended};
-ghost use Rattle.unit_octet_defs.specs.Codec.{Codec, octet_way};
-ghost use Rattle.unit_steps.specs.Steps.{IsStep, step_after};
-ghost use Rattle.up_tunnels.specs.Tunnels.{at_as};
+ghost use Rattle.ue_packets.specs.ue_bearers.Uplinks.{used, IsPacket};
+ghost use Rattle.up_bearers.specs.unit_defs.UpItems.{took_fresh, took_numbered, down_ended};
+ghost use Rattle.up_bearers.specs.unit_octet_defs.Codec.{Codec, octet_way};
+ghost use Rattle.ue_packets.specs.unit_steps.Steps.{IsStep, step_after};
+ghost use Rattle.up_bearers.specs.up_tunnels.Tunnels.{at_as};
 ghost use Rattle.up_bearers.specs.Bearers.{kept, IsOf};
 
 use crate::passing::{drop_item, pass_counted, pass_fresh};
@@ -14,9 +14,9 @@ use gnb_types::octets::Octets;
 use gnb_types::outputs::{Outputs, Tag};
 use gnb_types::reasons::DropReason;
 use std::alloc::Global;
-use unit_steps::StepError;
+use ue_packets::from_unit_steps::StepError;
 use up_bearers::Bearer;
-use up_tunnels::{At, ShownCount};
+use up_bearers::from_up_tunnels::{At, ShownCount};
 
 /// A packet without a number: it waits, and is numbered; while frozen it goes to the target as well, and a released context passes it
 /// on.

@@ -13,8 +13,8 @@ use Rattle.unit_defs.specs.UpRecords.{UpContext}
 use Rattle.unit_defs.specs.CuUp.{context_of, replies, fits, makes, set_up_for, setup, setup_on, release, released_on}
 use Rattle.unit_octet_defs.specs.Codec.{Codec, octet_way}
 use Rattle.unit_octet_defs.specs.Units.{OctetAnswer}
-use Rattle.unit_steps.specs.declared.StepError.{StepError}
-use Rattle.unit_steps.specs.Steps.{stepped, step_after, IsStep}
+use Rattle.unit_requests.specs.unit_steps.declared.StepError.{StepError}
+use Rattle.unit_requests.specs.unit_steps.Steps.{stepped, step_after, IsStep}
 use Rattle.unit_requests.proofs.Thens.{goes_on, stops}
 use Rattle.up_contexts.specs.Tables.{OctetUp}
 

@@ -18,8 +18,8 @@ use Rattle.unit_defs.specs.UpRecords.{UpContext}
 use Rattle.unit_defs.specs.CuUp.{context_of, names, modified, replies, answer_with, uplinks_given, uplinks_from, add_uplinks, switch, freeze, take_status, resume}
 use Rattle.unit_octet_defs.specs.Codec.{Codec, octet_way}
 use Rattle.unit_octet_defs.specs.Units.{OctetAnswer}
-use Rattle.unit_steps.specs.Steps.{stepped, step_after, IsStep}
-use Rattle.unit_steps.specs.declared.StepError.{StepError}
+use Rattle.unit_requests.specs.unit_steps.Steps.{stepped, step_after, IsStep}
+use Rattle.unit_requests.specs.unit_steps.declared.StepError.{StepError}
 use Rattle.unit_requests.proofs.Thens.{goes_on, stops}
 use Rattle.up_contexts.specs.Tables.{OctetUp}
 use Rattle.up_contexts.specs.Rows.{switched_at, known_at, resumed_at, added_at, uplinks_at}

@@ -5,16 +5,16 @@ use Rattle.gnb_types.specs.declared.inputs.Input.TheVariants as ins
 use Rattle.gnb_types.specs.declared.outputs.Output.{Output}
 use Rattle.transaction_defs.specs.Callers.{repeats, expires, due, after_tick}
 use Rattle.transaction_defs.specs.Callers as callers
-use Rattle.transactions.specs.declared.caller.Due.{Due}
-use Rattle.transactions.specs.Answers.{due_as}
+use Rattle.unit_requests.specs.transactions.declared.caller.Due.{Due}
+use Rattle.unit_requests.specs.transactions.Answers.{due_as}
 use Rattle.setup_requests.specs.Dues.{put_again}
 use Rattle.unit_defs.specs.CuUp.{due_output, with_transactions, tick, cu_up_acts}
 use Rattle.unit_octet_defs.specs.Codec.{Codec, octet_way}
 use Rattle.unit_octet_defs.specs.Reading.{read_at_cu_up}
 use Rattle.unit_octet_defs.specs.Units.{cu_up_steps}
 use Rattle.unit_octet_defs.specs.Writing.{outputs_of}
-use Rattle.unit_steps.specs.Steps.{stepped, step_after}
-use Rattle.unit_steps.proofs.StepLaws.{outputs_append}
+use Rattle.unit_requests.specs.unit_steps.Steps.{stepped, step_after}
+use Rattle.unit_requests.proofs.unit_steps.StepLaws.{outputs_append}
 use Rattle.unit_requests.specs.Requests.{Kept}
 use Rattle.up_contexts.specs.Tables.{OctetUp}
 

@@ -5,7 +5,7 @@ ghost use Rattle.codec_range_defs.specs.Ranges.{IsSetupInRange};
 ghost use Rattle.message_types.specs.declared.e1.E1Message.TheVariants as e1s;
 ghost use Rattle.unit_defs.specs.CuUp.{context_of, forward_list, setup_response, replies, set_up_for, setup, release};
 ghost use Rattle.unit_octet_defs.specs.Codec.{Codec, octet_way};
-ghost use Rattle.unit_steps.specs.Steps.{IsStep, step_after};
+ghost use Rattle.unit_requests.specs.unit_steps.Steps.{IsStep, step_after};
 ghost use Rattle.up_contexts.specs.bearer_context.Answers.{tunnels_of};
 
 use crate::record::UpRecord;
@@ -16,8 +16,8 @@ use gnb_types::outputs::Outputs;
 use gnb_types::plans::TunnelList;
 use message_types::E1Message;
 use std::alloc::Global;
-use unit_messages::{Message, MessageCodec};
-use unit_steps::StepError;
+use unit_requests::from_unit_messages::{Message, MessageCodec};
+use unit_requests::from_unit_steps::StepError;
 use up_contexts::{Context, ContextSetup, Kind};
 
 /// The cause of a failure: no blocks are left for the quota.

@@ -1,20 +1,20 @@
 //! Which input goes to which row.
 
-ghost use Rattle.codec_defs.specs.Reading.{ReadsItems};
+ghost use Rattle.up_contexts.specs.codec_defs.Reading.{ReadsItems};
 ghost use Rattle.codec_range_defs.specs.Ranges.{ReadsInRange};
 ghost use Rattle.unit_defs.specs.CuUp.{ordered};
 ghost use Rattle.unit_octet_defs.specs.Codec.{octet_way};
 ghost use Rattle.unit_octet_defs.specs.Units.{cu_up_steps};
-ghost use Rattle.unit_steps.specs.Steps.{IsStep, step_after};
+ghost use Rattle.unit_requests.specs.unit_steps.Steps.{IsStep, step_after};
 
 use crate::record::UpRecord;
 use gnb_types::inputs::{Input, Order};
 use gnb_types::outputs::{Output, Outputs};
 use gnb_types::reasons::DropReason;
 use std::alloc::Global;
-use unit_messages::MessageCodec;
+use unit_requests::from_unit_messages::MessageCodec;
+use unit_requests::from_unit_steps::StepError;
 use unit_requests::put;
-use unit_steps::StepError;
 
 impl UpRecord {
     /// An order: E1 Setup, or a poll.

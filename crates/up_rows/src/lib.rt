@@ -13,3 +13,13 @@ pub mod setups;
 
 pub use record::UpRecord;
 pub use up_contexts::placing::PlaceError;
+
+/// Of `unit_steps`, for crates above.
+pub mod from_unit_steps {
+    pub use unit_requests::from_unit_steps::StepError;
+}
+
+/// Of `unit_messages`, for crates above.
+pub mod from_unit_messages {
+    pub use unit_requests::from_unit_messages::MessageCodec;
+}

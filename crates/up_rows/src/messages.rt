@@ -9,8 +9,8 @@ ghost use Rattle.unit_defs.specs.Transactions.{kind_of, on_request, on_reply};
 ghost use Rattle.unit_defs.specs.CuUp.{up_node, with_transactions, asked, set_up, control_by, ue_in};
 ghost use Rattle.unit_octet_defs.specs.Codec.{octet_way};
 ghost use Rattle.unit_octet_defs.specs.Units.{cu_up_steps};
-ghost use Rattle.unit_messages.specs.Messages.{message_as};
-ghost use Rattle.unit_steps.specs.Steps.{IsStep, step_after};
+ghost use Rattle.unit_requests.specs.unit_messages.Messages.{message_as};
+ghost use Rattle.unit_requests.specs.unit_steps.Steps.{IsStep, step_after};
 
 use crate::bearers::UeRequest;
 use crate::modifying::Change;
@@ -21,10 +21,10 @@ use gnb_types::outputs::{Output, Outputs};
 use gnb_types::reasons::DropReason;
 use message_types::E1Message;
 use std::alloc::Global;
-use transactions::callee::Verdict;
-use unit_messages::{Kind, Message, MessageCodec};
+use unit_requests::from_transactions::callee::Verdict;
+use unit_requests::from_unit_messages::{Kind, Message, MessageCodec};
+use unit_requests::from_unit_steps::StepError;
 use unit_requests::put;
-use unit_steps::StepError;
 use up_contexts::ContextSetup;
 
 fn is_same_gnb(a: Gnb, b: Gnb) -> bool

@@ -7,7 +7,7 @@ ghost use Rattle.up_contexts.specs.bearer_context.Orders.{AreShort};
 ghost use Rattle.unit_defs.specs.Messages.{cause_busy};
 ghost use Rattle.unit_defs.specs.CuUp.{context_of, replies, modified, modify_on};
 ghost use Rattle.unit_octet_defs.specs.Codec.{Codec, octet_way};
-ghost use Rattle.unit_steps.specs.Steps.{IsStep, step_after};
+ghost use Rattle.unit_requests.specs.unit_steps.Steps.{IsStep, step_after};
 ghost use Rattle.up_rows.specs.Modes.{refused_on, uplinks_on, switch_on, freeze_on, status_on, resume_on, has_status, frozen_and_told};
 
 use crate::bearers::{CAUSE_BUSY, UeRequest};
@@ -18,9 +18,9 @@ use gnb_types::plans::{Peer, SnStatus, StatusList, Tunnel, TunnelList};
 use gnb_types::reasons::DropReason;
 use message_types::E1Message;
 use std::alloc::Global;
-use unit_messages::MessageCodec;
+use unit_requests::from_unit_messages::MessageCodec;
+use unit_requests::from_unit_steps::StepError;
 use unit_requests::put;
-use unit_steps::StepError;
 
 const MODE_UPLINKS: u32 = 0;
 

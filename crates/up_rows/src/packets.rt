@@ -1,17 +1,17 @@
 //! Items of tunnels, and polls (TS 38.425, 5.4; TS 38.323, 5.2).
 
 ghost use Rattle.gnb_types.specs.declared.inputs.Input.TheVariants as ins;
-ghost use Rattle.codec_defs.specs.Reading.{ReadsItems};
+ghost use Rattle.up_contexts.specs.codec_defs.Reading.{ReadsItems};
 ghost use Rattle.unit_defs.specs.CuUp.{poll};
 ghost use Rattle.unit_octet_defs.specs.Codec.{Codec, octet_way};
 ghost use Rattle.unit_octet_defs.specs.Units.{cu_up_steps};
-ghost use Rattle.unit_steps.specs.Steps.{IsStep, step_after};
+ghost use Rattle.unit_requests.specs.unit_steps.Steps.{IsStep, step_after};
 
 use crate::record::UpRecord;
 use gnb_types::names::{BearerId, UeId};
 use gnb_types::outputs::Outputs;
 use std::alloc::Global;
-use unit_steps::StepError;
+use unit_requests::from_unit_steps::StepError;
 
 impl UpRecord {
     /// An item of a tunnel: it is dropped, held at the head of its tunnel, or taken by its bearer.

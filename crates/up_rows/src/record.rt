@@ -7,7 +7,7 @@ ghost use Rattle.tables.specs.Tables.{find};
 ghost use Rattle.unit_defs.specs.CuUp.{new_cu_up, up_node};
 ghost use Rattle.unit_defs.specs.Accessors.{up_has_context, is_unconfirmed, up_rests};
 ghost use Rattle.unit_defs.specs.Static.{up_set_up};
-ghost use Rattle.codec_defs.specs.Reading.{ReadsItems};
+ghost use Rattle.up_contexts.specs.codec_defs.Reading.{ReadsItems};
 ghost use Rattle.unit_octet_defs.specs.Codec.{Codec};
 ghost use Rattle.unit_octet_defs.specs.Reading.{up_link};
 ghost use Rattle.up_contexts.specs.Placing.{IsPlaced};

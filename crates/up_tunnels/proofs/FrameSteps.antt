@@ -8,8 +8,8 @@ use Rattle.gnb_types.specs.declared.names.Dir.TheVariants.{Dl}
 use Rattle.gnb_types.specs.declared.outputs.Output.{Output}
 use Rattle.gnb_types.specs.declared.outputs.Tag.{Tag}
 use Rattle.gnb_types.specs.declared.names.SnBits.{SnBits}
-use Rattle.pdcp.specs.Pdus.{radio_data, report_octets}
-use Rattle.link_defs.specs.Layouts.{f1u_downlink_packet, f1u_downlink_report, f1u_downlink_poll}
+use Rattle.link_packets.specs.pdcp.Pdus.{radio_data, report_octets}
+use Rattle.link_packets.specs.link_defs.Layouts.{f1u_downlink_packet, f1u_downlink_report, f1u_downlink_poll}
 use Rattle.unit_steps.specs.unit_defs.UpRecords.{UpBearer}
 use Rattle.unit_steps.specs.unit_defs.UpBearers.{framed, framed_on, last_frame}
 use Rattle.unit_steps.specs.unit_defs.Ways.{frames_spent, spent, puts, packet, frame}

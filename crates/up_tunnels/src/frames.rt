@@ -4,7 +4,7 @@ ghost use Rattle.std.specs.Prelude.{◌≡◌, ◌∷◌, [], ◌++◌, ◌≤�
 ghost use Rattle.gnb_types.specs.declared.outputs.Output.TheVariants as outs;
 ghost use Rattle.gnb_types.specs.declared.outputs.Tag.TheVariants.{Absent};
 ghost use Rattle.gnb_types.specs.declared.names.Dir.TheVariants.{Dl};
-ghost use Rattle.link_defs.specs.Decoding.{IsSized};
+ghost use Rattle.link_packets.specs.link_defs.Decoding.{IsSized};
 ghost use Rattle.unit_steps.specs.unit_defs.UpRecords.{UpBearer};
 ghost use Rattle.unit_steps.specs.unit_defs.UpBearers.{sent, framed};
 ghost use Rattle.unit_steps.specs.unit_defs.Ways.{report_pdu};

@@ -4,8 +4,8 @@ ghost use Rattle.std.specs.Prelude.{◌≡◌, ◌∷◌, [], ◌++◌, OnOk, On
 ghost use Rattle.gnb_types.specs.declared.outputs.Output.TheVariants as outs;
 ghost use Rattle.gnb_types.specs.declared.outputs.Tag.TheVariants.{Absent};
 ghost use Rattle.gnb_types.specs.declared.names.Dir.TheVariants.{Dl};
-ghost use Rattle.link_defs.specs.Decoding.{IsSized};
-ghost use Rattle.link_defs.specs.Layouts.{forwarded_numbered, forwarded_fresh, end_marker as end_octets};
+ghost use Rattle.link_packets.specs.link_defs.Decoding.{IsSized};
+ghost use Rattle.link_packets.specs.link_defs.Layouts.{forwarded_numbered, forwarded_fresh, end_marker as end_octets};
 ghost use Rattle.up_tunnels.specs.Tunnels.{hop_teid};
 
 use crate::at::At;

@@ -3,21 +3,21 @@ use Rattle.std.proofs.Common.{◌≡◌, ℕ, ◌<◌, ◌≤◌, Bool, true, fa
 use Rattle.std.proofs.lemmas.Bool.Decides.{nat_tests}
 use Rattle.gnb_types.specs.declared.outputs.Tag.TheVariants.{Same}
 use Rattle.gnb_types.specs.declared.reasons.DropReason.TheVariants.{Duplicate}
-use Rattle.pdcp_defs.specs.Receivers.{Receiver, is_duplicate, is_ahead, stored}
-use Rattle.unit_defs.specs.Ways.{numbered, drops}
-use Rattle.unit_defs.specs.UpRecords.{UpBearer}
-use Rattle.unit_defs.specs.UpBearers.{forwarded_up, deliver_stored}
-use Rattle.unit_defs.specs.UpItems.{took_uplink, passed_up}
-use Rattle.unit_octet_defs.specs.Codec.{Codec, octet_way}
-use Rattle.unit_octet_defs.specs.Units.{OctetAnswer}
-use Rattle.ue_bearers.specs.declared.downlink.Reception.{Reception}
-use Rattle.ue_bearers.specs.declared.downlink.Reception.TheVariants as receptions
-use Rattle.ue_bearers.specs.Downlinks.{DownlinkState, received}
-use Rattle.ue_bearers.specs.Uplinks.{IsPacket}
-use Rattle.ue_bearers.proofs.StoredLemmas.{all_put}
-use Rattle.up_tunnels.specs.declared.at.At.{At}
-use Rattle.up_tunnels.specs.Tunnels.{at_as}
-use Rattle.up_bearers.specs.Bearers.{IsUp}
+use Rattle.up_packets.specs.pdcp_defs.Receivers.{Receiver, is_duplicate, is_ahead, stored}
+use Rattle.up_packets.specs.unit_defs.Ways.{numbered, drops}
+use Rattle.up_packets.specs.unit_defs.UpRecords.{UpBearer}
+use Rattle.up_packets.specs.unit_defs.UpBearers.{forwarded_up, deliver_stored}
+use Rattle.up_packets.specs.unit_defs.UpItems.{took_uplink, passed_up}
+use Rattle.up_packets.specs.unit_octet_defs.Codec.{Codec, octet_way}
+use Rattle.up_packets.specs.unit_octet_defs.Units.{OctetAnswer}
+use Rattle.up_packets.specs.ue_bearers.declared.downlink.Reception.{Reception}
+use Rattle.up_packets.specs.ue_bearers.declared.downlink.Reception.TheVariants as receptions
+use Rattle.up_packets.specs.ue_bearers.Downlinks.{DownlinkState, received}
+use Rattle.up_packets.specs.ue_bearers.Uplinks.{IsPacket}
+use Rattle.up_packets.proofs.ue_bearers.StoredLemmas.{all_put}
+use Rattle.up_packets.specs.up_tunnels.declared.at.At.{At}
+use Rattle.up_packets.specs.up_tunnels.Tunnels.{at_as}
+use Rattle.up_packets.specs.up_bearers.Bearers.{IsUp}
 use Rattle.up_uplinks.specs.Storing.{kept_at}
 
 module _ (codec : Codec) (a : At) (b : UpBearer) (p : List ℕ) where

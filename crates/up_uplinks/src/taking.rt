@@ -1,25 +1,25 @@
 //! Packets up.
 
 ghost use Rattle.std.specs.Prelude.{◌≡◌, false, OnOk};
-ghost use Rattle.pdcp_defs.specs.Counts.{near_count};
-ghost use Rattle.ue_bearers.specs.Uplinks.{IsPacket};
-ghost use Rattle.unit_defs.specs.UpItems.{took_uplink, passed_up, is_ahead_if};
-ghost use Rattle.unit_octet_defs.specs.Codec.{Codec, octet_way};
-ghost use Rattle.unit_steps.specs.Steps.{IsStep, step_after};
-ghost use Rattle.up_tunnels.specs.Tunnels.{at_as};
-ghost use Rattle.up_bearers.specs.Bearers.{kept, IsOf};
+ghost use Rattle.up_packets.specs.pdcp_defs.Counts.{near_count};
+ghost use Rattle.up_packets.specs.ue_bearers.Uplinks.{IsPacket};
+ghost use Rattle.up_packets.specs.unit_defs.UpItems.{took_uplink, passed_up, is_ahead_if};
+ghost use Rattle.up_packets.specs.unit_octet_defs.Codec.{Codec, octet_way};
+ghost use Rattle.up_packets.specs.unit_steps.Steps.{IsStep, step_after};
+ghost use Rattle.up_packets.specs.up_tunnels.Tunnels.{at_as};
+ghost use Rattle.up_packets.specs.up_bearers.Bearers.{kept, IsOf};
 ghost use Rattle.up_uplinks.specs.Storing.{kept_at};
 
 use gnb_types::names::Dir;
 use gnb_types::outputs::{Outputs, Tag};
 use gnb_types::reasons::DropReason;
 use std::alloc::Global;
-use ue_bearers::Reception;
-use unit_steps::StepError;
-use up_bearers::Bearer;
-use up_bearers::uplink::deliver_stored;
+use up_packets::from_ue_bearers::Reception;
+use up_packets::from_unit_steps::StepError;
+use up_packets::from_up_bearers::Bearer;
+use up_packets::from_up_bearers::uplink::deliver_stored;
+use up_packets::from_up_tunnels::{At, ShownCount};
 use up_packets::passing::{drop_item, pass_counted};
-use up_tunnels::{At, ShownCount};
 
 /// A released context passes on what was not delivered before.
 fn pass_up(

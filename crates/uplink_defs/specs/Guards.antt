@@ -1,7 +1,7 @@
 -- What each order asks for. `IsReady` is what the unit tests itself, and what stands where it takes from; `IsOwed` is what control
 -- owes, and what is known of the messages that confirm.
 use Rattle.std.specs.Prelude.{◌≡◌, ◌≢◌, ℕ, ◌<◌, true, false, List, [], ◌∷◌, None, ⊤}
-use Rattle.pdcp_defs.specs.Senders.{is_reported}
+use Rattle.chain_defs.specs.pdcp_defs.Senders.{is_reported}
 use Rattle.chain_defs.specs.unit_defs.UpRecords.{TunnelKind, f1u_uplink, forwarding_up}
 use Rattle.chain_defs.specs.unit_defs.UpBearers.{is_one_of, no_uplink}
 use Rattle.chain_defs.specs.unit_defs.UpItems.{first_held, held_as_target}

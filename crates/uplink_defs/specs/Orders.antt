@@ -1,8 +1,8 @@
 -- What happens to the uplink of one bearer, in small orders: a row of a unit is a list of them.
 use Rattle.std.specs.Prelude.{◌==◌, ℕ, ◌+◌, max, Bool, true, false, not, ◌&&◌, ◌||◌, nat_lt, List, [], ◌∷◌, ◌++◌, map, filter, Option, Some, None}
-use Rattle.gnb_types.specs.declared.plans.SnStatus.{SnStatus}
-use Rattle.pdcp_defs.specs.Senders.{numbered as with_next, confirmed_to, confirmed_by}
-use Rattle.pdcp_defs.specs.Receivers.{Delivery, is_duplicate, stored, deliver}
+use Rattle.chain_defs.specs.gnb_types.declared.plans.SnStatus.{SnStatus}
+use Rattle.chain_defs.specs.pdcp_defs.Senders.{numbered as with_next, confirmed_to, confirmed_by}
+use Rattle.chain_defs.specs.pdcp_defs.Receivers.{Delivery, is_duplicate, stored, deliver}
 use Rattle.chain_defs.specs.unit_defs.UpRecords.{SourceHop, UpBearer, UpFlags}
 use Rattle.chain_defs.specs.unit_defs.UpBearers.{released, thawed, no_uplink}
 use Rattle.chain_defs.specs.Parts.{set}

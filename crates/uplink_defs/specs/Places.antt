@@ -1,7 +1,7 @@
 -- Where a COUNT stands: in a list of packets, on a tunnel, at a context.
 use Rattle.std.specs.Prelude.{◌≡◌, ◌⊎◌, ℕ, Bool, true, List, [], ◌∷◌, is_some}
 use Rattle.std.specs.Ordering.{nat_cmp}
-use Rattle.tables.specs.Tables.{find}
+use Rattle.chain_defs.specs.tables.Tables.{find}
 use Rattle.uplink_defs.specs.Parts.{Item, numbered, end_marker, uplink_tunnel, Member}
 use Rattle.uplink_defs.specs.Guards.{IsOpen}
 

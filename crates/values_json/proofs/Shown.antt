@@ -3,9 +3,9 @@ use Rattle.std.proofs.Common.{ℕ, List, [], subst}
 use Rattle.asn1_module.specs.asn1_assignments.declared.assignment.Syntax.{Syntax}
 use Rattle.aper_defs.specs.Values.{Value}
 use Rattle.aper_defs.specs.Membership.{Has}
-use Rattle.aper_types.specs.Types.{tree}
-use Rattle.json_type_defs.specs.Types.{named}
-use Rattle.json_proof_modules.proofs.Forgotten.{forgotten}
+use Rattle.json_printing.specs.aper_types.Types.{tree}
+use Rattle.json_printing.specs.json_type_defs.Types.{named}
+use Rattle.json_reading.proofs.json_proof_modules.Forgotten.{forgotten}
 use Rattle.values_json.specs.Texts.{IsTextOf}
 
 pub shown_has : (m : Syntax) (id : ℕ) (octets : List ℕ) (v : Value) → IsTextOf (named m id) octets v → Has [] (tree m id) v

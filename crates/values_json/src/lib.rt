@@ -5,7 +5,7 @@ ghost use Rattle.std.specs.Prelude.{◌≡◌, ◌<◌, length, IfOk};
 ghost use Rattle.serde_json.specs.Written.{compact_text};
 ghost use Rattle.aper_values.specs.Views.{view};
 ghost use Rattle.json_shown_defs.specs.Printed.{shown_as};
-ghost use Rattle.json_type_defs.specs.Types.{named};
+ghost use Rattle.json_printing.specs.json_type_defs.Types.{named};
 ghost use Rattle.values_json.specs.Texts.{IsNoJson, IsReadAgain, IsTextOf, HasFault, OnNotJson, OnFault};
 
 mod error;
@@ -19,6 +19,11 @@ use gnb_types::octets::{Memory, Octets};
 use json_printing::value_shown;
 use json_reading::value_in;
 use std::alloc::Global;
+
+/// Of `aper`, for crates above.
+pub mod from_aper {
+    pub use aper::{DecodeError, Reason, Value, decode, encode, is_value, spelled_length};
+}
 
 /// The value of a type of a module that a JSON text shows.
 pub fn value_from_json(

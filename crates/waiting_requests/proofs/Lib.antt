@@ -1,2 +1,3 @@
 pub mod Refilling
 pub mod Releases
+pub use Rattle.unit_requests.proofs as unit_requests

@@ -16,9 +16,9 @@ use Rattle.gnb_types.specs.declared.keys.Channel.{Channel}
 use Rattle.gnb_types.specs.declared.names.UeId.{UeId}
 use Rattle.tables.specs.Queues.{TakesFirst}
 use Rattle.tables.specs.Tables.{find, put, without, first_entry, IsSorted}
-use Rattle.unit_defs.specs.Transactions.{Waiting}
-use Rattle.unit_defs.specs.CpRecords.{not_awaited, unawaited}
-use Rattle.unit_octet_defs.specs.Codec.{Codec, octet_way}
+use Rattle.unit_requests.specs.unit_defs.Transactions.{Waiting}
+use Rattle.unit_requests.specs.unit_defs.CpRecords.{not_awaited, unawaited}
+use Rattle.unit_requests.specs.unit_octet_defs.Codec.{Codec, octet_way}
 
 abbrev pub Waits : Type 0
 Waits = List (Waiting (List ℕ))

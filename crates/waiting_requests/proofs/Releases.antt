@@ -11,9 +11,9 @@ use Rattle.tables.specs.Queues.{first_item, TakesFirst}
 use Rattle.tables.specs.Tables.{find, put, without}
 use Rattle.transaction_defs.specs.Callers.{Caller}
 use Rattle.transaction_defs.specs.Callees.{Callee}
-use Rattle.unit_defs.specs.Transactions.{Waiting, waits_at, with_waiting}
-use Rattle.unit_defs.specs.CuCp.{is_up_release, without_release}
-use Rattle.unit_octet_defs.specs.Codec.{Codec, octet_way}
+use Rattle.unit_requests.specs.unit_defs.Transactions.{Waiting, waits_at, with_waiting}
+use Rattle.unit_requests.specs.unit_defs.CuCp.{is_up_release, without_release}
+use Rattle.unit_requests.specs.unit_octet_defs.Codec.{Codec, octet_way}
 use Rattle.unit_requests.specs.Requests.{Kept}
 use Rattle.unit_requests.proofs.Waits.{length_empty, waiting_then-put, without-put}
 use Rattle.unit_requests.proofs.WaitSteps.{waits_as, then_waits}

@@ -1,0 +1,1 @@
+pub use Rattle.unit_requests.specs as unit_requests

@@ -2,8 +2,8 @@
 
 ghost use Rattle.std.specs.Prelude.{◌≡◌, map, IfOk, OnOk};
 ghost use Rattle.tables.specs.Queues.{TakesFirst};
-ghost use Rattle.unit_defs.specs.CpRecords.{not_awaited, unawaited, forgotten};
-ghost use Rattle.unit_octet_defs.specs.Codec.{Codec, octet_way};
+ghost use Rattle.unit_requests.specs.unit_defs.CpRecords.{not_awaited, unawaited, forgotten};
+ghost use Rattle.unit_requests.specs.unit_octet_defs.Codec.{Codec, octet_way};
 
 use gnb_types::items::Memory;
 use gnb_types::keys::Channel;

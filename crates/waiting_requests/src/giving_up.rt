@@ -1,15 +1,15 @@
 //! A release that isn't needed, since the setup before it failed.
 
 ghost use Rattle.std.specs.Prelude.{◌≡◌};
-ghost use Rattle.unit_defs.specs.Transactions.{waits_at, with_waiting};
-ghost use Rattle.unit_defs.specs.CuCp.{is_up_release, without_release};
-ghost use Rattle.unit_octet_defs.specs.Codec.{Codec, octet_way};
-ghost use Rattle.unit_messages.specs.Messages.{message_as};
+ghost use Rattle.unit_requests.specs.unit_defs.Transactions.{waits_at, with_waiting};
+ghost use Rattle.unit_requests.specs.unit_defs.CuCp.{is_up_release, without_release};
+ghost use Rattle.unit_requests.specs.unit_octet_defs.Codec.{Codec, octet_way};
+ghost use Rattle.unit_requests.specs.unit_messages.Messages.{message_as};
 
 use gnb_types::keys::Channel;
 use message_types::E1Message;
 use tables::queue::Queue;
-use unit_messages::Message;
+use unit_requests::from_unit_messages::Message;
 use unit_requests::{Requests, Waiting};
 
 fn is_up_release(message: &Message) -> bool

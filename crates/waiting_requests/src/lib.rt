@@ -7,3 +7,8 @@ mod giving_up;
 
 pub use forgetting::forget;
 pub use giving_up::give_up_release;
+
+/// Of `unit_requests`, for crates above.
+pub mod from_unit_requests {
+    pub use unit_requests::{Requests, Waiting, put};
+}

@@ -5,32 +5,32 @@ ghost use Rattle.scenario_text.specs.Texts.{InRange};
 ghost use Rattle.run_defs.specs.Runs.{happens};
 ghost use Rattle.run_defs.specs.UnitRuns.{unit_world};
 ghost use Rattle.run_links.specs.Grounds.{state_of};
-ghost use Rattle.world_steps.specs.Gives.{EventGives};
+ghost use Rattle.world_injects.specs.world_steps.Gives.{EventGives};
 
 use gnb_types::keys::{EntityKey, TunnelEnd};
 use gnb_types::names::{BearerId, Dir, NodeId, UeId};
-use lawful_codecs::LawfulCodec;
 use run_links::lines::Lines;
 use scenario_text::event::Event;
 use world_attaches::attaches::attach;
 use world_attaches::setups::set_up;
-use world_bearers::asks::ask;
-use world_bearers::offers::offer;
-use world_bearers::polls::poll;
+use world_injects::from_lawful_codecs::LawfulCodec;
+use world_injects::from_world_steps::Units;
+use world_injects::from_world_steps::cause::Cause;
+use world_injects::from_world_steps::parts::Parts;
 use world_injects::injects::{inject_item, inject_message};
-use world_letters::gives::give;
-use world_letters::losses::{lose_item, lose_message};
-use world_letters::pumps::pump;
-use world_letters::turns::{start, tick};
 use world_orders::handovers::{cancel, handover};
 use world_orders::releases::release;
 use world_orders::terminals::{arrive, come_back, fail};
-use world_packets::gets::get;
-use world_packets::radio::{ack, air};
+use world_settling::from_world_bearers::asks::ask;
+use world_settling::from_world_bearers::offers::offer;
+use world_settling::from_world_bearers::polls::poll;
+use world_settling::from_world_letters::gives::give;
+use world_settling::from_world_letters::losses::{lose_item, lose_message};
+use world_settling::from_world_letters::pumps::pump;
+use world_settling::from_world_letters::turns::{start, tick};
+use world_settling::from_world_packets::gets::get;
+use world_settling::from_world_packets::radio::{ack, air};
 use world_settling::settle::settle;
-use world_steps::Units;
-use world_steps::cause::Cause;
-use world_steps::parts::Parts;
 
 /// The end of a tunnel.
 fn end_of(node: NodeId, teid: u32) -> TunnelEnd

@@ -23,7 +23,7 @@ use Rattle.run_links.specs.Told.{Makes}
 use Rattle.world_steps.specs.run_units.Steps.{has_room, has_teids, PlacingGives}
 use Rattle.world_steps.specs.declared.cause.Cause.TheVariants as causes
 use Rattle.world_steps.specs.Gives.{EventGives, cause_of}
-use Rattle.cu_user.specs.up_rows.up_contexts.declared.placing.PlaceError.TheVariants as places
+use Rattle.world_steps.specs.up_contexts.declared.placing.PlaceError.TheVariants as places
 use Rattle.world_attaches.specs.Comings.{with_path, kept, keeps}
 use Rattle.world_attaches.proofs.Kept.{teids_fit}
 

@@ -3,7 +3,7 @@
 ghost use Rattle.std.specs.Prelude.{◌≡◌, OnOk, None};
 ghost use Rattle.gnb_types.specs.declared.names.NodeId.TheVariants.{CuCp};
 ghost use Rattle.gnb_types.specs.declared.inputs.Order.TheVariants as orders;
-ghost use Rattle.plain_defs.specs.Plain.{IsPlanned};
+ghost use Rattle.world_steps.specs.plain_defs.Plain.{IsPlanned};
 ghost use Rattle.run_defs.specs.Units.{cp_of};
 ghost use Rattle.run_defs.specs.States.{order_for};
 ghost use Rattle.run_defs.specs.Steps.{does};
@@ -23,10 +23,10 @@ use gnb_types::plans::Plan;
 use gnb_types::reasons::RefuseReason;
 use run_links::lines::Lines;
 use scenario_text::line::OutLine;
-use unit_messages::MessageCodec;
 use world_steps::Units;
 use world_steps::asked::{Asked, Moved, moved_by};
 use world_steps::cause::Cause;
+use world_steps::from_unit_messages::MessageCodec;
 use world_steps::parts::Parts;
 
 /// Whether the units of a plan are set up.

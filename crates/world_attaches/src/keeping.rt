@@ -6,13 +6,13 @@ ghost use Rattle.run_defs.specs.Conditions.{n3_from};
 ghost use Rattle.run_links.specs.Told.{Makes};
 ghost use Rattle.world_attaches.specs.Comings.{with_path, opens_from, keeps};
 
-use core_node::{CoreNode, CorePath};
 use gnb_types::items::{Items, Memory};
 use gnb_types::keys::TunnelEnd;
 use gnb_types::names::{BearerId, NodeId};
 use gnb_types::plans::{Plan, Tunnel, TunnelList};
 use run_links::ground::Ground;
 use std::alloc::Global;
+use world_steps::from_core_node::{CoreNode, CorePath};
 
 /// The N3 tunnels of the bearers 1, 2, 3 and so on: every second TEID from this one on.
 fn n3_from(alloc: Global, first: u32, bearers: u8) -> Result<TunnelList, Memory>

@@ -1,7 +1,7 @@
 //! `static`: a terminal is set up without messages, as if an attach had run.
 
 ghost use Rattle.std.specs.Prelude.{◌≡◌, ◌||◌, OnOk};
-ghost use Rattle.plain_defs.specs.Plain.{IsPlanned};
+ghost use Rattle.world_steps.specs.plain_defs.Plain.{IsPlanned};
 ghost use Rattle.run_defs.specs.unit_defs.Accessors.{up_has_context, du_epoch};
 ghost use Rattle.run_defs.specs.Units.{up_of, du_of};
 ghost use Rattle.run_defs.specs.States.{was_attached};
@@ -12,15 +12,15 @@ ghost use Rattle.run_links.specs.Grounds.{state_of};
 ghost use Rattle.world_steps.specs.Gives.{EventGives};
 
 use crate::keeping::{keep_path, keep_terminal};
-use cu_user::PlaceError;
 use gnb_types::names::{Gnb, NodeId, UeId};
 use gnb_types::plans::Plan;
 use gnb_types::reasons::RefuseReason;
 use run_links::lines::Lines;
 use scenario_text::line::OutLine;
-use unit_messages::MessageCodec;
 use world_steps::Units;
 use world_steps::cause::{Cause, cause_of};
+use world_steps::from_cu_user::PlaceError;
+use world_steps::from_unit_messages::MessageCodec;
 use world_steps::parts::Parts;
 
 /// Whether a CU-UP has a context of a terminal.

@@ -12,7 +12,6 @@ ghost use Rattle.world_steps.specs.Gives.{Gives, EventGives};
 ghost use Rattle.world_steps.specs.Moves.{DoneGives};
 ghost use Rattle.world_bearers.specs.Places.{core_end, downlink_item, core_puts, offer_done};
 
-use core_node::CoreNode;
 use gnb_types::inputs::Input;
 use gnb_types::items::Memory;
 use gnb_types::keys::{EntityKey, TunnelEnd};
@@ -24,10 +23,11 @@ use links::items::Item;
 use run_links::lines::Lines;
 use scenario_text::line::OutLine;
 use std::alloc::Global;
-use unit_messages::MessageCodec;
 use world_steps::Units;
 use world_steps::asked::{Asked, Moved, moved_by};
 use world_steps::cause::Cause;
+use world_steps::from_core_node::CoreNode;
+use world_steps::from_unit_messages::MessageCodec;
 use world_steps::parts::Parts;
 
 /// How many octets a packet has at most.

@@ -12,9 +12,9 @@ use gnb_types::names::{BearerId, NodeId, UeId};
 use gnb_types::reasons::RefuseReason;
 use run_links::lines::Lines;
 use scenario_text::line::OutLine;
-use unit_messages::MessageCodec;
 use world_steps::Units;
 use world_steps::cause::Cause;
+use world_steps::from_unit_messages::MessageCodec;
 use world_steps::parts::Parts;
 
 /// The CU-UP that polls a bearer, or why none does.

@@ -11,10 +11,10 @@ ghost use Rattle.run_links.specs.Grounds.{OctetCore, state_of};
 
 use gnb_types::names::{BearerId, Dir, Gnb, UeId};
 use run_links::ground::Ground;
-use ue_node::UeNode;
 use unit_defs::{StateName, UeState};
-use unit_messages::MessageCodec;
 use world_steps::Units;
+use world_steps::from_ue_node::UeNode;
+use world_steps::from_unit_messages::MessageCodec;
 use world_steps::parts::Parts;
 
 fn is_connected(state: UeState) -> bool

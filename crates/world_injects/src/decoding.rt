@@ -8,8 +8,8 @@ use gnb_types::keys::TunnelEnd;
 use gnb_types::names::NodeId;
 use gnb_types::octets::Octets;
 use lawful_codecs::LawfulCodec;
-use unit_messages::MessageCodec;
 use world_steps::Units;
+use world_steps::from_unit_messages::MessageCodec;
 use world_steps::parts::Parts;
 
 /// Whether octets are a message from one node to another.

@@ -19,9 +19,9 @@ use gnb_types::reasons::RefuseReason;
 use lawful_codecs::LawfulCodec;
 use run_links::lines::Lines;
 use scenario_text::line::OutLine;
-use unit_messages::MessageCodec;
 use world_steps::Units;
 use world_steps::cause::Cause;
+use world_steps::from_unit_messages::MessageCodec;
 use world_steps::parts::Parts;
 
 /// Octets as a unit takes them for a control message.

@@ -1,2 +1,3 @@
 pub mod Letters
 pub mod Turns
+pub use Rattle.world_steps.specs as world_steps

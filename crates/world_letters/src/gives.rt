@@ -15,7 +15,6 @@ ghost use Rattle.world_steps.specs.Gives.{EventGives};
 ghost use Rattle.world_steps.specs.Moves.{DoneGives};
 ghost use Rattle.world_letters.specs.Letters.{CoreGives, to_unit};
 
-use core_node::CoreNode;
 use gnb_types::inputs::Input;
 use gnb_types::items::{Items, Memory};
 use gnb_types::names::{NodeId, UeId};
@@ -25,10 +24,11 @@ use links::bag::Message;
 use run_links::lines::Lines;
 use scenario_text::line::OutLine;
 use std::alloc::Global;
-use unit_messages::MessageCodec;
 use world_steps::Units;
 use world_steps::asked::{Asked, Moved, moved_by};
 use world_steps::cause::{Cause, cause_of};
+use world_steps::from_core_node::CoreNode;
+use world_steps::from_unit_messages::MessageCodec;
 use world_steps::parts::Parts;
 
 /// A control message, as a unit takes it.

@@ -5,3 +5,21 @@ pub mod gives;
 pub mod losses;
 pub mod pumps;
 pub mod turns;
+
+/// Of `unit_messages`, for crates above.
+pub mod from_unit_messages {
+    pub use world_steps::from_unit_messages::MessageCodec;
+}
+
+/// Of `world_steps`, for crates above.
+pub mod from_world_steps {
+    pub use world_steps::Units;
+
+    pub mod cause {
+        pub use world_steps::cause::Cause;
+    }
+
+    pub mod parts {
+        pub use world_steps::parts::Parts;
+    }
+}

@@ -8,9 +8,9 @@ ghost use Rattle.world_steps.specs.Gives.{EventGives};
 
 use crate::gives::give;
 use run_links::lines::Lines;
-use unit_messages::MessageCodec;
 use world_steps::Units;
 use world_steps::cause::Cause;
+use world_steps::from_unit_messages::MessageCodec;
 use world_steps::parts::Parts;
 
 /// How many messages one `pump` gives at most.

@@ -18,9 +18,9 @@ use gnb_types::reasons::RefuseReason;
 use run_links::ground::Ground;
 use run_links::lines::Lines;
 use scenario_text::line::OutLine;
-use unit_messages::MessageCodec;
 use world_steps::Units;
 use world_steps::cause::Cause;
+use world_steps::from_unit_messages::MessageCodec;
 use world_steps::parts::Parts;
 
 /// The units that are started, in order.

@@ -10,15 +10,15 @@ ghost use Rattle.world_orders.specs.Orders.{handover_order, names, cancel_order}
 
 use crate::looks::{is_busy_with, is_source};
 use crate::ordering::{Ordered, give_order};
-use control_rows::is_same_gnb;
 use gnb_types::inputs::Order;
 use gnb_types::names::{Gnb, NodeId, UeId};
 use gnb_types::plans::Plan;
 use gnb_types::reasons::RefuseReason;
 use run_links::lines::Lines;
-use unit_messages::MessageCodec;
 use world_steps::Units;
 use world_steps::cause::Cause;
+use world_steps::from_control_rows::is_same_gnb;
+use world_steps::from_unit_messages::MessageCodec;
 use world_steps::parts::Parts;
 
 /// Whether a terminal that this gNB serves at this place is at that DU already.

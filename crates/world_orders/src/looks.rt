@@ -8,8 +8,8 @@ ghost use Rattle.run_links.specs.Grounds.{state_of};
 
 use gnb_types::names::{Gnb, UeId};
 use unit_defs::{StateName, UeState};
-use unit_messages::MessageCodec;
 use world_steps::Units;
+use world_steps::from_unit_messages::MessageCodec;
 use world_steps::parts::Parts;
 
 /// The state of a terminal; `Idle` where it never came.

@@ -20,10 +20,10 @@ use gnb_types::names::{Gnb, NodeId, UeId};
 use gnb_types::reasons::RefuseReason;
 use run_links::lines::Lines;
 use scenario_text::line::OutLine;
-use unit_messages::MessageCodec;
 use world_steps::Units;
 use world_steps::asked::{Asked, Moved, moved_by};
 use world_steps::cause::Cause;
+use world_steps::from_unit_messages::MessageCodec;
 use world_steps::parts::Parts;
 
 /// The gNB whose CU-CP lets a terminal go, or why none does.

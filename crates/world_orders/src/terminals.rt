@@ -15,9 +15,9 @@ use gnb_types::names::{NodeId, UeId};
 use gnb_types::reasons::RefuseReason;
 use run_links::lines::Lines;
 use unit_defs::UeState;
-use unit_messages::MessageCodec;
 use world_steps::Units;
 use world_steps::cause::Cause;
+use world_steps::from_unit_messages::MessageCodec;
 use world_steps::parts::Parts;
 
 fn is_connected(state: UeState) -> bool

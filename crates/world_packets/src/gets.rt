@@ -17,10 +17,10 @@ use gnb_types::keys::TunnelEnd;
 use links::items::Item;
 use run_links::lines::{Lines, tunnel_link};
 use scenario_text::line::OutLine;
-use unit_messages::MessageCodec;
 use world_steps::Units;
 use world_steps::asked::{Asked, Moved, moved_by};
 use world_steps::cause::Cause;
+use world_steps::from_unit_messages::MessageCodec;
 use world_steps::parts::Parts;
 
 /// An item of a tunnel, as its end takes it.

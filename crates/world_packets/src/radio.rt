@@ -23,10 +23,10 @@ use gnb_types::reasons::RefuseReason;
 use links::items::Item;
 use run_links::lines::{Lines, radio_link};
 use scenario_text::line::OutLine;
-use unit_messages::MessageCodec;
 use world_steps::Units;
 use world_steps::asked::{Asked, Moved, moved_by};
 use world_steps::cause::Cause;
+use world_steps::from_unit_messages::MessageCodec;
 use world_steps::parts::Parts;
 
 /// Who receives on a radio, where the terminal's home is this DU.

@@ -9,20 +9,20 @@ use Rattle.scenario_text.specs.declared.line.OutLine.{OutLine}
 use Rattle.transport_defs.specs.declared.Item.{Item}
 use Rattle.transport_defs.specs.Links.{Radio, nth}
 use Rattle.links.specs.Radios.{oldest_of}
-use Rattle.run_defs.specs.Lines.{radio_link, held_at}
-use Rattle.run_defs.specs.States.{goes_on, goes, as_step, radio_of}
-use Rattle.run_defs.specs.Steps.{is_done, is_held, is_refused}
-use Rattle.run_defs.specs.Conditions.{epoch_of, ready_home, receiver_of}
-use Rattle.run_defs.specs.Events.{carry_done, confirm_done}
-use Rattle.run_defs.specs.Settling.{Turn, to_acks, to_airs, after_air, after_ack, aired_by, air_next, acked_by, turn_over, ack_next, turn_at, turn_step}
+use Rattle.run_links.specs.run_defs.Lines.{radio_link, held_at}
+use Rattle.run_links.specs.run_defs.States.{goes_on, goes, as_step, radio_of}
+use Rattle.run_links.specs.run_defs.Steps.{is_done, is_held, is_refused}
+use Rattle.run_links.specs.run_defs.Conditions.{epoch_of, ready_home, receiver_of}
+use Rattle.run_links.specs.run_defs.Events.{carry_done, confirm_done}
+use Rattle.run_links.specs.run_defs.Settling.{Turn, to_acks, to_airs, after_air, after_ack, aired_by, air_next, acked_by, turn_over, ack_next, turn_at, turn_step}
 use Rattle.run_links.specs.Grounds.{Octets, OctetState, OctetWorld, OctetOutcome}
-use Rattle.world_steps.specs.declared.cause.Cause.{Cause}
-use Rattle.world_steps.specs.declared.asked.Moved.TheVariants as moves
-use Rattle.world_steps.specs.declared.asked.Moved.{Moved}
-use Rattle.world_steps.specs.Gives.{EventGives, stop_by}
-use Rattle.world_steps.specs.Moves.{OctetDone, Moves, DoneGives}
-use Rattle.world_steps.proofs.Following.{first_stops, nothing_more}
-use Rattle.world_steps.proofs.Shown.{shows_held}
+use Rattle.world_turns.specs.world_steps.declared.cause.Cause.{Cause}
+use Rattle.world_turns.specs.world_steps.declared.asked.Moved.TheVariants as moves
+use Rattle.world_turns.specs.world_steps.declared.asked.Moved.{Moved}
+use Rattle.world_turns.specs.world_steps.Gives.{EventGives, stop_by}
+use Rattle.world_turns.specs.world_steps.Moves.{OctetDone, Moves, DoneGives}
+use Rattle.world_turns.proofs.world_steps.Following.{first_stops, nothing_more}
+use Rattle.world_turns.proofs.world_steps.Shown.{shows_held}
 use Rattle.world_turns.specs.Turns.{Continues, quiet_lines}
 use Rattle.world_radios.specs.RadioTurns.{TurnGives, over, aired}
 use Rattle.world_turns.proofs.Turned.{then_continues, no_more, stands_at, same_from, made_stops, held_never_stops, refused_never_stops}

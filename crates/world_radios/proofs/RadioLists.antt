@@ -8,9 +8,9 @@ use Rattle.gnb_types.specs.declared.names.BearerId.{BearerId}
 use Rattle.gnb_types.specs.declared.names.Dir.TheVariants.{Dl, Ul}
 use Rattle.gnb_types.specs.declared.keys.EntityKey.{EntityKey}
 use Rattle.gnb_types.specs.declared.plans.Plan.{Plan}
-use Rattle.run_defs.specs.States.{entity}
-use Rattle.run_defs.specs.Steps.{bearer_numbers, entities_of}
-use Rattle.run_defs.specs.Settling.{bearers_of, radio_turn, all_radios}
+use Rattle.run_links.specs.run_defs.States.{entity}
+use Rattle.run_links.specs.run_defs.Steps.{bearer_numbers, entities_of}
+use Rattle.run_links.specs.run_defs.Settling.{bearers_of, radio_turn, all_radios}
 use Rattle.run_links.specs.Grounds.{OctetState, OctetWorld}
 use Rattle.run_links.specs.Spans.{both_of}
 use Rattle.world_turns.proofs.Lists.{next_same, next_next}

@@ -6,12 +6,12 @@ use Rattle.gnb_types.specs.declared.names.BearerId.{BearerId}
 use Rattle.gnb_types.specs.declared.names.Dir.TheVariants.{Dl, Ul}
 use Rattle.gnb_types.specs.declared.keys.EntityKey.{EntityKey}
 use Rattle.scenario_text.specs.declared.line.OutLine.{OutLine}
-use Rattle.run_defs.specs.States.{◌next◌, goes_on, entity}
-use Rattle.run_defs.specs.Settling.{Turn, to_acks, to_airs, after_air, radio_turn}
+use Rattle.run_links.specs.run_defs.States.{◌next◌, goes_on, entity}
+use Rattle.run_links.specs.run_defs.Settling.{Turn, to_acks, to_airs, after_air, radio_turn}
 use Rattle.run_links.specs.Grounds.{OctetState, OctetWorld, OctetOutcome}
-use Rattle.world_steps.specs.declared.cause.Cause.{Cause}
-use Rattle.world_steps.specs.declared.asked.Moved.{Moved}
-use Rattle.world_steps.specs.Gives.{EventGives}
+use Rattle.world_turns.specs.world_steps.declared.cause.Cause.{Cause}
+use Rattle.world_turns.specs.world_steps.declared.asked.Moved.{Moved}
+use Rattle.world_turns.specs.world_steps.Gives.{EventGives}
 use Rattle.world_turns.specs.Turns.{Continues, is_made}
 use Rattle.world_radios.specs.declared.turn.Turn.{Turn as Left}
 

@@ -5,10 +5,10 @@ ghost use Rattle.std.specs.Prelude.{◌≡◌, ◌+◌, ◌*◌, IfOk, OnOk};
 ghost use Rattle.gnb_types.specs.Orders.{entity_cmp};
 ghost use Rattle.tables.specs.Tables.{at};
 ghost use Rattle.transport_defs.specs.Links.{nth, silent};
-ghost use Rattle.run_defs.specs.Settling.{Turn as RunTurn, air_next, ack_next, turn_step, turn_times, all_radios, attached_entities};
-ghost use Rattle.run_defs.specs.UnitRuns.{unit_world};
+ghost use Rattle.run_links.specs.run_defs.Settling.{Turn as RunTurn, air_next, ack_next, turn_step, turn_times, all_radios, attached_entities};
+ghost use Rattle.run_links.specs.run_defs.UnitRuns.{unit_world};
 ghost use Rattle.run_links.specs.Grounds.{OctetState, OctetOutcome, state_of};
-ghost use Rattle.world_steps.specs.Gives.{EventGives};
+ghost use Rattle.world_turns.specs.world_steps.Gives.{EventGives};
 ghost use Rattle.world_radios.specs.RadioTurns.{TurnGives, turn_of, left_of, turned, both_turns, bearer_turns};
 
 use crate::turn::Turn;
@@ -16,12 +16,12 @@ use gnb_types::items::Memory;
 use gnb_types::keys::EntityKey;
 use gnb_types::names::{BearerId, Dir, NodeId, UeId};
 use run_links::lines::{Lines, radio_link};
-use unit_messages::MessageCodec;
-use world_packets::radio::{ack_item, air_item};
-use world_steps::Units;
-use world_steps::cause::Cause;
-use world_steps::parts::Parts;
 use world_turns::attached::attached_bearers;
+use world_turns::from_unit_messages::MessageCodec;
+use world_turns::from_world_packets::radio::{ack_item, air_item};
+use world_turns::from_world_steps::Units;
+use world_turns::from_world_steps::cause::Cause;
+use world_turns::from_world_steps::parts::Parts;
 use world_turns::held::show_held;
 
 /// How much more often than items stood on it a radio may be aired, and acknowledged.

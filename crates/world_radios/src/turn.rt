@@ -2,11 +2,11 @@
 
 ghost use Rattle.std.specs.Prelude.{◌≡◌};
 ghost use Rattle.std.specs.Option.{option_map};
-ghost use Rattle.run_defs.specs.Settling.{to_acks, to_airs, after_air, after_ack};
+ghost use Rattle.run_links.specs.run_defs.Settling.{to_acks, to_airs, after_air, after_ack};
 ghost use Rattle.world_radios.specs.RadioTurns.{turn_of, over, aired};
 
 use gnb_types::keys::EntityKey;
-use world_steps::asked::Moved;
+use world_turns::from_world_steps::asked::Moved;
 use world_turns::held::is_made;
 
 /// How often a radio may be aired and acknowledged, which of the two it is at, and whether anything moved since it last began to be aired.

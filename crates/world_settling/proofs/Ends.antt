@@ -3,17 +3,17 @@ use Rattle.std.proofs.Common.{◌≡◌, ℕ, zero, suc, ◌+◌, Bool, true, fa
 use Rattle.std.specs.Prelude.{Result, Ok, Err}
 use Rattle.std.proofs.lemmas.List.{append-nil}
 use Rattle.scenario_text.specs.declared.line.OutLine.{OutLine}
-use Rattle.run_defs.specs.Lines.{RunLine, has_not_settled}
-use Rattle.run_defs.specs.Printing.{out_line}
-use Rattle.run_defs.specs.States.{◌next◌, prints}
-use Rattle.run_defs.specs.Settling.{all_quiet, ask_lines, settled, round, rounds_from}
+use Rattle.run_links.specs.run_defs.Lines.{RunLine, has_not_settled}
+use Rattle.run_links.specs.run_defs.Printing.{out_line}
+use Rattle.run_links.specs.run_defs.States.{◌next◌, prints}
+use Rattle.run_links.specs.run_defs.Settling.{all_quiet, ask_lines, settled, round, rounds_from}
 use Rattle.run_links.specs.Grounds.{Octets, OctetState, OctetWorld, OctetOutcome}
 use Rattle.run_links.specs.Told.{printed, EndsAt}
-use Rattle.world_steps.specs.declared.cause.Cause.{Cause}
-use Rattle.world_steps.specs.Gives.{EventGives}
-use Rattle.world_steps.proofs.Following.{first_stops}
-use Rattle.world_turns.specs.Turns.{Continues}
-use Rattle.world_turns.proofs.Turned.{then_continues}
+use Rattle.world_letters.specs.world_steps.declared.cause.Cause.{Cause}
+use Rattle.world_letters.specs.world_steps.Gives.{EventGives}
+use Rattle.world_letters.proofs.world_steps.Following.{first_stops}
+use Rattle.world_radios.specs.world_turns.Turns.{Continues}
+use Rattle.world_radios.proofs.world_turns.Turned.{then_continues}
 use Rattle.world_settling.specs.Rounds.{ends_with}
 
 pub prints_all : (before middle lines : List OutLine) (l : RunLine Octets) (more : List (RunLine Octets)) (s : OctetState)

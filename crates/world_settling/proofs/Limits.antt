@@ -7,9 +7,9 @@ use Rattle.gnb_types.specs.declared.names.BearerId.{BearerId}
 use Rattle.gnb_types.specs.declared.names.Dir.TheVariants.{Dl, Ul}
 use Rattle.gnb_types.specs.declared.keys.EntityKey.{EntityKey}
 use Rattle.gnb_types.specs.declared.plans.Plan.{Plan}
-use Rattle.run_defs.specs.States.{entity}
-use Rattle.run_defs.specs.Steps.{entities_of}
-use Rattle.run_defs.specs.Settling.{bearers_of, undelivered}
+use Rattle.run_links.specs.run_defs.States.{entity}
+use Rattle.run_links.specs.run_defs.Steps.{entities_of}
+use Rattle.run_links.specs.run_defs.Settling.{bearers_of, undelivered}
 use Rattle.run_links.specs.Grounds.{OctetState, OctetWorld}
 use Rattle.world_radios.proofs.RadioLists.{entities, entities_are}
 use Rattle.world_settling.specs.Bearers.{undelivered_of}

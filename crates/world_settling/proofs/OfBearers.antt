@@ -4,10 +4,10 @@ use Rattle.gnb_types.specs.declared.names.UeId.{UeId}
 use Rattle.gnb_types.specs.declared.names.BearerId.{BearerId}
 use Rattle.gnb_types.specs.declared.names.Dir.TheVariants.{Dl, Ul}
 use Rattle.scenario_text.specs.declared.line.OutLine.{OutLine}
-use Rattle.run_defs.specs.Printing.{out_line}
-use Rattle.run_defs.specs.States.{entity}
-use Rattle.run_defs.specs.Conditions.{rests, ask_line}
-use Rattle.run_defs.specs.Settling.{undelivered}
+use Rattle.run_links.specs.run_defs.Printing.{out_line}
+use Rattle.run_links.specs.run_defs.States.{entity}
+use Rattle.run_links.specs.run_defs.Conditions.{rests, ask_line}
+use Rattle.run_links.specs.run_defs.Settling.{undelivered}
 use Rattle.run_links.specs.Grounds.{OctetState, OctetWorld}
 use Rattle.run_links.specs.Told.{printed}
 use Rattle.world_settling.specs.Bearers.{are_quiet, lines_of, undelivered_of}

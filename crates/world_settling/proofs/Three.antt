@@ -2,12 +2,12 @@
 use Rattle.std.proofs.Common.{List}
 use Rattle.std.specs.Prelude.{Result, Ok, Err}
 use Rattle.scenario_text.specs.declared.line.OutLine.{OutLine}
-use Rattle.run_defs.specs.States.{◌next◌}
+use Rattle.run_links.specs.run_defs.States.{◌next◌}
 use Rattle.run_links.specs.Grounds.{OctetState, OctetOutcome}
 use Rattle.run_links.specs.Told.{EndsAt}
-use Rattle.world_steps.specs.declared.cause.Cause.{Cause}
-use Rattle.world_steps.specs.Gives.{EventGives}
-use Rattle.world_steps.proofs.Following.{then_event, first_stops}
+use Rattle.world_letters.specs.world_steps.declared.cause.Cause.{Cause}
+use Rattle.world_letters.specs.world_steps.Gives.{EventGives}
+use Rattle.world_letters.proofs.world_steps.Following.{then_event, first_stops}
 
 module _ (o : OctetOutcome) (f g : OctetState → OctetOutcome) (before : List OutLine) where
   pub stops_first : (lines : List OutLine) (t : OctetState) (cause : Cause) → EventGives before o lines t (Err cause)

@@ -4,10 +4,10 @@ use Rattle.std.specs.List.{list_all}
 use Rattle.gnb_types.specs.declared.names.UeId.{UeId}
 use Rattle.gnb_types.specs.declared.names.BearerId.{BearerId}
 use Rattle.gnb_types.specs.declared.names.Dir.TheVariants.{Dl, Ul}
-use Rattle.run_defs.specs.Lines.{RunLine}
-use Rattle.run_defs.specs.States.{entity}
-use Rattle.run_defs.specs.Conditions.{rests, ask_line}
-use Rattle.run_defs.specs.Settling.{undelivered}
+use Rattle.run_links.specs.run_defs.Lines.{RunLine}
+use Rattle.run_links.specs.run_defs.States.{entity}
+use Rattle.run_links.specs.run_defs.Conditions.{rests, ask_line}
+use Rattle.run_links.specs.run_defs.Settling.{undelivered}
 use Rattle.run_links.specs.Grounds.{Octets, OctetState, OctetWorld}
 
 abbrev pub are_quiet : OctetState → List (UeId × BearerId) → Bool

@@ -1,9 +1,9 @@
 -- Internal: the first parts of a round, and the end of `settle`.
 use Rattle.std.specs.Prelude.{ℕ, Bool, ◌∷◌, if◌then◌else◌}
-use Rattle.run_defs.specs.Lines.{RunLine, has_settled, has_not_settled}
-use Rattle.run_defs.specs.States.{◌next◌, prints}
-use Rattle.run_defs.specs.Events.{pump}
-use Rattle.run_defs.specs.Settling.{attached_plans, attached_entities, attached_bearers, move_each, all_tunnels, all_radios, poll_each, ask_lines}
+use Rattle.run_links.specs.run_defs.Lines.{RunLine, has_settled, has_not_settled}
+use Rattle.run_links.specs.run_defs.States.{◌next◌, prints}
+use Rattle.run_links.specs.run_defs.Events.{pump}
+use Rattle.run_links.specs.run_defs.Settling.{attached_plans, attached_entities, attached_bearers, move_each, all_tunnels, all_radios, poll_each, ask_lines}
 use Rattle.run_links.specs.Grounds.{Octets, OctetState, OctetWorld, OctetOutcome}
 
 abbrev pub opening : OctetWorld → OctetState → OctetOutcome

@@ -1,10 +1,10 @@
 //! How many rounds there are at most.
 
 ghost use Rattle.std.specs.Prelude.{◌≡◌, ◌-◌, ◌+◌, ◌*◌, IfOk};
-ghost use Rattle.run_defs.specs.Settling.{undelivered, round_limit};
-ghost use Rattle.run_defs.specs.States.{entity};
+ghost use Rattle.run_links.specs.run_defs.Settling.{undelivered, round_limit};
+ghost use Rattle.run_links.specs.run_defs.States.{entity};
 ghost use Rattle.gnb_types.specs.declared.names.Dir.TheVariants.{Dl, Ul};
-ghost use Rattle.run_defs.specs.UnitRuns.{Records};
+ghost use Rattle.run_links.specs.run_defs.UnitRuns.{Records};
 ghost use Rattle.run_links.specs.Grounds.{OctetWorld, OctetCore, state_of};
 ghost use Rattle.world_settling.specs.Bearers.{undelivered_of};
 
@@ -13,7 +13,7 @@ use gnb_types::keys::EntityKey;
 use gnb_types::names::{BearerId, Dir, UeId};
 use run_links::ground::Ground;
 use std::alloc::Global;
-use world_turns::attached::attached_bearers;
+use world_radios::from_world_turns::attached::attached_bearers;
 
 /// How many packets of a bearer and direction were offered and aren't delivered.
 fn undelivered(ground: &Ground, key: EntityKey) -> u64

@@ -1,7 +1,7 @@
 //! Whether every bearer of every attached terminal is quiet, and what is printed of each.
 
 ghost use Rattle.std.specs.Prelude.{◌≡◌, ◌++◌, IfOk, OnOk};
-ghost use Rattle.run_defs.specs.Settling.{all_quiet, ask_lines};
+ghost use Rattle.run_links.specs.run_defs.Settling.{all_quiet, ask_lines};
 ghost use Rattle.run_links.specs.Grounds.{OctetWorld, state_of};
 ghost use Rattle.run_links.specs.Told.{printed};
 ghost use Rattle.world_settling.specs.Bearers.{are_quiet, lines_of};
@@ -9,12 +9,12 @@ ghost use Rattle.world_settling.specs.Bearers.{are_quiet, lines_of};
 use gnb_types::items::Memory;
 use gnb_types::names::{BearerId, UeId};
 use run_links::lines::Lines;
-use unit_messages::MessageCodec;
 use world_bearers::asks::ask_line;
 use world_bearers::quiet::rests;
-use world_steps::Units;
-use world_steps::parts::Parts;
-use world_turns::attached::attached_bearers;
+use world_letters::from_unit_messages::MessageCodec;
+use world_letters::from_world_steps::Units;
+use world_letters::from_world_steps::parts::Parts;
+use world_radios::from_world_turns::attached::attached_bearers;
 
 /// Whether each of these bearers is quiet.
 fn are_quiet<U: Units<C> + Drop, C: MessageCodec + Drop>(

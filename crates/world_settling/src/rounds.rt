@@ -1,22 +1,22 @@
 //! A round: terminals move, control messages are given, tunnels and radios have their turns, bearers are polled, and each unit has a tick.
 
 ghost use Rattle.std.specs.Prelude.{OnOk};
-ghost use Rattle.run_defs.specs.Settling.{round};
-ghost use Rattle.run_defs.specs.UnitRuns.{unit_world};
+ghost use Rattle.run_links.specs.run_defs.Settling.{round};
+ghost use Rattle.run_links.specs.run_defs.UnitRuns.{unit_world};
 ghost use Rattle.run_links.specs.Grounds.{state_of};
-ghost use Rattle.world_steps.specs.Gives.{EventGives};
+ghost use Rattle.world_letters.specs.world_steps.Gives.{EventGives};
 ghost use Rattle.world_settling.specs.Rounds.{opening, packets_move};
 
 use run_links::lines::Lines;
-use unit_messages::MessageCodec;
+use world_letters::from_unit_messages::MessageCodec;
+use world_letters::from_world_steps::Units;
+use world_letters::from_world_steps::cause::Cause;
+use world_letters::from_world_steps::parts::Parts;
 use world_letters::pumps::pump;
 use world_letters::turns::tick;
+use world_radios::from_world_turns::orders::{move_each, poll_each};
+use world_radios::from_world_turns::tunnels::all_tunnels;
 use world_radios::radios::all_radios;
-use world_steps::Units;
-use world_steps::cause::Cause;
-use world_steps::parts::Parts;
-use world_turns::orders::{move_each, poll_each};
-use world_turns::tunnels::all_tunnels;
 
 /// The first parts of a round: terminals move, control messages are given, and tunnels have their turns.
 fn opening<U: Units<C> + Drop, C: MessageCodec + Drop>(

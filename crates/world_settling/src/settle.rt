@@ -1,11 +1,11 @@
 //! `settle`.
 
 ghost use Rattle.std.specs.Prelude.{◌≡◌, OnOk};
-ghost use Rattle.run_defs.specs.Printing.{out_line};
-ghost use Rattle.run_defs.specs.Settling.{rounds_from, settle};
-ghost use Rattle.run_defs.specs.UnitRuns.{unit_world};
+ghost use Rattle.run_links.specs.run_defs.Printing.{out_line};
+ghost use Rattle.run_links.specs.run_defs.Settling.{rounds_from, settle};
+ghost use Rattle.run_links.specs.run_defs.UnitRuns.{unit_world};
 ghost use Rattle.run_links.specs.Grounds.{state_of};
-ghost use Rattle.world_steps.specs.Gives.{EventGives};
+ghost use Rattle.world_letters.specs.world_steps.Gives.{EventGives};
 ghost use Rattle.world_settling.specs.Rounds.{end_line, ends_with};
 
 use crate::limit::round_limit;
@@ -13,10 +13,10 @@ use crate::quiet::{all_quiet, print_quiet};
 use crate::rounds::round;
 use run_links::lines::Lines;
 use scenario_text::line::OutLine;
-use unit_messages::MessageCodec;
-use world_steps::Units;
-use world_steps::cause::Cause;
-use world_steps::parts::Parts;
+use world_letters::from_unit_messages::MessageCodec;
+use world_letters::from_world_steps::Units;
+use world_letters::from_world_steps::cause::Cause;
+use world_letters::from_world_steps::parts::Parts;
 
 /// The line at the end, after so many rounds.
 fn end_line(rounds: u64, quiet: bool) -> OutLine

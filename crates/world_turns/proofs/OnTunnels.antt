@@ -16,13 +16,13 @@ use Rattle.run_defs.specs.Events.{get_done}
 use Rattle.run_defs.specs.Settling.{got_in_turn, get_items, tunnel_turn, tunnels_from}
 use Rattle.run_links.specs.Grounds.{Octets, OctetState, OctetWorld, OctetOutcome}
 use Rattle.run_links.specs.Told.{oldest_in, EndsAt}
-use Rattle.world_steps.specs.declared.cause.Cause.{Cause}
-use Rattle.world_steps.specs.declared.asked.Moved.TheVariants as moves
-use Rattle.world_steps.specs.declared.asked.Moved.{Moved}
-use Rattle.world_steps.specs.Gives.{EventGives, stop_by}
-use Rattle.world_steps.specs.Moves.{OctetDone, Moves, DoneGives}
-use Rattle.world_steps.proofs.Following.{first_stops, nothing_more}
-use Rattle.world_steps.proofs.Shown.{shows_held}
+use Rattle.world_packets.specs.world_steps.declared.cause.Cause.{Cause}
+use Rattle.world_packets.specs.world_steps.declared.asked.Moved.TheVariants as moves
+use Rattle.world_packets.specs.world_steps.declared.asked.Moved.{Moved}
+use Rattle.world_packets.specs.world_steps.Gives.{EventGives, stop_by}
+use Rattle.world_packets.specs.world_steps.Moves.{OctetDone, Moves, DoneGives}
+use Rattle.world_packets.proofs.world_steps.Following.{first_stops, nothing_more}
+use Rattle.world_packets.proofs.world_steps.Shown.{shows_held}
 use Rattle.world_turns.specs.Turns.{Continues, PartGives, is_made, quiet_lines}
 use Rattle.world_turns.proofs.Turned.{then_continues, no_more, is_same, made_stops, held_never_stops, refused_never_stops}
 

@@ -11,12 +11,12 @@ use Rattle.run_defs.specs.Steps.{is_done, is_held, is_refused}
 use Rattle.run_defs.specs.Settling.{quietly_by}
 use Rattle.run_links.specs.Grounds.{OctetState, OctetWorld, OctetOutcome}
 use Rattle.run_links.specs.Told.{EndsAt}
-use Rattle.world_steps.specs.declared.cause.Cause.{Cause}
-use Rattle.world_steps.specs.declared.asked.Moved.{Moved}
-use Rattle.world_steps.specs.declared.asked.Moved.TheVariants as moves
-use Rattle.world_steps.specs.Gives.{EventStops, EventGives, stop_by}
-use Rattle.world_steps.specs.Moves.{OctetDone, At, Moves, DoneStops, DoneGives}
-use Rattle.world_steps.proofs.Following.{then_event, first_stops, nothing_more}
+use Rattle.world_packets.specs.world_steps.declared.cause.Cause.{Cause}
+use Rattle.world_packets.specs.world_steps.declared.asked.Moved.{Moved}
+use Rattle.world_packets.specs.world_steps.declared.asked.Moved.TheVariants as moves
+use Rattle.world_packets.specs.world_steps.Gives.{EventStops, EventGives, stop_by}
+use Rattle.world_packets.specs.world_steps.Moves.{OctetDone, At, Moves, DoneStops, DoneGives}
+use Rattle.world_packets.proofs.world_steps.Following.{then_event, first_stops, nothing_more}
 use Rattle.world_turns.specs.Turns.{Continues}
 
 -- ---- a loop that counts

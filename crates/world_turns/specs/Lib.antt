@@ -1,1 +1,2 @@
 pub mod Turns
+pub use Rattle.world_packets.specs.world_steps as world_steps

@@ -11,10 +11,10 @@ use Rattle.run_defs.specs.Steps.{bearer_numbers}
 use Rattle.run_defs.specs.Conditions.{state_at}
 use Rattle.run_defs.specs.Settling.{move_by}
 use Rattle.run_links.specs.Grounds.{OctetState, OctetWorld, OctetOutcome}
-use Rattle.world_steps.specs.declared.cause.Cause.{Cause}
-use Rattle.world_steps.specs.declared.asked.Moved.{Moved}
-use Rattle.world_steps.specs.declared.asked.Moved.TheVariants as moves
-use Rattle.world_steps.specs.Gives.{EventGives}
+use Rattle.world_packets.specs.world_steps.declared.cause.Cause.{Cause}
+use Rattle.world_packets.specs.world_steps.declared.asked.Moved.{Moved}
+use Rattle.world_packets.specs.world_steps.declared.asked.Moved.TheVariants as moves
+use Rattle.world_packets.specs.world_steps.Gives.{EventGives}
 
 -- whatever the rest gives from here on, the whole gives from before
 abbrev pub Continues : List OutLine → OctetOutcome → List OutLine → OctetOutcome → Type 0

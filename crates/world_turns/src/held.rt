@@ -6,7 +6,7 @@ ghost use Rattle.world_turns.specs.Turns.{is_made, quiet_lines};
 use gnb_types::items::Memory;
 use run_links::lines::Lines;
 use scenario_text::line::{Link, OutLine};
-use world_steps::asked::Moved;
+use world_packets::from_world_steps::asked::Moved;
 
 /// Prints that the item of this link is held. That it is refused isn't printed.
 pub fn show_held(moved: Moved, link: Link, lines: &mut Lines) -> Result<(), Memory>

@@ -6,8 +6,8 @@ ghost use Rattle.run_defs.specs.Settling.{attached_plans, attached_bearers, quie
 ghost use Rattle.run_defs.specs.Conditions.{serving_place, state_at};
 ghost use Rattle.run_defs.specs.UnitRuns.{unit_world};
 ghost use Rattle.run_links.specs.Grounds.{state_of};
-ghost use Rattle.world_steps.specs.run_units.Steps.{IsAsked};
-ghost use Rattle.world_steps.specs.Gives.{EventGives};
+ghost use Rattle.world_packets.specs.run_units.Steps.{IsAsked};
+ghost use Rattle.world_packets.specs.world_steps.Gives.{EventGives};
 ghost use Rattle.world_turns.specs.Turns.{move_terminals};
 
 use crate::attached::{attached_bearers, attached_terminals};
@@ -15,10 +15,10 @@ use gnb_types::inputs::{Input, Order};
 use gnb_types::names::{BearerId, NodeId, UeId};
 use run_links::lines::Lines;
 use unit_defs::UeState;
-use unit_messages::MessageCodec;
-use world_steps::Units;
-use world_steps::cause::Cause;
-use world_steps::parts::Parts;
+use world_packets::from_unit_messages::MessageCodec;
+use world_packets::from_world_steps::Units;
+use world_packets::from_world_steps::cause::Cause;
+use world_packets::from_world_steps::parts::Parts;
 
 /// An order to a unit, of which nothing is printed where it can't apply.
 fn quiet_order<U: Units<C> + Drop, C: MessageCodec + Drop>(

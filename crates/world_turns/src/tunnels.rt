@@ -6,17 +6,17 @@ ghost use Rattle.tables.specs.Tables.{at};
 ghost use Rattle.run_defs.specs.Settling.{get_items, get_times, tunnel_turn, all_tunnels};
 ghost use Rattle.run_defs.specs.UnitRuns.{unit_world};
 ghost use Rattle.run_links.specs.Grounds.{OctetState, OctetOutcome, state_of};
-ghost use Rattle.world_steps.specs.Gives.{EventGives};
+ghost use Rattle.world_packets.specs.world_steps.Gives.{EventGives};
 ghost use Rattle.world_turns.specs.Turns.{PartGives};
 
 use crate::held::{is_made, show_held};
 use gnb_types::keys::TunnelEnd;
 use run_links::lines::{Lines, tunnel_link};
-use unit_messages::MessageCodec;
+use world_packets::from_unit_messages::MessageCodec;
+use world_packets::from_world_steps::Units;
+use world_packets::from_world_steps::cause::Cause;
+use world_packets::from_world_steps::parts::Parts;
 use world_packets::gets::get_item;
-use world_steps::Units;
-use world_steps::cause::Cause;
-use world_steps::parts::Parts;
 
 /// How many tunnels there can be: the TEIDs of eight nodes.
 const MOST_TUNNELS: u64 = 8 << 32;

@@ -4,7 +4,7 @@
 ghost use Rattle.std.specs.Prelude.{ℕ, []};
 ghost use Rattle.aper_defs.specs.Values.{Options};
 ghost use Rattle.aper_defs.specs.Membership.{Has};
-ghost use Rattle.profile_defs.specs.Profile.{xn_type};
+ghost use Rattle.message_defs.specs.profile_defs.Profile.{xn_type};
 ghost use Rattle.aper_values.specs.Views.{view, ies_view, options_view};
 ghost use Rattle.message_defs.specs.Xn.{xn_at, heard_xn};
 ghost use Rattle.message_values.specs.Fitting.{AreFitting};

@@ -10,7 +10,7 @@ use Rattle.gnb_types.specs.declared.items.Memory.{Memory}
 use Rattle.aper_cursor.specs.Spans.{span_view}
 use Rattle.aper_frames.specs.declared.frame.Frame.{Frame}
 use Rattle.aper_frames.specs.Frames.{path_of}
-use Rattle.aper_types.specs.Types.{tree}
+use Rattle.aper_steps.specs.aper_types.Types.{tree}
 use Rattle.aper_values.specs.Views.{view}
 use Rattle.aper_proof_resuming.specs.Reading.{IsReading}
 use Rattle.aper_decoder.specs.declared.spot.Spot.{Spot}

@@ -11,12 +11,12 @@ use Rattle.aper_feeding_defs.specs.Feeding.{stage, whole, cut, wrong}
 use Rattle.aper_frames.specs.declared.frame.Frame.{Frame}
 use Rattle.aper_frames.specs.Frames.{path_of}
 use Rattle.aper_frames.specs.Paths.{path_view}
-use Rattle.aper_types.specs.Types.{tree}
+use Rattle.aper_steps.specs.aper_types.Types.{tree}
 use Rattle.aper_values.specs.declared.value.Value.{Value}
 use Rattle.aper_values.specs.Views.{view}
-use Rattle.aper_reading.specs.declared.error.DecodeError.{DecodeError}
-use Rattle.aper_reading.specs.declared.error.DecodeError.TheVariants as errors
-use Rattle.aper_reading.specs.Turns.{IsRefusal}
+use Rattle.aper_steps.specs.aper_reading.declared.error.DecodeError.{DecodeError}
+use Rattle.aper_steps.specs.aper_reading.declared.error.DecodeError.TheVariants as errors
+use Rattle.aper_steps.specs.aper_reading.Turns.{IsRefusal}
 use Rattle.aper_decoder.specs.declared.decoder.Decoder.TheInside.{Inside}
 use Rattle.aper_decoder.specs.declared.decoder.Reader.{Reader}
 use Rattle.aper_decoder.specs.declared.decoder.State.{State}

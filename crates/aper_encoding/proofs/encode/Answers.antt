@@ -4,7 +4,7 @@ use Rattle.bits_core.specs.Writing.{Written}
 use Rattle.aper_defs.specs.Trees.{Tree}
 use Rattle.aper_defs.specs.Values.{Value as SeenValue}
 use Rattle.aper_defs.specs.Spelling.{Spells}
-use Rattle.aper_types.specs.Types.{tree}
+use Rattle.aper_writing.specs.aper_types.Types.{tree}
 use Rattle.aper_values.specs.Views.{view}
 use Rattle.aper_encoding.proofs.Open.{Completes, spelled_by}
 use Rattle.aper_encoding.proofs.encode.Goals as goal

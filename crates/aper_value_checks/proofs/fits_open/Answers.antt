@@ -1,10 +1,10 @@
 use Rattle.std.proofs.Common.{◌≡◌, ℕ, ◌≤◌, ◌^◌, min, arith}
 use Rattle.aper_defs.specs.Bits.{closed, octet_count}
 use Rattle.aper_defs.specs.Layouts.{layout}
-use Rattle.aper_types.specs.Types.{tree}
+use Rattle.aper_proof_measures.specs.aper_types.Types.{tree}
 use Rattle.aper_values.specs.Views.{view}
 use Rattle.aper_widths.proofs.EndLemmas.{ends_at}
-use Rattle.aper_proof_answers.proofs.NumberFacts.{at_most, is_at_most}
+use Rattle.aper_widths.proofs.aper_proof_answers.NumberFacts.{at_most, is_at_most}
 use Rattle.aper_value_checks.proofs.fits_open.Goals as goal
 
 pub returns : goal.returns

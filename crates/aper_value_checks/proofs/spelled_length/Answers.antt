@@ -1,5 +1,5 @@
 use Rattle.std.proofs.Common.{ℕ, min, ap, ◌∙◌}
-use Rattle.aper_types.specs.Types.{tree}
+use Rattle.aper_proof_measures.specs.aper_types.Types.{tree}
 use Rattle.aper_values.specs.Views.{view}
 use Rattle.aper_proof_measures.proofs.Wholes.{tells_length}
 use Rattle.aper_value_checks.proofs.spelled_length.Goals as goal

@@ -4,9 +4,9 @@ use Rattle.scenario_text.specs.declared.event.Event.{Event}
 use Rattle.run_defs.specs.States.{Stop, goes, stops}
 use Rattle.run_defs.specs.Runs.{happens}
 use Rattle.run_links.specs.Grounds.{OctetState, OctetWorld, OctetOutcome}
-use Rattle.world_steps.specs.declared.cause.Cause.{Cause}
-use Rattle.world_steps.specs.declared.cause.Cause.TheVariants as causes
-use Rattle.world_steps.specs.Gives.{stop_by}
+use Rattle.world.specs.world_steps.declared.cause.Cause.{Cause}
+use Rattle.world.specs.world_steps.declared.cause.Cause.TheVariants as causes
+use Rattle.world.specs.world_steps.Gives.{stop_by}
 use Rattle.world.specs.declared.stop.Stop.{Stop as WorldStop}
 use Rattle.world.specs.declared.stop.Stop.TheVariants as world_stops
 use Rattle.world.specs.Worlds.{WorldAt}

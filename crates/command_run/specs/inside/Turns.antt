@@ -30,8 +30,8 @@ use Rattle.run_defs.specs.UnitRuns.{Records, unit_world}
 use Rattle.run_links.specs.declared.ground.Ground.{Ground}
 use Rattle.run_links.specs.Grounds.{OctetOutcome, OctetCore, state_of}
 use Rattle.run_links.specs.Told.{EndsAt}
-use Rattle.world_steps.specs.declared.cause.Cause.{Cause}
-use Rattle.world_steps.specs.Gives.{printed_steps, stop_by, EventStops}
+use Rattle.world.specs.world_steps.declared.cause.Cause.{Cause}
+use Rattle.world.specs.world_steps.Gives.{printed_steps, stop_by, EventStops}
 use Rattle.world.specs.Worlds.{WorldAt}
 use Rattle.command_run.specs.declared.script.Happening.{Happening}
 use Rattle.command_run.specs.Ends.{end_at}

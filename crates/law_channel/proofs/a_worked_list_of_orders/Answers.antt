@@ -1,7 +1,7 @@
 use Rattle.std.proofs.Common.{arith, refl}
 use Rattle.tables.specs.Tables.{find, put, without, at}
-use Rattle.transaction_defs.specs.Callers.{opened_at, is_open, begin, keep_request, is_awaited, close, after_tick}
-use Rattle.transaction_defs.specs.Callees.{kept_at, newest, verdict, taken, kept_reply, keep, keep_for}
+use Rattle.unit_defs.specs.transaction_defs.Callers.{opened_at, is_open, begin, keep_request, is_awaited, close, after_tick}
+use Rattle.unit_defs.specs.transaction_defs.Callees.{kept_at, newest, verdict, taken, kept_reply, keep, keep_for}
 use Rattle.unit_defs.specs.Transactions.{kind_of, with_instance, waits_at, with_waiting, begin_request, ask, advance, ask_at_once, replied, replied_late}
 use Rattle.law_channel.specs.Example.{preparation, prepared, cancel, release, confirm}
 use Rattle.law_channel.proofs.a_worked_list_of_orders.Goals as goal

@@ -1,5 +1,5 @@
 use Rattle.std.proofs.Common.{refl}
-use Rattle.unit_defs.specs.Transactions.{kind_of}
+use Rattle.law_channel.specs.unit_defs.Transactions.{kind_of}
 use Rattle.law_channel_rows.proofs.messages_read_well.Goals as goal
 
 pub returns : goal.returns

@@ -1,5 +1,5 @@
 use Rattle.gnb_types.specs.declared.names.NodeId.TheVariants.{Core}
-use Rattle.unit_defs.specs.Core.{core_acts}
+use Rattle.law_channel.specs.unit_defs.Core.{core_acts}
 use Rattle.law_channel_rows.proofs.Tickless.{whole}
 use Rattle.law_channel_rows.proofs.Cores.{core_made}
 use Rattle.law_channel_rows.proofs.the_core_makes_moves.Goals as goal

@@ -1,5 +1,5 @@
 use Rattle.std.proofs.Common.{refl}
-use Rattle.transaction_defs.specs.Callees.{again, stale}
+use Rattle.law_tunnel_frames.specs.transaction_defs.Callees.{again, stale}
 use Rattle.law_context_orders.proofs.Nothing.{no_tunnel, other_terminal, held_item, other_bearer, not_new}
 use Rattle.law_context_orders.proofs.other_inputs_ask_nothing.Goals as goal
 

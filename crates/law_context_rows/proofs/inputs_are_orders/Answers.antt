@@ -1,6 +1,6 @@
 use Rattle.gnb_types.specs.declared.names.UeId.{UeId}
 use Rattle.gnb_types.specs.declared.names.BearerId.{BearerId}
-use Rattle.unit_defs.specs.CuUp.{cu_up_acts}
+use Rattle.law_answers.specs.unit_defs.CuUp.{cu_up_acts}
 use Rattle.law_context_orders.specs.Orders.{carried, part_of}
 use Rattle.law_context_orders.specs.Inputs.{orders_of}
 use Rattle.law_context_rows.proofs.Rows.{all_does, follows, stays_in_order}

@@ -1,4 +1,4 @@
-use Rattle.unit_defs.specs.CuUp.{cu_up_acts}
+use Rattle.law_answers.specs.unit_defs.CuUp.{cu_up_acts}
 use Rattle.law_context_orders.specs.Inputs.{orders_of}
 use Rattle.law_context_rows.proofs.Rows.{all_does, untouched}
 use Rattle.law_context_rows.proofs.what_asks_nothing_changes_nothing.Goals as goal

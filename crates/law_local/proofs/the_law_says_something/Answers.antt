@@ -6,10 +6,10 @@ use Rattle.message_types.specs.declared.rrc.Token.{Token}
 use Rattle.link_defs.specs.Layouts.{forwarded_fresh, end_marker}
 use Rattle.gtpu.specs.Packets.{gtpu_octets}
 use Rattle.unit_defs.specs.Ways.{Message}
-use Rattle.run_defs.specs.Lines.{RunLine, delivers}
-use Rattle.run_defs.specs.Local.{Act, WasOffered, IsGotWith, WasGot, WasAt}
-use Rattle.run_defs.specs.Carried.{N3}
-use Rattle.run_defs.specs.States.{Lengths}
+use Rattle.law_run_facts.specs.run_defs.Lines.{RunLine, delivers}
+use Rattle.law_run_facts.specs.run_defs.Local.{Act, WasOffered, IsGotWith, WasGot, WasAt}
+use Rattle.law_run_facts.specs.run_defs.Carried.{N3}
+use Rattle.law_run_facts.specs.run_defs.States.{Lengths}
 use Rattle.law_local_lengths.specs.law_local_packets.Example.{uplink, from_nowhere}
 use Rattle.law_local.proofs.the_law_says_something.Goals as goal
 

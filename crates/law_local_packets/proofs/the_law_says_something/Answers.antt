@@ -12,9 +12,9 @@ use Rattle.unit_defs.specs.CuUp.{end_where_over, take, cu_up_acts}
 use Rattle.unit_defs.specs.Du.{pass_up, du_acts}
 use Rattle.unit_defs.specs.Ue.{new_ue, placed, number_each, number_waiting, offer as offer_up, ue_acts}
 use Rattle.unit_defs.specs.Static.{up_placed, du_placed, cp_placed}
-use Rattle.run_defs.specs.Steps.{span, check_spans, put_on_tunnel, put_on_radio, put_out_all, does}
-use Rattle.run_defs.specs.Events.{static, offer, get, air}
-use Rattle.run_defs.specs.Runs.{happens, run_from, run, Run}
+use Rattle.law_steps.specs.run_defs.Steps.{span, check_spans, put_on_tunnel, put_on_radio, put_out_all, does}
+use Rattle.law_steps.specs.run_defs.Events.{static, offer, get, air}
+use Rattle.law_steps.specs.run_defs.Runs.{happens, run_from, run, Run}
 use Rattle.law_local_packets.specs.Says.{SaysAlone}
 use Rattle.law_local_packets.specs.Local.{OneOf, IsGotWith, WasAt}
 use Rattle.law_local_packets.specs.Example.{uplink, from_another}

@@ -1,5 +1,5 @@
 use Rattle.std.proofs.Common.{subst}
-use Rattle.run_defs.specs.Runs.{plain_world, happens}
+use Rattle.law_own_events.specs.run_defs.Runs.{plain_world, happens}
 use Rattle.law_own_events.proofs.law_own_steps.Runs.{sound_in_run}
 use Rattle.law_own_events.specs.Passed.{Passes, not_yet, further}
 use Rattle.law_own_events.proofs.Passed.{sound_past}

@@ -1,5 +1,5 @@
 use Rattle.std.proofs.Common.{ℕ, List}
-use Rattle.message_types.specs.declared.rrc.Token.{Token}
+use Rattle.law_teids.specs.message_types.declared.rrc.Token.{Token}
 use Rattle.law_teids.specs.unit_defs.Ways.{Message, Load, Pdu}
 use Rattle.law_teids.specs.run_defs.Written.{Written}
 use Rattle.law_teids.specs.run_defs.States.{new_state}

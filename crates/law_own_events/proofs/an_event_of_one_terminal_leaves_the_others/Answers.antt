@@ -1,5 +1,5 @@
 use Rattle.std.proofs.Common.{subst}
-use Rattle.run_defs.specs.Runs.{plain_world}
+use Rattle.law_own_steps.specs.run_defs.Runs.{plain_world}
 use Rattle.law_own_events.specs.Passed.{Passes, further}
 use Rattle.law_own_events.proofs.Passed.{sound_past}
 use Rattle.law_own_events.proofs.Leaves.{LeavesAt, made_leaves}

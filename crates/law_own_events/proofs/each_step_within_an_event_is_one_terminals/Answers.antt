@@ -1,5 +1,5 @@
-use Rattle.run_defs.specs.States.{sn_of}
-use Rattle.law_steps.specs.Causes.{node_of, given_of}
+use Rattle.law_own_steps.specs.run_defs.States.{sn_of}
+use Rattle.law_own_steps.specs.law_steps.Causes.{node_of, given_of}
 use Rattle.law_own_steps.proofs.Steps.{step_for, answered_for}
 use Rattle.law_own_steps.proofs.Leaves.{act_leaves}
 use Rattle.law_own_events.proofs.Passed.{sound_past}

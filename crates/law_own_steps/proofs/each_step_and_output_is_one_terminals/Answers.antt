@@ -1,5 +1,5 @@
-use Rattle.run_defs.specs.States.{sn_of}
-use Rattle.law_steps.specs.Causes.{node_of, given_of}
+use Rattle.law_step_slices.specs.run_defs.States.{sn_of}
+use Rattle.law_others_stay.specs.law_steps.Causes.{node_of, given_of}
 use Rattle.law_own_steps.proofs.Steps.{step_for, answered_for}
 use Rattle.law_own_steps.proofs.Runs.{sound_in_run}
 use Rattle.law_own_steps.proofs.each_step_and_output_is_one_terminals.Goals as goal

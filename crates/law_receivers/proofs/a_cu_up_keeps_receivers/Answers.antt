@@ -1,5 +1,5 @@
 use Rattle.std.proofs.Common.{◌+◌}
-use Rattle.unit_defs.specs.UpRecords.{UpBearer}
+use Rattle.law_answers.specs.unit_defs.UpRecords.{UpBearer}
 use Rattle.law_receivers.specs.Ready.{UpStores}
 use Rattle.law_receivers.proofs.Receivers.{each_above}
 use Rattle.law_receivers.proofs.CuUps.{cu_up_stores, found_in}

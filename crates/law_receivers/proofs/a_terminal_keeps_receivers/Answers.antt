@@ -1,5 +1,5 @@
 use Rattle.std.proofs.Common.{◌+◌}
-use Rattle.unit_defs.specs.Ue.{UeBearer}
+use Rattle.law_answers.specs.unit_defs.Ue.{UeBearer}
 use Rattle.law_receivers.specs.Ready.{StoresAbove}
 use Rattle.law_receivers.proofs.Receivers.{each_above}
 use Rattle.law_receivers.proofs.CuUps.{found_in}

@@ -1,7 +1,7 @@
-use Rattle.message_types.specs.declared.rrc.Token.{Token}
-use Rattle.unit_defs.specs.Ways.{Message, Pdu, Load}
-use Rattle.run_defs.specs.Written.{Written}
-use Rattle.run_defs.specs.States.{new_state}
+use Rattle.law_run_facts.specs.message_types.declared.rrc.Token.{Token}
+use Rattle.law_run_facts.specs.unit_defs.Ways.{Message, Pdu, Load}
+use Rattle.law_run_facts.specs.run_defs.Written.{Written}
+use Rattle.law_run_facts.specs.run_defs.States.{new_state}
 use Rattle.law_run_links.proofs.Links.{few_in_run, first_few}
 use Rattle.law_run_links.proofs.control_messages_are_few.Goals as goal
 

@@ -1,4 +1,4 @@
-use Rattle.run_defs.specs.States.{new_state}
+use Rattle.law_run_facts.specs.run_defs.States.{new_state}
 use Rattle.law_run_links.proofs.Links.{own_later, first_own}
 use Rattle.law_run_links.proofs.items_of_radios_are_their_own.Goals as goal
 

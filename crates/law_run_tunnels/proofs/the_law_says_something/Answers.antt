@@ -3,8 +3,8 @@ use Rattle.std.specs.Ordering.{nat_cmp}
 use Rattle.gnb_types.specs.declared.names.Gnb.TheVariants.{A}
 use Rattle.gnb_types.specs.declared.names.UeId.{UeId}
 use Rattle.gnb_types.specs.Orders.{tunnel_cmp}
-use Rattle.tables.specs.Tables.{find, put, at}
-use Rattle.run_defs.specs.Units.{up_of}
+use Rattle.law_tunnel_book.specs.tables.Tables.{find, put, at}
+use Rattle.law_laid_out.specs.run_defs.Units.{up_of}
 use Rattle.law_run_tunnels.specs.Example.{its_end, its_owner, its_items, of_another}
 use Rattle.law_run_tunnels.proofs.the_law_says_something.Goals as goal
 

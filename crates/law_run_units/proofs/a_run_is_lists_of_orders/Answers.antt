@@ -1,10 +1,10 @@
 use Rattle.std.proofs.Common.{ap, sym, subst, ◌∙◌, ◌≡◌}
 use Rattle.gnb_types.specs.declared.names.UeId.{UeId}
 use Rattle.gnb_types.specs.declared.names.BearerId.{BearerId}
-use Rattle.law_tunnel_frames.specs.OneTunnel.{BearersInOrder}
-use Rattle.law_context_orders.specs.Orders.{part_of as up_part_of}
+use Rattle.law_context_rows.specs.law_tunnel_frames.OneTunnel.{BearersInOrder}
+use Rattle.law_context_rows.specs.law_context_orders.Orders.{part_of as up_part_of}
 use Rattle.law_du_inputs.specs.Changes.{part_of}
-use Rattle.run_defs.specs.Units.{up_of, du_of}
+use Rattle.law_steps.specs.run_defs.Units.{up_of, du_of}
 use Rattle.law_run_units.specs.Happenings.{UpRecord, DuRecord}
 use Rattle.law_run_units.specs.Ups.{all_carried, up_changes, IsLeft}
 use Rattle.law_run_units.proofs.Runs.{units_go}

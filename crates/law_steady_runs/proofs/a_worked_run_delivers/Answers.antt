@@ -9,9 +9,9 @@ use Rattle.unit_defs.specs.UpBearers.{made, framed, sent, number_each, number_wa
 use Rattle.unit_defs.specs.UpItems.{held_reason, took_fresh, took_delivery_status, took}
 use Rattle.unit_defs.specs.CuUp.{end_where_over, take, cu_up_acts}
 use Rattle.unit_defs.specs.Du.{take as take_frame, confirm, du_acts}
-use Rattle.run_defs.specs.Steps.{span, check_spans, put_on_tunnel, put_on_radio, put_out_all, does}
-use Rattle.run_defs.specs.Events.{static, offer, get, air, ack}
-use Rattle.run_defs.specs.Runs.{happens, run_from, run, Run}
+use Rattle.law_teids.specs.run_defs.Steps.{span, check_spans, put_on_tunnel, put_on_radio, put_out_all, does}
+use Rattle.law_teids.specs.run_defs.Events.{static, offer, get, air, ack}
+use Rattle.law_teids.specs.run_defs.Runs.{happens, run_from, run, Run}
 use Rattle.law_steady_runs.proofs.a_worked_run_delivers.Goals as goal
 
 pub returns-clause-packets : goal.returns-clause-packets

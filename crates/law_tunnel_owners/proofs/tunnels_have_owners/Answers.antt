@@ -1,6 +1,6 @@
 use Rattle.std.specs.Prelude.{ℕ, List}
-use Rattle.message_types.specs.declared.rrc.Token.{Token}
-use Rattle.unit_defs.specs.Ways.{Message}
+use Rattle.law_answers.specs.message_types.declared.rrc.Token.{Token}
+use Rattle.law_answers.specs.unit_defs.Ways.{Message}
 use Rattle.law_owner_facts.specs.run_defs.States.{new_state}
 use Rattle.law_tunnel_owners.proofs.Placed.{first_owned}
 use Rattle.law_tunnel_owners.proofs.Runs.{owned_later}

@@ -5,8 +5,8 @@ use Rattle.std.specs.List.{AllByRecursion}
 use Rattle.std.specs.Map.{values_of}
 use Rattle.std.specs.Ordering.{nat_cmp}
 use Rattle.tables.specs.Tables.{find, put, at, IsSorted}
-use Rattle.transport_defs.specs.declared.Letter.{Letter}
-use Rattle.transport_defs.specs.Links.{most_letters}
+use Rattle.link_tallies.specs.transport_defs.declared.Letter.{Letter}
+use Rattle.link_tallies.specs.transport_defs.Links.{most_letters}
 use Rattle.link_tallies.specs.Tied.{one_if}
 
 -- values under the numbers from k on

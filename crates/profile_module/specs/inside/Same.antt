@@ -1,15 +1,15 @@
 -- Internal: whether two modules write types alike, as far as the profile's types go: at most three stand one inside another.
 use Rattle.std.specs.Prelude.{ℕ, ◌==◌, List, [], ◌∷◌, map, Bool, true, false, Option, Some, None, ◌&&◌, ◌||◌, if◌then◌else◌}
 use Rattle.asn1_tokens.specs.Words.{is_text}
-use Rattle.asn1_types.specs.declared.definition.TypeId.{TypeId}
-use Rattle.asn1_types.specs.declared.definition.Component.{Component}
-use Rattle.asn1_types.specs.declared.definition.Extensible.{Extensible}
-use Rattle.asn1_types.specs.declared.definition.Definition.{Definition}
-use Rattle.asn1_types.specs.declared.definition.Definition.TheVariants as types
-use Rattle.asn1_assignments.specs.declared.assignment.IeRow.{IeRow}
-use Rattle.asn1_assignments.specs.declared.assignment.ProcedureRow.{ProcedureRow}
-use Rattle.asn1_assignments.specs.declared.assignment.Assignment.{Assignment}
-use Rattle.asn1_assignments.specs.declared.assignment.Syntax.{Syntax}
+use Rattle.asn1_module.specs.asn1_types.declared.definition.TypeId.{TypeId}
+use Rattle.asn1_module.specs.asn1_types.declared.definition.Component.{Component}
+use Rattle.asn1_module.specs.asn1_types.declared.definition.Extensible.{Extensible}
+use Rattle.asn1_module.specs.asn1_types.declared.definition.Definition.{Definition}
+use Rattle.asn1_module.specs.asn1_types.declared.definition.Definition.TheVariants as types
+use Rattle.asn1_module.specs.asn1_assignments.declared.assignment.IeRow.{IeRow}
+use Rattle.asn1_module.specs.asn1_assignments.declared.assignment.ProcedureRow.{ProcedureRow}
+use Rattle.asn1_module.specs.asn1_assignments.declared.assignment.Assignment.{Assignment}
+use Rattle.asn1_module.specs.asn1_assignments.declared.assignment.Syntax.{Syntax}
 use Rattle.asn1_module.specs.asn1_defs.Targets.{find_type, ie_rows, procedure_rows, type_name}
 use Rattle.profile_module.specs.declared.names.TheConstants.{TYPE_NAMES}
 use Rattle.profile_proof_text.specs.profile_defs.Agreement.{is_same_bool, is_same_number, is_same_size, are_names, is_reject, is_mandatory, definition_at}

@@ -1,8 +1,8 @@
 use Rattle.std.proofs.Common.{subst}
 use Rattle.asn1_assignments.specs.declared.assignment.Syntax.{Syntax}
-use Rattle.asn1_module.specs.asn1_defs.Modules.{IsModule}
+use Rattle.profile_module.specs.asn1_defs.Modules.{IsModule}
 use Rattle.profile.specs.Versions.{number_of}
-use Rattle.profile_defs.specs.Profile.{core_type, core_pdu}
+use Rattle.profile_module.specs.profile_defs.Profile.{core_type, core_pdu}
 use Rattle.profile_types.proofs.Named.{is_its}
 use Rattle.profile_types.proofs.core_pdu.Goals as goal
 

@@ -1,9 +1,9 @@
 use Rattle.std.proofs.Common.{subst}
 use Rattle.asn1_assignments.specs.declared.assignment.Syntax.{Syntax}
-use Rattle.asn1_module.specs.asn1_defs.Modules.{IsModule}
+use Rattle.profile_module.specs.asn1_defs.Modules.{IsModule}
 use Rattle.profile.specs.Versions.{number_of}
-use Rattle.profile_defs.specs.Profile.{token_type}
-use Rattle.profile_defs.specs.Tokens.{rrc_token}
+use Rattle.profile_module.specs.profile_defs.Profile.{token_type}
+use Rattle.profile_module.specs.profile_defs.Tokens.{rrc_token}
 use Rattle.profile_types.proofs.Named.{is_its}
 use Rattle.profile_types.proofs.rrc_token.Goals as goal
 

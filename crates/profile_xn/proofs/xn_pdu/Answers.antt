@@ -3,8 +3,8 @@ use Rattle.std.specs.Prelude.{Option, Some, codes}
 use Rattle.std.specs.Option.{IsSome}
 use Rattle.asn1_types.specs.declared.definition.TypeId.{TypeId}
 use Rattle.asn1_assignments.specs.declared.assignment.Syntax.{Syntax}
-use Rattle.asn1_module.specs.asn1_defs.Modules.{IsModule}
-use Rattle.asn1_module.specs.asn1_defs.Targets.{find_type}
+use Rattle.profile_module.specs.asn1_defs.Modules.{IsModule}
+use Rattle.profile_module.specs.asn1_defs.Targets.{find_type}
 use Rattle.profile_xn.proofs.XnFound.{xn_found, is_there}
 use Rattle.profile_xn.proofs.xn_pdu.Goals as goal
 

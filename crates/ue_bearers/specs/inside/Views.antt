@@ -3,7 +3,7 @@ use Rattle.std.specs.Prelude.{◌≡◌, ℕ, ◌+◌, ◌-◌, ◌^◌, ◌<◌
 use Rattle.std.specs.List.{AllByRecursion}
 use Rattle.gnb_types.specs.declared.names.SnBits.{SnBits}
 use Rattle.gnb_types.specs.declared.keys.EntityKey.{EntityKey}
-use Rattle.pool_defs.specs.Pools.{PoolState, quota, used}
+use Rattle.pdcp_entities.specs.pool_defs.Pools.{PoolState, quota, used}
 use Rattle.pdcp_entities.specs.Packets.{AreParked}
 use Rattle.pdcp_entities.specs.Entities.{TxState, RxState, sender_in, receiver_in}
 use Rattle.ue_bearers.specs.Uplinks.{UplinkState, IsPacket}

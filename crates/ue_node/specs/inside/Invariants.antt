@@ -1,6 +1,6 @@
 -- Internal: what is so of a terminal that no error ended.
 use Rattle.std.specs.Prelude.{Option, Some, None}
-use Rattle.unit_steps.specs.declared.StepError.{StepError}
+use Rattle.ue_rows.specs.unit_steps.declared.StepError.{StepError}
 use Rattle.ue_rows.specs.Records.{IsRecord}
 use Rattle.ue_rows.specs.declared.record.UeRecord.{UeRecord}
 

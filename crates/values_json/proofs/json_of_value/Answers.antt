@@ -5,7 +5,7 @@ use Rattle.serde_json.specs.Read.{max_depth}
 use Rattle.serde_json.specs.Written.{compact_text, has_float}
 use Rattle.aper_values.specs.Views.{view}
 use Rattle.json_shown_defs.specs.Printed.{shown_as}
-use Rattle.json_type_defs.specs.Types.{named}
+use Rattle.json_printing.specs.json_type_defs.Types.{named}
 use Rattle.json_proof_floats.proofs.Floats.{printed_whole}
 use Rattle.values_json.specs.Texts.{IsJson}
 use Rattle.values_json.proofs.json_of_value.Goals as goal

@@ -1,5 +1,5 @@
 use Rattle.std.proofs.Common.{subst}
-use Rattle.aper_types.specs.Types.{tree}
+use Rattle.aper_steps.specs.aper_types.Types.{tree}
 use Rattle.aper_steps.specs.Steps.{TakesStep, OnNext, IsNextLight, IsNextBounded}
 use Rattle.aper_decoder.proofs.Turned.{turn_kept, turn_stands, turn_halted, halted_stands}
 use Rattle.aper_decoder.proofs.turns.take_turn.Goals as goal

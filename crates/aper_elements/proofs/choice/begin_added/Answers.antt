@@ -1,9 +1,9 @@
 use Rattle.std.proofs.Common.{ℕ, ◌+◌, ◌∷◌, List, sym, ap, ◌∙◌, arith}
 use Rattle.std.specs.Prelude.{None, Some, option_copied}
-use Rattle.aper_defs.specs.Values as seen
-use Rattle.aper_defs.specs.Fields as fields
-use Rattle.aper_defs.specs.Questions.{ask_open}
-use Rattle.aper_defs.specs.Asking.{asks}
+use Rattle.aper_values.specs.aper_defs.Values as seen
+use Rattle.aper_values.specs.aper_defs.Fields as fields
+use Rattle.aper_values.specs.aper_defs.Questions.{ask_open}
+use Rattle.aper_values.specs.aper_defs.Asking.{asks}
 use Rattle.aper_frames.specs.declared.frame.Frame.TheVariants as frames
 use Rattle.aper_frames.specs.Frames.{path_of, next_of, asked_unknown, asked_inside}
 use Rattle.aper_frames.specs.Weights.{part_weight, contents_weight, frame_weight, frames_weight}

@@ -1,6 +1,6 @@
 use Rattle.std.proofs.Common.{subst}
 use Rattle.std.proofs.lemmas.Result.{err_from_is_err_and}
-use Rattle.aper_heads.specs.Heads.{IsMessageHead}
+use Rattle.aper_frames.specs.aper_heads.Heads.{IsMessageHead}
 use Rattle.aper_elements.proofs.MessageLemmas.{message_wrong, message_past, message_known}
 use Rattle.aper_elements.proofs.message.begin_message.Goals as goal
 

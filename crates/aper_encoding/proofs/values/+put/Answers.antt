@@ -9,7 +9,7 @@ use Rattle.asn1_types.specs.declared.definition.Extensible.{Extensible}
 use Rattle.asn1_types.specs.Members.{additions_of}
 use Rattle.asn1_assignments.specs.declared.assignment.IeRow.{IeRow}
 use Rattle.asn1_assignments.specs.declared.assignment.ProcedureRow.{ProcedureRow}
-use Rattle.asn1_module.specs.asn1_defs.Links.{AreBelow, OptionBelow}
+use Rattle.aper_writing.specs.asn1_defs.Links.{AreBelow, OptionBelow}
 use Rattle.aper_defs.specs.Trees.{Tree, integer, choice, sequence_of, container, pdu}
 use Rattle.aper_defs.specs.Values.{Value as SeenValue, components, chosen, list, elements, message, value_count, ie_count, presence, has_options}
 use Rattle.aper_defs.specs.Fields.{asked, constrained}
@@ -18,23 +18,23 @@ use Rattle.aper_defs.specs.Parts.{extension_fields, count_fields}
 use Rattle.aper_defs.specs.Layouts.{mark_fields}
 use Rattle.aper_defs.specs.Membership.{is_index_of}
 use Rattle.aper_fields.specs.Following.{Follows}
-use Rattle.aper_types.specs.declared.form.Form.{Form}
-use Rattle.aper_types.specs.Forms.{form_tree}
-use Rattle.aper_types.specs.Types.{tree, parts_of, rows_of, procedures_of, is_extensible, sequence_tree, choice_tree}
+use Rattle.aper_writing.specs.aper_types.declared.form.Form.{Form}
+use Rattle.aper_writing.specs.aper_types.Forms.{form_tree}
+use Rattle.aper_writing.specs.aper_types.Types.{tree, parts_of, rows_of, procedures_of, is_extensible, sequence_tree, choice_tree}
 use Rattle.aper_values.specs.declared.value.Value.{Value, the_lemmas}
 use Rattle.aper_values.specs.declared.value.Element.{Element}
 use Rattle.aper_values.specs.Views.{view, values_view, options_view, ies_view}
-use Rattle.aper_members.specs.Membership.{IsValue, FitsInside, IsInside, AreComponents, AreNamed, AreMembers, AreBodies}
-use Rattle.aper_members.specs.Followed.{ValueFollows, InsideFollows, ComponentsFollow, AdditionsFollow, MembersFollow, ElementsFollow}
-use Rattle.aper_members.proofs.ChoiceLemmas.{parts_count, chosen_root, root_follows}
-use Rattle.aper_members.proofs.HeadLemmas.{FlagsFollow, presence_count}
-use Rattle.aper_members.proofs.MessageLemmas.{message_inside, message_follows, messages_below}
-use Rattle.aper_members.proofs.RowLemmas.{BodyFollows, element_inside, body_follows, body_below, element_next}
-use Rattle.aper_members.proofs.SequenceLemmas.{sequence_follows, has_any}
-use Rattle.aper_members.proofs.Shapes.{as_of, list_members, list_count, element_bodies, element_count, message_known, message_past, sequence_root, sequence_named, sequence_few, choice_index}
-use Rattle.aper_members.proofs.Turns.{item_at, component_there, components_none, addition_absent, additions_none, below_at}
-use Rattle.aper_members.specs.Rows.{part_type}
-use Rattle.aper_members.proofs.Members.{values_count, elements_count, part_below}
+use Rattle.aper_writing.specs.aper_members.Membership.{IsValue, FitsInside, IsInside, AreComponents, AreNamed, AreMembers, AreBodies}
+use Rattle.aper_writing.specs.aper_members.Followed.{ValueFollows, InsideFollows, ComponentsFollow, AdditionsFollow, MembersFollow, ElementsFollow}
+use Rattle.aper_writing.proofs.aper_members.ChoiceLemmas.{parts_count, chosen_root, root_follows}
+use Rattle.aper_writing.proofs.aper_members.HeadLemmas.{FlagsFollow, presence_count}
+use Rattle.aper_writing.proofs.aper_members.MessageLemmas.{message_inside, message_follows, messages_below}
+use Rattle.aper_writing.proofs.aper_members.RowLemmas.{BodyFollows, element_inside, body_follows, body_below, element_next}
+use Rattle.aper_writing.proofs.aper_members.SequenceLemmas.{sequence_follows, has_any}
+use Rattle.aper_writing.proofs.aper_members.Shapes.{as_of, list_members, list_count, element_bodies, element_count, message_known, message_past, sequence_root, sequence_named, sequence_few, choice_index}
+use Rattle.aper_writing.proofs.aper_members.Turns.{item_at, component_there, components_none, addition_absent, additions_none, below_at}
+use Rattle.aper_writing.specs.aper_members.Rows.{part_type}
+use Rattle.aper_writing.proofs.aper_members.Members.{values_count, elements_count, part_below}
 use Rattle.aper_encoding.proofs.Components.{component_at, components_next, components_absent, component_turn}
 use Rattle.aper_encoding.proofs.Members.{components_fit, addition_inside, additions_next, addition_turn}
 use Rattle.aper_encoding.proofs.Open.{Completes, contents_fit, contents_follow}

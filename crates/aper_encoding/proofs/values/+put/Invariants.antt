@@ -1,9 +1,9 @@
 use Rattle.std.proofs.Common.{◌≡◌, false, drop}
 use Rattle.bits_core.specs.Writing.{Written}
-use Rattle.aper_types.specs.Types.{tree, parts_of, rows_of}
+use Rattle.aper_writing.specs.aper_types.Types.{tree, parts_of, rows_of}
 use Rattle.aper_values.specs.Views.{values_view, options_view, ies_view}
-use Rattle.aper_members.specs.Membership.{AreComponents, AreNamed, AreMembers, AreBodies}
-use Rattle.aper_members.specs.Followed.{ComponentsFollow, AdditionsFollow, MembersFollow, ElementsFollow}
+use Rattle.aper_writing.specs.aper_members.Membership.{AreComponents, AreNamed, AreMembers, AreBodies}
+use Rattle.aper_writing.specs.aper_members.Followed.{ComponentsFollow, AdditionsFollow, MembersFollow, ElementsFollow}
 use Rattle.aper_encoding.proofs.values.+put.Given as goal
 
 abbrev pub invariant-put_components-loop-i : goal.invariant-put_components-loop-i

@@ -15,7 +15,7 @@ returns-in_err-marked-clause-asked c = λ of.
     let q = c.part-item.result in
     let here : drop l.part-index parts ≡ q ∷ drop (l.part-index + 1) parts =
     drop_more parts l.part-index q (omega arith) ∙ ap (λ (y : Component). y ∷ drop (l.part-index + 1) parts) (sym c.part-item.is) in
-    let p = err_from_is_err_and c.from_residual.result c.from_residual.ensures.1 in
+    let p = err_from_is_err_and c.from_residual-in_err-marked.result c.from_residual-in_err-marked.ensures.1 in
     rw (p.1, p.2) (λ way K. l.invariant.asked of way K
     ∙ ap (λ (ps : List Component). run (ask_flags way (parts_of of ps) (λ bs. K (l.there.items ++ bs))) l.cursor) here
     ∙ flags_wrong of q (drop (l.part-index + 1) parts) l.there.items l.cursor c.ask_extension.new.cursor

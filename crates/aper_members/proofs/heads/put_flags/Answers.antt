@@ -1,7 +1,7 @@
 use Rattle.std.proofs.Common.{◌≡◌, ◌+◌, ◌∷◌, Bool, List, Option, drop, sym, subst, arith}
 use Rattle.std.proofs.lemmas.List.{drop_all}
 use Rattle.asn1_types.specs.declared.definition.Component.{Component}
-use Rattle.aper_defs.specs.Parts.{extension_fields}
+use Rattle.aper_values.specs.aper_defs.Parts.{extension_fields}
 use Rattle.aper_fields.specs.Following.{Follows}
 use Rattle.aper_values.specs.declared.value.Value.{Value}
 use Rattle.aper_members.proofs.Turns.{item_at}

@@ -1,5 +1,5 @@
 use Rattle.std.proofs.Common.{ℕ, ◌∷◌, [], length, sym, subst, ◌∙◌}
-use Rattle.aper_defs.specs.Fields.{asked, addition_bits}
+use Rattle.aper_values.specs.aper_defs.Fields.{asked, addition_bits}
 use Rattle.aper_fields.specs.Following.{Follows}
 use Rattle.aper_members.proofs.HeadLemmas.{marks_follow}
 use Rattle.aper_members.proofs.heads.put_marks.Goals as goal

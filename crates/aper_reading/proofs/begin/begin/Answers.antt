@@ -1,40 +1,69 @@
-use Rattle.std.proofs.Common.{◌≡◌, Ok, Err, ap, subst, rules}
-use Rattle.std.specs.Prelude.{ℤ}
-use Rattle.std.specs.Int.{cast_signed, cast_unsigned, w128}
+use Rattle.std.proofs.Common.{sym, ap, subst}
 use Rattle.std.proofs.lemmas.Result.{err_from_is_err_and}
-use Rattle.aper_cursor.specs.declared.error.Unanswered.{Unanswered}
-use Rattle.aper_defs.specs.Trees.{integer}
 use Rattle.aper_defs.specs.Asking.{asks}
-use Rattle.aper_types.specs.Forms.{form_tree}
-use Rattle.aper_simple.specs.Reads.{Reads}
-use Rattle.aper_reading.proofs.ReadsSteps.{read_made, read_refused}
+use Rattle.aper_defs.specs.Reading.{run}
+use Rattle.aper_elements.specs.aper_types.declared.form.Form.TheVariants as forms
+use Rattle.aper_elements.specs.aper_types.Types.{tree}
+use Rattle.aper_elements.specs.aper_types.Forms.{form_tree}
+use Rattle.aper_elements.specs.aper_frames.Frames.{path_of, next_of}
+use Rattle.aper_reading.specs.Forms.{form_weight}
+use Rattle.aper_reading.specs.InModule.{IsOfModule, StepsIn}
+use Rattle.aper_reading.proofs.InPlace.{steps_in, read_refused}
 use Rattle.aper_reading.proofs.begin.begin.Goals as goal
 
-pub returns-in_err-read_integer-in-Integer-clause-asked : goal.returns-in_err-read_integer-in-Integer-clause-asked
-returns-in_err-read_integer-in-Integer-clause-asked c =
-    let from = c.from_residual-in_err-read_integer-in-Integer in
-    let p = err_from_is_err_and from.result from.ensures.1 in
-    let i = c.in-Integer in
-    let old = c.args.cursor.now in
-    let new = c.read_integer.new.cursor in
-    let e : Unanswered = c.in_err-read_integer-in-Integer.field-0.0 in
-    let low : cast_signed w128 (cast_unsigned w128 i.low) ≡ i.low = search rules in
-    let high : cast_signed w128 (cast_unsigned w128 i.high) ≡ i.high = search rules in
+-- ---- what holds no others
+pub returns-in_err-read_form-clause-asked : goal.returns-in_err-read_form-clause-asked
+returns-in_err-read_form-clause-asked c =
+    let p = err_from_is_err_and c.from_residual.result c.from_residual.ensures.1 in
+    let of = tree c.args.m.now in
     rw (p.1, p.2) (
-    read_refused (λ of. form_tree of c.args.form) (integer i.low i.high i.extensible) (λ of. ap (form_tree of) i.is) c.args.frames.now old new e
-    (subst (λ (z : ℤ). Reads (λ way. asks way (integer i.low z i.extensible)) old new (Err e)) high
-    (subst (λ (z : ℤ). Reads (λ way. asks way (integer z (cast_signed w128 (cast_unsigned w128 i.high)) i.extensible)) old new (Err e)) low
-    (c.in_err-read_integer-in-Integer.ensures {u = tt}))))
+    read_refused c.in_err-read_form.field-0.0 of (form_tree of c.args.form) c.args.frames.now c.args.cursor.now c.read_form.new.cursor
+    (c.in_err-read_form.ensures {u = tt} of))
 
-pub returns-in_ok-read_integer-in-Integer-clause-asked : goal.returns-in_ok-read_integer-in-Integer-clause-asked
-returns-in_ok-read_integer-in-Integer-clause-asked c =
-    let i = c.in-Integer in
-    let old = c.args.cursor.now in
-    let new = c.read_integer.new.cursor in
-    let v = c.in_ok-read_integer-in-Integer.field-0 in
-    let low : cast_signed w128 (cast_unsigned w128 i.low) ≡ i.low = search rules in
-    let high : cast_signed w128 (cast_unsigned w128 i.high) ≡ i.high = search rules in
-    read_made (λ of. form_tree of c.args.form) (integer i.low i.high i.extensible) (λ of. ap (form_tree of) i.is) c.args.frames.now old new v
-    (subst (λ (z : ℤ). Reads (λ way. asks way (integer i.low z i.extensible)) old new (Ok v)) high
-    (subst (λ (z : ℤ). Reads (λ way. asks way (integer z (cast_signed w128 (cast_unsigned w128 i.high)) i.extensible)) old new (Ok v)) low
-    (c.in_ok-read_integer-in-Integer.ensures {u = tt})))
+-- ---- what holds others
+pub begin_sequence-requires : goal.begin_sequence-requires
+begin_sequence-requires c = subst (λ f. IsOfModule c.args.m.now (λ w. form_weight w f)) c.in-Sequence.is c.requires.inside
+
+pub begin_list-requires-clause-inside : goal.begin_list-requires-clause-inside
+begin_list-requires-clause-inside c = subst (λ f. IsOfModule c.args.m.now (λ w. form_weight w f)) c.in-SequenceOf.is c.requires.inside
+
+pub returns-in-Sequence-clause-asked : goal.returns-in-Sequence-clause-asked
+returns-in-Sequence-clause-asked c =
+    let fs = c.args.frames.now in
+    let of = tree c.args.m.now in
+    subst (λ f. StepsIn of (asks (path_of fs) (form_tree of f) (next_of of fs)) c.args.cursor.now c.begin_sequence.new.cursor
+    c.begin_sequence.new.frames c.begin_sequence.result) (sym c.in-Sequence.is) c.begin_sequence.ensures.asked
+
+pub returns-in-SequenceOf-clause-asked : goal.returns-in-SequenceOf-clause-asked
+returns-in-SequenceOf-clause-asked c =
+    let fs = c.args.frames.now in
+    let of = tree c.args.m.now in
+    subst (λ f. StepsIn of (asks (path_of fs) (form_tree of f) (next_of of fs)) c.args.cursor.now c.begin_list.new.cursor
+    c.begin_list.new.frames c.begin_list.result) (sym c.in-SequenceOf.is) c.begin_list.ensures.asked
+
+pub returns-in-Choice-clause-asked : goal.returns-in-Choice-clause-asked
+returns-in-Choice-clause-asked c =
+    let fs = c.args.frames.now in
+    let of = tree c.args.m.now in
+    steps_in c.begin_choice.result of (λ types. asks (path_of fs) (form_tree types (forms.Choice c.in-Choice.members)) (next_of types fs))
+    (asks (path_of fs) (form_tree of c.args.form) (next_of of fs)) c.args.cursor.now c.args.cursor.now c.begin_choice.new.cursor
+    c.begin_choice.new.frames (ap (λ f. run (asks (path_of fs) (form_tree of f) (next_of of fs)) c.args.cursor.now) c.in-Choice.is)
+    c.begin_choice.ensures.asked
+
+pub returns-in-Container-clause-asked : goal.returns-in-Container-clause-asked
+returns-in-Container-clause-asked c =
+    let fs = c.args.frames.now in
+    let of = tree c.args.m.now in
+    steps_in c.begin_container.result of (λ types. asks (path_of fs) (form_tree types (forms.Container c.in-Container.rows)) (next_of types fs))
+    (asks (path_of fs) (form_tree of c.args.form) (next_of of fs)) c.args.cursor.now c.args.cursor.now c.begin_container.new.cursor
+    c.begin_container.new.frames (ap (λ f. run (asks (path_of fs) (form_tree of f) (next_of of fs)) c.args.cursor.now) c.in-Container.is)
+    c.begin_container.ensures.asked
+
+pub returns-in-Pdu-clause-asked : goal.returns-in-Pdu-clause-asked
+returns-in-Pdu-clause-asked c =
+    let fs = c.args.frames.now in
+    let of = tree c.args.m.now in
+    steps_in c.begin_message.result of (λ types. asks (path_of fs) (form_tree types (forms.Pdu c.in-Pdu.rows)) (next_of types fs))
+    (asks (path_of fs) (form_tree of c.args.form) (next_of of fs)) c.args.cursor.now c.args.cursor.now c.begin_message.new.cursor
+    c.begin_message.new.frames (ap (λ f. run (asks (path_of fs) (form_tree of f) (next_of of fs)) c.args.cursor.now) c.in-Pdu.is)
+    c.begin_message.ensures.asked

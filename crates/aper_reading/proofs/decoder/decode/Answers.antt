@@ -1,4 +1,4 @@
-use Rattle.aper_types.specs.Types.{tree}
+use Rattle.aper_elements.specs.aper_types.Types.{tree}
 use Rattle.aper_reading.proofs.Front.{decodes_as}
 use Rattle.aper_reading.proofs.decoder.decode.Goals as goal
 

@@ -2,8 +2,8 @@ use Rattle.std.proofs.Common.{◌≡◌, true, false, Err, sym, ap, ◌∙◌, r
 use Rattle.std.proofs.lemmas.Result.{err_from_is_err_and}
 use Rattle.aper_defs.specs.declared.reason.Reason.TheVariants as reasons
 use Rattle.aper_asking.specs.Going.{fault_at}
-use Rattle.aper_types.specs.Types.{tree}
-use Rattle.aper_frames.specs.Frames.{path_of}
+use Rattle.aper_elements.specs.aper_types.Types.{tree}
+use Rattle.aper_elements.specs.aper_frames.Frames.{path_of}
 use Rattle.aper_reading.proofs.Turns.{closes_wrong, closes, leaves_tail}
 use Rattle.aper_reading.proofs.decoder.read_whole.Goals as goal
 

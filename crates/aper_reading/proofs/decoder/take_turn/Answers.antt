@@ -1,16 +1,21 @@
 use Rattle.std.proofs.Common.{length, ap, subst, arith}
 use Rattle.aper_defs.specs.Bounds.{IsBounded}
-use Rattle.aper_types.specs.Types.{tree}
-use Rattle.aper_frames.specs.Weights.{turn_weight, frame_weight, frames_weight}
+use Rattle.aper_elements.specs.aper_types.Types.{tree}
+use Rattle.aper_elements.specs.aper_frames.Weights.{turn_weight, frame_weight, frames_weight}
 use Rattle.aper_reading.specs.Heavy.{weighed}
 use Rattle.aper_reading.specs.Turns.{IsTurnInside}
 use Rattle.aper_reading.proofs.InPlace.{module_less}
 use Rattle.aper_reading.proofs.FormBounds.{form_bounded}
-use Rattle.aper_reading.proofs.Turns.{begun_lighter}
+use Rattle.aper_reading.proofs.Turns.{form_of_module, begun_lighter}
 use Rattle.aper_reading.proofs.decoder.take_turn.Goals as goal
 
-pub begin-requires : goal.begin-requires
-begin-requires c =
+pub begin-requires-clause-inside : goal.begin-requires-clause-inside
+begin-requires-clause-inside c =
+    form_of_module c.args.m.now c.in-Read.id.number c.form_of.result
+    (subst (IsTurnInside (length c.args.m.now.nodes)) c.in-Read.is c.requires.turn) c.form_of.ensures.tree c.form_of.ensures.inside
+
+pub begin-requires-clause-bounded : goal.begin-requires-clause-bounded
+begin-requires-clause-bounded c =
     form_bounded (tree c.args.m.now) c.form_of.result (subst IsBounded c.form_of.ensures.tree c.form_of.ensures.bounded)
 
 pub returns-in_ok-begin-in-Read-clause-lighter : goal.returns-in_ok-begin-in-Read-clause-lighter

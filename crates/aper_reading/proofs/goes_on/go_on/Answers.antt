@@ -1,10 +1,10 @@
 use Rattle.std.proofs.Common.{ap, sym, subst, ◌∙◌}
 use Rattle.std.proofs.lemmas.Result.{err_from_is_err_and}
 use Rattle.aper_defs.specs.Reading.{run}
-use Rattle.aper_types.specs.Types.{tree}
+use Rattle.aper_elements.specs.aper_types.Types.{tree}
 use Rattle.aper_values.specs.Views.{view}
-use Rattle.aper_frames.specs.Frames.{addition_after, element_after, path_of, next_of, after}
-use Rattle.aper_frames.specs.Weights.{frame_weight}
+use Rattle.aper_elements.specs.aper_frames.Frames.{addition_after, element_after, path_of, next_of, after}
+use Rattle.aper_elements.specs.aper_frames.Weights.{frame_weight}
 use Rattle.aper_reading.specs.InModule.{IsOfModule, StepsIn}
 use Rattle.aper_reading.proofs.InPlace.{steps_in}
 use Rattle.aper_reading.proofs.goes_on.go_on.Goals as goal

@@ -1,9 +1,9 @@
 use Rattle.std.proofs.Common.{ap}
 use Rattle.aper_defs.specs.Values as seen
 use Rattle.aper_defs.specs.Reading.{run}
-use Rattle.aper_types.specs.Types.{tree}
+use Rattle.aper_elements.specs.aper_types.Types.{tree}
 use Rattle.aper_values.specs.Views.{view}
-use Rattle.aper_frames.specs.Frames.{ask_member, member_after, members_left, path_of, next_of}
+use Rattle.aper_elements.specs.aper_frames.Frames.{ask_member, member_after, members_left, path_of, next_of}
 use Rattle.aper_reading.proofs.ListLemmas.{member_put}
 use Rattle.aper_reading.proofs.InPlace.{in_after}
 use Rattle.aper_reading.proofs.list.after_member.Goals as goal

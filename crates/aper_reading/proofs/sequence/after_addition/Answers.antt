@@ -1,8 +1,8 @@
 use Rattle.aper_values.specs.Views.{view}
 use Rattle.aper_defs.specs.Asking.{ask_additions}
-use Rattle.aper_types.specs.Types.{parts_of}
-use Rattle.aper_frames.specs.Frames.{addition_after, additions_left, after_additions, path_of, next_of}
-use Rattle.aper_frames.proofs.Onward.{steps_as}
+use Rattle.aper_elements.specs.aper_types.Types.{parts_of}
+use Rattle.aper_elements.specs.aper_frames.Frames.{addition_after, additions_left, after_additions, path_of, next_of}
+use Rattle.aper_elements.proofs.aper_frames.Onward.{steps_as}
 use Rattle.aper_reading.proofs.SequenceSteps.{option_put}
 use Rattle.aper_reading.proofs.sequence.after_addition.Goals as goal
 

@@ -1,9 +1,9 @@
 use Rattle.std.proofs.Common.{ap}
 use Rattle.aper_defs.specs.Reading.{run}
 use Rattle.aper_defs.specs.Asking.{ask_components}
-use Rattle.aper_types.specs.Types.{tree, parts_of}
+use Rattle.aper_elements.specs.aper_types.Types.{tree, parts_of}
 use Rattle.aper_values.specs.Views.{view}
-use Rattle.aper_frames.specs.Frames.{component_after, components_left, after_components, path_of, next_of}
+use Rattle.aper_elements.specs.aper_frames.Frames.{component_after, components_left, after_components, path_of, next_of}
 use Rattle.aper_reading.proofs.SequenceSteps.{option_put}
 use Rattle.aper_reading.proofs.InPlace.{in_after}
 use Rattle.aper_reading.proofs.sequence.after_component.Goals as goal

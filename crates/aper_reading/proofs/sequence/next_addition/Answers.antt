@@ -4,9 +4,9 @@ use Rattle.aper_defs.specs.Fields as fields
 use Rattle.aper_defs.specs.Questions.{ask_open}
 use Rattle.aper_defs.specs.Asking.{asks}
 use Rattle.aper_defs.specs.Reading.{run}
-use Rattle.aper_frames.specs.declared.frame.Frame.TheVariants as frames
-use Rattle.aper_frames.specs.Frames.{additions_left, addition_after, additions_next, asked_inside, asked_unknown, path_of, next_of}
-use Rattle.aper_frames.proofs.Onward.{steps_as}
+use Rattle.aper_elements.specs.aper_frames.declared.frame.Frame.TheVariants as frames
+use Rattle.aper_elements.specs.aper_frames.Frames.{additions_left, addition_after, additions_next, asked_inside, asked_unknown, path_of, next_of}
+use Rattle.aper_elements.proofs.aper_frames.Onward.{steps_as}
 use Rattle.aper_reading.proofs.SequenceSteps.{additions_end}
 use Rattle.aper_reading.proofs.sequence.next_addition.Goals as goal
 

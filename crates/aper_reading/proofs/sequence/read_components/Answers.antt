@@ -1,19 +1,20 @@
-use Rattle.std.proofs.Common.{◌≡◌, ℕ, Ok, ◌+◌, sym, ap, subst, ◌∙◌, arith}
+use Rattle.std.proofs.Common.{Err, Ok, ◌+◌, sym, ap, subst, ◌∙◌, arith}
 use Rattle.std.specs.Prelude.{option_copied}
 use Rattle.aper_defs.specs.Values as seen
 use Rattle.aper_defs.specs.Reading.{run}
-use Rattle.aper_types.specs.Types.{tree}
-use Rattle.aper_frames.specs.declared.frame.Turn.TheVariants as turns
-use Rattle.aper_frames.specs.Frames.{components_left, components_next, options_before, after_components, path_of, next_of}
-use Rattle.aper_frames.specs.Steps.{left}
-use Rattle.aper_frames.specs.Weights.{part_weight, components_weight, frames_weight}
-use Rattle.aper_frames.proofs.Lighter.{lighter_than}
-use Rattle.aper_reading.specs.InModule.{ReadsSimple, IsAround}
-use Rattle.aper_reading.proofs.InPlace.{steps_in, type_inside, component_read, component_begun, component_wrong}
+use Rattle.aper_defs.specs.Bounds.{IsBounded}
+use Rattle.aper_elements.specs.aper_types.Types.{tree}
+use Rattle.aper_elements.specs.aper_types.Forms.{form_tree}
+use Rattle.aper_elements.specs.aper_frames.Frames.{components_left, components_next, options_before, after_components, path_of, next_of}
+use Rattle.aper_elements.specs.aper_frames.Weights.{part_weight, components_weight, frames_weight}
+use Rattle.aper_elements.proofs.aper_frames.Lighter.{lighter_than}
+use Rattle.aper_reading.specs.InModule.{IsAround}
+use Rattle.aper_reading.proofs.FormBounds.{form_bounded}
+use Rattle.aper_reading.proofs.InPlace.{steps_in, type_inside, reads_as, component_read, component_begun, component_wrong}
 use Rattle.aper_reading.proofs.sequence.read_components.Goals as goal
 
-pub read_simple-requires : goal.read_simple-requires
-read_simple-requires c =
+pub form_of-form-requires : goal.form_of-form-requires
+form_of-form-requires c =
     let l = c.loop-others in
     type_inside c.args.m.now (λ w. components_weight w c.args.components) c.in-Some.component.now.definition.number c.requires
     (λ w. omega (
@@ -22,6 +23,10 @@ read_simple-requires c =
       ap (λ x. part_weight w (option_copied x)) c.in-Some.is,
       l.invariant.lighter w,
     ))
+
+pub read_form-requires-clause-bounded : goal.read_form-requires-clause-bounded
+read_form-requires-clause-bounded c =
+    form_bounded (tree c.args.m.now) c.form_of-form.result (subst IsBounded c.form_of-form.ensures.tree c.form_of-form.ensures.bounded)
 
 pub loop-others-preserved : goal.loop-others-preserved
 loop-others-preserved c =
@@ -34,14 +39,17 @@ loop-others-preserved c =
           ∙ ap (λ P. run P l.cursor)
           ((c.in_ok-component.ensures {u = tt}).asked of (path_of fs) (next_of of fs)
           ∙ ap (λ x. components_next of n (path_of fs) (next_of of fs) (option_copied x)) c.in-Some.is)
-          ∙ component_read of (path_of fs) (next_of of fs) n c.in-Some.component.now l.cursor c.read_simple.new.cursor c.in-Ok-Some.value
-          c.push.new.self.items (subst (λ x. ReadsSimple (of c.in-Some.component.now.definition.number) l.cursor c.read_simple.new.cursor (Ok x)) c.in-Ok-Some.field-0-is c.in-Ok-Some.ensures) (c.in_ok-push-in-Ok-Some.ensures {u = tt}).items;
+          ∙ component_read of (path_of fs) (next_of of fs) n c.in-Some.component.now l.cursor c.read_form.new.cursor c.in-Ok.value
+          c.push.new.self.items
+          (reads_as (Ok c.in-Ok.value) (of c.in-Some.component.now.definition.number) (form_tree of c.form_of-form.result) l.cursor c.read_form.new.cursor
+          c.form_of-form.ensures.tree (c.in-Ok.ensures of))
+          (c.in_ok-push-in-Ok.ensures {u = tt}).items;
       frames = l.invariant.frames;
       lighter = λ w. omega (arith, (c.in_ok-component.ensures {u = tt}).lighter w, l.invariant.lighter w);
     }
 
-pub returns-in-Ok-None-clause-asked : goal.returns-in-Ok-None-clause-asked
-returns-in-Ok-None-clause-asked c =
+pub returns-then-not-is_simple-clause-asked : goal.returns-then-not-is_simple-clause-asked
+returns-then-not-is_simple-clause-asked c =
     let l = c.loop-others in
     let of = tree c.args.m.now in
     let fs = c.args.frames.now in
@@ -53,17 +61,16 @@ returns-in-Ok-None-clause-asked c =
     ((c.in_ok-component.ensures {u = tt}).asked of (path_of fs) (next_of of fs)
     ∙ ap (λ x. components_next of n (path_of fs) (next_of of fs) (option_copied x)) c.in-Some.is
     ∙ component_begun of n part fs more
-    (subst (λ gs. IsAround part n gs more) l.invariant.frames (c.in_ok-push_component-in-Ok-None.ensures {u = tt})))
-    ∙ ap (λ d. run (left of (turns.Read part.definition) more) d) (sym (subst (λ x. ReadsSimple (of c.in-Some.component.now.definition.number) l.cursor c.read_simple.new.cursor (Ok x)) c.in-Ok-None.field-0-is c.in-Ok-None.ensures))
+    (subst (λ gs. IsAround part n gs more) l.invariant.frames (c.in_ok-push_component.ensures {u = tt})))
 
-pub returns-in-Ok-None-clause-lighter : goal.returns-in-Ok-None-clause-lighter
-returns-in-Ok-None-clause-lighter c = λ w.
+pub returns-then-not-is_simple-clause-lighter : goal.returns-then-not-is_simple-clause-lighter
+returns-then-not-is_simple-clause-lighter c = λ w.
     let l = c.loop-others in
     omega (
       arith,
       (c.in_ok-component.ensures {u = tt}).lighter w,
       ap (λ x. part_weight w (option_copied x)) c.in-Some.is,
-      (c.in_ok-push_component-in-Ok-None.ensures {u = tt}).weight w,
+      (c.in_ok-push_component.ensures {u = tt}).weight w,
       l.invariant.lighter w,
       ap (frames_weight w) l.invariant.frames,
     )
@@ -78,12 +85,13 @@ returns-in-Err-clause-asked c =
     let part = c.in-Some.component.now in
     component_wrong of n part fs more
     (subst (λ gs. IsAround part n gs more) l.invariant.frames (c.in_ok-push_component-in-Err.ensures {u = tt}))
-    c.in-Err.error (components_left of c.args.components (path_of fs) (next_of of fs)) c.args.cursor.now l.cursor c.read_simple.new.cursor
+    c.in-Err.error (components_left of c.args.components (path_of fs) (next_of of fs)) c.args.cursor.now l.cursor c.read_form.new.cursor
     (l.invariant.same
     ∙ ap (λ P. run P l.cursor)
     ((c.in_ok-component.ensures {u = tt}).asked of (path_of fs) (next_of of fs)
     ∙ ap (λ x. components_next of n (path_of fs) (next_of of fs) (option_copied x)) c.in-Some.is))
-    c.in-Err.ensures
+    (reads_as (Err c.in-Err.error) (of part.definition.number) (form_tree of c.form_of-form.result) l.cursor c.read_form.new.cursor
+    c.form_of-form.ensures.tree (c.in-Err.ensures of))
 
 pub returns-clause-asked : goal.returns-clause-asked
 returns-clause-asked c =

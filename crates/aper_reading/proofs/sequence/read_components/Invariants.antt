@@ -1,8 +1,8 @@
 use Rattle.std.proofs.Common.{◌≡◌, ℕ, ◌≤◌}
 use Rattle.aper_defs.specs.Reading.{run}
-use Rattle.aper_types.specs.Types.{tree}
-use Rattle.aper_frames.specs.Frames.{components_left, path_of, next_of}
-use Rattle.aper_frames.specs.Weights.{components_weight}
+use Rattle.aper_elements.specs.aper_types.Types.{tree}
+use Rattle.aper_elements.specs.aper_frames.Frames.{components_left, path_of, next_of}
+use Rattle.aper_elements.specs.aper_frames.Weights.{components_weight}
 use Rattle.aper_reading.proofs.sequence.read_components.Given as goal
 
 -- what is left is asked as it was at first, and is no more than that

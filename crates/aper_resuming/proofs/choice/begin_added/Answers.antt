@@ -5,7 +5,7 @@ use Rattle.aper_defs.specs.Fields as fields
 use Rattle.aper_defs.specs.Questions.{ask_open}
 use Rattle.aper_defs.specs.Asking.{asks}
 use Rattle.aper_frames.specs.Frames.{path_of, next_of}
-use Rattle.aper_elements.specs.Added.{asked_added}
+use Rattle.aper_reading.specs.aper_elements.Added.{asked_added}
 use Rattle.aper_resuming.proofs.choice.begin_added.Goals as goal
 
 pub returns-in-Some-clause-asked : goal.returns-in-Some-clause-asked

@@ -5,8 +5,8 @@ use Rattle.aper_defs.specs.Values as seen
 use Rattle.aper_defs.specs.Questions.{ask_index}
 use Rattle.aper_frames.specs.Frames.{path_of, next_of}
 use Rattle.aper_proof_followed.proofs.Told.{told_index}
-use Rattle.aper_elements.proofs.ChoiceLemmas.{got, whole_choice, after_index, choice_as, root_next, added_next, added_as}
-use Rattle.aper_elements.proofs.Weighing.{part_at, part_got}
+use Rattle.aper_reading.proofs.aper_elements.ChoiceLemmas.{got, whole_choice, after_index, choice_as, root_next, added_next, added_as}
+use Rattle.aper_reading.proofs.aper_elements.Weighing.{part_at, part_got}
 use Rattle.aper_resuming.proofs.Leading.{answered_on, wrong_on}
 use Rattle.aper_resuming.proofs.choice.begin_alternatives.Goals as goal
 

@@ -1,7 +1,7 @@
 use Rattle.std.proofs.Common.{◌∙◌}
 use Rattle.aper_defs.specs.Values as seen
 use Rattle.aper_frames.specs.Frames.{elements_by, path_of, next_of}
-use Rattle.aper_elements.proofs.ContainerLemmas.{element_put}
+use Rattle.aper_reading.proofs.aper_elements.ContainerLemmas.{element_put}
 use Rattle.aper_resuming.proofs.container.after_element.Goals as goal
 
 pub returns-clause-asked : goal.returns-clause-asked

@@ -1,6 +1,6 @@
 use Rattle.std.proofs.Common.{refl}
 use Rattle.std.proofs.lemmas.Result.{err_from_is_err_and}
-use Rattle.aper_elements.proofs.ContainerLemmas.{count_wrong}
+use Rattle.aper_reading.proofs.aper_elements.ContainerLemmas.{count_wrong}
 use Rattle.aper_resuming.proofs.Containers.{container_begun}
 use Rattle.aper_resuming.proofs.container.begin_container.Goals as goal
 

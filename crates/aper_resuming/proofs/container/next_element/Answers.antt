@@ -1,6 +1,6 @@
 use Rattle.std.proofs.Common.{◌≡◌, ℕ, suc, ◌-◌, sym, ap, ◌∙◌, arith}
 use Rattle.aper_frames.specs.Frames.{elements_left, path_of, next_of}
-use Rattle.aper_elements.proofs.ContainerLemmas.{elements_none}
+use Rattle.aper_reading.proofs.aper_elements.ContainerLemmas.{elements_none}
 use Rattle.aper_resuming.proofs.container.next_element.Goals as goal
 
 pub returns-then-elements-eq0-clause-asked : goal.returns-then-elements-eq0-clause-asked

@@ -4,8 +4,8 @@ use Rattle.aper_asking.specs.Going.{GoesOn}
 use Rattle.aper_heads.specs.Heads.{ask_element_head}
 use Rattle.aper_frames.specs.Frames.{path_of, next_of}
 use Rattle.aper_frames.specs.Weights.{rows_weight, outcome_weight}
-use Rattle.aper_elements.proofs.ContainerLemmas.{elements_some, after_element_head, element_next}
-use Rattle.aper_elements.proofs.Weighing.{row_weighs}
+use Rattle.aper_reading.proofs.aper_elements.ContainerLemmas.{elements_some, after_element_head, element_next}
+use Rattle.aper_reading.proofs.aper_elements.Weighing.{row_weighs}
 use Rattle.aper_resuming.specs.declared.pending.Pending.TheVariants as pendings
 use Rattle.aper_resuming.proofs.Leading.{turn_on, turn_wrong}
 use Rattle.aper_resuming.proofs.Heads.{told_element}

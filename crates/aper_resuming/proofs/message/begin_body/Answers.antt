@@ -1,7 +1,7 @@
 use Rattle.std.proofs.Common.{ap, ◌∙◌, arith}
 use Rattle.aper_frames.specs.Weights.{outcome_weight}
-use Rattle.aper_elements.proofs.MessageLemmas.{body_next}
-use Rattle.aper_elements.proofs.Weighing.{message_weighs}
+use Rattle.aper_reading.proofs.aper_elements.MessageLemmas.{body_next}
+use Rattle.aper_reading.proofs.aper_elements.Weighing.{message_weighs}
 use Rattle.aper_resuming.proofs.message.begin_body.Goals as goal
 
 pub returns-clause-asked : goal.returns-clause-asked

@@ -7,7 +7,7 @@ use Rattle.aper_proof_answers.proofs.NumberFacts.{is_not_below}
 use Rattle.aper_heads.specs.Heads.{ask_message_head, IsMessageHead}
 use Rattle.aper_frames.specs.declared.frame.Frame.TheVariants as frames
 use Rattle.aper_frames.specs.Frames.{path_of, next_of}
-use Rattle.aper_elements.proofs.MessageLemmas.{whole_message, after_head, message_as, message_wrong}
+use Rattle.aper_reading.proofs.aper_elements.MessageLemmas.{whole_message, after_head, message_as, message_wrong}
 use Rattle.aper_resuming.specs.declared.pending.Pending.TheVariants as pendings
 use Rattle.aper_resuming.proofs.Leading.{answered_on}
 use Rattle.aper_resuming.proofs.Heads.{told_message}

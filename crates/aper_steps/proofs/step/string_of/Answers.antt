@@ -1,7 +1,7 @@
 use Rattle.std.proofs.Common.{subst}
 use Rattle.aper_defs.specs.Bounds.{IsBounded}
 use Rattle.aper_types.specs.Types.{tree}
-use Rattle.aper_reading.proofs.FormBounds.{form_bounded}
+use Rattle.aper_resuming.proofs.aper_reading.FormBounds.{form_bounded}
 use Rattle.aper_steps.proofs.Strings.{string_read}
 use Rattle.aper_steps.proofs.step.string_of.Goals as goal
 

@@ -8,33 +8,33 @@ use Rattle.asn1_types.specs.declared.definition.Extensible.{Extensible}
 use Rattle.asn1_types.specs.Members.{additions_of}
 use Rattle.asn1_assignments.specs.declared.assignment.IeRow.{IeRow}
 use Rattle.asn1_assignments.specs.declared.assignment.ProcedureRow.{ProcedureRow}
-use Rattle.asn1_module.specs.asn1_defs.Links.{AreBelow, OptionBelow}
+use Rattle.aper_proof_measures.specs.asn1_defs.Links.{AreBelow, OptionBelow}
 use Rattle.aper_defs.specs.Trees.{Tree, integer, choice, sequence_of, container, slots, has_slot, mandatory_count}
 use Rattle.aper_defs.specs.Values.{Value as SeenValue, components, chosen, list, elements, message, has_options}
 use Rattle.aper_defs.specs.Parts.{extension_fields}
 use Rattle.aper_defs.specs.Layouts.{mark_fields}
 use Rattle.aper_defs.specs.Membership.{AreAdditions}
-use Rattle.aper_proof_answers.proofs.NumberFacts.{not_below}
-use Rattle.aper_types.specs.declared.form.Form.{Form}
-use Rattle.aper_types.specs.Forms.{form_tree}
-use Rattle.aper_types.specs.Types.{tree, parts_of, rows_of, is_extensible, choice_tree}
+use Rattle.aper_widths.proofs.aper_proof_answers.NumberFacts.{not_below}
+use Rattle.aper_proof_measures.specs.aper_types.declared.form.Form.{Form}
+use Rattle.aper_proof_measures.specs.aper_types.Forms.{form_tree}
+use Rattle.aper_proof_measures.specs.aper_types.Types.{tree, parts_of, rows_of, is_extensible, choice_tree}
 use Rattle.aper_values.specs.declared.value.Value.{Value, the_lemmas}
 use Rattle.aper_values.specs.declared.value.Element.{Element}
 use Rattle.aper_values.specs.Views.{view, values_view, options_view, ies_view}
 use Rattle.aper_widths.specs.Ends.{passed, Ends}
-use Rattle.aper_members.specs.Rows.{row_type}
-use Rattle.aper_members.proofs.MessageLemmas.{messages_below}
-use Rattle.aper_members.proofs.RowLemmas.{body_below}
-use Rattle.aper_members.proofs.Turns.{item_at, below_at}
-use Rattle.aper_measuring.specs.Heads.{optional_count}
-use Rattle.aper_measuring.specs.Order.{LeavesRows}
-use Rattle.aper_measuring.specs.Measured.{ValueMeasured, InsideMeasured, ComponentsMeasured, AdditionsMeasured, MembersMeasured, ElementsMeasured}
-use Rattle.aper_measuring.proofs.OrderLemmas.{known_row}
+use Rattle.aper_proof_measures.specs.aper_members.Rows.{row_type}
+use Rattle.aper_proof_measures.proofs.aper_members.MessageLemmas.{messages_below}
+use Rattle.aper_proof_measures.proofs.aper_members.RowLemmas.{body_below}
+use Rattle.aper_proof_measures.proofs.aper_members.Turns.{item_at, below_at}
+use Rattle.aper_proof_measures.specs.aper_measuring.Heads.{optional_count}
+use Rattle.aper_proof_measures.specs.aper_measuring.Order.{LeavesRows}
+use Rattle.aper_proof_measures.specs.aper_measuring.Measured.{ValueMeasured, InsideMeasured, ComponentsMeasured, AdditionsMeasured, MembersMeasured, ElementsMeasured}
+use Rattle.aper_proof_measures.proofs.aper_measuring.OrderLemmas.{known_row}
 use Rattle.aper_proof_measures.proofs.Turns.{open_measured, sequence_measured, member_next, member_wrong, members_none}
 use Rattle.aper_proof_measures.proofs.Bodies.{index_wrong, root_chosen}
 use Rattle.aper_proof_measures.proofs.Elements.{elements_none, elements_missing, criticality_wrong, order_wrong, body_wrong, element_measured, count_wrong}
-use Rattle.aper_members.specs.Rows.{part_type}
-use Rattle.aper_members.proofs.Members.{elements_count, part_below}
+use Rattle.aper_proof_measures.specs.aper_members.Rows.{part_type}
+use Rattle.aper_proof_measures.proofs.aper_members.Members.{elements_count, part_below}
 use Rattle.aper_proof_measures.proofs.Parts.{counts_differ, components_absent, components_missing, component_turn, component_refused, components_end, additions_absent, addition_turn, addition_refused, additions_end, addition_chosen}
 use Rattle.aper_proof_measures.proofs.Wholes.{measured_as, list_told, list_refused, container_told, message_told, past_told}
 use Rattle.aper_value_checks.proofs.values.+measure.Goals as goal

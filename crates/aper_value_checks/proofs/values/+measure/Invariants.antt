@@ -1,6 +1,6 @@
 use Rattle.std.proofs.Common.{ℕ, drop, Option}
-use Rattle.aper_types.specs.Types.{tree}
-use Rattle.aper_measuring.specs.Measured.{ComponentsMeasured, AdditionsMeasured, MembersMeasured, ElementsMeasured}
+use Rattle.aper_proof_measures.specs.aper_types.Types.{tree}
+use Rattle.aper_proof_measures.specs.aper_measuring.Measured.{ComponentsMeasured, AdditionsMeasured, MembersMeasured, ElementsMeasured}
 use Rattle.aper_value_checks.proofs.values.+measure.Given as goal
 
 abbrev pub invariant-components_end-loop-i : goal.invariant-components_end-loop-i

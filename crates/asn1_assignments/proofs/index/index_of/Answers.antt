@@ -1,6 +1,7 @@
 use Rattle.std.proofs.Common.{ℕ, List, ap, ◌∙◌, arith}
 use Rattle.asn1_assignments.specs.declared.assignment.Assignment.{Assignment}
-use Rattle.asn1_assignments.specs.Index.{numbered, noted}
+use Rattle.asn1_assignments.specs.Index.{numbered}
+use Rattle.asn1_assignments.specs.inside.Index.{noted}
 use Rattle.asn1_assignments.proofs.Indexed.{indexed_more, indexed_all}
 use Rattle.asn1_assignments.proofs.index.index_of.Goals as goal
 

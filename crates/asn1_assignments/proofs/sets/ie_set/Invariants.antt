@@ -1,6 +1,6 @@
 use Rattle.std.proofs.Common.{◌≡◌, ◌-◌}
-use Rattle.asn1_types.specs.Reading.{repeat_at}
-use Rattle.asn1_assignments.specs.Sets.{rows_with, ie_turn_at}
+use Rattle.asn1_types.specs.inside.Reading.{repeat_at}
+use Rattle.asn1_assignments.specs.inside.Sets.{rows_with, ie_turn_at}
 use Rattle.asn1_assignments.proofs.sets.ie_set.Given as goal
 
 abbrev pub invariant-loop : goal.invariant-loop

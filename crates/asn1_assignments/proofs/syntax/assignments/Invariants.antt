@@ -1,6 +1,6 @@
 use Rattle.std.proofs.Common.{◌≡◌, ◌-◌}
-use Rattle.asn1_types.specs.Reading.{repeat_at}
-use Rattle.asn1_assignments.specs.Module.{module_turn_at}
+use Rattle.asn1_types.specs.inside.Reading.{repeat_at}
+use Rattle.asn1_assignments.specs.inside.Module.{module_turn_at}
 use Rattle.asn1_assignments.proofs.syntax.assignments.Given as goal
 
 abbrev pub invariant-loop : goal.invariant-loop

@@ -1,6 +1,6 @@
 use Rattle.std.proofs.Common.{◌++◌, length, get_or, ap, ◌∙◌, arith}
 use Rattle.std.specs.Prelude.{None}
-use Rattle.asn1_types.specs.declared.definition.Node.{Node}
+use Rattle.asn1_defs.specs.asn1_types.declared.definition.Node.{Node}
 use Rattle.asn1_defs.specs.Graph.{definition_edges}
 use Rattle.asn1_graph.proofs.GraphLemmas.{nodes_turn}
 use Rattle.asn1_graph.proofs.NumberLemmas.{target_there, targets_long, number_fits}

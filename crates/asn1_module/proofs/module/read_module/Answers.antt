@@ -1,6 +1,6 @@
-use Rattle.asn1_types.specs.declared.fault.ReadError.{ReadError}
-use Rattle.asn1_types.specs.Reading.{Fails}
-use Rattle.asn1_assignments.specs.Module.{syntax_of}
+use Rattle.asn1_defs.specs.asn1_types.declared.fault.ReadError.{ReadError}
+use Rattle.asn1_defs.specs.asn1_types.inside.Reading.{Fails}
+use Rattle.asn1_defs.specs.asn1_assignments.inside.Module.{syntax_of}
 use Rattle.std.proofs.Common.{subst, sym, refl, ◌≡◌, Err}
 use Rattle.asn1_defs.specs.Judgement.{Judged}
 use Rattle.asn1_defs.specs.Readings.{HasFault, in_text, in_module}

@@ -1,8 +1,8 @@
 use Rattle.std.proofs.Common.{◌≡◌, ◌++◌, ℕ, List, [], map, Some, sym, ap, ◌∙◌, arith}
 use Rattle.std.specs.List.{flat_map}
 use Rattle.std.proofs.lemmas.List.{drop_all}
-use Rattle.unit_defs.specs.UpRecords.{UpTunnel, n3, f1u_uplink, forwarding_down, forwarding_up}
-use Rattle.unit_defs.specs.CuUp.{entries}
+use Rattle.up_orders.specs.unit_defs.UpRecords.{UpTunnel, n3, f1u_uplink, forwarding_down, forwarding_up}
+use Rattle.up_orders.specs.unit_defs.CuUp.{entries}
 use Rattle.up_orders.proofs.Orders.{on_ok}
 use Rattle.bearer_context.specs.Answers.{entry_as}
 use Rattle.bearer_context.proofs.Opened.{four}

@@ -1,8 +1,8 @@
 use Rattle.std.proofs.Common.{◌≡◌, ◌++◌, ℕ, map, drop, Some}
 use Rattle.std.specs.List.{flat_map}
 use Rattle.gnb_types.specs.declared.names.UeId.{UeId}
-use Rattle.unit_defs.specs.UpRecords.{f1u_uplink}
-use Rattle.unit_defs.specs.CuUp.{entries}
+use Rattle.up_orders.specs.unit_defs.UpRecords.{f1u_uplink}
+use Rattle.up_orders.specs.unit_defs.CuUp.{entries}
 use Rattle.bearer_context.specs.Answers.{entry_as}
 use Rattle.bearer_context.proofs.answers.push_openings.Given as goal
 

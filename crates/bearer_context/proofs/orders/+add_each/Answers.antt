@@ -1,10 +1,10 @@
 use Rattle.std.proofs.Common.{◌+◌, List, ◌∷◌, sym, subst}
-use Rattle.unit_defs.specs.UpBearers.{with_uplink}
-use Rattle.unit_defs.specs.CuUp.{uplinks_from}
-use Rattle.unit_octet_defs.specs.Codec.{octet_way}
-use Rattle.unit_steps.specs.Steps.{IsStep}
-use Rattle.up_bearers.specs.Bearers.{kept}
-use Rattle.up_bearers.specs.declared.bearer.Bearer.{Bearer}
+use Rattle.up_orders.specs.unit_defs.UpBearers.{with_uplink}
+use Rattle.up_orders.specs.unit_defs.CuUp.{uplinks_from}
+use Rattle.up_items.specs.unit_octet_defs.Codec.{octet_way}
+use Rattle.up_orders.specs.unit_steps.Steps.{IsStep}
+use Rattle.up_orders.specs.up_bearers.Bearers.{kept}
+use Rattle.up_orders.specs.up_bearers.declared.bearer.Bearer.{Bearer}
 use Rattle.up_orders.proofs.Orders.{on_ok}
 use Rattle.bearer_context.specs.Bearers.{numbered, AreServed}
 use Rattle.bearer_context.specs.Orders.{bearers_after}

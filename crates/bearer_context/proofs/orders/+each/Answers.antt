@@ -1,13 +1,13 @@
 use Rattle.std.proofs.Common.{◌+◌, List, ◌∷◌, sym, subst}
-use Rattle.unit_defs.specs.CuUp.{each_bearer}
-use Rattle.unit_octet_defs.specs.Codec.{octet_way}
-use Rattle.unit_steps.specs.Steps.{IsStep}
+use Rattle.up_orders.specs.unit_defs.CuUp.{each_bearer}
+use Rattle.up_items.specs.unit_octet_defs.Codec.{octet_way}
+use Rattle.up_orders.specs.unit_steps.Steps.{IsStep}
 use Rattle.gnb_types.specs.declared.names.BearerId.{BearerId}
-use Rattle.unit_defs.specs.UpRecords.{UpBearer}
-use Rattle.unit_octet_defs.specs.Units.{OctetAnswer}
-use Rattle.up_tunnels.specs.Tunnels.{at_as}
-use Rattle.up_bearers.specs.Bearers.{kept}
-use Rattle.up_bearers.specs.declared.bearer.Bearer.{Bearer}
+use Rattle.up_orders.specs.unit_defs.UpRecords.{UpBearer}
+use Rattle.up_items.specs.unit_octet_defs.Units.{OctetAnswer}
+use Rattle.up_orders.specs.up_tunnels.Tunnels.{at_as}
+use Rattle.up_orders.specs.up_bearers.Bearers.{kept}
+use Rattle.up_orders.specs.up_bearers.declared.bearer.Bearer.{Bearer}
 use Rattle.bearer_context.specs.Bearers.{numbered}
 use Rattle.bearer_context.specs.Orders.{bearers_after, row_of, at_bearer}
 use Rattle.bearer_context.proofs.Steps.{goes_on, ends_with}

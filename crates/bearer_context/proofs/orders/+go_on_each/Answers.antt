@@ -1,12 +1,12 @@
 use Rattle.std.proofs.Common.{◌+◌, List, ◌∷◌, sym, subst}
 use Rattle.gnb_types.specs.declared.plans.SnStatus.{SnStatus}
-use Rattle.unit_defs.specs.UpBearers.{with_status}
-use Rattle.unit_defs.specs.CuUp.{status_each}
-use Rattle.unit_octet_defs.specs.Codec.{octet_way}
-use Rattle.unit_steps.specs.Steps.{IsStep}
-use Rattle.up_tunnels.specs.Tunnels.{at_as}
-use Rattle.up_bearers.specs.Bearers.{kept}
-use Rattle.up_bearers.specs.declared.bearer.Bearer.{Bearer}
+use Rattle.up_orders.specs.unit_defs.UpBearers.{with_status}
+use Rattle.up_orders.specs.unit_defs.CuUp.{status_each}
+use Rattle.up_items.specs.unit_octet_defs.Codec.{octet_way}
+use Rattle.up_orders.specs.unit_steps.Steps.{IsStep}
+use Rattle.up_orders.specs.up_tunnels.Tunnels.{at_as}
+use Rattle.up_orders.specs.up_bearers.Bearers.{kept}
+use Rattle.up_orders.specs.up_bearers.declared.bearer.Bearer.{Bearer}
 use Rattle.bearer_context.specs.Bearers.{numbered}
 use Rattle.bearer_context.specs.Orders.{bearers_after, holder}
 use Rattle.bearer_context.proofs.Steps.{goes_on, ends_with}

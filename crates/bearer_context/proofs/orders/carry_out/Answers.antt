@@ -1,10 +1,10 @@
 use Rattle.std.proofs.Common.{ℕ, sym, subst}
-use Rattle.unit_defs.specs.Messages.{teid_of}
-use Rattle.unit_defs.specs.UpBearers.{switched, frozen_to}
-use Rattle.unit_octet_defs.specs.Codec.{octet_way}
-use Rattle.unit_steps.specs.Steps.{step_after, IsStep}
-use Rattle.up_tunnels.specs.Tunnels.{at_as}
-use Rattle.up_bearers.specs.Bearers.{kept}
+use Rattle.up_orders.specs.unit_defs.Messages.{teid_of}
+use Rattle.up_orders.specs.unit_defs.UpBearers.{switched, frozen_to}
+use Rattle.up_items.specs.unit_octet_defs.Codec.{octet_way}
+use Rattle.up_orders.specs.unit_steps.Steps.{step_after, IsStep}
+use Rattle.up_orders.specs.up_tunnels.Tunnels.{at_as}
+use Rattle.up_orders.specs.up_bearers.Bearers.{kept}
 use Rattle.bearer_context.specs.declared.orders.BearerOrder.{BearerOrder}
 use Rattle.bearer_context.specs.Orders.{row_of}
 use Rattle.bearer_context.proofs.orders.carry_out.Goals as goal

@@ -1,5 +1,5 @@
 use Rattle.std.proofs.Common.{◌≡◌, drop}
-use Rattle.unit_defs.specs.Messages.{teid_of}
+use Rattle.up_orders.specs.unit_defs.Messages.{teid_of}
 use Rattle.bearer_context.proofs.orders.teid_of.Given as goal
 
 abbrev pub invariant-loop-tunnel : goal.invariant-loop-tunnel

@@ -2,8 +2,8 @@ use Rattle.std.proofs.Common.{◌≡◌, List, [], map, sym, ap, subst, ◌∙�
 use Rattle.std.specs.Prelude.{Err}
 use Rattle.std.proofs.lemmas.Result.{err_from_is_err_and}
 use Rattle.unit_defs.specs.CpRecords.{say_all}
-use Rattle.unit_octet_defs.specs.Codec.{octet_way}
-use Rattle.unit_steps.specs.Steps.{step_after, IsStep}
+use Rattle.control_says.specs.unit_octet_defs.Codec.{octet_way}
+use Rattle.control_says.specs.unit_steps.Steps.{step_after, IsStep}
 use Rattle.control_says.specs.declared.says.Say.{Say}
 use Rattle.control_says.specs.Rows.{say_as}
 use Rattle.control_steps.proofs.Sayings.{all_said, more_said, said_no_more}

@@ -1,7 +1,7 @@
 use Rattle.std.proofs.Common.{◌≡◌, length, map}
 use Rattle.unit_defs.specs.CpRecords.{say_all}
-use Rattle.unit_octet_defs.specs.Codec.{octet_way}
-use Rattle.unit_steps.specs.Steps.{step_after}
+use Rattle.control_says.specs.unit_octet_defs.Codec.{octet_way}
+use Rattle.control_says.specs.unit_steps.Steps.{step_after}
 use Rattle.control_says.specs.Rows.{say_as}
 use Rattle.control_steps.proofs.carrying.say_all.Given as goal
 

@@ -1,7 +1,7 @@
 use Rattle.std.proofs.Common.{◌≡◌, subst}
 use Rattle.unit_defs.specs.CpRecords.{forgets, say_one}
-use Rattle.unit_octet_defs.specs.Codec.{octet_way}
-use Rattle.unit_steps.specs.Steps.{stepped, step_after}
+use Rattle.control_says.specs.unit_octet_defs.Codec.{octet_way}
+use Rattle.control_says.specs.unit_steps.Steps.{stepped, step_after}
 use Rattle.control_steps.proofs.Sayings.{OctetCp, forgot}
 use Rattle.control_steps.proofs.carrying.say_forget.Goals as goal
 

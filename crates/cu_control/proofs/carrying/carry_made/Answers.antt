@@ -3,10 +3,10 @@ use Rattle.std.specs.Prelude.{Result}
 use Rattle.unit_defs.specs.CpRecords.{Row}
 use Rattle.unit_defs.specs.CuCp.{by_row}
 use Rattle.unit_octet_defs.specs.Codec.{octet_way}
-use Rattle.unit_steps.specs.Steps.{step_after, IsStep}
-use Rattle.unit_steps.specs.declared.StepError.{StepError}
-use Rattle.control_says.specs.declared.row.Row.{Row as MadeRow}
-use Rattle.control_says.specs.Rows.{RowGives}
+use Rattle.control_steps.specs.unit_steps.Steps.{step_after, IsStep}
+use Rattle.control_steps.specs.unit_steps.declared.StepError.{StepError}
+use Rattle.control_steps.specs.control_says.declared.row.Row.{Row as MadeRow}
+use Rattle.control_steps.specs.control_says.Rows.{RowGives}
 use Rattle.cu_control.proofs.RowSteps.{row_stops}
 use Rattle.cu_control.proofs.carrying.carry_made.Goals as goal
 

@@ -2,7 +2,7 @@ use Rattle.std.proofs.Common.{ℕ, List, subst}
 use Rattle.unit_defs.specs.CpRecords.{Row}
 use Rattle.unit_defs.specs.CuCp.{expired_on}
 use Rattle.unit_octet_defs.specs.Codec.{octet_way}
-use Rattle.control_says.specs.Rows.{RowGives}
+use Rattle.control_steps.specs.control_says.Rows.{RowGives}
 use Rattle.cu_control.proofs.ticks.expired.Goals as goal
 
 pub returns : goal.returns

@@ -3,7 +3,7 @@ use Rattle.aper_defs.specs.Values.{message}
 use Rattle.aper_defs.specs.Membership.{Has}
 use Rattle.aper_values.specs.declared.value.Value.{the_lemmas}
 use Rattle.aper_values.specs.Views.{view}
-use Rattle.profile_defs.specs.Profile.{e1_type}
+use Rattle.message_defs.specs.profile_defs.Profile.{e1_type}
 use Rattle.message_values.specs.Fitting.{AreFitting}
 use Rattle.e1_messages.proofs.Fits.{fits}
 use Rattle.e1_messages.proofs.hearing.heard.Goals as goal

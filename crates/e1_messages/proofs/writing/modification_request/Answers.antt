@@ -3,7 +3,7 @@ use Rattle.std.specs.Prelude.{Result, Ok, IfOk}
 use Rattle.std.specs.Option.{option_map}
 use Rattle.aper_values.specs.Views.{view}
 use Rattle.aper_defs.specs.Values.{Value, no_ies, no_options}
-use Rattle.profile_defs.specs.Elements as ies
+use Rattle.message_defs.specs.profile_defs.Elements as ies
 use Rattle.message_defs.specs.E1.{written_e1}
 use Rattle.message_defs.specs.Places.{put_element}
 use Rattle.message_values.specs.declared.elements.ElementName.TheVariants as names

@@ -5,9 +5,9 @@ use Rattle.aper_defs.specs.Values.{Value}
 use Rattle.aper_defs.specs.Bits.{octet_count}
 use Rattle.aper_defs.specs.Membership.{Has}
 use Rattle.aper_defs.specs.Spelling.{Spells, spelling_limit, whole_layout}
-use Rattle.aper_types.specs.Types.{tree}
+use Rattle.profile_types.specs.aper_types.Types.{tree}
 use Rattle.aper_values.specs.Views.{view}
-use Rattle.profile_defs.specs.Profile.{f1_type}
+use Rattle.message_defs.specs.profile_defs.Profile.{f1_type}
 use Rattle.message_defs.specs.F1.{written_f1}
 use Rattle.f1_messages.proofs.octets.to_bytes.Goals as goal
 

@@ -1,5 +1,5 @@
 use Rattle.std.proofs.Common.{◌+◌, drop, List, Bool, ap, ◌∙◌}
-use Rattle.json_defs.specs.Members.{read_bits}
+use Rattle.json_proof_values.specs.json_defs.Members.{read_bits}
 use Rattle.json_members.proofs.Words.{bits_then, bits_turn, bits_stop}
 use Rattle.json_members.proofs.kinds.read_bits.Goals as goal
 

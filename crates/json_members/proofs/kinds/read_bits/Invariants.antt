@@ -1,5 +1,5 @@
 use Rattle.std.proofs.Common.{◌≡◌, drop}
-use Rattle.json_defs.specs.Members.{read_bits}
+use Rattle.json_proof_values.specs.json_defs.Members.{read_bits}
 use Rattle.json_members.proofs.Words.{bits_then}
 use Rattle.json_members.proofs.kinds.read_bits.Given as goal
 

@@ -1,6 +1,6 @@
 use Rattle.std.proofs.Common.{◌≡◌, [], ◌∷◌}
 use Rattle.serde_json.specs.View.{members_view}
-use Rattle.json_defs.specs.Members.{are_keys_among, criticality_key}
+use Rattle.json_proof_values.specs.json_defs.Members.{are_keys_among, criticality_key}
 use Rattle.json_members.proofs.members.are_body_keys.Given as goal
 
 abbrev pub invariant-loop-name : goal.invariant-loop-name

@@ -1,8 +1,8 @@
 use Rattle.std.proofs.Common.{◌≡◌, ℕ}
 use Rattle.serde_json.specs.View.{members_view}
-use Rattle.json_defs.specs.Named.{Named}
-use Rattle.json_defs.specs.Members.{are_keys_among}
-use Rattle.json_defs.specs.Shown.{keys_of}
+use Rattle.json_proof_values.specs.json_defs.Named.{Named}
+use Rattle.json_proof_values.specs.json_defs.Members.{are_keys_among}
+use Rattle.json_proof_values.specs.json_defs.Shown.{keys_of}
 use Rattle.json_type_defs.specs.Types.{parts_with}
 use Rattle.json_members.proofs.members.are_keys.Given as goal
 

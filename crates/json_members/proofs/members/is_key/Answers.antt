@@ -1,6 +1,6 @@
 use Rattle.std.proofs.Common.{Bool, sym, ap, ◌∙◌}
-use Rattle.json_defs.specs.Members.{dots, is_among}
-use Rattle.json_defs.specs.Shown.{names_of, keys_of}
+use Rattle.json_proof_values.specs.json_defs.Members.{dots, is_among}
+use Rattle.json_proof_values.specs.json_defs.Shown.{names_of, keys_of}
 use Rattle.json_type_defs.specs.Types.{parts_with}
 use Rattle.json_members.proofs.Words.{among_others}
 use Rattle.json_members.proofs.members.is_key.Goals as goal

@@ -1,7 +1,7 @@
 use Rattle.std.proofs.Common.{◌≡◌, ℕ, drop}
-use Rattle.json_defs.specs.Named.{Named}
-use Rattle.json_defs.specs.Members.{is_among}
-use Rattle.json_defs.specs.Shown.{names_of}
+use Rattle.json_proof_values.specs.json_defs.Named.{Named}
+use Rattle.json_proof_values.specs.json_defs.Members.{is_among}
+use Rattle.json_proof_values.specs.json_defs.Shown.{names_of}
 use Rattle.json_type_defs.specs.Types.{parts_with}
 use Rattle.json_members.proofs.members.is_part.Given as goal
 

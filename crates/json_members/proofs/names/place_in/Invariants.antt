@@ -1,5 +1,5 @@
 use Rattle.std.proofs.Common.{◌≡◌, drop}
-use Rattle.json_defs.specs.Members.{place_in}
+use Rattle.json_proof_values.specs.json_defs.Members.{place_in}
 use Rattle.json_members.proofs.names.place_in.Given as goal
 
 abbrev pub invariant-loop-i : goal.invariant-loop-i

@@ -1,6 +1,6 @@
 use Rattle.std.proofs.Common.{List, length, refl, sym, ap, ◌∙◌}
 use Rattle.asn1_types.specs.Members.{additions_of}
-use Rattle.json_defs.specs.Members.{Text, place_in}
+use Rattle.json_proof_values.specs.json_defs.Members.{Text, place_in}
 use Rattle.json_members.proofs.Places.{in_root, in_additions, in_neither}
 use Rattle.json_members.proofs.names.place_of.Goals as goal
 

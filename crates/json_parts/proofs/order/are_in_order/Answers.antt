@@ -1,6 +1,6 @@
 use Rattle.std.proofs.Common.{◌≡◌, is_some, sym, ap, ◌∙◌}
 use Rattle.aper_defs.specs.Trees.{slots, has_slot}
-use Rattle.aper_types.specs.Types.{rows_of}
+use Rattle.aper_measuring.specs.aper_types.Types.{rows_of}
 use Rattle.aper_measuring.proofs.OrderLemmas.{known_row}
 use Rattle.json_parts.proofs.Turns.{order_turn, order_wrong, order_end}
 use Rattle.json_parts.proofs.order.are_in_order.Goals as goal

@@ -1,6 +1,6 @@
 use Rattle.std.proofs.Common.{◌≡◌, ℕ, drop}
 use Rattle.aper_defs.specs.Trees.{Tree, slots}
-use Rattle.aper_types.specs.Types.{rows_of}
+use Rattle.aper_measuring.specs.aper_types.Types.{rows_of}
 use Rattle.json_parts.specs.Order.{are_ids_in_order, ids_of}
 use Rattle.json_parts.proofs.order.are_in_order.Given as goal
 

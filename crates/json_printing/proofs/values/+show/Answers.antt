@@ -24,7 +24,7 @@ use Rattle.aper_members.proofs.RowLemmas.{body_below}
 use Rattle.json_defs.specs.Named.{Named, NamedParts, choice}
 use Rattle.json_defs.specs.Members.{dots, code_key, outcomes}
 use Rattle.json_shown_defs.specs.Printed.{shown_as, items_shown, elements_shown, components_shown, added_shown, row_shown, contents_shown, one_member, body_shown, name_at}
-use Rattle.json_type_defs.specs.Types.{named, parts_with, rows_with, procedures_with}
+use Rattle.json_types.specs.json_type_defs.Types.{named, parts_with, rows_with, procedures_with}
 use Rattle.json_proof_values.proofs.Words.{is_less}
 use Rattle.json_pieces.specs.Bodies.{contents_as}
 use Rattle.json_printing.specs.Inside.{inside_shown}

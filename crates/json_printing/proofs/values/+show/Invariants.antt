@@ -2,7 +2,7 @@ use Rattle.std.proofs.Common.{◌≡◌, ◌≤◌, drop, length}
 use Rattle.serde_json.specs.View.{items_view, members_view}
 use Rattle.aper_values.specs.Views.{values_view, options_view, ies_view}
 use Rattle.json_shown_defs.specs.Printed.{shown_as, items_shown, elements_shown, components_shown, added_shown, row_shown}
-use Rattle.json_type_defs.specs.Types.{named, parts_with, rows_with}
+use Rattle.json_types.specs.json_type_defs.Types.{named, parts_with, rows_with}
 use Rattle.json_printing.proofs.Turns.{items_then}
 use Rattle.json_printing.proofs.values.+show.Given as goal
 

@@ -18,12 +18,12 @@ use Rattle.aper_defs.specs.Fields as ways
 use Rattle.aper_defs.specs.Trees.{Tree, slots}
 use Rattle.aper_defs.specs.Values as seen
 use Rattle.aper_defs.specs.Membership.{is_count_of}
-use Rattle.aper_members.specs.Rows.{row_type, message_type}
-use Rattle.aper_members.proofs.Turns.{below_at, item_at}
-use Rattle.aper_members.proofs.RowLemmas.{body_below}
-use Rattle.aper_members.proofs.MessageLemmas.{messages_below}
-use Rattle.aper_types.specs.Types as types
-use Rattle.aper_types.specs.Types.{tree, is_extensible}
+use Rattle.json_proof_reading.specs.aper_members.Rows.{row_type, message_type}
+use Rattle.json_proof_reading.proofs.aper_members.Turns.{below_at, item_at}
+use Rattle.json_proof_reading.proofs.aper_members.RowLemmas.{body_below}
+use Rattle.json_proof_reading.proofs.aper_members.MessageLemmas.{messages_below}
+use Rattle.json_proof_reading.specs.aper_types.Types as types
+use Rattle.json_proof_reading.specs.aper_types.Types.{tree, is_extensible}
 use Rattle.aper_values.specs.declared.value.Value.{Value, the_lemmas}
 use Rattle.aper_values.specs.declared.value.Value.TheVariants as values
 use Rattle.aper_values.specs.declared.value.Element.{Element}
@@ -34,21 +34,21 @@ use Rattle.json_defs.specs.Members.{Text, is_null, are_keys_among, has_member, m
 use Rattle.json_defs.specs.Shown.{element_keys, body_keys}
 use Rattle.json_defs.specs.Readings.{first_of, read_if, past_in, past_raw_in, value_of}
 use Rattle.json_defs.specs.Demands.{first_fault, shape, range, fits_open, past_demands, only_member, demands, component_demands}
-use Rattle.json_type_defs.specs.Types.{named, parts_with, rows_with, procedures_with}
-use Rattle.json_types.specs.Forms.{form_named, sequence_named, choice_named}
+use Rattle.json_proof_reading.specs.json_type_defs.Types.{named, parts_with, rows_with, procedures_with}
+use Rattle.json_proof_reading.specs.json_types.Forms.{form_named, sequence_named, choice_named}
 use Rattle.json_defs.specs.Readings.{raw_in}
 use Rattle.json_defs.specs.Demands.{Demand, raw_demands, any_told, are_in_order}
 use Rattle.json_defs.specs.Members.{item_count}
-use Rattle.json_simple.specs.declared.refusal.Refusal.{Refusal}
-use Rattle.json_simple.specs.Answers.{Tells}
-use Rattle.json_parts.specs.Order.{are_ids_in_order, ids_of}
-use Rattle.json_wholes.specs.declared.heads.ElementHead.{ElementHead}
-use Rattle.json_wholes.specs.declared.wholes.Additions.{Additions}
-use Rattle.json_wholes.specs.declared.heads.BodyHead.{BodyHead}
-use Rattle.json_wholes.specs.Reads.{ReadsAs, ReadsAdditions, HasAsked, unfit_at}
-use Rattle.json_wholes.proofs.Demanded.{one_none, told_first, told_same, reads_same}
-use Rattle.json_wholes.proofs.Puts.{mapped, values_end, options_end, ies_end}
-use Rattle.json_wholes.proofs.Passed.{here_told, null_is}
+use Rattle.json_proof_reading.specs.json_simple.declared.refusal.Refusal.{Refusal}
+use Rattle.json_proof_reading.specs.json_simple.Answers.{Tells}
+use Rattle.json_proof_reading.specs.json_parts.Order.{are_ids_in_order, ids_of}
+use Rattle.json_proof_reading.specs.json_wholes.declared.heads.ElementHead.{ElementHead}
+use Rattle.json_proof_reading.specs.json_wholes.declared.wholes.Additions.{Additions}
+use Rattle.json_proof_reading.specs.json_wholes.declared.heads.BodyHead.{BodyHead}
+use Rattle.json_proof_reading.specs.json_wholes.Reads.{ReadsAs, ReadsAdditions, HasAsked, unfit_at}
+use Rattle.json_proof_reading.proofs.json_wholes.Demanded.{one_none, told_first, told_same, reads_same}
+use Rattle.json_proof_reading.proofs.json_wholes.Puts.{mapped, values_end, options_end, ies_end}
+use Rattle.json_proof_reading.proofs.json_wholes.Passed.{here_told, null_is}
 use Rattle.json_proof_values.proofs.Words.{below, is_less}
 use Rattle.json_proof_reading.specs.Inside.{listed, opened, added, contents_demands, contents_read}
 use Rattle.json_proof_reading.proofs.Weights.{weight, members_weight, member_light, item_light, outcome_light, additions_light, array_weight, object_weight, seen_array, seen_object}

@@ -2,9 +2,9 @@ use Rattle.std.proofs.Common.{◌≡◌, ◌+◌, ◌*◌, ◌++◌, [], Result,
 use Rattle.serde_json.specs.View.{view as json, items_view, members_view}
 use Rattle.aper_values.specs.declared.value.Value.{Value}
 use Rattle.aper_values.specs.Views.{view, element_view}
-use Rattle.json_simple.specs.declared.refusal.Refusal.{Refusal}
-use Rattle.json_type_defs.specs.Types.{named}
-use Rattle.json_wholes.specs.declared.wholes.Additions.{Additions}
+use Rattle.json_proof_reading.specs.json_simple.declared.refusal.Refusal.{Refusal}
+use Rattle.json_proof_reading.specs.json_type_defs.Types.{named}
+use Rattle.json_proof_reading.specs.json_wholes.declared.wholes.Additions.{Additions}
 use Rattle.json_proof_reading.proofs.Weights.{weight, members_weight}
 use Rattle.json_proof_reading.proofs.Lists.{Left, member_asked, list_tail, IsList}
 use Rattle.json_proof_reading.proofs.Components.{OptValues, ComponentsLeft}

@@ -1,5 +1,5 @@
 use Rattle.std.proofs.Common.{◌∙◌}
-use Rattle.json_type_defs.specs.Types.{named}
+use Rattle.json_proof_types.specs.json_type_defs.Types.{named}
 use Rattle.json_proof_types.proofs.Unfolded.{named_is}
 use Rattle.json_types.proofs.form.form_of.Goals as goal
 

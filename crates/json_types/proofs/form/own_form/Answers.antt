@@ -1,7 +1,7 @@
 use Rattle.std.proofs.Common.{◌∙◌, sym, ap, length, rules}
 use mir.Syntax.{w128}
 use mir.Val.{SFits}
-use Rattle.json_type_defs.specs.Types.{definition_with}
+use Rattle.json_proof_types.specs.json_type_defs.Types.{definition_with}
 use Rattle.json_types.proofs.Follow.{integer_shown, container_shown, pdu_shown, sequence_inside, choice_inside}
 use Rattle.json_types.proofs.form.own_form.Goals as goal
 

@@ -1,6 +1,6 @@
 use Rattle.std.proofs.Common.{◌≡◌, ◌<◌, length}
-use Rattle.asn1_proof_ranks.proofs.Ranks.{rank}
-use Rattle.json_type_defs.specs.Types.{named}
+use Rattle.json_proof_types.proofs.asn1_proof_ranks.Ranks.{rank}
+use Rattle.json_proof_types.specs.json_type_defs.Types.{named}
 use Rattle.json_types.proofs.form.resolved.Given as goal
 
 abbrev pub invariant-loop-next : goal.invariant-loop-next

@@ -1,6 +1,6 @@
 use Rattle.std.proofs.Common.{◌≡◌, [], ◌∷◌, Option, sym, ap, ◌∙◌}
-use Rattle.aper_frames.specs.declared.path.Step.{Step}
-use Rattle.aper_frames.specs.Paths.{step_view}
+use Rattle.json_simple.specs.aper_frames.declared.path.Step.{Step}
+use Rattle.json_simple.specs.aper_frames.Paths.{step_view}
 use Rattle.json_defs.specs.declared.fault.JsonFault.TheVariants.{Range}
 use Rattle.json_defs.specs.Readings.{first_of}
 use Rattle.json_defs.specs.Demands.{range, first_fault}

@@ -1,8 +1,8 @@
 use Rattle.std.proofs.Common.{◌≡◌, List, [], ◌∷◌, ◌++◌, Bool, false, Result, Err, sym, ap, subst, ◌∙◌}
 use Rattle.std.proofs.lemmas.Result.{err_from_is_err_and}
 use Rattle.serde_json.specs.Data.{Data}
-use Rattle.aper_frames.specs.Paths.{step_put}
-use Rattle.aper_types.specs.Types.{tree}
+use Rattle.json_simple.specs.aper_frames.Paths.{step_put}
+use Rattle.aper_value_checks.specs.aper_types.Types.{tree}
 use Rattle.aper_defs.specs.Fields.{Path}
 use Rattle.aper_defs.specs.Values.{Value as SeenValue}
 use Rattle.aper_values.specs.declared.value.Value.{Value}
@@ -14,7 +14,7 @@ use Rattle.json_defs.specs.declared.fault.JsonFault.TheVariants.{Range}
 use Rattle.json_defs.specs.Named.{Named}
 use Rattle.json_defs.specs.Readings.{value_of}
 use Rattle.json_defs.specs.Demands.{range, fits_open}
-use Rattle.json_type_defs.specs.Types.{named}
+use Rattle.json_proof_modules.specs.json_type_defs.Types.{named}
 use Rattle.json_wholes.specs.Reads.{HasAsked}
 use Rattle.json_wholes.proofs.Demanded.{one_none, told_same}
 use Rattle.json_wholes.proofs.Passed.{was_read, passed, refused_first, refused_later}

@@ -1,5 +1,5 @@
 use Rattle.std.proofs.Common.{◌∷◌, Result, Ok, subst}
-use Rattle.aper_frames.specs.Paths.{step_view}
+use Rattle.json_simple.specs.aper_frames.Paths.{step_view}
 use Rattle.aper_defs.specs.Fields.{Path}
 use Rattle.aper_defs.specs.Values.{Value as SeenValue}
 use Rattle.aper_values.specs.declared.value.Value.{Value}

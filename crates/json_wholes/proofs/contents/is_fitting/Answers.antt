@@ -1,11 +1,11 @@
 use Rattle.std.proofs.Common.{◌≡◌, Result, Bool, true, sym, subst}
 use Rattle.std.specs.Prelude.{IfOk}
-use Rattle.aper_types.specs.Types.{tree}
+use Rattle.aper_value_checks.specs.aper_types.Types.{tree}
 use Rattle.aper_values.specs.declared.value.Value.{Value}
 use Rattle.aper_values.specs.Views.{view}
 use Rattle.json_defs.specs.Readings.{value_of}
 use Rattle.json_defs.specs.Demands.{fits_open}
-use Rattle.json_type_defs.specs.Types.{named}
+use Rattle.json_proof_modules.specs.json_type_defs.Types.{named}
 use Rattle.json_simple.specs.declared.refusal.Refusal.{Refusal}
 use Rattle.json_wholes.specs.Reads.{HasAsked}
 use Rattle.json_wholes.proofs.contents.is_fitting.Goals as goal

@@ -2,8 +2,8 @@ use Rattle.std.proofs.Common.{rules, ◌≡◌, ℕ, List, [], ◌∷◌, ◌++�
 use Rattle.std.proofs.lemmas.Result.{err_from_is_err_and}
 use Rattle.serde_json.specs.Data.{Members}
 use Rattle.serde_json.specs.View.{members_view}
-use Rattle.aper_frames.specs.declared.path.Step.{Step}
-use Rattle.aper_frames.specs.Paths.{step_view}
+use Rattle.json_simple.specs.aper_frames.declared.path.Step.{Step}
+use Rattle.json_simple.specs.aper_frames.Paths.{step_view}
 use Rattle.aper_values.specs.Views.{options_view}
 use Rattle.aper_defs.specs.Values.{Options, components}
 use Rattle.aper_defs.specs.Fields.{Path}
@@ -21,7 +21,7 @@ use Rattle.json_defs.specs.Members.{are_keys_among}
 use Rattle.json_defs.specs.Named.{Named}
 use Rattle.json_defs.specs.Shown.{keys_of}
 use Rattle.json_defs.specs.Demands.{shape, range, first_fault}
-use Rattle.json_type_defs.specs.Types.{parts_with}
+use Rattle.json_proof_modules.specs.json_type_defs.Types.{parts_with}
 use Rattle.json_wholes.specs.declared.wholes.Additions.{Additions}
 use Rattle.json_wholes.specs.Reads.{ReadsAdditions, unfit_at}
 use Rattle.json_wholes.proofs.Demanded.{NoneFails, both_none, one_none, told_first, told_later}

@@ -5,12 +5,12 @@ use Rattle.aper_defs.specs.Values.{Value}
 use Rattle.aper_defs.specs.Bits.{octet_count}
 use Rattle.aper_defs.specs.Membership.{Has}
 use Rattle.aper_defs.specs.Spelling.{Spells, spelling_limit, whole_layout}
-use Rattle.aper_types.specs.Types.{tree}
+use Rattle.profile_xn.specs.aper_types.Types.{tree}
 use Rattle.aper_values.specs.Views.{view}
 use Rattle.profile.specs.Versions.{number_of}
-use Rattle.profile_defs.specs.Profile.{xn_type}
+use Rattle.message_proof_refusals.specs.profile_defs.Profile.{xn_type}
 use Rattle.profile_xn.proofs.Spellings.{spells, is_short}
-use Rattle.message_defs.specs.Xn.{written_xn}
+use Rattle.xn_messages.specs.message_defs.Xn.{written_xn}
 use Rattle.message_octets.proofs.xn_octets.to_bytes.Goals as goal
 
 pub encode-octets-requires : goal.encode-octets-requires

@@ -3,7 +3,7 @@ use Rattle.aper_defs.specs.Values.{chosen}
 use Rattle.aper_defs.specs.Membership.{Has}
 use Rattle.aper_values.specs.declared.value.Value.{the_lemmas}
 use Rattle.aper_values.specs.Views.{view}
-use Rattle.profile_defs.specs.Profile.{token_type}
+use Rattle.message_defs.specs.profile_defs.Profile.{token_type}
 use Rattle.rrc_tokens.proofs.Fits.{fits}
 use Rattle.rrc_tokens.proofs.hearing.heard.Goals as goal
 

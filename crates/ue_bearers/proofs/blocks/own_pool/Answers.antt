@@ -1,7 +1,7 @@
 use Rattle.std.proofs.Common.{ap, ◌∙◌, Err}
 use Rattle.gnb_types.specs.Orders.{entity_cmp}
-use Rattle.tables.specs.Tables.{find}
-use Rattle.pool_defs.specs.Pools.{PoolState}
+use Rattle.pdcp_entities.specs.tables.Tables.{find}
+use Rattle.pdcp_entities.specs.pool_defs.Pools.{PoolState}
 use Rattle.ue_bearers.proofs.RefLemmas.{all_for_one}
 use Rattle.ue_bearers.proofs.blocks.own_pool.Goals as goal
 

@@ -1,7 +1,7 @@
 use Rattle.std.proofs.Common.{◌≡◌}
 use Rattle.unit_defs.specs.Ue.{UeNode, connect_each}
-use Rattle.unit_octet_defs.specs.Codec.{Codec, octet_way}
-use Rattle.unit_steps.specs.Steps.{step_after}
+use Rattle.unit_messages.specs.unit_octet_defs.Codec.{Codec, octet_way}
+use Rattle.ue_packets.specs.unit_steps.Steps.{step_after}
 use Rattle.ue_rows.specs.Records.{numbered, ArePlanned, IsTerminalOf}
 use Rattle.ue_rows.proofs.RowSteps.{connecting}
 use Rattle.ue_rows.proofs.access.connect_each.Given as goal

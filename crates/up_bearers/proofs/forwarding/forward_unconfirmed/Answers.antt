@@ -1,8 +1,8 @@
 use Rattle.std.proofs.Common.{ℕ, List, ◌++◌, sym, ap, ◌∙◌}
 use Rattle.gnb_types.specs.declared.names.Dir.TheVariants.{Dl}
 use Rattle.gnb_types.specs.declared.outputs.Output.{Output}
-use Rattle.unit_steps.specs.Steps.{stepped}
-use Rattle.ue_bearers.specs.Uplinks.{from_on}
+use Rattle.up_downlink.specs.unit_steps.Steps.{stepped}
+use Rattle.up_downlink.specs.ue_bearers.Uplinks.{from_on}
 use Rattle.up_downlink.proofs.Resends.{all_from}
 use Rattle.up_bearers.proofs.Forwards.{counted_outputs, counted_none, downs}
 use Rattle.up_bearers.proofs.forwarding.forward_unconfirmed.Goals as goal

@@ -1,7 +1,7 @@
 use Rattle.std.proofs.Common.{List, sym, ap, ◌∙◌}
 use Rattle.std.specs.VecDeque.Iter.{deque_iter_rest}
 use Rattle.gnb_types.specs.declared.outputs.Output.{Output}
-use Rattle.unit_steps.specs.Steps.{stepped}
+use Rattle.up_downlink.specs.unit_steps.Steps.{stepped}
 use Rattle.up_bearers.proofs.Forwards.{fresh_none, waiting}
 use Rattle.up_bearers.proofs.forwarding.forward_waiting.Goals as goal
 

@@ -1,7 +1,7 @@
 use Rattle.std.proofs.Common.{◌≡◌, ◌++◌}
 use Rattle.std.specs.List.{AllByRecursion}
 use Rattle.std.specs.VecDeque.Iter.{deque_iter_rest}
-use Rattle.ue_bearers.specs.Uplinks.{IsPacket}
+use Rattle.up_downlink.specs.ue_bearers.Uplinks.{IsPacket}
 use Rattle.up_bearers.proofs.Forwards.{fresh_outputs}
 use Rattle.up_bearers.proofs.forwarding.forward_waiting.Given as goal
 

@@ -1,6 +1,6 @@
 use Rattle.std.proofs.Common.{◌≡◌, ◌++◌, length}
 use Rattle.gnb_types.specs.declared.names.Dir.TheVariants.{Ul}
-use Rattle.ue_bearers.specs.Uplinks.{from_on}
+use Rattle.up_downlink.specs.ue_bearers.Uplinks.{from_on}
 use Rattle.up_bearers.proofs.Forwards.{counted_outputs}
 use Rattle.up_bearers.proofs.late.forward_stored.Given as goal
 

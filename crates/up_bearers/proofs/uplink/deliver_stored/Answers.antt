@@ -1,11 +1,11 @@
 use Rattle.std.proofs.Common.{List, sym, ap, ◌∙◌}
 use Rattle.gnb_types.specs.declared.outputs.Output.{Output}
-use Rattle.pdcp_defs.specs.Receivers.{deliver as handed_up}
+use Rattle.unit_defs.specs.pdcp_defs.Receivers.{deliver as handed_up}
 use Rattle.unit_defs.specs.UpRecords.{UpBearer}
-use Rattle.unit_octet_defs.specs.Units.{OctetAnswer}
-use Rattle.unit_steps.specs.Steps.{step_after, stepped}
-use Rattle.ue_bearers.specs.Downlinks.{DownlinkState}
-use Rattle.ue_bearers.specs.Uplinks.{IsPacket}
+use Rattle.up_downlink.specs.unit_octet_defs.Units.{OctetAnswer}
+use Rattle.up_downlink.specs.unit_steps.Steps.{step_after, stepped}
+use Rattle.up_downlink.specs.ue_bearers.Downlinks.{DownlinkState}
+use Rattle.up_downlink.specs.ue_bearers.Uplinks.{IsPacket}
 use Rattle.up_bearers.specs.Bearers.{with_receiver}
 use Rattle.up_bearers.proofs.Deliveries.{handing, delivers, delivers_one, delivers_none, delivered_facts, not_delivered, all_kept}
 use Rattle.up_bearers.proofs.uplink.deliver_stored.Goals as goal

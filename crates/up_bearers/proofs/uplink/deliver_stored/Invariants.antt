@@ -1,8 +1,8 @@
 use Rattle.std.proofs.Common.{◌≡◌, length}
-use Rattle.pdcp_defs.specs.Receivers.{deliver}
+use Rattle.unit_defs.specs.pdcp_defs.Receivers.{deliver}
 use Rattle.unit_defs.specs.UpRecords.{UpBearer}
-use Rattle.unit_octet_defs.specs.Codec.{Codec}
-use Rattle.unit_steps.specs.Steps.{step_after}
+use Rattle.up_downlink.specs.unit_octet_defs.Codec.{Codec}
+use Rattle.up_downlink.specs.unit_steps.Steps.{step_after}
 use Rattle.up_bearers.specs.Bearers.{with_receiver, IsUp}
 use Rattle.up_bearers.proofs.Deliveries.{handing}
 use Rattle.up_bearers.proofs.uplink.deliver_stored.Given as goal

@@ -1,10 +1,10 @@
 use Rattle.std.proofs.Common.{ℕ, List, Option, None, sym, ap, ◌∙◌}
 use Rattle.gnb_types.specs.declared.outputs.Output.{Output}
-use Rattle.unit_defs.specs.UpItems.{closed_n3}
-use Rattle.unit_octet_defs.specs.Codec.{octet_way}
-use Rattle.unit_steps.specs.Steps.{step_after, stepped}
-use Rattle.up_downlink.proofs.Sequels.{nothing_more}
-use Rattle.up_bearers.specs.Bearers.{kept}
+use Rattle.up_packets.specs.unit_defs.UpItems.{closed_n3}
+use Rattle.up_packets.specs.unit_octet_defs.Codec.{octet_way}
+use Rattle.up_packets.specs.unit_steps.Steps.{step_after, stepped}
+use Rattle.up_packets.proofs.up_downlink.Sequels.{nothing_more}
+use Rattle.up_packets.specs.up_bearers.Bearers.{kept}
 use Rattle.up_ends.proofs.ending.close_n3.Goals as goal
 
 pub returns-in_default-clause-step : goal.returns-in_default-clause-step

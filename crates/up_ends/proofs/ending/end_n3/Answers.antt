@@ -1,11 +1,11 @@
 use Rattle.std.proofs.Common.{Option, ap, ◌∙◌}
-use Rattle.unit_defs.specs.UpRecords.{UpBearer}
-use Rattle.unit_octet_defs.specs.Units.{OctetAnswer}
-use Rattle.unit_steps.specs.Steps.{step_after}
-use Rattle.up_tunnels.specs.declared.hop.Hop.{Hop}
-use Rattle.up_tunnels.specs.Tunnels.{hop_as}
-use Rattle.up_downlink.proofs.Sequels.{step_as, goes_on, ends_with}
-use Rattle.up_bearers.specs.Bearers.{kept}
+use Rattle.up_packets.specs.unit_defs.UpRecords.{UpBearer}
+use Rattle.up_packets.specs.unit_octet_defs.Units.{OctetAnswer}
+use Rattle.up_packets.specs.unit_steps.Steps.{step_after}
+use Rattle.up_packets.specs.up_tunnels.declared.hop.Hop.{Hop}
+use Rattle.up_packets.specs.up_tunnels.Tunnels.{hop_as}
+use Rattle.up_packets.proofs.up_downlink.Sequels.{step_as, goes_on, ends_with}
+use Rattle.up_packets.specs.up_bearers.Bearers.{kept}
 use Rattle.up_ends.proofs.Ends.{ends_nothing, ends_one, marker, closes}
 use Rattle.up_ends.proofs.ending.end_n3.Goals as goal
 

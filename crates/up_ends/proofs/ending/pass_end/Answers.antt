@@ -1,6 +1,6 @@
 use Rattle.std.proofs.Common.{Some, refl}
 use Rattle.gnb_types.specs.declared.outputs.Tag.TheVariants.{Absent}
-use Rattle.unit_defs.specs.Ways.{end_marker}
+use Rattle.up_packets.specs.unit_defs.Ways.{end_marker}
 use Rattle.up_packets.proofs.Passes.{passes_one}
 use Rattle.up_ends.proofs.ending.pass_end.Goals as goal
 

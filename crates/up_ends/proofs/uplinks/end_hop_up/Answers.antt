@@ -1,9 +1,9 @@
 use Rattle.std.proofs.Common.{refl, sym, ap, ◌∙◌}
-use Rattle.unit_defs.specs.UpRecords.{UpBearer}
-use Rattle.unit_octet_defs.specs.Units.{OctetAnswer}
-use Rattle.unit_steps.specs.Steps.{step_after}
-use Rattle.up_downlink.proofs.Sequels.{step_as, nothing_more}
-use Rattle.up_bearers.specs.Bearers.{kept}
+use Rattle.up_packets.specs.unit_defs.UpRecords.{UpBearer}
+use Rattle.up_packets.specs.unit_octet_defs.Units.{OctetAnswer}
+use Rattle.up_packets.specs.unit_steps.Steps.{step_after}
+use Rattle.up_packets.proofs.up_downlink.Sequels.{step_as, nothing_more}
+use Rattle.up_packets.specs.up_bearers.Bearers.{kept}
 use Rattle.up_ends.proofs.UplinkEnds.{hop_none, hop_due, hop_waits, with_end}
 use Rattle.up_ends.proofs.uplinks.end_hop_up.Goals as goal
 

@@ -1,8 +1,8 @@
 use Rattle.std.proofs.Common.{◌==◌, ℕ, not, List, filter, sym, ap, ◌∙◌}
 use Rattle.gnb_types.specs.declared.outputs.Output.{Output}
-use Rattle.unit_steps.specs.Steps.{step_after}
-use Rattle.up_downlink.proofs.Sequels.{step_as}
-use Rattle.up_bearers.specs.Bearers.{kept}
+use Rattle.up_packets.specs.unit_steps.Steps.{step_after}
+use Rattle.up_packets.proofs.up_downlink.Sequels.{step_as}
+use Rattle.up_packets.specs.up_bearers.Bearers.{kept}
 use Rattle.up_ends.proofs.UplinkEnds.{hop_after, closes_uplink, others}
 use Rattle.up_ends.proofs.uplinks.end_uplink.Goals as goal
 

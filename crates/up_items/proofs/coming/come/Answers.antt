@@ -2,7 +2,7 @@ use Rattle.std.proofs.Common.{Option, Ok, false, refl, ap, ◌∙◌}
 use Rattle.std.specs.Option.{option_map}
 use Rattle.gnb_types.specs.declared.outputs.Output.TheVariants as outs
 use Rattle.gnb_types.specs.declared.reasons.DropReason.TheVariants.{Undecodable}
-use Rattle.up_bearers.specs.Bearers.{kept}
+use Rattle.up_uplinks.specs.up_bearers.Bearers.{kept}
 use Rattle.up_items.specs.Items.{item_as}
 use Rattle.up_items.specs.Coming.{stays}
 use Rattle.up_items.specs.declared.items.UpItem.{UpItem}

@@ -1,7 +1,7 @@
 use Rattle.std.proofs.Common.{Ok, true, false, refl, sym, ◌∙◌}
 use Rattle.gnb_types.specs.declared.outputs.Output.TheVariants as outs
-use Rattle.up_bearers.specs.Bearers.{kept}
-use Rattle.up_tunnels.specs.Tunnels.{at_as}
+use Rattle.up_uplinks.specs.up_bearers.Bearers.{kept}
+use Rattle.up_uplinks.specs.up_tunnels.Tunnels.{at_as}
 use Rattle.up_items.specs.Items.{kind_as}
 use Rattle.up_items.specs.Coming.{stays, takes, said}
 use Rattle.up_items.proofs.HeldTests.{held_unknown}

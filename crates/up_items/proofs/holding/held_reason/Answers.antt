@@ -1,8 +1,8 @@
 use Rattle.std.proofs.Common.{sym, ◌∙◌}
 use Rattle.unit_defs.specs.UpItems.{held_as_target, held_by_room, held_reason}
-use Rattle.unit_octet_defs.specs.Reading.{up_item, link_of}
-use Rattle.up_tunnels.specs.Tunnels.{at_as, flags_as}
-use Rattle.up_bearers.specs.Bearers.{kept}
+use Rattle.codec_defs.specs.unit_octet_defs.Reading.{up_item, link_of}
+use Rattle.up_uplinks.specs.up_tunnels.Tunnels.{at_as, flags_as}
+use Rattle.up_uplinks.specs.up_bearers.Bearers.{kept}
 use Rattle.up_items.specs.Items.{kind_as, item_as}
 use Rattle.up_items.proofs.HeldTests.{first_some, first_none}
 use Rattle.up_items.proofs.holding.held_reason.Goals as goal

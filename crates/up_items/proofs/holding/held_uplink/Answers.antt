@@ -1,8 +1,8 @@
 use Rattle.std.proofs.Common.{true, false, length, sym, ap, ◌∙◌}
 use Rattle.gnb_types.specs.declared.names.SnBits.{SnBits}
-use Rattle.pdcp_defs.specs.Counts.{near_count}
-use Rattle.up_tunnels.specs.Tunnels.{at_as}
-use Rattle.up_bearers.specs.Bearers.{kept}
+use Rattle.unit_defs.specs.pdcp_defs.Counts.{near_count}
+use Rattle.up_uplinks.specs.up_tunnels.Tunnels.{at_as}
+use Rattle.up_uplinks.specs.up_bearers.Bearers.{kept}
 use Rattle.up_items.proofs.HeldTests.{held_up_is, test_fails, sum_holds, sum_fails}
 use Rattle.up_items.proofs.holding.held_uplink.Goals as goal
 

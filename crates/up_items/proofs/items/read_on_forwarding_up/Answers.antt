@@ -1,5 +1,5 @@
 use Rattle.std.proofs.Common.{Some, sym, ap, subst, ◌∙◌}
-use Rattle.link_defs.specs.Decoding.{Item, forwarding_up}
+use Rattle.link_packets.specs.link_defs.Decoding.{Item, forwarding_up}
 use Rattle.link_packets.specs.declared.reading.Forwarded.{Forwarded}
 use Rattle.link_packets.specs.Items.{forwarded_item}
 use Rattle.up_items.specs.Items.{IsSizedItem}

@@ -1,6 +1,6 @@
 use Rattle.std.proofs.Common.{Some, sym, ap, subst, ◌∙◌}
 use Rattle.gnb_types.specs.declared.names.SnBits.TheVariants.{Len12}
-use Rattle.link_defs.specs.Decoding.{Item, n3}
+use Rattle.link_packets.specs.link_defs.Decoding.{Item, n3}
 use Rattle.link_packets.specs.declared.reading.N3.{N3}
 use Rattle.link_packets.specs.Items.{n3_item}
 use Rattle.up_items.specs.Items.{IsSizedItem}

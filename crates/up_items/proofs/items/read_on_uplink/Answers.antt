@@ -1,5 +1,5 @@
 use Rattle.std.proofs.Common.{Some, sym, ap, subst, ◌∙◌}
-use Rattle.link_defs.specs.Decoding.{Item, f1u_uplink}
+use Rattle.link_packets.specs.link_defs.Decoding.{Item, f1u_uplink}
 use Rattle.link_packets.specs.declared.reading.F1uUplink.{F1uUplink}
 use Rattle.link_packets.specs.Items.{uplink_item}
 use Rattle.up_items.specs.Items.{IsSizedItem}

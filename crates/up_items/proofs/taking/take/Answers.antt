@@ -1,10 +1,10 @@
 use Rattle.std.proofs.Common.{ap}
 use Rattle.unit_defs.specs.UpItems.{took}
-use Rattle.unit_octet_defs.specs.Codec.{octet_way}
-use Rattle.unit_steps.specs.Steps.{step_after}
-use Rattle.up_tunnels.specs.Tunnels.{at_as}
-use Rattle.up_downlink.proofs.Sequels.{step_as}
-use Rattle.up_bearers.specs.Bearers.{kept}
+use Rattle.codec_defs.specs.unit_octet_defs.Codec.{octet_way}
+use Rattle.up_uplinks.specs.unit_steps.Steps.{step_after}
+use Rattle.up_uplinks.specs.up_tunnels.Tunnels.{at_as}
+use Rattle.up_uplinks.proofs.up_downlink.Sequels.{step_as}
+use Rattle.up_uplinks.specs.up_bearers.Bearers.{kept}
 use Rattle.up_items.specs.Items.{kind_as}
 use Rattle.up_items.specs.Coming.{said}
 use Rattle.up_items.specs.declared.items.Kind.{Kind}

@@ -1,15 +1,15 @@
 use Rattle.std.proofs.Common.{ℕ, List, sym, ap, ◌∙◌}
 use Rattle.pdcp.specs.Pdus.{content_of}
-use Rattle.pdcp_defs.specs.Counts.{near_count}
+use Rattle.unit_defs.specs.pdcp_defs.Counts.{near_count}
 use Rattle.unit_defs.specs.Ways.{uplink_item}
 use Rattle.unit_defs.specs.UpRecords.{f1u_uplink}
 use Rattle.unit_defs.specs.UpItems.{took, took_delivery_status}
-use Rattle.unit_octet_defs.specs.Codec.{octet_way}
-use Rattle.unit_octet_defs.specs.Reading.{content_by, count_confirmed}
-use Rattle.unit_steps.specs.Steps.{step_after}
-use Rattle.up_tunnels.specs.Tunnels.{at_as}
-use Rattle.up_downlink.proofs.Sequels.{step_as}
-use Rattle.up_bearers.specs.Bearers.{kept}
+use Rattle.codec_defs.specs.unit_octet_defs.Codec.{octet_way}
+use Rattle.codec_defs.specs.unit_octet_defs.Reading.{content_by, count_confirmed}
+use Rattle.up_uplinks.specs.unit_steps.Steps.{step_after}
+use Rattle.up_uplinks.specs.up_tunnels.Tunnels.{at_as}
+use Rattle.up_uplinks.proofs.up_downlink.Sequels.{step_as}
+use Rattle.up_uplinks.specs.up_bearers.Bearers.{kept}
 use Rattle.up_items.specs.Coming.{said, held_of}
 use Rattle.up_items.specs.declared.items.Kind.TheVariants as kinds
 use Rattle.up_items.specs.declared.items.UpItem.{UpItem}

@@ -1,13 +1,13 @@
 use Rattle.std.proofs.Common.{List, ℕ, Option, refl, sym, ap, ◌∙◌, arith}
-use Rattle.pdcp_defs.specs.Counts.{near_count, count_below}
+use Rattle.unit_defs.specs.pdcp_defs.Counts.{near_count, count_below}
 use Rattle.unit_defs.specs.Ways.{fresh_item, numbered_item}
 use Rattle.unit_defs.specs.UpRecords.{forwarding_down}
 use Rattle.unit_defs.specs.UpItems.{took, took_fresh, took_numbered}
-use Rattle.unit_octet_defs.specs.Codec.{octet_way}
-use Rattle.unit_steps.specs.Steps.{step_after}
-use Rattle.up_tunnels.specs.Tunnels.{at_as}
-use Rattle.up_downlink.proofs.Sequels.{step_as}
-use Rattle.up_bearers.specs.Bearers.{kept}
+use Rattle.codec_defs.specs.unit_octet_defs.Codec.{octet_way}
+use Rattle.up_uplinks.specs.unit_steps.Steps.{step_after}
+use Rattle.up_uplinks.specs.up_tunnels.Tunnels.{at_as}
+use Rattle.up_uplinks.proofs.up_downlink.Sequels.{step_as}
+use Rattle.up_uplinks.specs.up_bearers.Bearers.{kept}
 use Rattle.up_items.specs.Coming.{said, held_of}
 use Rattle.up_items.specs.declared.items.Kind.TheVariants as kinds
 use Rattle.up_items.specs.declared.items.UpItem.{UpItem}

@@ -1,7 +1,7 @@
 use Rattle.std.proofs.Common.{ap, refl, ◌∙◌}
 use Rattle.unit_defs.specs.UpRecords.{UpBearer}
-use Rattle.unit_octet_defs.specs.Units.{OctetAnswer}
-use Rattle.unit_steps.specs.Steps.{step_after}
+use Rattle.up_bearers.specs.unit_octet_defs.Units.{OctetAnswer}
+use Rattle.up_bearers.specs.unit_steps.Steps.{step_after}
 use Rattle.up_orders.proofs.Orders.{freezes}
 use Rattle.up_orders.proofs.freezing.freeze.Goals as goal
 

@@ -2,10 +2,10 @@ use Rattle.std.proofs.Common.{◌∙◌}
 use Rattle.unit_defs.specs.Ways.{◌then◌}
 use Rattle.unit_defs.specs.UpRecords.{UpBearer}
 use Rattle.unit_defs.specs.UpBearers.{forward_numbered, forward_fresh, forward_late}
-use Rattle.unit_octet_defs.specs.Codec.{octet_way}
-use Rattle.unit_octet_defs.specs.Units.{OctetAnswer}
-use Rattle.unit_steps.proofs.StepLaws.{step_then}
-use Rattle.up_tunnels.specs.Tunnels.{at_as}
+use Rattle.up_bearers.specs.unit_octet_defs.Codec.{octet_way}
+use Rattle.up_bearers.specs.unit_octet_defs.Units.{OctetAnswer}
+use Rattle.up_bearers.proofs.unit_steps.StepLaws.{step_then}
+use Rattle.up_bearers.specs.up_tunnels.Tunnels.{at_as}
 use Rattle.up_bearers.specs.Bearers.{kept}
 use Rattle.up_orders.proofs.Orders.{on_ok}
 use Rattle.up_orders.proofs.freezing.give_all.Goals as goal

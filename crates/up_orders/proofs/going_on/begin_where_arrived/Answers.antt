@@ -1,12 +1,12 @@
 use Rattle.std.proofs.Common.{ap, ◌∙◌}
 use Rattle.unit_defs.specs.UpRecords.{UpBearer}
 use Rattle.unit_defs.specs.UpBearers.{begin_downlink, bits_in}
-use Rattle.unit_octet_defs.specs.Codec.{octet_way}
-use Rattle.unit_octet_defs.specs.Units.{OctetAnswer}
-use Rattle.unit_steps.specs.Steps.{step_after}
-use Rattle.up_tunnels.specs.Tunnels.{at_as}
+use Rattle.up_bearers.specs.unit_octet_defs.Codec.{octet_way}
+use Rattle.up_bearers.specs.unit_octet_defs.Units.{OctetAnswer}
+use Rattle.up_bearers.specs.unit_steps.Steps.{step_after}
+use Rattle.up_bearers.specs.up_tunnels.Tunnels.{at_as}
 use Rattle.up_bearers.specs.Bearers.{kept, with_receiver}
-use Rattle.up_downlink.proofs.Sequels.{step_as, goes_on, ends_with, nothing_more}
+use Rattle.up_bearers.proofs.up_downlink.Sequels.{step_as, goes_on, ends_with, nothing_more}
 use Rattle.up_orders.proofs.Orders.{delivering, arrives, arrives_not}
 use Rattle.up_orders.proofs.going_on.begin_where_arrived.Goals as goal
 

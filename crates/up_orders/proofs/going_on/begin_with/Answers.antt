@@ -1,9 +1,9 @@
 use Rattle.std.proofs.Common.{Bool, List, Option, sym, ap, ◌∙◌}
 use Rattle.unit_defs.specs.UpRecords.{UpBearer}
 use Rattle.unit_defs.specs.UpBearers.{bits_in}
-use Rattle.unit_steps.specs.Steps.{step_after}
-use Rattle.up_downlink.specs.Downlinks.{with_down}
-use Rattle.up_downlink.proofs.Sequels.{step_as}
+use Rattle.up_bearers.specs.unit_steps.Steps.{step_after}
+use Rattle.up_bearers.specs.up_downlink.Downlinks.{with_down}
+use Rattle.up_bearers.proofs.up_downlink.Sequels.{step_as}
 use Rattle.up_orders.proofs.Orders.{beginning}
 use Rattle.up_orders.proofs.going_on.begin_with.Goals as goal
 

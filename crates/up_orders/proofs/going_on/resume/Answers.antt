@@ -1,12 +1,12 @@
 use Rattle.std.proofs.Common.{◌≡◌, Ok, sym, ap, ◌∙◌, subst}
 use Rattle.unit_defs.specs.UpRecords.{UpBearer}
 use Rattle.unit_defs.specs.UpBearers.{thawed}
-use Rattle.unit_octet_defs.specs.Units.{OctetAnswer}
-use Rattle.unit_steps.specs.Steps.{step_after, IsStep}
-use Rattle.up_downlink.specs.Downlinks.{with_down}
+use Rattle.up_bearers.specs.unit_octet_defs.Units.{OctetAnswer}
+use Rattle.up_bearers.specs.unit_steps.Steps.{step_after, IsStep}
+use Rattle.up_bearers.specs.up_downlink.Downlinks.{with_down}
 use Rattle.up_bearers.specs.declared.bearer.Bearer.{Bearer}
 use Rattle.up_bearers.specs.Bearers.{kept, with_receiver}
-use Rattle.up_downlink.proofs.Sequels.{step_as}
+use Rattle.up_bearers.proofs.up_downlink.Sequels.{step_as}
 use Rattle.up_orders.proofs.Chains.{first_fails, second_fails, third_goes}
 use Rattle.up_orders.proofs.Orders.{owing_these, delivering, numbering, resumes}
 use Rattle.up_orders.proofs.going_on.resume.Goals as goal

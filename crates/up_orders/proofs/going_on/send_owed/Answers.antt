@@ -1,8 +1,8 @@
 use Rattle.std.proofs.Common.{ap}
 use Rattle.unit_defs.specs.UpRecords.{UpBearer}
-use Rattle.unit_octet_defs.specs.Units.{OctetAnswer}
-use Rattle.unit_steps.specs.Steps.{step_after}
-use Rattle.up_downlink.proofs.Sequels.{step_as}
+use Rattle.up_bearers.specs.unit_octet_defs.Units.{OctetAnswer}
+use Rattle.up_bearers.specs.unit_steps.Steps.{step_after}
+use Rattle.up_bearers.proofs.up_downlink.Sequels.{step_as}
 use Rattle.up_orders.proofs.Orders.{owes_all, owes_these}
 use Rattle.up_orders.proofs.going_on.send_owed.Goals as goal
 

@@ -1,10 +1,10 @@
 use Rattle.std.proofs.Common.{ap, sym, ◌∙◌}
 use Rattle.unit_defs.specs.UpRecords.{UpBearer}
-use Rattle.unit_octet_defs.specs.Units.{OctetAnswer}
-use Rattle.unit_steps.specs.Steps.{step_after}
-use Rattle.up_downlink.specs.declared.down.DownSide.{DownSide}
-use Rattle.up_downlink.specs.Downlinks.{with_down}
-use Rattle.up_downlink.proofs.Sequels.{step_as}
+use Rattle.up_bearers.specs.unit_octet_defs.Units.{OctetAnswer}
+use Rattle.up_bearers.specs.unit_steps.Steps.{step_after}
+use Rattle.up_bearers.specs.up_downlink.declared.down.DownSide.{DownSide}
+use Rattle.up_bearers.specs.up_downlink.Downlinks.{with_down}
+use Rattle.up_bearers.proofs.up_downlink.Sequels.{step_as}
 use Rattle.up_orders.proofs.Chains.{first_fails, second_fails, third_goes}
 use Rattle.up_orders.proofs.Orders.{report, again, numbering, begins}
 use Rattle.up_orders.proofs.serving.begin_downlink.Goals as goal

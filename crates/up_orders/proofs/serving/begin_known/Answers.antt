@@ -1,10 +1,10 @@
 use Rattle.std.proofs.Common.{ap, sym, ◌∙◌}
 use Rattle.unit_defs.specs.UpRecords.{UpBearer}
-use Rattle.unit_octet_defs.specs.Units.{OctetAnswer}
-use Rattle.unit_steps.specs.Steps.{step_after}
-use Rattle.pdcp_defs.specs.Receivers.{received_bits}
+use Rattle.up_bearers.specs.unit_octet_defs.Units.{OctetAnswer}
+use Rattle.up_bearers.specs.unit_steps.Steps.{step_after}
+use Rattle.unit_defs.specs.pdcp_defs.Receivers.{received_bits}
 use Rattle.up_bearers.specs.Bearers.{kept}
-use Rattle.up_downlink.proofs.Sequels.{step_as}
+use Rattle.up_bearers.proofs.up_downlink.Sequels.{step_as}
 use Rattle.up_orders.proofs.Orders.{begins_as}
 use Rattle.up_orders.proofs.serving.begin_known.Goals as goal
 

@@ -1,11 +1,11 @@
 use Rattle.std.proofs.Common.{ap, sym, ◌∙◌}
 use Rattle.unit_defs.specs.UpRecords.{UpBearer}
-use Rattle.unit_octet_defs.specs.Units.{OctetAnswer}
-use Rattle.unit_steps.specs.Steps.{step_after, stepped}
-use Rattle.unit_steps.proofs.StepLaws.{step_then}
+use Rattle.up_bearers.specs.unit_octet_defs.Units.{OctetAnswer}
+use Rattle.up_bearers.specs.unit_steps.Steps.{step_after, stepped}
+use Rattle.up_bearers.proofs.unit_steps.StepLaws.{step_then}
 use Rattle.up_bearers.specs.declared.bearer.Bearer.{Bearer}
 use Rattle.up_bearers.specs.Bearers.{kept, with_receiver}
-use Rattle.up_downlink.proofs.Sequels.{step_as, goes_on, ends_with, nothing_more}
+use Rattle.up_bearers.proofs.up_downlink.Sequels.{step_as, goes_on, ends_with, nothing_more}
 use Rattle.up_orders.proofs.Orders.{delivering, known_row, knows, knows_not, to_tunnel, switches, delivers_nothing}
 use Rattle.up_orders.proofs.serving.switch.Goals as goal
 

@@ -1,4 +1,4 @@
-use Rattle.up_downlink.specs.Downlinks.{with_down}
+use Rattle.up_bearers.specs.up_downlink.Downlinks.{with_down}
 use Rattle.up_packets.proofs.Confirms.{confirms_one, confirms_none}
 use Rattle.up_packets.proofs.confirming.confirm_to.Goals as goal
 

@@ -1,8 +1,8 @@
 use Rattle.std.proofs.Common.{true, ap, sym, ◌∙◌}
-use Rattle.unit_octet_defs.specs.Units.{OctetAnswer}
-use Rattle.unit_defs.specs.UpRecords.{UpBearer}
-use Rattle.unit_steps.specs.Steps.{step_after}
-use Rattle.up_downlink.proofs.Sequels.{nothing_more, step_as}
+use Rattle.up_bearers.specs.unit_octet_defs.Units.{OctetAnswer}
+use Rattle.up_bearers.specs.unit_defs.UpRecords.{UpBearer}
+use Rattle.ue_packets.specs.unit_steps.Steps.{step_after}
+use Rattle.up_bearers.proofs.up_downlink.Sequels.{nothing_more, step_as}
 use Rattle.up_bearers.specs.Bearers.{kept}
 use Rattle.up_packets.proofs.Confirms.{loses_nothing, loses_frozen, loses_some, marked}
 use Rattle.up_packets.proofs.confirming.lose_frames.Goals as goal

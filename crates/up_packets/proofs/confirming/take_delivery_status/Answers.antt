@@ -1,16 +1,16 @@
 use Rattle.std.proofs.Common.{Option, ℕ, ap, sym, ◌∙◌}
 use Rattle.gnb_types.specs.declared.outputs.Output.{Output}
-use Rattle.unit_octet_defs.specs.Codec.{octet_way}
-use Rattle.unit_octet_defs.specs.Reading.{count_confirmed}
-use Rattle.unit_octet_defs.specs.Units.{OctetAnswer}
-use Rattle.unit_defs.specs.Ways.{◌then◌}
-use Rattle.unit_defs.specs.UpItems.{lost_frames}
-use Rattle.unit_defs.specs.UpBearers.{number_waiting}
-use Rattle.unit_defs.specs.UpRecords.{UpBearer}
-use Rattle.unit_steps.specs.Steps.{step_after}
-use Rattle.up_tunnels.specs.Tunnels.{at_as}
-use Rattle.up_downlink.specs.Downlinks.{with_down}
-use Rattle.up_downlink.proofs.Sequels.{step_as, goes_on, ends_with}
+use Rattle.up_bearers.specs.unit_octet_defs.Codec.{octet_way}
+use Rattle.up_bearers.specs.unit_octet_defs.Reading.{count_confirmed}
+use Rattle.up_bearers.specs.unit_octet_defs.Units.{OctetAnswer}
+use Rattle.up_bearers.specs.unit_defs.Ways.{◌then◌}
+use Rattle.up_bearers.specs.unit_defs.UpItems.{lost_frames}
+use Rattle.up_bearers.specs.unit_defs.UpBearers.{number_waiting}
+use Rattle.up_bearers.specs.unit_defs.UpRecords.{UpBearer}
+use Rattle.ue_packets.specs.unit_steps.Steps.{step_after}
+use Rattle.up_bearers.specs.up_tunnels.Tunnels.{at_as}
+use Rattle.up_bearers.specs.up_downlink.Downlinks.{with_down}
+use Rattle.up_bearers.proofs.up_downlink.Sequels.{step_as, goes_on, ends_with}
 use Rattle.up_bearers.specs.Bearers.{kept}
 use Rattle.up_packets.proofs.Confirms.{status_row}
 use Rattle.up_packets.proofs.confirming.take_delivery_status.Goals as goal

@@ -1,8 +1,8 @@
 use Rattle.std.proofs.Common.{refl, ap}
-use Rattle.unit_octet_defs.specs.Units.{OctetAnswer}
-use Rattle.unit_defs.specs.UpRecords.{UpBearer}
-use Rattle.unit_steps.specs.Steps.{step_after}
-use Rattle.up_downlink.proofs.Sequels.{step_as}
+use Rattle.up_bearers.specs.unit_octet_defs.Units.{OctetAnswer}
+use Rattle.up_bearers.specs.unit_defs.UpRecords.{UpBearer}
+use Rattle.ue_packets.specs.unit_steps.Steps.{step_after}
+use Rattle.up_bearers.proofs.up_downlink.Sequels.{step_as}
 use Rattle.up_bearers.specs.Bearers.{kept}
 use Rattle.up_packets.proofs.Confirms.{reports}
 use Rattle.up_packets.proofs.confirming.take_report.Goals as goal

@@ -1,4 +1,4 @@
-use Rattle.unit_defs.specs.Ways.{numbered}
+use Rattle.up_bearers.specs.unit_defs.Ways.{numbered}
 use Rattle.up_packets.proofs.Passes.{passes_nothing, passes_one}
 use Rattle.up_packets.proofs.passing.pass_counted.Goals as goal
 

@@ -1,6 +1,6 @@
 use Rattle.gnb_types.specs.declared.names.Dir.TheVariants.{Dl}
 use Rattle.gnb_types.specs.declared.outputs.Tag.TheVariants.{Absent}
-use Rattle.unit_defs.specs.Ways.{fresh}
+use Rattle.up_bearers.specs.unit_defs.Ways.{fresh}
 use Rattle.up_packets.proofs.Passes.{passes_nothing, passes_one}
 use Rattle.up_packets.proofs.passing.pass_fresh.Goals as goal
 

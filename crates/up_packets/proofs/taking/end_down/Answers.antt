@@ -1,8 +1,8 @@
 use Rattle.std.proofs.Common.{Bool, true, cond, ap}
 use Rattle.gnb_types.specs.declared.reasons.DropReason.TheVariants.{Unexpected}
-use Rattle.unit_defs.specs.Ways.{drops, nothing}
-use Rattle.unit_steps.specs.Steps.{step_after}
-use Rattle.up_downlink.proofs.Sequels.{step_as}
+use Rattle.up_bearers.specs.unit_defs.Ways.{drops, nothing}
+use Rattle.ue_packets.specs.unit_steps.Steps.{step_after}
+use Rattle.up_bearers.proofs.up_downlink.Sequels.{step_as}
 use Rattle.up_bearers.specs.Bearers.{kept}
 use Rattle.up_packets.proofs.taking.end_down.Goals as goal
 

@@ -3,18 +3,18 @@ use Rattle.gnb_types.specs.declared.names.Dir.TheVariants.{Dl}
 use Rattle.gnb_types.specs.declared.names.SnBits.{SnBits}
 use Rattle.gnb_types.specs.declared.outputs.Tag.TheVariants.{Absent, Same}
 use Rattle.gnb_types.specs.declared.reasons.DropReason.TheVariants.{Duplicate}
-use Rattle.pdcp_defs.specs.Senders.{may_restore}
-use Rattle.unit_defs.specs.Ways.{fresh, numbered, drops}
-use Rattle.unit_defs.specs.UpRecords.{UpBearer}
-use Rattle.unit_defs.specs.UpBearers.{sent, number_waiting}
-use Rattle.unit_octet_defs.specs.Codec.{octet_way}
-use Rattle.unit_octet_defs.specs.Units.{OctetAnswer}
-use Rattle.unit_steps.specs.Steps.{step_after, stepped}
-use Rattle.ue_bearers.specs.Uplinks.{UplinkState, restoring}
-use Rattle.up_tunnels.specs.Tunnels.{at_as}
-use Rattle.up_downlink.specs.Downlinks.{with_down}
-use Rattle.up_downlink.proofs.Sequels.{step_as}
-use Rattle.up_downlink.proofs.Numberings.{side}
+use Rattle.up_bearers.specs.pdcp_defs.Senders.{may_restore}
+use Rattle.up_bearers.specs.unit_defs.Ways.{fresh, numbered, drops}
+use Rattle.up_bearers.specs.unit_defs.UpRecords.{UpBearer}
+use Rattle.up_bearers.specs.unit_defs.UpBearers.{sent, number_waiting}
+use Rattle.up_bearers.specs.unit_octet_defs.Codec.{octet_way}
+use Rattle.up_bearers.specs.unit_octet_defs.Units.{OctetAnswer}
+use Rattle.ue_packets.specs.unit_steps.Steps.{step_after, stepped}
+use Rattle.ue_packets.specs.ue_bearers.Uplinks.{UplinkState, restoring}
+use Rattle.up_bearers.specs.up_tunnels.Tunnels.{at_as}
+use Rattle.up_bearers.specs.up_downlink.Downlinks.{with_down}
+use Rattle.up_bearers.proofs.up_downlink.Sequels.{step_as}
+use Rattle.up_bearers.proofs.up_downlink.Numberings.{side}
 use Rattle.up_bearers.specs.Bearers.{kept}
 use Rattle.up_packets.specs.Passing.{passed_on}
 use Rattle.up_packets.proofs.Takes.{numbered_none, numbered_released, numbered_refused, numbered_sent, numbered_frozen}

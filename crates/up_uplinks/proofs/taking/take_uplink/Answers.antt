@@ -1,18 +1,18 @@
 use Rattle.std.proofs.Common.{◌≡◌, ℕ, Option, Some, None, false, sym, ap, ◌∙◌, subst}
 use Rattle.gnb_types.specs.declared.names.SnBits.{SnBits}
 use Rattle.gnb_types.specs.declared.reasons.DropReason.TheVariants.{Duplicate}
-use Rattle.pdcp_defs.specs.Counts.{near_count}
-use Rattle.pdcp_defs.specs.Receivers.{is_ahead}
-use Rattle.unit_defs.specs.Ways.{drops}
-use Rattle.unit_defs.specs.UpRecords.{UpBearer}
-use Rattle.unit_defs.specs.UpItems.{is_ahead_if}
-use Rattle.unit_octet_defs.specs.Codec.{octet_way}
-use Rattle.unit_octet_defs.specs.Units.{OctetAnswer}
-use Rattle.unit_steps.specs.Steps.{step_after}
-use Rattle.ue_bearers.specs.Downlinks.{DownlinkState, received}
-use Rattle.up_tunnels.specs.Tunnels.{at_as}
-use Rattle.up_downlink.proofs.Sequels.{step_as}
-use Rattle.up_bearers.specs.Bearers.{kept, with_receiver}
+use Rattle.up_packets.specs.pdcp_defs.Counts.{near_count}
+use Rattle.up_packets.specs.pdcp_defs.Receivers.{is_ahead}
+use Rattle.up_packets.specs.unit_defs.Ways.{drops}
+use Rattle.up_packets.specs.unit_defs.UpRecords.{UpBearer}
+use Rattle.up_packets.specs.unit_defs.UpItems.{is_ahead_if}
+use Rattle.up_packets.specs.unit_octet_defs.Codec.{octet_way}
+use Rattle.up_packets.specs.unit_octet_defs.Units.{OctetAnswer}
+use Rattle.up_packets.specs.unit_steps.Steps.{step_after}
+use Rattle.up_packets.specs.ue_bearers.Downlinks.{DownlinkState, received}
+use Rattle.up_packets.specs.up_tunnels.Tunnels.{at_as}
+use Rattle.up_packets.proofs.up_downlink.Sequels.{step_as}
+use Rattle.up_packets.specs.up_bearers.Bearers.{kept, with_receiver}
 use Rattle.up_uplinks.specs.Storing.{kept_at}
 use Rattle.up_uplinks.proofs.Uplinks.{uplink_none, uplink_released, uplink_duplicate, uplink_stored, with_state, Facts, facts, kept_up}
 use Rattle.up_uplinks.proofs.taking.take_uplink.Goals as goal

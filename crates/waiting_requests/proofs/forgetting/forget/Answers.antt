@@ -1,7 +1,7 @@
 use Rattle.std.proofs.Common.{ℕ, List, map, ap, ◌∙◌}
 use Rattle.gnb_types.specs.declared.keys.Channel.{Channel}
-use Rattle.unit_defs.specs.CpRecords.{unawaited, forgotten}
-use Rattle.unit_octet_defs.specs.Codec.{octet_way}
+use Rattle.unit_requests.specs.unit_defs.CpRecords.{unawaited, forgotten}
+use Rattle.unit_requests.specs.unit_octet_defs.Codec.{octet_way}
 use Rattle.unit_requests.specs.Requests.{Kept}
 use Rattle.waiting_requests.proofs.Refilling.{Waits}
 use Rattle.waiting_requests.proofs.forgetting.forget.Goals as goal

@@ -1,8 +1,8 @@
 use Rattle.std.proofs.Common.{ℕ, false, List, map, ap}
-use Rattle.unit_defs.specs.Transactions.{Waiting}
-use Rattle.unit_defs.specs.CpRecords.{not_awaited}
-use Rattle.unit_octet_defs.specs.Codec.{octet_way}
-use Rattle.unit_messages.specs.Messages.{message_as}
+use Rattle.unit_requests.specs.unit_defs.Transactions.{Waiting}
+use Rattle.unit_requests.specs.unit_defs.CpRecords.{not_awaited}
+use Rattle.unit_requests.specs.unit_octet_defs.Codec.{octet_way}
+use Rattle.unit_requests.specs.unit_messages.Messages.{message_as}
 use Rattle.waiting_requests.proofs.Refilling.{one_more, all_over}
 use Rattle.waiting_requests.proofs.forgetting.not_awaited.Goals as goal
 

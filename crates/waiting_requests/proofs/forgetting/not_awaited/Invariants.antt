@@ -1,6 +1,6 @@
 use Rattle.std.proofs.Common.{◌≡◌, ◌++◌, length, map}
-use Rattle.unit_octet_defs.specs.Codec.{Codec, octet_way}
-use Rattle.unit_defs.specs.CpRecords.{not_awaited}
+use Rattle.unit_requests.specs.unit_octet_defs.Codec.{Codec, octet_way}
+use Rattle.unit_requests.specs.unit_defs.CpRecords.{not_awaited}
 use Rattle.waiting_requests.proofs.forgetting.not_awaited.Given as goal
 
 -- what is done, and what is left, is all

@@ -1,7 +1,7 @@
 use Rattle.std.proofs.Common.{map}
 use Rattle.gnb_types.proofs.OrderLemmas.{channel_total}
-use Rattle.unit_defs.specs.CpRecords.{unawaited}
-use Rattle.unit_octet_defs.specs.Codec.{octet_way}
+use Rattle.unit_requests.specs.unit_defs.CpRecords.{unawaited}
+use Rattle.unit_requests.specs.unit_octet_defs.Codec.{octet_way}
 use Rattle.waiting_requests.proofs.Refilling.{all_over, all_stays, still_sorted}
 use Rattle.waiting_requests.proofs.forgetting.rebuilt.Goals as goal
 

@@ -2,8 +2,8 @@ use Rattle.std.proofs.Common.{◌≡◌, ◌++◌, length, map}
 use Rattle.std.specs.List.Sorted.{IsStrictlySortedBy}
 use Rattle.std.specs.Map.{keys_of}
 use Rattle.gnb_types.specs.Orders.{channel_cmp}
-use Rattle.unit_octet_defs.specs.Codec.{Codec, octet_way}
-use Rattle.unit_defs.specs.CpRecords.{unawaited}
+use Rattle.unit_requests.specs.unit_octet_defs.Codec.{Codec, octet_way}
+use Rattle.unit_requests.specs.unit_defs.CpRecords.{unawaited}
 use Rattle.waiting_requests.proofs.forgetting.rebuilt.Given as goal
 
 -- what is done, and what is left, is all, in the order of channels

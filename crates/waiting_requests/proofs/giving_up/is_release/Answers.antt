@@ -1,7 +1,7 @@
 use Rattle.std.proofs.Common.{ℕ, List, ap, ◌∙◌}
-use Rattle.unit_defs.specs.Transactions.{Waiting}
-use Rattle.unit_defs.specs.CuCp.{is_up_release}
-use Rattle.unit_octet_defs.specs.Codec.{octet_way}
+use Rattle.unit_requests.specs.unit_defs.Transactions.{Waiting}
+use Rattle.unit_requests.specs.unit_defs.CuCp.{is_up_release}
+use Rattle.unit_requests.specs.unit_octet_defs.Codec.{octet_way}
 use Rattle.waiting_requests.proofs.giving_up.is_release.Goals as goal
 
 pub returns : goal.returns

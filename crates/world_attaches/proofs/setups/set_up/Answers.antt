@@ -3,7 +3,7 @@ use Rattle.std.specs.Prelude.{Err}
 use Rattle.run_defs.specs.Events.{static}
 use Rattle.run_defs.specs.UnitRuns.{Records, unit_world}
 use Rattle.run_links.specs.Grounds.{state_of}
-use Rattle.cu_user.specs.up_rows.up_contexts.declared.placing.PlaceError.{PlaceError}
+use Rattle.world_steps.specs.up_contexts.declared.placing.PlaceError.{PlaceError}
 use Rattle.world_steps.specs.run_units.Steps.{PlacingGives}
 use Rattle.world_steps.specs.declared.cause.Cause.{Cause}
 use Rattle.world_steps.specs.Gives.{EventGives}

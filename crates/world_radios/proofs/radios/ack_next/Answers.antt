@@ -3,8 +3,8 @@ use Rattle.std.specs.Prelude.{Ok}
 use Rattle.gnb_types.specs.Orders.{entity_cmp}
 use Rattle.tables.specs.Tables.{at}
 use Rattle.transport_defs.specs.Links.{silent}
-use Rattle.run_defs.specs.Settling.{Turn, ack_next}
-use Rattle.run_defs.specs.UnitRuns.{unit_world}
+use Rattle.run_links.specs.run_defs.Settling.{Turn, ack_next}
+use Rattle.run_links.specs.run_defs.UnitRuns.{unit_world}
 use Rattle.run_links.specs.Grounds.{state_of}
 use Rattle.world_turns.specs.Turns.{Continues}
 use Rattle.world_radios.specs.RadioTurns.{TurnGives, turn_of}

@@ -3,9 +3,9 @@ use Rattle.gnb_types.specs.Orders.{entity_cmp}
 use Rattle.tables.specs.Tables.{at}
 use Rattle.transport_defs.specs.Links.{nth, silent}
 use Rattle.scenario_text.specs.declared.line.Link.{Link}
-use Rattle.run_defs.specs.Lines.{radio_link}
-use Rattle.run_defs.specs.Settling.{Turn, air_next}
-use Rattle.run_defs.specs.UnitRuns.{unit_world}
+use Rattle.run_links.specs.run_defs.Lines.{radio_link}
+use Rattle.run_links.specs.run_defs.Settling.{Turn, air_next}
+use Rattle.run_links.specs.run_defs.UnitRuns.{unit_world}
 use Rattle.run_links.specs.Grounds.{state_of}
 use Rattle.world_turns.specs.Turns.{Continues, quiet_lines}
 use Rattle.world_radios.specs.RadioTurns.{turn_of}

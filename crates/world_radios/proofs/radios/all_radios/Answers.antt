@@ -1,10 +1,10 @@
 use Rattle.std.proofs.Common.{List, ◌∙◌, ap, subst}
 use Rattle.gnb_types.specs.declared.names.UeId.{UeId}
 use Rattle.gnb_types.specs.declared.names.BearerId.{BearerId}
-use Rattle.run_defs.specs.Settling.{attached_plans}
-use Rattle.run_defs.specs.UnitRuns.{unit_world}
+use Rattle.run_links.specs.run_defs.Settling.{attached_plans}
+use Rattle.run_links.specs.run_defs.UnitRuns.{unit_world}
 use Rattle.run_links.specs.Grounds.{OctetOutcome, state_of}
-use Rattle.world_steps.specs.Gives.{EventGives}
+use Rattle.world_turns.specs.world_steps.Gives.{EventGives}
 use Rattle.world_radios.specs.RadioTurns.{bearer_turns}
 use Rattle.world_radios.proofs.RadioLists.{all_turns_are}
 use Rattle.world_radios.proofs.radios.all_radios.Goals as goal

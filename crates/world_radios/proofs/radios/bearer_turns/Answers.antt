@@ -4,7 +4,7 @@ use Rattle.std.proofs.lemmas.List.{drop_all}
 use Rattle.gnb_types.specs.declared.names.UeId.{UeId}
 use Rattle.gnb_types.specs.declared.names.BearerId.{BearerId}
 use Rattle.world_radios.specs.RadioTurns.{both_turns, bearer_turns}
-use Rattle.run_defs.specs.UnitRuns.{unit_world}
+use Rattle.run_links.specs.run_defs.UnitRuns.{unit_world}
 use Rattle.run_links.specs.Grounds.{OctetState, state_of}
 use Rattle.world_turns.proofs.Lists.{drop_one}
 use Rattle.world_turns.proofs.Turned.{each_goes, each_stops, each_ends}

@@ -1,5 +1,5 @@
 use Rattle.std.proofs.Common.{drop}
-use Rattle.run_defs.specs.UnitRuns.{unit_world}
+use Rattle.run_links.specs.run_defs.UnitRuns.{unit_world}
 use Rattle.run_links.specs.Grounds.{state_of}
 use Rattle.world_turns.specs.Turns.{Continues}
 use Rattle.world_radios.specs.RadioTurns.{bearer_turns}

@@ -1,8 +1,8 @@
 use Rattle.gnb_types.specs.declared.names.Dir.TheVariants.{Dl, Ul}
-use Rattle.run_defs.specs.States.{entity}
-use Rattle.run_defs.specs.UnitRuns.{unit_world}
+use Rattle.run_links.specs.run_defs.States.{entity}
+use Rattle.run_links.specs.run_defs.UnitRuns.{unit_world}
 use Rattle.run_links.specs.Grounds.{state_of}
-use Rattle.world_steps.proofs.Following.{then_event, first_stops}
+use Rattle.world_turns.proofs.world_steps.Following.{then_event, first_stops}
 use Rattle.world_radios.specs.RadioTurns.{turned}
 use Rattle.world_radios.proofs.radios.both_turns.Goals as goal
 

@@ -1,9 +1,9 @@
 use Rattle.std.proofs.Common.{ℕ, ◌+◌, ◌*◌, true, false, subst}
-use Rattle.run_defs.specs.Settling.{turn_times}
-use Rattle.run_defs.specs.UnitRuns.{unit_world}
+use Rattle.run_links.specs.run_defs.Settling.{turn_times}
+use Rattle.run_links.specs.run_defs.UnitRuns.{unit_world}
 use Rattle.run_links.specs.Grounds.{state_of}
 use Rattle.world_radios.specs.RadioTurns.{turned}
-use Rattle.world_steps.specs.Gives.{EventGives}
+use Rattle.world_turns.specs.world_steps.Gives.{EventGives}
 use Rattle.world_radios.proofs.radios.radio_turn.Goals as goal
 
 pub returns-clause-gives : goal.returns-clause-gives

@@ -1,4 +1,4 @@
-use Rattle.run_defs.specs.UnitRuns.{unit_world}
+use Rattle.run_links.specs.run_defs.UnitRuns.{unit_world}
 use Rattle.run_links.specs.Grounds.{state_of}
 use Rattle.world_radios.specs.RadioTurns.{turn_of, left_of}
 use Rattle.world_radios.proofs.OnRadios.{not_ready, turn_airs, turn_acks}

@@ -1,10 +1,10 @@
 use Rattle.std.proofs.Common.{ℕ, ◌+◌, ◌-◌, Option, subst, arith}
 use Rattle.std.specs.Prelude.{Ok, Err}
-use Rattle.run_defs.specs.Settling.{turn_step, turn_times}
-use Rattle.run_defs.specs.UnitRuns.{unit_world}
+use Rattle.run_links.specs.run_defs.Settling.{turn_step, turn_times}
+use Rattle.run_links.specs.run_defs.UnitRuns.{unit_world}
 use Rattle.run_links.specs.Grounds.{state_of}
-use Rattle.world_steps.specs.Gives.{EventGives}
-use Rattle.world_steps.proofs.Following.{nothing_more}
+use Rattle.world_turns.specs.world_steps.Gives.{EventGives}
+use Rattle.world_turns.proofs.world_steps.Following.{nothing_more}
 use Rattle.world_radios.specs.declared.turn.Turn.{Turn as Left}
 use Rattle.world_radios.specs.RadioTurns.{TurnGives, turn_of, left_of}
 use Rattle.world_turns.proofs.Turned.{counted, none_left}

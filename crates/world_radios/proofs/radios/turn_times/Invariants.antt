@@ -1,6 +1,6 @@
 use Rattle.std.proofs.Common.{◌-◌}
-use Rattle.run_defs.specs.Settling.{turn_times}
-use Rattle.run_defs.specs.UnitRuns.{unit_world}
+use Rattle.run_links.specs.run_defs.Settling.{turn_times}
+use Rattle.run_links.specs.run_defs.UnitRuns.{unit_world}
 use Rattle.run_links.specs.Grounds.{state_of}
 use Rattle.world_turns.specs.Turns.{Continues}
 use Rattle.world_radios.specs.RadioTurns.{turn_of}

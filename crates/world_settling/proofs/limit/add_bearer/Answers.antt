@@ -1,9 +1,9 @@
 use Rattle.std.proofs.Common.{◌≡◌, ℕ, ◌+◌}
 use Rattle.std.proofs.lemmas.Result.{IfOk-weaker}
 use Rattle.gnb_types.specs.declared.names.Dir.TheVariants.{Dl, Ul}
-use Rattle.run_defs.specs.States.{entity}
-use Rattle.run_defs.specs.Settling.{undelivered}
-use Rattle.run_defs.specs.UnitRuns.{Records}
+use Rattle.run_links.specs.run_defs.States.{entity}
+use Rattle.run_links.specs.run_defs.Settling.{undelivered}
+use Rattle.run_links.specs.run_defs.UnitRuns.{Records}
 use Rattle.run_links.specs.Grounds.{OctetWorld, OctetCore, OctetState, state_of}
 use Rattle.world_settling.proofs.Limits.{both_added}
 use Rattle.world_settling.proofs.limit.add_bearer.Goals as goal

@@ -1,6 +1,6 @@
 use Rattle.std.proofs.Common.{◌+◌, drop, ◌∙◌}
 use Rattle.run_links.specs.Grounds.{state_of}
-use Rattle.world_turns.proofs.Lists.{drop_one}
+use Rattle.world_radios.proofs.world_turns.Lists.{drop_one}
 use Rattle.world_settling.proofs.OfBearers.{packets_more}
 use Rattle.world_settling.proofs.limit.all_undelivered.Goals as goal
 

@@ -1,5 +1,5 @@
 use Rattle.std.proofs.Common.{◌≡◌, ◌+◌, drop}
-use Rattle.run_defs.specs.UnitRuns.{Records}
+use Rattle.run_links.specs.run_defs.UnitRuns.{Records}
 use Rattle.run_links.specs.Grounds.{OctetWorld, OctetCore, state_of}
 use Rattle.world_settling.specs.Bearers.{undelivered_of}
 use Rattle.world_settling.proofs.limit.all_undelivered.Given as goal

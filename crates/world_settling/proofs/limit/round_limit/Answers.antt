@@ -1,7 +1,7 @@
 use Rattle.std.proofs.Common.{◌≡◌, ℕ, ◌+◌, ◌*◌, length, ◌∙◌, ap}
 use Rattle.std.proofs.lemmas.Result.{IfOk-weaker}
-use Rattle.run_defs.specs.Settling.{attached_plans, round_limit}
-use Rattle.run_defs.specs.UnitRuns.{Records}
+use Rattle.run_links.specs.run_defs.Settling.{attached_plans, round_limit}
+use Rattle.run_links.specs.run_defs.UnitRuns.{Records}
 use Rattle.run_links.specs.Grounds.{OctetWorld, OctetCore, OctetState, state_of}
 use Rattle.world_settling.specs.Bearers.{undelivered_of}
 use Rattle.world_settling.proofs.Limits.{packets_are}

@@ -1,7 +1,7 @@
 use Rattle.std.proofs.Common.{◌+◌, drop, sym, ◌∙◌, ap}
 use Rattle.std.proofs.lemmas.List.{drop_all}
 use Rattle.run_links.specs.Grounds.{state_of}
-use Rattle.world_turns.proofs.Lists.{drop_one}
+use Rattle.world_radios.proofs.world_turns.Lists.{drop_one}
 use Rattle.world_settling.specs.Bearers.{are_quiet}
 use Rattle.world_settling.proofs.OfBearers.{quiet_here, busy_here}
 use Rattle.world_settling.proofs.quiet.are_quiet.Goals as goal

@@ -4,7 +4,7 @@ use Rattle.gnb_types.specs.declared.names.UeId.{UeId}
 use Rattle.gnb_types.specs.declared.names.BearerId.{BearerId}
 use Rattle.run_links.specs.Grounds.{state_of}
 use Rattle.run_links.specs.Told.{printed}
-use Rattle.world_turns.proofs.Lists.{drop_one}
+use Rattle.world_radios.proofs.world_turns.Lists.{drop_one}
 use Rattle.world_settling.specs.Bearers.{lines_of}
 use Rattle.world_settling.proofs.OfBearers.{line_more}
 use Rattle.world_settling.proofs.quiet.print_bearers.Goals as goal

@@ -1,6 +1,6 @@
-use Rattle.run_defs.specs.Events.{pump}
-use Rattle.run_defs.specs.Settling.{attached_plans, move_each, all_tunnels}
-use Rattle.run_defs.specs.UnitRuns.{unit_world}
+use Rattle.run_links.specs.run_defs.Events.{pump}
+use Rattle.run_links.specs.run_defs.Settling.{attached_plans, move_each, all_tunnels}
+use Rattle.run_links.specs.run_defs.UnitRuns.{unit_world}
 use Rattle.run_links.specs.Grounds.{state_of}
 use Rattle.world_settling.proofs.Three.{stops_first, stops_second, all_three}
 use Rattle.world_settling.proofs.rounds.opening.Goals as goal

@@ -1,6 +1,6 @@
-use Rattle.run_defs.specs.Settling.{attached_entities, attached_bearers, all_radios, poll_each}
+use Rattle.run_links.specs.run_defs.Settling.{attached_entities, attached_bearers, all_radios, poll_each}
 use Rattle.world_settling.specs.Rounds.{opening}
-use Rattle.run_defs.specs.UnitRuns.{unit_world}
+use Rattle.run_links.specs.run_defs.UnitRuns.{unit_world}
 use Rattle.run_links.specs.Grounds.{OctetState, state_of}
 use Rattle.world_settling.proofs.Three.{stops_first, stops_second, all_three}
 use Rattle.world_settling.proofs.rounds.packets_move.Goals as goal

@@ -1,7 +1,7 @@
-use Rattle.run_defs.specs.Events.{pump, tick}
-use Rattle.run_defs.specs.Settling.{round}
+use Rattle.run_links.specs.run_defs.Events.{pump, tick}
+use Rattle.run_links.specs.run_defs.Settling.{round}
 use Rattle.world_settling.specs.Rounds.{packets_move}
-use Rattle.run_defs.specs.UnitRuns.{unit_world}
+use Rattle.run_links.specs.run_defs.UnitRuns.{unit_world}
 use Rattle.run_links.specs.Grounds.{state_of}
 use Rattle.world_settling.proofs.Three.{stops_first, stops_second, all_three}
 use Rattle.world_settling.proofs.rounds.round.Goals as goal

@@ -1,4 +1,4 @@
-use Rattle.run_defs.specs.UnitRuns.{unit_world}
+use Rattle.run_links.specs.run_defs.UnitRuns.{unit_world}
 use Rattle.run_links.specs.Grounds.{state_of}
 use Rattle.world_settling.proofs.Ends.{last_round}
 use Rattle.world_settling.proofs.settle.end_at_limit.Goals as goal

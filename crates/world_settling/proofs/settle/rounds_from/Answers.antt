@@ -1,10 +1,10 @@
 use Rattle.std.proofs.Common.{◌≡◌, ℕ, ◌+◌, ◌-◌, false, sym, ◌∙◌, subst, arith}
 use Rattle.std.specs.Prelude.{Err}
-use Rattle.run_defs.specs.Settling.{all_quiet, rounds_from}
-use Rattle.run_defs.specs.UnitRuns.{unit_world}
+use Rattle.run_links.specs.run_defs.Settling.{all_quiet, rounds_from}
+use Rattle.run_links.specs.run_defs.UnitRuns.{unit_world}
 use Rattle.run_links.specs.Grounds.{state_of}
-use Rattle.world_steps.specs.Gives.{EventGives}
-use Rattle.world_turns.proofs.Turned.{counted, none_left}
+use Rattle.world_letters.specs.world_steps.Gives.{EventGives}
+use Rattle.world_radios.proofs.world_turns.Turned.{counted, none_left}
 use Rattle.world_settling.proofs.Ends.{quiet_now, one_round, round_stops}
 use Rattle.world_settling.proofs.settle.rounds_from.Goals as goal
 

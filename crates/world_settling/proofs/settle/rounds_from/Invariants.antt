@@ -1,8 +1,8 @@
 use Rattle.std.proofs.Common.{◌-◌}
-use Rattle.run_defs.specs.Settling.{rounds_from}
-use Rattle.run_defs.specs.UnitRuns.{unit_world}
+use Rattle.run_links.specs.run_defs.Settling.{rounds_from}
+use Rattle.run_links.specs.run_defs.UnitRuns.{unit_world}
 use Rattle.run_links.specs.Grounds.{state_of}
-use Rattle.world_turns.specs.Turns.{Continues}
+use Rattle.world_radios.specs.world_turns.Turns.{Continues}
 use Rattle.world_settling.proofs.settle.rounds_from.Given as goal
 
 abbrev pub invariant-loop-rounds : goal.invariant-loop-rounds

@@ -1,8 +1,8 @@
 use Rattle.std.proofs.Common.{ℕ, subst}
-use Rattle.run_defs.specs.Settling.{rounds_from, settle}
-use Rattle.run_defs.specs.UnitRuns.{unit_world}
+use Rattle.run_links.specs.run_defs.Settling.{rounds_from, settle}
+use Rattle.run_links.specs.run_defs.UnitRuns.{unit_world}
 use Rattle.run_links.specs.Grounds.{state_of}
-use Rattle.world_steps.specs.Gives.{EventGives}
+use Rattle.world_letters.specs.world_steps.Gives.{EventGives}
 use Rattle.world_settling.proofs.settle.settle.Goals as goal
 
 pub returns-clause-gives : goal.returns-clause-gives

@@ -3,7 +3,7 @@ use Rattle.gnb_types.specs.declared.names.UeId.{UeId}
 use Rattle.run_defs.specs.Settling.{attached_plans}
 use Rattle.run_defs.specs.UnitRuns.{unit_world}
 use Rattle.run_links.specs.Grounds.{OctetOutcome, state_of}
-use Rattle.world_steps.specs.Gives.{EventGives}
+use Rattle.world_packets.specs.world_steps.Gives.{EventGives}
 use Rattle.world_turns.specs.Turns.{move_terminals}
 use Rattle.world_turns.proofs.Lists.{moves_are}
 use Rattle.world_turns.proofs.orders.move_each.Goals as goal

@@ -4,7 +4,7 @@ use Rattle.gnb_types.specs.declared.names.BearerId.{BearerId}
 use Rattle.run_defs.specs.Settling.{poll_each}
 use Rattle.run_defs.specs.UnitRuns.{unit_world}
 use Rattle.run_links.specs.Grounds.{state_of}
-use Rattle.world_steps.specs.Gives.{EventGives}
+use Rattle.world_packets.specs.world_steps.Gives.{EventGives}
 use Rattle.world_turns.proofs.orders.poll_each.Goals as goal
 
 pub returns-clause-gives : goal.returns-clause-gives

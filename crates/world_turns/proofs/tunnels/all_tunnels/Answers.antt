@@ -4,8 +4,8 @@ use Rattle.links.specs.Tunnels.{next_entry}
 use Rattle.run_defs.specs.Settling.{tunnels_from}
 use Rattle.run_defs.specs.UnitRuns.{unit_world}
 use Rattle.run_links.specs.Grounds.{state_of}
-use Rattle.world_steps.specs.Gives.{EventGives}
-use Rattle.world_steps.proofs.Following.{nothing_more}
+use Rattle.world_packets.specs.world_steps.Gives.{EventGives}
+use Rattle.world_packets.proofs.world_steps.Following.{nothing_more}
 use Rattle.world_turns.proofs.Turned.{counted, none_left}
 use Rattle.world_turns.proofs.OnTunnels.{no_tunnel, next_tunnel, tunnel_stops}
 use Rattle.world_turns.proofs.tunnels.all_tunnels.Goals as goal

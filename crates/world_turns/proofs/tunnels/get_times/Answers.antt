@@ -5,8 +5,8 @@ use Rattle.tables.specs.Tables.{at}
 use Rattle.run_defs.specs.Settling.{get_items, get_times}
 use Rattle.run_defs.specs.UnitRuns.{unit_world}
 use Rattle.run_links.specs.Grounds.{state_of}
-use Rattle.world_steps.specs.Gives.{EventGives}
-use Rattle.world_steps.proofs.Following.{nothing_more}
+use Rattle.world_packets.specs.world_steps.Gives.{EventGives}
+use Rattle.world_packets.proofs.world_steps.Following.{nothing_more}
 use Rattle.world_turns.specs.Turns.{PartGives}
 use Rattle.world_turns.proofs.Turned.{counted, none_left}
 use Rattle.world_turns.proofs.tunnels.get_times.Goals as goal

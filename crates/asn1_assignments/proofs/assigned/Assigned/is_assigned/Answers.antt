@@ -1,6 +1,6 @@
 use Rattle.std.proofs.Common.{ap, ◌∙◌}
 use Rattle.std.specs.Prelude.{is_some}
-use Rattle.asn1_assignments.specs.Module.{is_assigned}
+use Rattle.asn1_assignments.specs.inside.Module.{is_assigned}
 use Rattle.asn1_assignments.proofs.Indexed.{assigned_by}
 use Rattle.asn1_assignments.proofs.assigned.Assigned.is_assigned.Goals as goal
 

@@ -2,7 +2,8 @@ use Rattle.std.proofs.Common.{◌≡◌, ℕ, ◌-◌, List, Bool, true, false, 
 use Rattle.std.specs.List.{count_by}
 use Rattle.asn1_assignments.specs.declared.assignment.Assignment.{Assignment}
 use Rattle.asn1_assignments.specs.Module.{is_type}
-use Rattle.asn1_assignments.specs.Index.{numbered, noted, Indexes}
+use Rattle.asn1_assignments.specs.Index.{numbered, Indexes}
+use Rattle.asn1_assignments.specs.inside.Index.{noted}
 use Rattle.asn1_assignments.proofs.Indexed.{indexes_more, left_more}
 use Rattle.asn1_assignments.proofs.assigned.Assigned.with.Goals.{then-is_type, else-is_type}
 use Rattle.asn1_assignments.proofs.assigned.Assigned.with.Goals as goal

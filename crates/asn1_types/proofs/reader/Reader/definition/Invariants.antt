@@ -1,5 +1,5 @@
 use Rattle.std.proofs.Common.{◌≡◌, ◌-◌, []}
-use Rattle.asn1_types.specs.Types.{type_within_at}
+use Rattle.asn1_types.specs.inside.Types.{type_within_at}
 use Rattle.asn1_types.proofs.reader.Reader.definition.Given as goal
 
 abbrev pub invariant-loop : goal.invariant-loop

@@ -1,6 +1,7 @@
 use Rattle.std.proofs.Common.{◌≡◌, ◌-◌}
-use Rattle.asn1_types.specs.Reading.{repeat_at}
-use Rattle.asn1_types.specs.Members.{no_parts, names_turn_at}
+use Rattle.asn1_types.specs.inside.Reading.{repeat_at}
+use Rattle.asn1_types.specs.Members.{no_parts}
+use Rattle.asn1_types.specs.inside.Members.{names_turn_at}
 use Rattle.asn1_types.proofs.reader.Reader.names.Given as goal
 
 abbrev pub invariant-loop : goal.invariant-loop

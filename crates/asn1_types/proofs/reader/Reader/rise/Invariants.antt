@@ -1,5 +1,5 @@
 use Rattle.std.proofs.Common.{◌≡◌, length}
-use Rattle.asn1_types.specs.Types.{rise_at}
+use Rattle.asn1_types.specs.inside.Types.{rise_at}
 use Rattle.asn1_types.proofs.reader.Reader.rise.Given as goal
 
 abbrev pub invariant-loop-frame : goal.invariant-loop-frame

@@ -1,12 +1,12 @@
 use Rattle.std.proofs.Common.{◌≡◌, length, List, sym, ap, ◌∙◌, subst}
 use Rattle.std.specs.Global.{Vec}
 use Rattle.gnb_types.specs.declared.names.BearerId.{BearerId}
-use Rattle.unit_defs.specs.UpRecords.{UpBearer, UpContext, up_at}
-use Rattle.unit_defs.specs.CuUp.{each_bearer}
-use Rattle.unit_octet_defs.specs.Codec.{octet_way}
-use Rattle.unit_octet_defs.specs.Units.{OctetAnswer}
-use Rattle.unit_steps.specs.Steps.{IsStep}
-use Rattle.up_bearers.specs.declared.bearer.Bearer.{Bearer}
+use Rattle.up_orders.specs.unit_defs.UpRecords.{UpBearer, UpContext, up_at}
+use Rattle.up_orders.specs.unit_defs.CuUp.{each_bearer}
+use Rattle.up_items.specs.unit_octet_defs.Codec.{octet_way}
+use Rattle.up_items.specs.unit_octet_defs.Units.{OctetAnswer}
+use Rattle.up_orders.specs.unit_steps.Steps.{IsStep}
+use Rattle.up_orders.specs.up_bearers.declared.bearer.Bearer.{Bearer}
 use Rattle.bearer_context.specs.Bearers.{numbered, context_as}
 use Rattle.bearer_context.specs.Orders.{bearers_after, context_after, row_of}
 use Rattle.bearer_context.proofs.Numbered.{with_all}

@@ -3,9 +3,9 @@ use Rattle.std.proofs.Math.ListN.{set, length-set}
 use Rattle.std.specs.Global.{Vec}
 use Rattle.gnb_types.specs.Orders.{bearer_cmp}
 use Rattle.tables.specs.Tables.{find}
-use Rattle.unit_defs.specs.UpRecords.{UpBearer, UpContext}
-use Rattle.up_bearers.specs.Bearers.{kept}
-use Rattle.up_bearers.specs.declared.bearer.Bearer.{Bearer}
+use Rattle.up_orders.specs.unit_defs.UpRecords.{UpBearer, UpContext}
+use Rattle.up_orders.specs.up_bearers.Bearers.{kept}
+use Rattle.up_orders.specs.up_bearers.declared.bearer.Bearer.{Bearer}
 use Rattle.up_items.specs.Coming.{came}
 use Rattle.bearer_context.specs.Bearers.{context_as}
 use Rattle.bearer_context.specs.Contexts.{with_one, at_in}

@@ -1,5 +1,5 @@
 use Rattle.std.proofs.Common.{◌≡◌, length, sym, ap, ◌∙◌, arith}
-use Rattle.unit_defs.specs.UpRecords.{UpContext}
+use Rattle.up_orders.specs.unit_defs.UpRecords.{UpContext}
 use Rattle.bearer_context.proofs.Numbered.{length-numbered}
 use Rattle.bearer_context.proofs.context.Context.count.Goals as goal
 

@@ -1,8 +1,8 @@
 use Rattle.std.proofs.Common.{subst}
-use Rattle.unit_defs.specs.UpRecords.{UpContext}
-use Rattle.unit_defs.specs.CuUp.{as_frozen}
-use Rattle.unit_octet_defs.specs.Codec.{octet_way}
-use Rattle.unit_steps.specs.Steps.{IsStep}
+use Rattle.up_orders.specs.unit_defs.UpRecords.{UpContext}
+use Rattle.up_orders.specs.unit_defs.CuUp.{as_frozen}
+use Rattle.up_items.specs.unit_octet_defs.Codec.{octet_way}
+use Rattle.up_orders.specs.unit_steps.Steps.{IsStep}
 use Rattle.bearer_context.specs.Orders.{context_after, frozen_each}
 use Rattle.bearer_context.proofs.context.Context.freeze.Goals as goal
 

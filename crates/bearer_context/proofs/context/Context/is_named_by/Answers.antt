@@ -2,10 +2,10 @@ use Rattle.std.proofs.Common.{◌≡◌, length, List, sym, ap, ◌∙◌, arith
 use Rattle.std.proofs.lemmas.List.{length-map}
 use Rattle.gnb_types.specs.declared.names.BearerId.{BearerId}
 use Rattle.gnb_types.specs.declared.plans.Tunnel.{Tunnel}
-use Rattle.unit_defs.specs.UpRecords.{UpContext}
-use Rattle.unit_defs.specs.Messages.{are_bearers, bearers_of}
-use Rattle.unit_defs.specs.CuUp.{names, bearers_from}
-use Rattle.unit_octet_defs.specs.Codec.{octet_way}
+use Rattle.up_orders.specs.unit_defs.UpRecords.{UpContext}
+use Rattle.up_orders.specs.unit_defs.Messages.{are_bearers, bearers_of}
+use Rattle.up_orders.specs.unit_defs.CuUp.{names, bearers_from}
+use Rattle.up_items.specs.unit_octet_defs.Codec.{octet_way}
 use Rattle.bearer_context.proofs.Names.{names_are, other_count, named_turn, named_not, named_all}
 use Rattle.bearer_context.proofs.context.Context.is_named_by.Goals as goal
 

@@ -1,6 +1,6 @@
 use Rattle.std.proofs.Common.{◌≡◌, ◌+◌, ◌-◌, drop, length}
-use Rattle.unit_defs.specs.Messages.{bearers_of, are_bearers}
-use Rattle.unit_defs.specs.CuUp.{bearers_from}
+use Rattle.up_orders.specs.unit_defs.Messages.{bearers_of, are_bearers}
+use Rattle.up_orders.specs.unit_defs.CuUp.{bearers_from}
 use Rattle.bearer_context.proofs.context.Context.is_named_by.Given as goal
 
 abbrev pub invariant-loop-tunnel : goal.invariant-loop-tunnel

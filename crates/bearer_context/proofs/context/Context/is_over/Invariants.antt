@@ -1,7 +1,7 @@
 use Rattle.std.proofs.Common.{◌≡◌, ◌+◌, drop}
 use Rattle.std.specs.List.{list_all}
-use Rattle.unit_defs.specs.UpBearers.{is_over}
-use Rattle.up_tunnels.specs.Tunnels.{flags_as}
+use Rattle.up_orders.specs.unit_defs.UpBearers.{is_over}
+use Rattle.up_orders.specs.up_tunnels.Tunnels.{flags_as}
 use Rattle.bearer_context.specs.Bearers.{numbered}
 use Rattle.bearer_context.proofs.context.Context.is_over.Given as goal
 

@@ -1,6 +1,6 @@
 use Rattle.std.proofs.Common.{◌≡◌, false, Option, Some, sym, ap, ◌∙◌, subst, arith}
-use Rattle.unit_defs.specs.UpRecords.{UpBearer, UpContext}
-use Rattle.unit_defs.specs.Accessors.{is_unconfirmed_in, is_unconfirmed_of}
+use Rattle.up_orders.specs.unit_defs.UpRecords.{UpBearer, UpContext}
+use Rattle.up_orders.specs.unit_defs.Accessors.{is_unconfirmed_in, is_unconfirmed_of}
 use Rattle.bearer_context.proofs.Found.{found, not_found}
 use Rattle.bearer_context.proofs.Polls.{least_is}
 use Rattle.bearer_context.proofs.context.Context.is_unconfirmed.Goals as goal

@@ -1,6 +1,6 @@
 use Rattle.std.proofs.Common.{◌≡◌, ◌+◌, ◌++◌, drop}
 use Rattle.std.specs.List.{flat_map}
-use Rattle.unit_defs.specs.UpBearers.{open_teids}
+use Rattle.up_orders.specs.unit_defs.UpBearers.{open_teids}
 use Rattle.bearer_context.specs.Bearers.{numbered}
 use Rattle.bearer_context.proofs.context.Context.open_teids.Given as goal
 

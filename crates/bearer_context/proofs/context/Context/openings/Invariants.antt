@@ -1,7 +1,7 @@
 use Rattle.std.proofs.Common.{◌≡◌, ◌+◌, ◌++◌, ℕ, map, drop}
 use Rattle.std.specs.List.{flat_map}
 use Rattle.gnb_types.specs.declared.names.UeId.{UeId}
-use Rattle.unit_defs.specs.CuUp.{entries_of}
+use Rattle.up_orders.specs.unit_defs.CuUp.{entries_of}
 use Rattle.bearer_context.specs.Bearers.{numbered}
 use Rattle.bearer_context.specs.Answers.{entry_as}
 use Rattle.bearer_context.proofs.context.Context.openings.Given as goal

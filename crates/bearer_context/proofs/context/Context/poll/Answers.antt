@@ -4,11 +4,11 @@ use Rattle.std.proofs.Math.ListN.{set}
 use Rattle.gnb_types.specs.Orders.{bearer_cmp}
 use Rattle.gnb_types.specs.declared.reasons.RefuseReason.TheVariants.{Empty}
 use Rattle.tables.specs.Tables.{find}
-use Rattle.unit_defs.specs.UpRecords.{UpBearer, UpContext}
-use Rattle.unit_steps.specs.Steps.{step_after, IsStep}
-use Rattle.ue_bearers.specs.Uplinks.{IsLeastFrom}
-use Rattle.up_tunnels.specs.declared.at.At.{At}
-use Rattle.up_bearers.specs.Bearers.{kept}
+use Rattle.up_orders.specs.unit_defs.UpRecords.{UpBearer, UpContext}
+use Rattle.up_orders.specs.unit_steps.Steps.{step_after, IsStep}
+use Rattle.up_orders.specs.ue_bearers.Uplinks.{IsLeastFrom}
+use Rattle.up_orders.specs.up_tunnels.declared.at.At.{At}
+use Rattle.up_orders.specs.up_bearers.Bearers.{kept}
 use Rattle.bearer_context.specs.Bearers.{context_as}
 use Rattle.bearer_context.specs.Items.{polled}
 use Rattle.bearer_context.proofs.Found.{not_found}

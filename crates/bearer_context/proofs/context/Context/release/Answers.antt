@@ -1,5 +1,5 @@
 use Rattle.std.proofs.Common.{true}
-use Rattle.up_tunnels.specs.declared.at.Flags.{Flags}
+use Rattle.up_orders.specs.up_tunnels.declared.at.Flags.{Flags}
 use Rattle.bearer_context.specs.Bearers.{shared}
 use Rattle.bearer_context.proofs.Whole.{sound_with}
 use Rattle.bearer_context.proofs.context.Context.release.Goals as goal

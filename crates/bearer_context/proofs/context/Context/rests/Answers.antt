@@ -1,7 +1,7 @@
 use Rattle.std.proofs.Common.{◌≡◌, true, Option, Some, sym, ap, ◌∙◌, subst, arith}
-use Rattle.unit_defs.specs.UpRecords.{UpBearer, UpContext}
-use Rattle.unit_defs.specs.Accessors.{up_bearer_rests, up_context_rests}
-use Rattle.up_bearers.specs.Bearers.{kept}
+use Rattle.up_orders.specs.unit_defs.UpRecords.{UpBearer, UpContext}
+use Rattle.up_orders.specs.unit_defs.Accessors.{up_bearer_rests, up_context_rests}
+use Rattle.up_orders.specs.up_bearers.Bearers.{kept}
 use Rattle.bearer_context.specs.Bearers.{context_as}
 use Rattle.bearer_context.proofs.Found.{found, not_found}
 use Rattle.bearer_context.proofs.Polls.{rests_both}

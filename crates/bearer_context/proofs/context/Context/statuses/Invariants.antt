@@ -1,5 +1,5 @@
 use Rattle.std.proofs.Common.{◌≡◌, ◌+◌, ◌++◌, map, drop}
-use Rattle.unit_defs.specs.UpBearers.{status_of}
+use Rattle.up_orders.specs.unit_defs.UpBearers.{status_of}
 use Rattle.bearer_context.specs.Bearers.{numbered}
 use Rattle.bearer_context.proofs.context.Context.statuses.Given as goal
 

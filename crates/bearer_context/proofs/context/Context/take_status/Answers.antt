@@ -1,10 +1,10 @@
 use Rattle.std.proofs.Common.{◌≡◌, true, length, List, sym, ap, ◌∙◌, subst}
 use Rattle.std.specs.Global.{Vec}
-use Rattle.unit_defs.specs.UpRecords.{UpContext}
-use Rattle.unit_defs.specs.CuUp.{status_each, as_known}
-use Rattle.unit_octet_defs.specs.Codec.{octet_way}
-use Rattle.unit_steps.specs.Steps.{IsStep}
-use Rattle.up_bearers.specs.declared.bearer.Bearer.{Bearer}
+use Rattle.up_orders.specs.unit_defs.UpRecords.{UpContext}
+use Rattle.up_orders.specs.unit_defs.CuUp.{status_each, as_known}
+use Rattle.up_items.specs.unit_octet_defs.Codec.{octet_way}
+use Rattle.up_orders.specs.unit_steps.Steps.{IsStep}
+use Rattle.up_orders.specs.up_bearers.declared.bearer.Bearer.{Bearer}
 use Rattle.bearer_context.specs.Bearers.{numbered, context_as}
 use Rattle.bearer_context.specs.Orders.{bearers_after, context_after}
 use Rattle.bearer_context.proofs.Numbered.{with_all}

@@ -2,10 +2,10 @@ use Rattle.std.proofs.Common.{◌++◌, List, ap, ◌∙◌, arith}
 use Rattle.std.specs.List.{flat_map}
 use Rattle.gnb_types.specs.declared.names.BearerId.{BearerId}
 use Rattle.gnb_types.specs.declared.plans.Tunnel.{Tunnel}
-use Rattle.unit_defs.specs.Messages.{tunnel_of}
-use Rattle.unit_defs.specs.UpRecords.{UpBearer, UpContext}
-use Rattle.up_bearers.specs.Bearers.{kept}
-use Rattle.up_bearers.specs.declared.bearer.Bearer.{Bearer}
+use Rattle.up_orders.specs.unit_defs.Messages.{tunnel_of}
+use Rattle.up_orders.specs.unit_defs.UpRecords.{UpBearer, UpContext}
+use Rattle.up_orders.specs.up_bearers.Bearers.{kept}
+use Rattle.up_orders.specs.up_bearers.declared.bearer.Bearer.{Bearer}
 use Rattle.bearer_context.specs.Answers.{teid_of_kind, tunnels_of}
 use Rattle.bearer_context.specs.Bearers.{numbered}
 use Rattle.bearer_context.proofs.Numbered.{said_turn, said_all}

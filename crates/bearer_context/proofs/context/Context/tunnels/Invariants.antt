@@ -1,7 +1,7 @@
 use Rattle.std.proofs.Common.{◌≡◌, ◌+◌, ◌++◌, drop}
 use Rattle.std.specs.List.{flat_map}
-use Rattle.unit_defs.specs.Messages.{tunnel_of}
-use Rattle.unit_octet_defs.specs.Codec.{Codec}
+use Rattle.up_orders.specs.unit_defs.Messages.{tunnel_of}
+use Rattle.up_items.specs.unit_octet_defs.Codec.{Codec}
 use Rattle.bearer_context.specs.Bearers.{numbered}
 use Rattle.bearer_context.specs.Answers.{teid_of_kind}
 use Rattle.bearer_context.proofs.context.Context.tunnels.Given as goal

@@ -1,6 +1,6 @@
 use Rattle.std.proofs.Common.{◌≡◌, ◌+◌, ◌++◌, drop}
-use Rattle.unit_defs.specs.CuUp.{teids_from}
-use Rattle.unit_octet_defs.specs.Codec.{Codec, octet_way}
+use Rattle.up_orders.specs.unit_defs.CuUp.{teids_from}
+use Rattle.up_items.specs.unit_octet_defs.Codec.{Codec, octet_way}
 use Rattle.bearer_context.specs.Bearers.{numbered}
 use Rattle.bearer_context.proofs.context.Context.uplinks_from.Given as goal
 

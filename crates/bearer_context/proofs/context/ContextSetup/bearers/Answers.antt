@@ -1,5 +1,5 @@
 use Rattle.std.proofs.Common.{List, length, arith, sym, ap, ◌∙◌, subst}
-use Rattle.up_bearers.specs.declared.bearer.Bearer.{Bearer}
+use Rattle.up_orders.specs.up_bearers.declared.bearer.Bearer.{Bearer}
 use Rattle.bearer_context.specs.Bearers.{numbered, shared, IsServed, AreServed}
 use Rattle.bearer_context.specs.Contexts.{flags_at_first}
 use Rattle.bearer_context.proofs.Numbered.{each_push}

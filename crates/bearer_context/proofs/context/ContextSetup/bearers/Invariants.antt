@@ -1,6 +1,6 @@
 use Rattle.std.proofs.Common.{◌≡◌, ◌+◌, ◌*◌, length}
-use Rattle.unit_defs.specs.UpBearers.{teids_of_bearer}
-use Rattle.unit_defs.specs.CuUp.{bearers_from, bearers_made}
+use Rattle.up_orders.specs.unit_defs.UpBearers.{teids_of_bearer}
+use Rattle.up_orders.specs.unit_defs.CuUp.{bearers_from, bearers_made}
 use Rattle.bearer_context.specs.Bearers.{numbered, shared, AreServed}
 use Rattle.bearer_context.specs.Contexts.{flags_at_first}
 use Rattle.bearer_context.proofs.context.ContextSetup.bearers.Given as goal

@@ -2,7 +2,7 @@ use Rattle.std.proofs.Common.{◌≡◌, List, ◌∙◌, subst}
 use Rattle.gnb_types.specs.declared.plans.Tunnel.{Tunnel}
 use Rattle.unit_defs.specs.Core.{switch_path}
 use Rattle.unit_octet_defs.specs.Codec.{octet_way}
-use Rattle.unit_steps.specs.Steps.{IsStep, step_after}
+use Rattle.unit_requests.specs.unit_steps.Steps.{IsStep, step_after}
 use Rattle.core_node.specs.Cores.{OctetCore}
 use Rattle.core_node.proofs.Steps.{switch_step}
 use Rattle.core_node.proofs.node.CoreNode.switch_path.Goals as goal

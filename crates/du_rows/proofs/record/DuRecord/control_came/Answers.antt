@@ -1,8 +1,8 @@
 use Rattle.std.proofs.Common.{sym, ap, ◌∙◌, subst}
 use Rattle.unit_octet_defs.specs.Units.{OctetAnswer}
-use Rattle.unit_messages.specs.Messages.{message_as, answer_as}
+use Rattle.unit_requests.specs.unit_messages.Messages.{message_as, answer_as}
 use Rattle.du_rows.proofs.ControlSteps.{control_is_read}
-use Rattle.unit_steps.specs.Steps.{IsStep, step_after}
+use Rattle.unit_requests.specs.unit_steps.Steps.{IsStep, step_after}
 use Rattle.du_contexts.specs.Tables.{OctetDu}
 use Rattle.du_rows.proofs.record.DuRecord.control_came.Goals as goal
 

@@ -1,7 +1,7 @@
 use Rattle.std.proofs.Common.{ℕ, List, subst}
 use Rattle.unit_defs.specs.Du.{relay_down}
 use Rattle.unit_octet_defs.specs.Codec.{octet_way}
-use Rattle.unit_steps.specs.Steps.{IsStep, step_after}
+use Rattle.unit_requests.specs.unit_steps.Steps.{IsStep, step_after}
 use Rattle.du_rows.proofs.record.DuRecord.f1_transferred.Goals as goal
 
 pub returns-in-DlRrcMessageTransfer : goal.returns-in-DlRrcMessageTransfer

@@ -3,7 +3,7 @@ use Rattle.message_types.specs.declared.f1.F1.TheVariants as f1s
 use Rattle.unit_defs.specs.Ways.{f1}
 use Rattle.unit_defs.specs.Du.{relay_up}
 use Rattle.unit_octet_defs.specs.Codec.{octet_way}
-use Rattle.unit_steps.specs.Steps.{IsStep, step_after}
+use Rattle.unit_requests.specs.unit_steps.Steps.{IsStep, step_after}
 use Rattle.du_contexts.specs.Tables.{OctetDu}
 use Rattle.du_rows.specs.Records.{du_record}
 use Rattle.du_rows.proofs.record.DuRecord.relay_up.Goals as goal

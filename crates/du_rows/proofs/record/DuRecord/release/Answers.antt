@@ -1,5 +1,5 @@
 use Rattle.std.proofs.Common.{sym, ap, ◌∙◌}
-use Rattle.unit_steps.specs.Steps.{stepped}
+use Rattle.unit_requests.specs.unit_steps.Steps.{stepped}
 use Rattle.du_rows.proofs.ContextSteps.{release_step}
 use Rattle.du_contexts.specs.Tables.{OctetDu}
 use Rattle.du_rows.specs.Records.{du_record}

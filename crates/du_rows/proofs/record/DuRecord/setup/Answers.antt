@@ -4,7 +4,7 @@ use Rattle.std.proofs.lemmas.Result.{err_from_is_err_and}
 use Rattle.unit_defs.specs.Du.{setup}
 use Rattle.unit_octet_defs.specs.Codec.{octet_way}
 use Rattle.du_rows.proofs.ContextSteps.{setup_step, setup_stops}
-use Rattle.unit_steps.specs.Steps.{IsStep, step_after}
+use Rattle.unit_requests.specs.unit_steps.Steps.{IsStep, step_after}
 use Rattle.du_contexts.specs.Tables.{OctetDu}
 use Rattle.du_rows.specs.Records.{du_record}
 use Rattle.du_rows.proofs.record.DuRecord.setup.Goals as goal

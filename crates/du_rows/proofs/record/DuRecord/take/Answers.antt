@@ -1,7 +1,7 @@
 use Rattle.std.proofs.Common.{subst}
 use Rattle.unit_octet_defs.specs.Units.{du_steps}
 use Rattle.gnb_types.specs.declared.inputs.Input.TheVariants as ins
-use Rattle.unit_steps.specs.Steps.{IsStep, step_after}
+use Rattle.unit_requests.specs.unit_steps.Steps.{IsStep, step_after}
 use Rattle.du_contexts.specs.Tables.{OctetDu}
 use Rattle.du_rows.specs.Records.{du_record}
 use Rattle.du_rows.proofs.record.DuRecord.take.Goals as goal

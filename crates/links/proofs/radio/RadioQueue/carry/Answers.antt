@@ -1,5 +1,5 @@
 use Rattle.std.proofs.Common.{sym, ap, ◌∙◌, ℕ, List, Some}
-use Rattle.transport_defs.specs.Links.{Radio}
+use Rattle.links_bag.specs.transport_defs.Links.{Radio}
 use Rattle.links.specs.Radios.{uncarried}
 use Rattle.links_bag.proofs.Entries.{nth_is_get}
 use Rattle.links.proofs.radio.RadioQueue.carry.Goals as goal

@@ -1,5 +1,5 @@
 use Rattle.std.proofs.Common.{◌<◌, ◌∙◌, ap, ℕ, ◌+◌, length, List, [], ◌∷◌, ◌++◌, refl, arith}
-use Rattle.transport_defs.specs.declared.Letter.{Letter}
+use Rattle.link_tallies.specs.transport_defs.declared.Letter.{Letter}
 use Rattle.links_bag.specs.Bags.{message}
 use Rattle.links_bag.proofs.BagLemmas.{bag-put, bag-undone, bag-counts, seen_full, seen_put, seen_same}
 use Rattle.links_bag.proofs.bag.Bag.put.Goals as goal

@@ -1,7 +1,7 @@
 use Rattle.std.proofs.Common.{◌≡◌, ◌+◌, ◌≤◌, ◌<◌, ℕ, None, length, sym, subst, arith}
 use Rattle.std.specs.Prelude.{OnOk}
 use Rattle.gnb_types.specs.Orders.{entity_cmp}
-use Rattle.tables.specs.Tables.{find}
+use Rattle.pool_defs.specs.tables.Tables.{find}
 use Rattle.pool_defs.specs.Pools.{PoolState, reserved}
 use Rattle.packet_pool.specs.inside.Accounts.{total}
 use Rattle.packet_pool.proofs.PoolChanges.{tied_after}

@@ -1,7 +1,7 @@
 use Rattle.std.proofs.Common.{◌<◌, List, length, Option, false, set, sym, ap, ◌∙◌, subst, refl}
 use Rattle.std.specs.Prelude.{IsSome}
 use Rattle.std.specs.Ordering.{nat_cmp}
-use Rattle.tables.specs.Tables.{find}
+use Rattle.pool_defs.specs.tables.Tables.{find}
 use Rattle.pool_defs.specs.Pools.{PoolState, packet_at, without_place, IsPool}
 use Rattle.packet_pool.specs.declared.contents.Content.{Content}
 use Rattle.packet_pool.specs.inside.Contents.{marked}

@@ -1,5 +1,5 @@
 use Rattle.std.proofs.Common.{◌∙◌, List, ℕ, [], ◌∷◌, ◌++◌, refl, ap}
-use Rattle.links_bag.specs.Bags.{message}
+use Rattle.links.specs.links_bag.Bags.{message}
 use Rattle.scenario_text.specs.declared.line.Message.{Message as ShownMessage}
 use Rattle.scenario_text.specs.declared.line.OutLine.TheVariants as outs
 use Rattle.run_defs.specs.Printing.{shown_message}

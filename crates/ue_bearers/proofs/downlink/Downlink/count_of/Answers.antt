@@ -1,5 +1,5 @@
 use Rattle.std.proofs.Common.{◌∙◌, ap, sym, ℕ}
-use Rattle.pdcp_defs.specs.Counts.{near_count}
+use Rattle.pdcp_entities.specs.pdcp_defs.Counts.{near_count}
 use Rattle.pdcp_entities.proofs.NearLemmas.{near_agrees}
 use Rattle.ue_bearers.specs.Downlinks.{DownlinkState}
 use Rattle.ue_bearers.proofs.StoreLemmas.{deliv_seen}

@@ -1,5 +1,5 @@
 use Rattle.std.proofs.Common.{arith}
-use Rattle.pdcp_defs.specs.Counts.{near_count}
+use Rattle.pdcp_entities.specs.pdcp_defs.Counts.{near_count}
 use Rattle.pdcp_entities.specs.Entities.{taken}
 use Rattle.pdcp_entities.proofs.NearLemmas.{near_found}
 use Rattle.ue_bearers.proofs.RefLemmas.{used_few}

@@ -1,6 +1,6 @@
 use Rattle.std.proofs.Common.{refl, sym, ◌∙◌}
 use Rattle.pdcp_entities.proofs.ParkLemmas.{still_given}
-use Rattle.pdcp_defs.specs.Senders.{may_restore}
+use Rattle.pdcp_entities.specs.pdcp_defs.Senders.{may_restore}
 use Rattle.ue_bearers.proofs.PutLemmas.{never_full_with, parked_with, given_with, kept_spent, seen_spent}
 use Rattle.ue_bearers.proofs.RestoreLemmas.{not_held, room_with, may_seen, kept_restored, restored_seen}
 use Rattle.ue_bearers.proofs.uplink.Uplink.restore.Goals as goal

@@ -4,8 +4,8 @@ use Rattle.gnb_types.specs.declared.outputs.Output.{Output}
 use Rattle.gnb_types.specs.declared.outputs.Output.TheVariants as outs
 use Rattle.gnb_types.specs.declared.outputs.Tag.TheVariants.{Absent}
 use Rattle.pdcp.specs.Pdus.{report_octets}
-use Rattle.unit_defs.specs.Ue.{UeBearer}
-use Rattle.unit_steps.specs.Steps.{Step, IsStep}
+use Rattle.ue_bearers.specs.unit_defs.Ue.{UeBearer}
+use Rattle.ue_bearers.specs.unit_steps.Steps.{Step, IsStep}
 use Rattle.ue_packets.specs.Bearers.{kept, terminal_of}
 use Rattle.ue_packets.proofs.RowLemmas.{connects}
 use Rattle.ue_packets.proofs.bearer.Bearer.connect.Goals as goal

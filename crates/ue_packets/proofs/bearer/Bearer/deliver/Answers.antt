@@ -1,7 +1,7 @@
 use Rattle.std.proofs.Common.{List, sym, ap, ◌∙◌}
 use Rattle.gnb_types.specs.declared.outputs.Output.{Output}
-use Rattle.pdcp_defs.specs.Receivers.{deliver as handed_up}
-use Rattle.unit_steps.specs.Steps.{step_after, stepped}
+use Rattle.ue_bearers.specs.pdcp_defs.Receivers.{deliver as handed_up}
+use Rattle.ue_bearers.specs.unit_steps.Steps.{step_after, stepped}
 use Rattle.ue_bearers.specs.Downlinks.{DownlinkState}
 use Rattle.ue_packets.specs.Bearers.{kept, terminal_of}
 use Rattle.ue_packets.proofs.RowLemmas.{bearer_of, handing, delivers_one, delivers_none, delivered_facts, not_delivered}

@@ -1,7 +1,7 @@
 use Rattle.std.proofs.Common.{◌≡◌, length}
-use Rattle.pdcp_defs.specs.Receivers.{deliver}
-use Rattle.unit_octet_defs.specs.Codec.{Codec}
-use Rattle.unit_steps.specs.Steps.{step_after}
+use Rattle.ue_bearers.specs.pdcp_defs.Receivers.{deliver}
+use Rattle.ue_bearers.specs.unit_octet_defs.Codec.{Codec}
+use Rattle.ue_bearers.specs.unit_steps.Steps.{step_after}
 use Rattle.ue_packets.specs.Bearers.{kept, terminal_of, IsOf}
 use Rattle.ue_packets.proofs.RowLemmas.{handing}
 use Rattle.ue_packets.proofs.bearer.Bearer.deliver.Given as goal

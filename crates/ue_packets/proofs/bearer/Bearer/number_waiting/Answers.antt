@@ -1,7 +1,7 @@
 use Rattle.std.proofs.Common.{sym, ap, ◌∙◌}
-use Rattle.unit_defs.specs.Ue.{UeBearer}
-use Rattle.unit_octet_defs.specs.Units.{OctetAnswer}
-use Rattle.unit_steps.specs.Steps.{step_after, stepped}
+use Rattle.ue_bearers.specs.unit_defs.Ue.{UeBearer}
+use Rattle.ue_bearers.specs.unit_octet_defs.Units.{OctetAnswer}
+use Rattle.ue_bearers.specs.unit_steps.Steps.{step_after, stepped}
 use Rattle.ue_bearers.specs.Uplinks.{UplinkState}
 use Rattle.ue_packets.specs.Bearers.{kept, terminal_of}
 use Rattle.ue_packets.proofs.RowLemmas.{bearer_of, numbers_nothing, numbers_connected, numbers_one, numbers_end, numbers_spent, numbers_keeps, numbered_facts, not_numbered, numbers_fails}

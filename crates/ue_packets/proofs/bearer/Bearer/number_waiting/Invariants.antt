@@ -1,6 +1,6 @@
 use Rattle.std.proofs.Common.{◌≡◌, length}
-use Rattle.unit_octet_defs.specs.Codec.{Codec}
-use Rattle.unit_steps.specs.Steps.{step_after}
+use Rattle.ue_bearers.specs.unit_octet_defs.Codec.{Codec}
+use Rattle.ue_bearers.specs.unit_steps.Steps.{step_after}
 use Rattle.ue_packets.specs.Bearers.{terminal_of, IsOf}
 use Rattle.ue_packets.proofs.RowLemmas.{rest}
 use Rattle.ue_packets.proofs.bearer.Bearer.number_waiting.Given as goal

@@ -1,6 +1,6 @@
 use Rattle.std.proofs.Common.{ap, subst}
-use Rattle.unit_defs.specs.Ue.{UeBearer}
-use Rattle.unit_steps.specs.Steps.{Step, IsStep}
+use Rattle.ue_bearers.specs.unit_defs.Ue.{UeBearer}
+use Rattle.ue_bearers.specs.unit_steps.Steps.{Step, IsStep}
 use Rattle.ue_bearers.specs.Uplinks.{UplinkState}
 use Rattle.ue_packets.specs.Bearers.{kept, terminal_of}
 use Rattle.ue_packets.proofs.RowLemmas.{offers_size, offers_quota, offers_room, bearer_of}

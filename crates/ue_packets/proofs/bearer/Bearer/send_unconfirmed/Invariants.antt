@@ -1,5 +1,5 @@
 use Rattle.std.proofs.Common.{◌≡◌, ◌++◌, length}
-use Rattle.unit_octet_defs.specs.Codec.{Codec}
+use Rattle.ue_bearers.specs.unit_octet_defs.Codec.{Codec}
 use Rattle.ue_bearers.specs.Uplinks.{from_on}
 use Rattle.ue_packets.specs.Bearers.{terminal_of}
 use Rattle.ue_packets.proofs.RowLemmas.{again}

@@ -1,10 +1,10 @@
 use Rattle.std.proofs.Common.{◌≡◌, refl, sym, ap, ◌∙◌, subst}
 use Rattle.gnb_types.specs.declared.names.SnBits.{SnBits}
-use Rattle.pdcp_defs.specs.Counts.{near_count}
+use Rattle.ue_bearers.specs.pdcp_defs.Counts.{near_count}
 use Rattle.ue_bearers.specs.Downlinks.{received}
-use Rattle.unit_defs.specs.Ue.{UeBearer}
-use Rattle.unit_octet_defs.specs.Units.{OctetAnswer}
-use Rattle.unit_steps.specs.Steps.{step_after, IsStep}
+use Rattle.ue_bearers.specs.unit_defs.Ue.{UeBearer}
+use Rattle.ue_bearers.specs.unit_octet_defs.Units.{OctetAnswer}
+use Rattle.ue_bearers.specs.unit_steps.Steps.{step_after, IsStep}
 use Rattle.ue_packets.specs.Bearers.{kept, terminal_of}
 use Rattle.ue_packets.proofs.RowLemmas.{with_state, takes_stored}
 use Rattle.ue_packets.proofs.bearer.Bearer.take_packet.Goals as goal

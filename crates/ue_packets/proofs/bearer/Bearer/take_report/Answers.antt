@@ -1,7 +1,7 @@
 use Rattle.std.proofs.Common.{subst}
-use Rattle.unit_defs.specs.Ue.{UeBearer, number_waiting}
-use Rattle.unit_octet_defs.specs.Codec.{octet_way}
-use Rattle.unit_steps.specs.Steps.{step_after, IsStep}
+use Rattle.ue_bearers.specs.unit_defs.Ue.{UeBearer, number_waiting}
+use Rattle.ue_bearers.specs.unit_octet_defs.Codec.{octet_way}
+use Rattle.ue_bearers.specs.unit_steps.Steps.{step_after, IsStep}
 use Rattle.ue_packets.specs.Bearers.{kept, terminal_of}
 use Rattle.ue_packets.proofs.RowLemmas.{reports}
 use Rattle.ue_packets.proofs.bearer.Bearer.take_report.Goals as goal

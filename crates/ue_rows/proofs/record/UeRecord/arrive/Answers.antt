@@ -1,6 +1,6 @@
 use Rattle.std.proofs.Common.{◌≡◌, ◌+◌, ◌^◌, ◌<◌, sym, subst, arith}
 use Rattle.unit_defs.specs.Ue.{UeNode}
-use Rattle.unit_steps.specs.Steps.{Step, IsStep}
+use Rattle.ue_packets.specs.unit_steps.Steps.{Step, IsStep}
 use Rattle.ue_rows.specs.Records.{record_of}
 use Rattle.ue_rows.proofs.RowSteps.{arrives_at}
 use Rattle.ue_rows.proofs.record.UeRecord.arrive.Goals as goal

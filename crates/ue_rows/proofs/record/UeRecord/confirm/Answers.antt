@@ -1,8 +1,8 @@
 use Rattle.std.proofs.Common.{sym, ap, ◌∙◌, arith}
 use Rattle.unit_defs.specs.Ue.{UeNode}
-use Rattle.unit_steps.specs.Steps.{stepped}
+use Rattle.ue_packets.specs.unit_steps.Steps.{stepped}
 use Rattle.pdcp.specs.Pdus.{content_of}
-use Rattle.unit_octet_defs.specs.Reading.{content_by, count_confirmed_in, bearer_at}
+use Rattle.unit_messages.specs.unit_octet_defs.Reading.{content_by, count_confirmed_in, bearer_at}
 use Rattle.ue_rows.specs.Records.{record_of}
 use Rattle.ue_rows.proofs.AtBearer.{is_of, confirm_none, confirm_there, confirm_report_there, unchanged}
 use Rattle.ue_rows.proofs.record.UeRecord.confirm.Goals as goal

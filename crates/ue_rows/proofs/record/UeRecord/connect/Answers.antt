@@ -1,7 +1,7 @@
 use Rattle.std.proofs.Common.{◌≡◌, List, length, sym, ap, ◌∙◌, subst}
 use Rattle.unit_defs.specs.Ue.{connect_each}
-use Rattle.unit_octet_defs.specs.Codec.{octet_way}
-use Rattle.unit_steps.specs.Steps.{step_after, IsStep}
+use Rattle.unit_messages.specs.unit_octet_defs.Codec.{octet_way}
+use Rattle.ue_packets.specs.unit_steps.Steps.{step_after, IsStep}
 use Rattle.ue_packets.specs.declared.bearer.Bearer.{Bearer}
 use Rattle.ue_packets.specs.declared.terminal.Terminal.{Terminal}
 use Rattle.ue_rows.specs.Records.{record_of, numbered}

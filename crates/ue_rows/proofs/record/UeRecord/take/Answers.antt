@@ -1,6 +1,6 @@
 use Rattle.std.proofs.Common.{ap, arith}
 use Rattle.pdcp.specs.Pdus.{content_of}
-use Rattle.unit_octet_defs.specs.Reading.{content_by, count_received_in, bearer_at}
+use Rattle.unit_messages.specs.unit_octet_defs.Reading.{content_by, count_received_in, bearer_at}
 use Rattle.ue_rows.specs.Records.{record_of}
 use Rattle.ue_rows.proofs.AtBearer.{is_of, take_none, take_packet_there, take_report_there}
 use Rattle.ue_rows.proofs.record.UeRecord.take.Goals as goal

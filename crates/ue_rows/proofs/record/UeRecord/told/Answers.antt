@@ -1,5 +1,5 @@
 use Rattle.unit_defs.specs.Ue.{told}
-use Rattle.unit_octet_defs.specs.Codec.{octet_way}
+use Rattle.unit_messages.specs.unit_octet_defs.Codec.{octet_way}
 use Rattle.ue_rows.specs.Records.{record_of}
 use Rattle.ue_rows.proofs.RowSteps.{step_as, tells_command, tells_accepted}
 use Rattle.ue_rows.proofs.record.UeRecord.told.Goals as goal

@@ -2,7 +2,7 @@ use Rattle.std.proofs.Common.{refl, sym, ap, ◌∙◌}
 use Rattle.gnb_types.specs.Orders.{ue_cmp}
 use Rattle.tables.specs.Tables.{find}
 use Rattle.unit_defs.specs.CuUp.{as_frozen}
-use Rattle.unit_octet_defs.specs.Codec.{octet_way}
+use Rattle.bearer_context.specs.unit_octet_defs.Codec.{octet_way}
 use Rattle.bearer_context.specs.Orders.{frozen_each}
 use Rattle.up_contexts.specs.Tables.{UpTables}
 use Rattle.up_contexts.specs.Rows.{frozen_at}

@@ -1,7 +1,7 @@
 use Rattle.std.proofs.Common.{sym, ap, ◌∙◌}
 use Rattle.gnb_types.specs.Orders.{ue_cmp}
 use Rattle.tables.specs.Tables.{find}
-use Rattle.unit_steps.specs.Steps.{stepped}
+use Rattle.bearer_context.specs.unit_steps.Steps.{stepped}
 use Rattle.up_contexts.specs.Tables.{UpTables, with_tables}
 use Rattle.up_contexts.proofs.Polls.{polled_nowhere, polled_step}
 use Rattle.up_contexts.proofs.contexts.Contexts.poll.Goals as goal

@@ -1,6 +1,6 @@
 use Rattle.std.proofs.Common.{refl, sym}
 use Rattle.unit_defs.specs.CuUp.{as_switched}
-use Rattle.unit_octet_defs.specs.Codec.{octet_way}
+use Rattle.bearer_context.specs.unit_octet_defs.Codec.{octet_way}
 use Rattle.bearer_context.specs.Orders.{switched_each}
 use Rattle.up_contexts.specs.Rows.{switched_at}
 use Rattle.up_contexts.proofs.Steps.{order_step}

@@ -2,7 +2,7 @@ use Rattle.std.proofs.Common.{List, sym, ap, ◌∙◌}
 use Rattle.std.specs.Ordering.{nat_cmp}
 use Rattle.gnb_types.specs.declared.outputs.Output.{Output}
 use Rattle.tables.specs.Tables.{find}
-use Rattle.unit_steps.specs.Steps.{stepped}
+use Rattle.bearer_context.specs.unit_steps.Steps.{stepped}
 use Rattle.bearer_context.proofs.Steps.{error_as}
 use Rattle.up_contexts.specs.Tables.{with_tables}
 use Rattle.up_contexts.proofs.Comings.{no_tunnel, nowhere, somewhere, stays_step, stops_step, goes_step, shown_closes}

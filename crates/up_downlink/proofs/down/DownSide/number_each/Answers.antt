@@ -1,11 +1,11 @@
 use Rattle.std.proofs.Common.{◌≡◌, ℕ, List, sym, ap, ◌∙◌}
 use Rattle.gnb_types.specs.declared.outputs.Tag.TheVariants.{Own}
-use Rattle.unit_defs.specs.UpRecords.{UpBearer}
-use Rattle.unit_defs.specs.UpBearers.{sent, number_each}
-use Rattle.unit_steps.specs.unit_octet_defs.Codec.{octet_way}
-use Rattle.unit_steps.specs.unit_octet_defs.Units.{OctetAnswer}
-use Rattle.unit_steps.specs.Steps.{step_after, stepped}
-use Rattle.unit_steps.proofs.StepLaws.{step_then}
+use Rattle.ue_bearers.specs.unit_defs.UpRecords.{UpBearer}
+use Rattle.ue_bearers.specs.unit_defs.UpBearers.{sent, number_each}
+use Rattle.ue_bearers.specs.unit_octet_defs.Codec.{octet_way}
+use Rattle.ue_bearers.specs.unit_octet_defs.Units.{OctetAnswer}
+use Rattle.ue_bearers.specs.unit_steps.Steps.{step_after, stepped}
+use Rattle.ue_bearers.proofs.unit_steps.StepLaws.{step_then}
 use Rattle.ue_bearers.specs.Uplinks.{UplinkState, numbers, stays, ends, numbering}
 use Rattle.up_tunnels.specs.Tunnels.{at_as}
 use Rattle.up_downlink.specs.Downlinks.{with_down}

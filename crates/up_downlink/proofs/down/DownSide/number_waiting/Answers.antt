@@ -1,7 +1,7 @@
 use Rattle.std.proofs.Common.{ap, ◌∙◌}
-use Rattle.unit_defs.specs.UpRecords.{UpBearer}
-use Rattle.unit_steps.specs.unit_octet_defs.Units.{OctetAnswer}
-use Rattle.unit_steps.specs.Steps.{step_after}
+use Rattle.ue_bearers.specs.unit_defs.UpRecords.{UpBearer}
+use Rattle.ue_bearers.specs.unit_octet_defs.Units.{OctetAnswer}
+use Rattle.ue_bearers.specs.unit_steps.Steps.{step_after}
 use Rattle.up_downlink.specs.Downlinks.{with_down}
 use Rattle.up_downlink.proofs.Sequels.{nothing_more, step_as}
 use Rattle.up_downlink.proofs.Numberings.{waits_frozen, waits_released, waits_closed, serves}

@@ -1,7 +1,7 @@
 use Rattle.std.proofs.Common.{◌≡◌, length}
-use Rattle.unit_defs.specs.UpRecords.{UpBearer}
-use Rattle.unit_steps.specs.unit_octet_defs.Codec.{Codec}
-use Rattle.unit_steps.specs.Steps.{step_after}
+use Rattle.ue_bearers.specs.unit_defs.UpRecords.{UpBearer}
+use Rattle.ue_bearers.specs.unit_octet_defs.Codec.{Codec}
+use Rattle.ue_bearers.specs.unit_steps.Steps.{step_after}
 use Rattle.ue_bearers.specs.Uplinks.{from_on}
 use Rattle.up_downlink.specs.Downlinks.{with_down, taken_of}
 use Rattle.up_downlink.proofs.Resends.{again}

@@ -1,12 +1,12 @@
 use Rattle.std.proofs.Common.{◌≡◌, ℕ, ◌+◌, List, sym, ap, ◌∙◌}
 use Rattle.gnb_types.specs.declared.outputs.Output.{Output}
 use Rattle.gnb_types.specs.declared.outputs.Tag.TheVariants.{Own}
-use Rattle.unit_defs.specs.UpRecords.{UpBearer}
-use Rattle.unit_defs.specs.UpBearers.{sent, sent_again}
-use Rattle.unit_steps.specs.unit_octet_defs.Codec.{octet_way}
-use Rattle.unit_steps.specs.unit_octet_defs.Units.{OctetAnswer}
-use Rattle.unit_steps.specs.Steps.{step_after}
-use Rattle.unit_steps.proofs.StepLaws.{step_then}
+use Rattle.ue_bearers.specs.unit_defs.UpRecords.{UpBearer}
+use Rattle.ue_bearers.specs.unit_defs.UpBearers.{sent, sent_again}
+use Rattle.ue_bearers.specs.unit_octet_defs.Codec.{octet_way}
+use Rattle.ue_bearers.specs.unit_octet_defs.Units.{OctetAnswer}
+use Rattle.ue_bearers.specs.unit_steps.Steps.{step_after}
+use Rattle.ue_bearers.proofs.unit_steps.StepLaws.{step_then}
 use Rattle.ue_bearers.specs.Uplinks.{from_on}
 use Rattle.up_tunnels.specs.Tunnels.{at_as}
 use Rattle.up_downlink.specs.declared.down.DownSide.{DownSide}

@@ -1,7 +1,7 @@
 use Rattle.std.proofs.Common.{sym, subst}
 use Rattle.gnb_types.specs.declared.inputs.Input.{Input}
 use Rattle.unit_octet_defs.specs.Units.{OctetAnswer, cu_up_steps}
-use Rattle.unit_steps.specs.Steps.{IsStep, step_after}
+use Rattle.unit_requests.specs.unit_steps.Steps.{IsStep, step_after}
 use Rattle.up_contexts.specs.Tables.{OctetUp}
 use Rattle.up_rows.proofs.SetupSteps.{tick_acts}
 use Rattle.up_rows.proofs.record.UpRecord.act.Goals as goal

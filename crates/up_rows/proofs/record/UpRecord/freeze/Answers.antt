@@ -1,7 +1,7 @@
 use Rattle.std.proofs.Common.{sym, subst}
 use Rattle.unit_defs.specs.CuUp.{context_of}
 use Rattle.unit_octet_defs.specs.Units.{OctetAnswer}
-use Rattle.unit_steps.specs.Steps.{step_after, IsStep}
+use Rattle.unit_requests.specs.unit_steps.Steps.{step_after, IsStep}
 use Rattle.up_contexts.specs.Tables.{OctetUp}
 use Rattle.up_rows.proofs.ModeSteps.{is_refused, is_busy, is_frozen}
 use Rattle.up_rows.proofs.record.UpRecord.freeze.Goals as goal

@@ -5,7 +5,7 @@ use Rattle.gnb_types.specs.declared.plans.SnStatus.{SnStatus}
 use Rattle.unit_defs.specs.UpRecords.{UpContext}
 use Rattle.unit_defs.specs.CuUp.{context_of, peer_node}
 use Rattle.unit_octet_defs.specs.Codec.{octet_way}
-use Rattle.unit_steps.specs.Steps.{stepped, step_after, IsStep}
+use Rattle.unit_requests.specs.unit_steps.Steps.{stepped, step_after, IsStep}
 use Rattle.unit_requests.proofs.Thens.{goes_on, stops}
 use Rattle.up_contexts.specs.Tables.{OctetUp}
 use Rattle.up_contexts.specs.Rows.{frozen_at}

@@ -2,7 +2,7 @@ use Rattle.std.proofs.Common.{sym, subst}
 use Rattle.gnb_types.specs.declared.inputs.Order.{Order}
 use Rattle.unit_defs.specs.CuUp.{ordered}
 use Rattle.unit_octet_defs.specs.Codec.{octet_way}
-use Rattle.unit_steps.specs.Steps.{IsStep, step_after}
+use Rattle.unit_requests.specs.unit_steps.Steps.{IsStep, step_after}
 use Rattle.up_rows.proofs.record.UpRecord.ordered.Goals as goal
 
 pub returns-in-Poll : goal.returns-in-Poll

@@ -1,7 +1,7 @@
 use Rattle.std.proofs.Common.{subst}
 use Rattle.unit_defs.specs.CuUp.{poll}
 use Rattle.unit_octet_defs.specs.Codec.{octet_way}
-use Rattle.unit_steps.specs.Steps.{IsStep, step_after}
+use Rattle.unit_requests.specs.unit_steps.Steps.{IsStep, step_after}
 use Rattle.up_contexts.specs.Tables.{OctetUp}
 use Rattle.up_rows.specs.Records.{up_record}
 use Rattle.up_rows.proofs.record.UpRecord.poll.Goals as goal

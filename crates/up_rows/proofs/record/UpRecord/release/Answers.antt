@@ -1,5 +1,5 @@
 use Rattle.std.proofs.Common.{sym, ap, ◌∙◌}
-use Rattle.unit_steps.specs.Steps.{stepped}
+use Rattle.unit_requests.specs.unit_steps.Steps.{stepped}
 use Rattle.up_contexts.specs.Tables.{OctetUp}
 use Rattle.up_rows.specs.Records.{up_record}
 use Rattle.up_rows.proofs.BearerSteps.{release_step}

@@ -5,7 +5,7 @@ use Rattle.unit_defs.specs.Accessors.{up_has_context}
 use Rattle.unit_defs.specs.CuUp.{setup, fits}
 use Rattle.unit_octet_defs.specs.Codec.{octet_way}
 use Rattle.unit_octet_defs.specs.Units.{OctetAnswer}
-use Rattle.unit_steps.specs.Steps.{IsStep, step_after}
+use Rattle.unit_requests.specs.unit_steps.Steps.{IsStep, step_after}
 use Rattle.up_contexts.specs.Tables.{OctetUp}
 use Rattle.up_rows.specs.Records.{up_record}
 use Rattle.up_rows.proofs.BearerSteps.{setup_busy, setup_full, setup_step, setup_stops}

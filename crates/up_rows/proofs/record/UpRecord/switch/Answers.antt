@@ -3,7 +3,7 @@ use Rattle.std.specs.Prelude.{Err}
 use Rattle.std.proofs.lemmas.Result.{err_from_is_err_and}
 use Rattle.gnb_types.specs.declared.names.NodeId.TheVariants.{Du}
 use Rattle.unit_defs.specs.CuUp.{context_of}
-use Rattle.unit_steps.specs.Steps.{stepped, step_after, IsStep}
+use Rattle.unit_requests.specs.unit_steps.Steps.{stepped, step_after, IsStep}
 use Rattle.up_contexts.specs.Tables.{OctetUp}
 use Rattle.up_contexts.specs.Rows.{switched_at}
 use Rattle.up_rows.specs.Records.{up_record}

@@ -2,7 +2,7 @@ use Rattle.std.proofs.Common.{◌≡◌, true, Option, Some, None, sym, subst}
 use Rattle.std.specs.Prelude.{Err}
 use Rattle.std.proofs.lemmas.Result.{err_from_is_err_and}
 use Rattle.unit_defs.specs.CuUp.{context_of}
-use Rattle.unit_steps.specs.Steps.{stepped, step_after, IsStep}
+use Rattle.unit_requests.specs.unit_steps.Steps.{stepped, step_after, IsStep}
 use Rattle.up_contexts.specs.Tables.{OctetUp}
 use Rattle.up_contexts.specs.Rows.{known_at}
 use Rattle.up_rows.specs.Records.{up_record}

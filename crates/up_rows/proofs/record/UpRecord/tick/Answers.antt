@@ -1,12 +1,12 @@
 use Rattle.std.proofs.Common.{◌≡◌, ◌++◌, List, ap, ◌∙◌, subst}
 use Rattle.std.specs.List.{flat_map}
-use Rattle.transactions.specs.declared.caller.Due.{Due}
+use Rattle.unit_requests.specs.transactions.declared.caller.Due.{Due}
 use Rattle.unit_defs.specs.CuUp.{tick}
 use Rattle.unit_octet_defs.specs.Codec.{octet_way}
-use Rattle.unit_steps.specs.Steps.{stepped}
+use Rattle.unit_requests.specs.unit_steps.Steps.{stepped}
 use Rattle.setup_requests.specs.Dues.{put_again}
 use Rattle.up_rows.proofs.SetupSteps.{tick_step}
-use Rattle.unit_steps.specs.Steps.{step_after}
+use Rattle.unit_requests.specs.unit_steps.Steps.{step_after}
 use Rattle.up_contexts.specs.Tables.{OctetUp}
 use Rattle.up_rows.specs.Records.{up_record}
 use Rattle.up_rows.proofs.record.UpRecord.tick.Goals as goal

@@ -1,6 +1,6 @@
 use Rattle.std.proofs.Common.{◌≡◌, true, false, None, Some, ◌∙◌, refl}
 use Rattle.gnb_types.specs.declared.outputs.Tag.TheVariants.{Absent}
-use Rattle.pdcp.specs.Pdus.{radio_data}
+use Rattle.link_packets.specs.pdcp.Pdus.{radio_data}
 use Rattle.unit_steps.specs.unit_defs.UpBearers.{sent}
 use Rattle.unit_steps.specs.unit_octet_defs.Codec.{Codec, octet_way}
 use Rattle.up_tunnels.specs.Tunnels.{at_as, with_frames}

@@ -1,6 +1,6 @@
 use Rattle.std.proofs.Common.{◌≡◌, true, false, None, Some, ◌∙◌, refl}
 use Rattle.gnb_types.specs.declared.outputs.Tag.TheVariants.{Absent}
-use Rattle.pdcp.specs.Pdus.{report_octets}
+use Rattle.link_packets.specs.pdcp.Pdus.{report_octets}
 use Rattle.unit_steps.specs.unit_octet_defs.Codec.{Codec, octet_way}
 use Rattle.up_tunnels.specs.Tunnels.{at_as, with_frames}
 use Rattle.up_tunnels.proofs.FrameSteps.{frames_nothing, frames_spend, frames_put, frames_fail, mark_stays, report_is}

@@ -1,0 +1,1 @@
+pub use Rattle.aper_proof_alive.specs.aper_loose_defs as aper_loose_defs

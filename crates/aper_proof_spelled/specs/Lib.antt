@@ -1,0 +1,1 @@
+pub use Rattle.aper_proof_places.specs.aper_defs as aper_defs

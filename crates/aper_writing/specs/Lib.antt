@@ -1,0 +1,3 @@
+pub use Rattle.aper_members.specs.asn1_defs as asn1_defs
+pub use Rattle.aper_members.specs.aper_types as aper_types
+pub use Rattle.aper_members.specs as aper_members

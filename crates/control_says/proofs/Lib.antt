@@ -1,0 +1,1 @@
+pub use Rattle.unit_steps.proofs as unit_steps

@@ -1,0 +1,1 @@
+pub use Rattle.json_type_defs.specs as json_type_defs

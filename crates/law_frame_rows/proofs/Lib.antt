@@ -1,0 +1,3 @@
+pub mod Sends
+pub mod Still
+pub mod Rows

@@ -1,0 +1,2 @@
+pub mod Owed
+pub use Rattle.law_owed_orders.proofs.law_put_ties as law_put_ties

@@ -1,0 +1,4 @@
+pub mod Lists
+pub mod Facts
+pub mod Ends
+pub mod Beside

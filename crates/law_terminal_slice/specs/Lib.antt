@@ -1,0 +1,1 @@
+pub use Rattle.law_slices.specs as law_slices

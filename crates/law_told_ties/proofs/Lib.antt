@@ -1,3 +1,0 @@
-pub mod Quiet
-pub mod Dus
-pub mod Cores

@@ -1,1 +1,0 @@
-pub use Rattle.law_told_counts.specs as law_told_counts

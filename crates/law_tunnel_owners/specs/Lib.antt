@@ -1,0 +1,10 @@
+pub use Rattle.law_answers.specs.tables as tables
+pub use Rattle.law_answers.specs.message_types as message_types
+pub use Rattle.law_answers.specs.unit_defs as unit_defs
+pub use Rattle.law_answers.specs as law_answers
+pub use Rattle.law_owner_facts.specs.scenario_text as scenario_text
+pub use Rattle.law_owner_facts.specs.run_defs as run_defs
+pub use Rattle.law_owner_facts.specs.law_steps as law_steps
+pub use Rattle.law_owner_facts.specs.law_teids as law_teids
+pub use Rattle.law_owner_facts.specs.law_open_tunnels as law_open_tunnels
+pub use Rattle.law_owner_facts.specs as law_owner_facts

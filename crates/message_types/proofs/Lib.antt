@@ -1,0 +1,1 @@
+pub use Rattle.gnb_types.proofs as gnb_types

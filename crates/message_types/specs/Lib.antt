@@ -1,0 +1,1 @@
+pub use Rattle.gnb_types.specs as gnb_types

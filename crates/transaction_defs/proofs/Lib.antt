@@ -1,0 +1,1 @@
+pub use Rattle.tables.proofs as tables

@@ -1,0 +1,1 @@
+pub use Rattle.world_steps.specs as world_steps
