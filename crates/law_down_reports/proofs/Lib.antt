@@ -1,0 +1,3 @@
+pub mod Stands
+pub mod Airs
+pub mod Grows
