@@ -219,7 +219,8 @@ module _ (reached : ℕ) where
 
     key_own : (who : UeId) (q : BearerId) → eq_by_cmp entity_cmp (down_key ue bearer) (entity who q Dl) ≡ true → is_of ue bearer who q ≡ true
     key_own who q tie =
-        let same : down_key ue bearer ≡ entity who q Dl = entity_exact (down_key ue bearer) (entity who q Dl) ((Equal-is (entity_cmp (down_key ue bearer) (entity who q Dl))).0 tie) in
+        let same : down_key ue bearer ≡ entity who q Dl
+        = entity_exact (down_key ue bearer) (entity who q Dl) ((Equal-is (entity_cmp (down_key ue bearer) (entity who q Dl))).0 tie) in
         sym (ap (λ (k : EntityKey). is_of ue bearer k.ue k.bearer) same) ∙ its_own
 
     outputs_tell : (outputs : Outs) → PutsFit (written_facts link_items) (du_id gnb number) taken (map (written_put lengths) outputs)

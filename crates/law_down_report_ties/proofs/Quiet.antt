@@ -20,7 +20,7 @@ use Rattle.run_defs.specs.States.{new_state, entity, goes, sn_of}
 use Rattle.run_defs.specs.Steps.{carried_out}
 use Rattle.run_defs.specs.Runs.{Reading, plain_world}
 use Rattle.law_steps.specs.Causes.{node_of, given_of, count_of, first_of}
-use Rattle.law_steps.specs.Reached.{reached as is_reached}
+use Rattle.law_steps.specs.Reached.{reached as runs_to}
 use Rattle.law_link_items.specs.law_run_facts.Facts.{Hold, PutsFit}
 use Rattle.law_link_items.specs.law_run_facts.UnitFacts.{written_facts}
 use Rattle.law_link_items.specs.Items.{MayPut, IsOfN3}
@@ -41,7 +41,7 @@ use Rattle.law_down_report_ties.specs.Nodes.{PutsNoReport}
 -- ---- what each unit puts is of its links, in a state that a run passes
 
 module _ (reading : Reading) where
-  pub held_past : (events : List Event) (event : Event) (before : RunState) → is_reached (plain_world reading) events new_state ≡ Some before
+  pub held_past : (events : List Event) (event : Event) (before : RunState) → runs_to (plain_world reading) events new_state ≡ Some before
       → (t : RunState) → Passes (plain_world reading) event before t → Hold (written_facts link_items) t
   held_past events event before there t (not_yet x) = plain_run_holds link_items items_keep reading events before there
   held_past events event before there t (further x y u told p made) =
@@ -82,7 +82,8 @@ module _ (reached : ℕ) where
   goes_up : (ue : UeId) (bearer : BearerId) (who : UeId) (q : BearerId) (dir : Dir) → dir ≡ Ul
       → eq_by_cmp entity_cmp (down_key ue bearer) (entity who q dir) ≡ true → ⊥
   goes_up ue bearer who q dir up tie =
-      let same : down_key ue bearer ≡ entity who q dir = entity_exact (down_key ue bearer) (entity who q dir) ((Equal-is (entity_cmp (down_key ue bearer) (entity who q dir))).0 tie) in
+      let same : down_key ue bearer ≡ entity who q dir
+      = entity_exact (down_key ue bearer) (entity who q dir) ((Equal-is (entity_cmp (down_key ue bearer) (entity who q dir))).0 tie) in
       let never : Dl ≡ Ul = ap (λ (k : EntityKey). k.dir) same ∙ up in cc
 
   pub none_tell : (ue : UeId) (bearer : BearerId) (node : NodeId) (taken : Option ℕ) (outputs : List RunPut) → PutsNoReport node

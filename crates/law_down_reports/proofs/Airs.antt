@@ -62,7 +62,8 @@ module _ (ue : UeId) (bearer : BearerId) (reached : ℕ) where
   taken_air event s (by_ack from home item rest) stands told = by (eq_by_cmp entity_cmp key from) refl
     where
       by : (t : Bool) → eq_by_cmp entity_cmp key from ≡ t
-          → RadioIsTrue reached (if t then record (on_air s key) { radio = record { items = rest; carried = (on_air s key).radio.carried - 1 } } else on_air s key)
+          → RadioIsTrue reached
+          (if t then record (on_air s key) { radio = record { items = rest; carried = (on_air s key).radio.carried - 1 } } else on_air s key)
       by false tie = told
       by true tie =
           let same : key ≡ from = entity_exact key from ((Equal-is (entity_cmp key from)).0 tie) in
@@ -123,13 +124,15 @@ module _ (ue : UeId) (bearer : BearerId) (reached : ℕ) where
   -- ---- the oldest item of a tunnel is lost; the core puts; a unit acts
 
   pub told_first_lost : (s t : RunState) (from : TunnelEnd) (item : RunItem) (rest : List RunItem) → standing s from ≡ Some (item ∷ rest)
-      → t.tunnels ≡ put tunnel_cmp s.tunnels from rest → on_air t key ≡ on_air s key → ReportsDownAreTrue ue bearer reached s → ReportsDownAreTrue ue bearer reached t
+      → t.tunnels ≡ put tunnel_cmp s.tunnels from rest → on_air t key ≡ on_air s key → ReportsDownAreTrue ue bearer reached s
+      → ReportsDownAreTrue ue bearer reached t
   told_first_lost s t from item rest stands is same told = record {
     tunnels = lost_told ue bearer reached s t from item rest stands is told.tunnels;
     radio = subst (RadioIsTrue reached) (sym same) told.radio;
   }
 
-  pub told_alike : (s t : RunState) → t.tunnels ≡ s.tunnels → on_air t key ≡ on_air s key → ReportsDownAreTrue ue bearer reached s → ReportsDownAreTrue ue bearer reached t
+  pub told_alike : (s t : RunState) → t.tunnels ≡ s.tunnels → on_air t key ≡ on_air s key → ReportsDownAreTrue ue bearer reached s
+      → ReportsDownAreTrue ue bearer reached t
   told_alike s t is same told = record {
     tunnels = λ end. subst (StandingIsTrue ue bearer reached) (sym (ap (λ tunnels. find tunnel_cmp tunnels end) is)) (told.tunnels end);
     radio = subst (RadioIsTrue reached) (sym same) told.radio;
@@ -163,7 +166,8 @@ module _ (ue : UeId) (bearer : BearerId) (reached : ℕ) where
         (taken_air event s cause stands told.radio)));
   }
 
-pub told_later : (ue : UeId) (bearer : BearerId) (reached later : ℕ) (s : RunState) → reached ≤ later → ReportsDownAreTrue ue bearer reached s → ReportsDownAreTrue ue bearer later s
+pub told_later : (ue : UeId) (bearer : BearerId) (reached later : ℕ) (s : RunState) → reached ≤ later → ReportsDownAreTrue ue bearer reached s
+    → ReportsDownAreTrue ue bearer later s
 told_later ue bearer reached later s more told = record {
   tunnels = λ end. standing_later ue bearer reached later more (standing s end) (told.tunnels end);
   radio = air_later reached later more (on_air s (down_key ue bearer)).radio.items told.radio;

@@ -47,7 +47,8 @@ module _ (ue : UeId) (bearer : BearerId) where
   items_later reached later more (item ∷ items) told =
       ((λ own. load_later reached later more item.content.says (told.0 own)), items_later reached later more items told.1)
 
-  pub standing_later : (reached later : ℕ) → reached ≤ later → (o : Option (List RunItem)) → StandingIsTrue ue bearer reached o → StandingIsTrue ue bearer later o
+  pub standing_later : (reached later : ℕ) → reached ≤ later → (o : Option (List RunItem)) → StandingIsTrue ue bearer reached o
+      → StandingIsTrue ue bearer later o
   standing_later reached later more None told = tt
   standing_later reached later more (Some items) told = items_later reached later more items told
 

@@ -30,7 +30,8 @@ ghost use Rattle.uplink_defs.specs.Parts.{Part};
 /// carried up, it does so still where more was carried up, where tunnels and that radio stay as they are, and where the oldest item of a
 /// tunnel is lost; and so it is where a run begins.
 pub fn true_reports_stay_true()
-    ensures first { (ue : UeId) (bearer : BearerId) (reached : ℕ) → ReportsDownAreTrue ue bearer reached new_state }
+    ensures first { (ue : UeId) (bearer : BearerId) (reached : ℕ)
+        → ReportsDownAreTrue ue bearer reached new_state }
     ensures later { (ue : UeId) (bearer : BearerId) (reached later : ℕ) (s : RunState)
         → reached ≤ later → ReportsDownAreTrue ue bearer reached s → ReportsDownAreTrue ue bearer later s }
     ensures alike { (ue : UeId) (bearer : BearerId) (reached : ℕ) (s t : RunState)
