@@ -1,0 +1,2 @@
+pub mod Links
+pub use Rattle.law_frame_ties.specs as law_frame_ties

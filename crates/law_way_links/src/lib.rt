@@ -1,0 +1,70 @@
+//! Laws of what stands on the links between a CU-UP and a terminal's radio down in a run, after steps of others. Each function does nothing:
+//! its contract is the law.
+#![tactic(auto)]
+
+ghost use Rattle.law_heard_packets.specs.chain_defs.Parts.{Part};
+ghost use Rattle.law_heard_packets.specs.chain_defs.gnb_types.declared.names.BearerId.{BearerId};
+ghost use Rattle.law_heard_packets.specs.chain_defs.gnb_types.declared.names.Gnb.{Gnb};
+ghost use Rattle.law_heard_packets.specs.chain_defs.gnb_types.declared.names.UeId.{UeId};
+ghost use Rattle.law_put_ties.specs.law_du_inputs.Changes.{DuPart, part_of};
+ghost use Rattle.law_frame_ties.specs.Frames.{du_end};
+ghost use Rattle.law_put_ties.specs.law_tie_facts.law_owner_facts.Owned.{DuOwns};
+ghost use Rattle.law_radio_downs.specs.Down.{down_key, IsDown, Puts, Stays};
+ghost use Rattle.law_radio_downs.specs.law_radio_ties.law_radio_steps.Radios.{on_air};
+ghost use Rattle.law_radio_downs.specs.law_radio_ties.Radio.{IsBeside, IsRadio, RunState, RunCause};
+ghost use Rattle.law_radio_downs.specs.law_run_facts.law_steps.Causes.{count_of, first_of, node_of};
+ghost use Rattle.law_put_ties.specs.law_tie_facts.law_run_units.Happenings.{DuRecord};
+ghost use Rattle.law_put_ties.specs.law_tie_facts.law_tunnel_steps.Standing.{after_taking, standing};
+ghost use Rattle.law_put_ties.specs.law_tie_facts.Ties.{RunItem};
+ghost use Rattle.law_report_ties.specs.law_beside_downs.law_tied_runs.law_own_steps.Own.{IsActed};
+ghost use Rattle.law_report_ties.specs.law_beside_downs.law_tied_runs.Steps.{IsPassed};
+ghost use Rattle.law_way_links.specs.Links.{IsFrom, IsNoCuUp, IsNoDu, Waits};
+ghost use Rattle.law_heard_packets.specs.chain_defs.message_types.declared.rrc.Token.{Token};
+ghost use Rattle.law_radio_downs.specs.law_run_facts.run_defs.Lines.{RunLine};
+ghost use Rattle.law_radio_downs.specs.law_run_facts.run_defs.Runs.{plain_world, Reading};
+ghost use Rattle.law_radio_downs.specs.law_run_facts.run_defs.States.{goes};
+ghost use Rattle.law_radio_downs.specs.law_run_facts.run_defs.Steps.{carried_out};
+ghost use Rattle.law_radio_downs.specs.law_run_facts.run_defs.transport_defs.Links.{Radio};
+ghost use Rattle.law_radio_downs.specs.law_run_facts.run_defs.Units.{Units};
+ghost use Rattle.law_radio_downs.specs.law_run_facts.run_defs.Written.{Written};
+ghost use Rattle.law_radio_downs.specs.law_run_facts.scenario_text.declared.event.Event.{Event};
+ghost use Rattle.std.specs.Ordering.{nat_cmp};
+ghost use Rattle.std.specs.Prelude.{List, Some, ◌≡◌, ℕ};
+ghost use Rattle.law_heard_packets.specs.chain_defs.tables.Tables.{find};
+ghost use Rattle.law_heard_packets.specs.chain_defs.unit_defs.Ways.{Message, Pdu};
+
+/// In each state that a run passes: after a step of any node but a CU-UP, on a tunnel of a DU that is open then stands what stood there, less
+/// the item that the step takes, or nothing.
+pub fn others_put_nothing_there()
+    ensures { (reading : Reading) (event : Event) (s t : RunState) (gnb : Gnb) (number teid : ℕ)
+        (cause : RunCause) (outputs : Puts) (units : Units (Message Token) Token)
+        (lines : List (RunLine (Message Token)))
+        → IsPassed reading s → IsActed (plain_world reading) event s cause outputs units
+        → carried_out (plain_world reading) (node_of cause) (count_of cause)
+        (first_of (plain_world reading) cause) outputs units s ≡ goes lines t
+        → IsNoCuUp (node_of cause) → let end = du_end gnb number teid in
+        (items : List RunItem) → standing t end ≡ Some items
+        → IsFrom (after_taking end cause (standing s end)) items }
+{}
+
+/// And after a step of any node but a DU and the terminal, the same packets wait on the terminal's radio down, which is connected in the same
+/// epoch. What was carried on a radio, and what waits there, is told by what stands there.
+pub fn the_same_waits_there()
+    ensures waits { (reading : Reading) (event : Event) (s t : RunState) (ue : UeId) (bearer : BearerId)
+        (d : Part) (cause : RunCause) (outputs : Puts) (units : Units (Message Token) Token)
+        → IsPassed reading s → IsActed (plain_world reading) event s cause outputs units
+        → Stays (down_key ue bearer) cause → IsBeside reading s t ue bearer cause outputs units
+        → IsNoDu (node_of cause) → (h : IsDown (on_air s (down_key ue bearer)) d)
+        → Waits (on_air t (down_key ue bearer)) d h.waits (on_air s (down_key ue bearer)).epoch }
+    ensures one { (r : Radio (Written Pdu)) (known more : List ℕ) (waits others : List (ℕ × List ℕ))
+        → IsRadio r known waits → IsRadio r more others → (known ≡ more) × (waits ≡ others) }
+{}
+
+/// The downlink tunnel of a DU's bearer is open as this bearer's, and no other tunnel there is.
+pub fn a_tunnel_of_a_du_is_its_bearers()
+    ensures { (ue : UeId) (bearer : BearerId) (r : DuRecord) (home : DuPart)
+        → DuOwns r → part_of r ue bearer ≡ Some home
+        → (find nat_cmp r.tunnels home.bearer.downlink ≡ Some (record { ue = ue; bearer = bearer }))
+        × ((teid : ℕ) → find nat_cmp r.tunnels teid ≡ Some (record { ue = ue; bearer = bearer })
+        → home.bearer.downlink ≡ teid) }
+{}

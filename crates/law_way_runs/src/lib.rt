@@ -1,0 +1,95 @@
+//! Laws of runs in which of a packet that the terminal takes nothing is owed: who sends to a DU, what stands between it and the terminal's
+//! radio, and what waits there, are carried over the steps of the run. Each function does nothing: its contract is the law.
+//!
+//! Steps are those of `law_whole_runs`. Owed is of the way, by control: that a DU takes a frame in the epoch of the terminal's radio only from
+//! a context that was switched for this radio (`OwesFrame`), and what a switch names (`OwesSwitches`); of the terminal how it comes on the
+//! air, and that what it hears of its own packets is true (`OwedRest`), and that it has room for a packet.
+#![tactic(auto)]
+
+ghost use Rattle.law_way_steps.specs.law_handover_rows.chain_defs.gnb_types.declared.names.BearerId.{BearerId};
+ghost use Rattle.law_way_steps.specs.law_handover_rows.chain_defs.gnb_types.declared.names.SnBits.TheVariants.{Len12};
+ghost use Rattle.law_way_steps.specs.law_handover_rows.chain_defs.gnb_types.declared.names.SnBits.{SnBits};
+ghost use Rattle.law_way_steps.specs.law_handover_rows.chain_defs.gnb_types.declared.names.UeId.{UeId};
+ghost use Rattle.law_way_steps.specs.law_report_runs.law_path_ties.law_owed_runs.law_fresh_uplinks.law_first_runs.First.{AreFirst, DeliverInOrder};
+ghost use Rattle.law_way_steps.specs.law_report_runs.law_path_ties.law_owed_runs.law_fresh_uplinks.law_first_ties.First.{first, start};
+ghost use Rattle.law_way_steps.specs.law_report_runs.law_path_ties.law_owed_runs.law_fresh_uplinks.Later.{Comes};
+ghost use Rattle.law_way_steps.specs.law_report_runs.law_path_ties.law_owed_runs.law_owed_orders.Steady.{IsOld};
+ghost use Rattle.law_way_steps.specs.law_report_runs.law_path_ties.law_owed_runs.Owing.{NoneIsZero};
+ghost use Rattle.law_way_steps.specs.law_report_runs.law_path_ties.Paths.{LeadsAt};
+ghost use Rattle.law_way_steps.specs.law_beside_ties.law_put_ties.Worked.{bearer, terminal};
+ghost use Rattle.law_heard_ties.specs.law_radio_downs.law_radio_ties.Radio.{IsAtTerminal};
+ghost use Rattle.law_way_steps.specs.law_report_runs.Steps.{IsKnownAt, ReportsAreTrueAt};
+ghost use Rattle.law_way_steps.specs.law_other_contexts.law_tie_facts.law_run_bearers.Bearers.{Numbering};
+ghost use Rattle.law_heard_ties.specs.law_rest_ties.law_tied_runs.Steps.{IsPassed, IsTied, Point};
+ghost use Rattle.law_way_steps.specs.law_handover_rows.chain_defs.gnb_types.declared.names.Gnb.TheVariants.{A};
+ghost use Rattle.law_way_steps.specs.law_handover_rows.chain_defs.gnb_types.declared.names.NodeId.TheVariants.{Du};
+ghost use Rattle.law_heard_ties.specs.law_radio_downs.law_run_facts.message_types.declared.rrc.Token.{Token};
+ghost use Rattle.law_heard_ties.specs.law_radio_downs.law_run_facts.unit_defs.Ways.{Pdu, Input};
+ghost use Rattle.law_way_steps.specs.law_other_contexts.law_tie_facts.law_bearer_lists.law_context_orders.Orders.{switches};
+ghost use Rattle.law_way_runs.specs.Runs.{Step, Steps};
+ghost use Rattle.law_way_steps.specs.Way.{IsOnItsWay, OwesFrame, OwesSwitch};
+ghost use Rattle.law_way_steps.specs.law_whole_runs.Whole as whole;
+ghost use Rattle.law_way_steps.specs.law_whole_runs.Whole.{both, IsWhole};
+ghost use Rattle.law_heard_ties.specs.law_radio_downs.law_run_facts.run_defs.Runs.{Reading};
+ghost use Rattle.std.specs.Prelude.{ℕ};
+ghost use Rattle.law_heard_ties.specs.law_radio_downs.law_run_facts.unit_defs.UpRecords.{Downlink};
+
+/// Where all is so that laws of runs carry, and the way down is as it is to be, each step is one of `law_whole_runs`, where all that it asks
+/// of a packet is so; and all is so then, and the way down as it is to be.
+pub fn each_step_keeps_the_way()
+    ensures { (reading : Reading) (n : Numbering) (ue : UeId) (bearer : BearerId) (sn : SnBits)
+        (quota : ℕ) (p q : Point) → NoneIsZero n
+        → IsPassed reading p.state → IsPassed reading q.state → Comes reading p.state q.state
+        → IsWhole reading n ue bearer sn quota p → IsOnItsWay n ue bearer p
+        → Step reading n ue bearer sn quota p q
+        → whole.Step reading n ue bearer sn quota p q
+        × IsWhole reading n ue bearer sn quota q
+        × IsOnItsWay n ue bearer q }
+{}
+
+/// So over any steps of a run, one after another.
+pub fn steps_keep_the_way()
+    ensures { (reading : Reading) (n : Numbering) (ue : UeId) (bearer : BearerId) (sn : SnBits)
+        (quota : ℕ) (p q : Point) → NoneIsZero n
+        → IsWhole reading n ue bearer sn quota p → IsOnItsWay n ue bearer p
+        → Steps reading n ue bearer sn quota p q
+        → whole.Steps reading n ue bearer sn quota p q
+        × IsWhole reading n ue bearer sn quota q
+        × IsOnItsWay n ue bearer q }
+{}
+
+/// From a state to which the first parts of a bearer, after the switch by which its context has its downlink, are tied, and in which all
+/// else that is carried is so, with the way down: over any steps of the run what is delivered, down and up, is a prefix of what was offered
+/// meanwhile, each packet once, with COUNTs 0, 1, 2 and so on.
+pub fn runs_deliver_after_the_first_switch()
+    ensures { (reading : Reading) (n : Numbering) (ue : UeId) (bearer : BearerId) (sn : SnBits)
+        (quota : ℕ) (p q : Point) (first teid : ℕ) (d : Downlink) → NoneIsZero n
+        → AreFirst first teid d p → IsTied reading n ue bearer sn quota p
+        → IsOld n ue bearer p.state.units first → LeadsAt reading n ue bearer sn quota p
+        → ReportsAreTrueAt reading n ue bearer sn quota p → IsKnownAt reading n ue bearer sn quota p
+        → IsAtTerminal reading ue bearer p.state (both p) → IsOnItsWay n ue bearer p
+        → Steps reading n ue bearer sn quota p q
+        → DeliverInOrder reading n ue bearer sn quota p q }
+{}
+
+/// So from the first state of a run on, in which a terminal is set up without messages: over any steps from there its bearer delivers in
+/// order.
+pub fn a_terminal_delivers_in_order()
+    ensures { (reading : Reading) (n : Numbering) → NoneIsZero n
+        → (teid : ℕ) × (d : Downlink)
+        × IsTied reading n terminal bearer Len12 64 (start n teid d)
+        × IsAtTerminal reading terminal bearer (start n teid d).state (both (start n teid d))
+        × IsOnItsWay n terminal bearer (start n teid d)
+        × ((q : Point) → Steps reading n terminal bearer Len12 64 (start n teid d) q
+        → DeliverInOrder reading n terminal bearer Len12 64 (start n teid d) q) }
+{}
+
+/// What is owed of the way can be met: in that state, of its DU whatever it is given, and of a switch to this DU's tunnel.
+pub fn the_guards_can_be_met()
+    ensures { (reading : Reading) (n : Numbering) (input : Input Token Pdu)
+        → (teid : ℕ) × (d : Downlink)
+        × IsOnItsWay n terminal bearer (start n teid d)
+        × OwesFrame n terminal bearer (start n teid d) A 1 input
+        × OwesSwitch n terminal bearer (start n teid d) (first n) (start n teid d).down.epoch
+        (switches (Du A 1) 1) }
+{}
