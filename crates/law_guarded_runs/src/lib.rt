@@ -1,9 +1,11 @@
-//! Laws of runs in which of a packet that the terminal takes nothing is owed: who sends to a DU, what stands between it and the terminal's
-//! radio, and what waits there, are carried over the steps of the run. Each function does nothing: its contract is the law.
+//! Laws of runs of which nothing is asked but what control owes: over any steps of them a bearer delivers in order, down and up, whatever is lost
+//! on F1-U. Each function does nothing: its contract is the law.
 //!
-//! Steps are those of `law_whole_runs`. Owed is of the way, by control: that a DU takes a frame in the epoch of the terminal's radio only from
-//! a context that was switched for this radio (`OwesFrame`), and what a switch names (`OwesSwitches`); of the terminal how it comes on the
-//! air, and that what it hears of its own packets is true (`OwedRest`), and that it has room for a packet.
+//! Steps are those of `law_whole_runs`. Of a packet or a status report that the terminal takes nothing is owed: what stands on the tunnels and
+//! on the radio that lead to it is carried over the steps. Owed are, beside what `law_whole_runs` asks of a CU-UP, of the core and of a DU that
+//! takes what stands next on the radio up: that a DU takes a frame in the epoch of the terminal's radio only from a context that was switched for
+//! this radio (`OwesFrame`), what a switch names (`OwesSwitches`), that the bits of an SN status say what was carried up (`OwesStatuses`); and of
+//! the terminal where an arrival leads (`OwedArrivals`), and that it has room for a packet.
 #![tactic(auto)]
 
 ghost use Rattle.law_way_steps.specs.law_handover_rows.chain_defs.gnb_types.declared.names.BearerId.{BearerId};
@@ -26,41 +28,35 @@ ghost use Rattle.law_way_steps.specs.law_handover_rows.chain_defs.gnb_types.decl
 ghost use Rattle.law_heard_ties.specs.law_radio_downs.law_run_facts.message_types.declared.rrc.Token.{Token};
 ghost use Rattle.law_heard_ties.specs.law_radio_downs.law_run_facts.unit_defs.Ways.{Pdu, Input};
 ghost use Rattle.law_way_steps.specs.law_other_contexts.law_tie_facts.law_bearer_lists.law_context_orders.Orders.{switches};
-ghost use Rattle.law_way_runs.specs.Runs.{Step, Steps};
+ghost use Rattle.law_guarded_runs.specs.Runs.{IsCarried, Step, Steps};
+ghost use Rattle.law_down_report_runs.specs.Steps.{ReportsDownAreTrueAt};
 ghost use Rattle.law_way_steps.specs.Way.{IsOnItsWay, OwesFrame, OwesSwitch};
 ghost use Rattle.law_way_steps.specs.law_whole_runs.Whole as whole;
-ghost use Rattle.law_way_steps.specs.law_whole_runs.Whole.{both, IsWhole};
+ghost use Rattle.law_way_steps.specs.law_whole_runs.Whole.{both};
 ghost use Rattle.law_heard_ties.specs.law_radio_downs.law_run_facts.run_defs.Runs.{Reading};
 ghost use Rattle.std.specs.Prelude.{ℕ};
 ghost use Rattle.law_heard_ties.specs.law_radio_downs.law_run_facts.unit_defs.UpRecords.{Downlink};
 
-/// Where all is so that laws of runs carry, and the way down is as it is to be, each step is one of `law_whole_runs`, where all that it asks
-/// of a packet is so; and all is so then, and the way down as it is to be.
-pub fn each_step_keeps_the_way()
+/// Where all is so that laws of runs carry (`IsCarried`), each step is one of `law_whole_runs`, and all is so then.
+pub fn each_step_keeps_all()
     ensures { (reading : Reading) (n : Numbering) (ue : UeId) (bearer : BearerId) (sn : SnBits)
         (quota : ℕ) (p q : Point) → NoneIsZero n
         → IsPassed reading p.state → IsPassed reading q.state → Comes reading p.state q.state
-        → IsWhole reading n ue bearer sn quota p → IsOnItsWay n ue bearer p
-        → Step reading n ue bearer sn quota p q
-        → whole.Step reading n ue bearer sn quota p q
-        × IsWhole reading n ue bearer sn quota q
-        × IsOnItsWay n ue bearer q }
+        → IsCarried reading n ue bearer sn quota p → Step reading n ue bearer sn quota p q
+        → whole.Step reading n ue bearer sn quota p q × IsCarried reading n ue bearer sn quota q }
 {}
 
 /// So over any steps of a run, one after another.
-pub fn steps_keep_the_way()
+pub fn steps_keep_all()
     ensures { (reading : Reading) (n : Numbering) (ue : UeId) (bearer : BearerId) (sn : SnBits)
         (quota : ℕ) (p q : Point) → NoneIsZero n
-        → IsWhole reading n ue bearer sn quota p → IsOnItsWay n ue bearer p
-        → Steps reading n ue bearer sn quota p q
-        → whole.Steps reading n ue bearer sn quota p q
-        × IsWhole reading n ue bearer sn quota q
-        × IsOnItsWay n ue bearer q }
+        → IsCarried reading n ue bearer sn quota p → Steps reading n ue bearer sn quota p q
+        → whole.Steps reading n ue bearer sn quota p q × IsCarried reading n ue bearer sn quota q }
 {}
 
 /// From a state to which the first parts of a bearer, after the switch by which its context has its downlink, are tied, and in which all
-/// else that is carried is so, with the way down: over any steps of the run what is delivered, down and up, is a prefix of what was offered
-/// meanwhile, each packet once, with COUNTs 0, 1, 2 and so on.
+/// else that is carried is so, with the way down and the reports on it: over any steps of the run what is delivered, down and up, is a prefix
+/// of what was offered meanwhile, each packet once, with COUNTs 0, 1, 2 and so on.
 pub fn runs_deliver_after_the_first_switch()
     ensures { (reading : Reading) (n : Numbering) (ue : UeId) (bearer : BearerId) (sn : SnBits)
         (quota : ℕ) (p q : Point) (first teid : ℕ) (d : Downlink) → NoneIsZero n
@@ -68,6 +64,7 @@ pub fn runs_deliver_after_the_first_switch()
         → IsOld n ue bearer p.state.units first → LeadsAt reading n ue bearer sn quota p
         → ReportsAreTrueAt reading n ue bearer sn quota p → IsKnownAt reading n ue bearer sn quota p
         → IsAtTerminal reading ue bearer p.state (both p) → IsOnItsWay n ue bearer p
+        → ReportsDownAreTrueAt reading n ue bearer sn quota p
         → Steps reading n ue bearer sn quota p q
         → DeliverInOrder reading n ue bearer sn quota p q }
 {}

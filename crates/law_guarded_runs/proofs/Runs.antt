@@ -1,4 +1,4 @@
--- Steps of a run that keep the way are steps of `law_whole_runs`: what it asks of a packet is so.
+-- Steps of which what control owes is asked are steps of `law_whole_runs`: what it asks of packets and reports is so.
 use Rattle.std.proofs.Common.{◌≡◌, ℕ, Some, sym, subst, ◌∙◌}
 use Rattle.law_way_steps.specs.law_handover_rows.chain_defs.gnb_types.declared.names.NodeId.TheVariants.{Du}
 use Rattle.law_way_steps.specs.law_handover_rows.chain_defs.gnb_types.declared.names.SnBits.{SnBits}
@@ -19,7 +19,13 @@ use Rattle.law_heard_ties.specs.law_radio_downs.law_radio_ties.law_terminal_inpu
 use Rattle.law_heard_ties.specs.law_radio_downs.law_radio_ties.law_radio_steps.Radios.{on_air}
 use Rattle.law_heard_ties.specs.law_radio_downs.law_radio_ties.Radio.{up_key, IsAtTerminal}
 use Rattle.law_heard_ties.specs.law_radio_downs.Down.{down_key, IsDown}
-use Rattle.law_heard_ties.specs.law_radio_downs.Heard.{IsKept, OwedHeard}
+use Rattle.law_heard_ties.specs.law_radio_downs.Heard.{IsKept, OwedHeard, OwedRest}
+use Rattle.law_heard_ties.specs.law_radio_downs.law_radio_ties.uplink_defs.Parts as up_parts
+use Rattle.law_down_report_runs.specs.law_down_report_frames.Statuses.{UpCameAbout}
+use Rattle.law_down_report_runs.proofs.law_down_report_frames.Carried.{nothing_came}
+use Rattle.law_down_report_runs.proofs.law_down_report_frames.law_down_report_ties.Heard.{rest_owed, taken_owed}
+use Rattle.law_down_report_runs.specs.Steps.{ReportsDownAreTrueAt, OwesStatuses}
+use Rattle.law_down_report_runs.proofs.Runs.{one_step as report_step}
 use Rattle.law_way_steps.proofs.law_way_links.law_radio_downs.Terminals.{owes_rest}
 use Rattle.law_heard_ties.specs.law_radio_downs.law_run_links.Own.{HoldTheirOwn}
 use Rattle.law_heard_ties.proofs.Steps.{first_there}
@@ -43,7 +49,7 @@ use Rattle.law_way_steps.proofs.Others.{cu_cp_way, other_way, offer_way, message
 use Rattle.law_way_steps.proofs.Dus.{du_way}
 use Rattle.law_way_steps.proofs.Terminals.{terminal_way}
 use Rattle.law_way_steps.proofs.Ups.{cu_up_way}
-use Rattle.law_way_runs.specs.Runs.{TerminalActs, OwesWay, Step, the_terminal, all_else, Steps, not_yet, further}
+use Rattle.law_guarded_runs.specs.Runs.{IsCarried, TerminalActs, OwesWay, Step, the_terminal, all_else, Steps, not_yet, further}
 
 module _ (reading : Reading) (n : Numbering) (ue : UeId) (bearer : BearerId) (sn : SnBits) (quota : ℕ) where
   abbrev Whole : Point → Type 0
@@ -53,7 +59,7 @@ module _ (reading : Reading) (n : Numbering) (ue : UeId) (bearer : BearerId) (sn
   WholeStep p q = whole.Step reading n ue bearer sn quota p q
 
   module _ (p q : Point) (passed : IsPassed reading p.state) (passed_then : IsPassed reading q.state) (comes : Comes reading p.state q.state) (all : Whole p)
-      (way : IsOnItsWay n ue bearer p) where
+      (way : IsOnItsWay n ue bearer p) (told : ReportsDownAreTrueAt reading n ue bearer sn quota p) where
     kept : IsKept sn quota p.down
     kept = record { first = all.came.first; teid = all.came.teid; orders = all.came.orders; kept = all.came.kept; is = all.came.is }
 
@@ -77,9 +83,15 @@ module _ (reading : Reading) (n : Numbering) (ue : UeId) (bearer : BearerId) (sn
         radio = all.shown.radio;
       }
 
+      -- a report that it takes is true, as it stood there
+      rest : OwedRest a.terminal (both p) bearer a.to a.input
+      rest =
+          rest_owed a.terminal (both p) bearer a.to a.input
+          (taken_owed reading a.event p.state ue bearer a.terminal (both p) a.cause a.input passed a.acts.node a.acts.given a.acts.stands told) a.owed
+
       owes : OwedHeard a.terminal (both p) bearer a.to a.input
       owes =
-          owes_rest reading a.event p.state q.state ue bearer (both p) its_tie sn quota kept way.down a.some a.left a.cause a.input a.outputs a.acts own a.to a.owed
+          owes_rest reading a.event p.state q.state ue bearer (both p) its_tie sn quota kept way.down a.some a.left a.cause a.input a.outputs a.acts own a.to rest
 
       as_owed : UeActs reading n ue bearer sn quota p q
       as_owed = record {
@@ -102,7 +114,7 @@ module _ (reading : Reading) (n : Numbering) (ue : UeId) (bearer : BearerId) (sn
       there_then : StaysBeside reading n ue bearer sn quota p q × IsAtTerminal reading ue bearer q.state (both q)
           × IsDown (on_air q.state (down_key ue bearer)) q.down
       there_then =
-          first_there reading n ue bearer sn quota p q a.event its_tie a.left a.cause a.outputs a.to passed kept a.input a.acts a.acted way.down a.some a.owed
+          first_there reading n ue bearer sn quota p q a.event its_tie a.left a.cause a.outputs a.to passed kept a.input a.acts a.acted way.down a.some rest
           a.down a.up
 
       terminal_on : IsOnItsWay n ue bearer q
@@ -114,7 +126,12 @@ module _ (reading : Reading) (n : Numbering) (ue : UeId) (bearer : BearerId) (sn
 
     as_whole : Step reading n ue bearer sn quota p q → WholeStep p q
     as_whole (the_terminal a) = whole.the_terminal (as_owed a)
-    as_whole (all_else step owed) = step
+    as_whole (all_else step way statuses) = step
+
+    its_statuses : (step : Step reading n ue bearer sn quota p q) → OwesStatuses reading n ue bearer sn quota p q (as_whole step)
+    unfolding as_whole
+    its_statuses (the_terminal a) = tt
+    its_statuses (all_else step way statuses) = statuses
 
     else_on : (step : WholeStep p q) → OwesWay reading n ue bearer sn quota p q step → IsOnItsWay n ue bearer q
     else_on (whole.a_cu_up a) owes =
@@ -143,39 +160,49 @@ module _ (reading : Reading) (n : Numbering) (ue : UeId) (bearer : BearerId) (sn
 
     on_then : Step reading n ue bearer sn quota p q → IsOnItsWay n ue bearer q
     on_then (the_terminal a) = terminal_on a
-    on_then (all_else step owes) = else_on step owes
+    on_then (all_else step way statuses) = else_on step way
 
   -- ---- a step, and steps one after another
 
   module _ (positive : NoneIsZero n) where
-    pub one_step : (p q : Point) → IsPassed reading p.state → IsPassed reading q.state → Comes reading p.state q.state → Whole p → IsOnItsWay n ue bearer p
-        → Step reading n ue bearer sn quota p q → WholeStep p q × Whole q × IsOnItsWay n ue bearer q
-    one_step p q passed passed_then comes all way step =
-        let its : WholeStep p q = as_whole p q passed passed_then comes all way step in
-        let next = whole_step reading n ue bearer sn quota positive p q passed passed_then comes all its in
-        (its, next.1, on_then p q passed passed_then comes all way step)
+    abbrev Carried : Point → Type 0
+    Carried p = IsCarried reading n ue bearer sn quota p
 
-    pub all_steps : (p q : Point) → Whole p → IsOnItsWay n ue bearer p → Steps reading n ue bearer sn quota p q
-        → whole.Steps reading n ue bearer sn quota p q × Whole q × IsOnItsWay n ue bearer q
-    all_steps p q all way (not_yet x) = (whole.not_yet x, all, way)
-    all_steps p q all way (further x y z earlier before after comes step) =
-        let first = all_steps x y all way earlier in
-        let one = one_step y z before after comes first.1 first.2 step in
-        (whole.further x y z first.0 before after comes one.0, one.1, one.2)
+    pub one_step : (p q : Point) → IsPassed reading p.state → IsPassed reading q.state → Comes reading p.state q.state → Carried p
+        → Step reading n ue bearer sn quota p q → WholeStep p q × Carried q
+    one_step p q passed passed_then comes carried step =
+        let its : WholeStep p q = as_whole p q passed passed_then comes carried.all carried.way carried.told step in
+        let next = whole_step reading n ue bearer sn quota positive p q passed passed_then comes carried.all its in
+        let told = report_step reading n ue bearer sn quota positive p q passed passed_then comes carried.all carried.came carried.told
+        (as_whole p q passed passed_then comes carried.all carried.way carried.told step)
+        (its_statuses p q passed passed_then comes carried.all carried.way carried.told step) in
+        (its, record { all = next.1; way = on_then p q passed passed_then comes carried.all carried.way carried.told step; came = told.0; told = told.1 })
+
+    pub all_steps : (p q : Point) → Carried p → Steps reading n ue bearer sn quota p q → whole.Steps reading n ue bearer sn quota p q × Carried q
+    all_steps p q carried (not_yet x) = (whole.not_yet x, carried)
+    all_steps p q carried (further x y z earlier before after comes step) =
+        let first = all_steps x y carried earlier in
+        let one = one_step y z before after comes first.1 step in
+        (whole.further x y z first.0 before after comes one.0, one.1)
 
     pub delivers : (p q : Point) (first teid : ℕ) (d : Downlink) → AreFirst first teid d p → IsTied reading n ue bearer sn quota p
         → IsOld n ue bearer p.state.units first → LeadsAt reading n ue bearer sn quota p → ReportsAreTrueAt reading n ue bearer sn quota p
         → IsKnownAt reading n ue bearer sn quota p → IsAtTerminal reading ue bearer p.state (both p) → IsOnItsWay n ue bearer p
-        → Steps reading n ue bearer sn quota p q → DeliverInOrder reading n ue bearer sn quota p q
-    delivers p q first teid d are ties old leads told known shown way steps =
+        → ReportsDownAreTrueAt reading n ue bearer sn quota p → Steps reading n ue bearer sn quota p q → DeliverInOrder reading n ue bearer sn quota p q
+    delivers p q first teid d are ties old leads told known shown way down_told steps =
         whole_delivers reading n ue bearer sn quota positive p q first teid d are ties old leads told known shown
         (all_steps p q (record {
-          ties = ties;
-          fresh = starts_fresh n p.state p.up first teid are.up;
-          steady = first_steady reading n ue bearer sn quota positive first teid d p are ties old;
-          came = first_about sn quota p first teid d are;
-          leads = leads;
-          told = told;
-          known = known;
-          shown = shown;
-        }) way steps).0
+          all = record {
+            ties = ties;
+            fresh = starts_fresh n p.state p.up first teid are.up;
+            steady = first_steady reading n ue bearer sn quota positive first teid d p are ties old;
+            came = first_about sn quota p first teid d are;
+            leads = leads;
+            told = told;
+            known = known;
+            shown = shown;
+          };
+          way = way;
+          came = subst (λ (u : up_parts.Part). UpCameAbout u) (sym are.up) (nothing_came first teid);
+          told = down_told;
+        }) steps).0

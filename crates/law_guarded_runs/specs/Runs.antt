@@ -1,5 +1,5 @@
--- Steps of a run beside the parts of one bearer, as those of `law_whole_runs`, where the way of its packets down is kept: of a packet that
--- the terminal takes nothing is owed.
+-- Steps of a run beside the parts of one bearer, as those of `law_whole_runs`, of which what control owes is asked, and nothing of a packet or
+-- a status report that the terminal takes; and all that is so of the states on the way.
 use Rattle.std.specs.Prelude.{◌≡◌, ℕ, ◌<◌, List, map, Option, Some}
 use Rattle.law_way_steps.specs.law_handover_rows.chain_defs.gnb_types.declared.names.SnBits.{SnBits}
 use Rattle.law_way_steps.specs.law_handover_rows.chain_defs.gnb_types.declared.names.UeId.{UeId}
@@ -15,17 +15,28 @@ use Rattle.law_heard_ties.specs.law_radio_downs.law_run_facts.run_defs.Runs.{Rea
 use Rattle.law_way_steps.specs.law_handover_rows.chain_defs.Orders as down
 use Rattle.law_heard_ties.specs.law_radio_downs.law_radio_ties.uplink_defs.Orders as up
 use Rattle.law_heard_ties.specs.law_radio_downs.law_radio_ties.Radio.{RunCause, IsUeStep}
-use Rattle.law_heard_ties.specs.law_radio_downs.Heard.{heard_by, OwedRest}
+use Rattle.law_heard_ties.specs.law_radio_downs.Heard.{heard_by}
+use Rattle.law_down_report_runs.specs.law_down_report_frames.law_down_report_ties.Owed.{OwedArrivals}
+use Rattle.law_down_report_runs.specs.law_down_report_frames.Statuses.{UpCameAbout}
+use Rattle.law_down_report_runs.specs.Steps.{ReportsDownAreTrueAt, OwesStatuses}
 use Rattle.law_way_steps.specs.law_other_contexts.law_tie_facts.law_run_bearers.Bearers.{Numbering}
 use Rattle.law_heard_ties.specs.law_rest_ties.law_tied_runs.law_own_steps.Own.{IsActed}
 use Rattle.law_heard_ties.specs.law_rest_ties.law_tied_runs.Steps.{Point, IsPassed}
 use Rattle.law_way_steps.specs.law_report_runs.law_path_ties.law_owed_runs.law_fresh_uplinks.Later.{Comes}
 use Rattle.law_way_steps.specs.law_whole_runs.Whole as whole
-use Rattle.law_way_steps.specs.law_whole_runs.Whole.{both}
-use Rattle.law_way_steps.specs.Way.{OwesFrame, OwesSwitches}
+use Rattle.law_way_steps.specs.law_whole_runs.Whole.{both, IsWhole}
+use Rattle.law_way_steps.specs.Way.{IsOnItsWay, OwesFrame, OwesSwitches}
 
 module _ (reading : Reading) (n : Numbering) (ue : UeId) (bearer : BearerId) (sn : SnBits) (quota : ℕ) where
-  -- the terminal acts, by the orders of its input: owed are how it comes on the air, and what a report confirms
+  -- all that is so of a state on the way: what `law_whole_runs` carries; the way of packets down; that the part up came about by orders that
+  -- asked what they do; and that what stands on links and reports to the terminal is true
+  pub record IsCarried (p : Point) : Type 0 where
+    pub all : IsWhole reading n ue bearer sn quota p
+    pub way : IsOnItsWay n ue bearer p
+    pub came : UpCameAbout p.up
+    pub told : ReportsDownAreTrueAt reading n ue bearer sn quota p
+
+  -- the terminal acts, by the orders of its input: owed is where an arrival leads
   pub record TerminalActs (p q : Point) : Type 0 where
     pub terminal : UeNode
     pub there : ue_of p.state.units ue ≡ Some terminal
@@ -38,11 +49,11 @@ module _ (reading : Reading) (n : Numbering) (ue : UeId) (bearer : BearerId) (sn
     pub to : Option ℕ
     pub acts : IsUeStep reading event p.state q.state ue terminal left cause input outputs
     pub acted : IsActed (plain_world reading) event p.state cause (map (written_put (sn_of p.state)) outputs) (with_ue p.state.units ue left)
-    pub owed : OwedRest terminal (both p) bearer to input
+    pub owed : OwedArrivals terminal (both p) to input
     pub down : q.down ≡ down.run p.down (heard_by terminal (both p) bearer to input).down
     pub up : q.up ≡ up.run p.up (heard_by terminal (both p) bearer to input).up
 
-  -- what is owed of the way, of each other step
+  -- what is owed of each other step: of the way of packets down, and of an SN status
   abbrev pub OwesWay : (p q : Point) → whole.Step reading n ue bearer sn quota p q → Type 0
   OwesWay p q (whole.a_cu_up a) = OwesSwitches n ue bearer p a.gnb a.number a.input a.beside.epoch
   OwesWay p q (whole.a_du a) = OwesFrame n ue bearer p a.gnb a.number a.input
@@ -51,7 +62,8 @@ module _ (reading : Reading) (n : Numbering) (ue : UeId) (bearer : BearerId) (sn
 
   pub data Step (p q : Point) : Type 0 where
     the_terminal : (acts : TerminalActs p q) → Step p q
-    all_else : (step : whole.Step reading n ue bearer sn quota p q) → (owes : OwesWay p q step) → Step p q
+    all_else : (step : whole.Step reading n ue bearer sn quota p q) → (way : OwesWay p q step) → (statuses : OwesStatuses reading n ue bearer sn quota p q step)
+        → Step p q
 
   -- one after another, each to a state that comes after the one before
   pub data Steps : Point → Point → Type 0 where

@@ -45,9 +45,10 @@ use Rattle.law_way_steps.proofs.law_report_runs.law_path_ties.Runs.{leads_there}
 use Rattle.law_way_steps.proofs.law_report_runs.Runs.{told_there, known_there}
 use Rattle.law_heard_ties.specs.law_rest_ties.law_tied_runs.Steps.{Point}
 use Rattle.law_way_steps.proofs.law_whole_runs.Runs.{shown_there}
+use Rattle.law_down_report_runs.proofs.Runs.{reports_there}
 use Rattle.law_way_steps.specs.Way.{Leads, IsWay, IsOnItsWay, IsFresh, OwesFrame, OwesSwitch}
-use Rattle.law_way_runs.specs.Runs.{Steps}
-use Rattle.law_way_runs.proofs.Runs.{delivers}
+use Rattle.law_guarded_runs.specs.Runs.{Steps}
+use Rattle.law_guarded_runs.proofs.Runs.{delivers}
 
 number_same : (a : ℕ) → (a == a) ≡ true
 number_same a = grind arith
@@ -290,4 +291,4 @@ module _ (reading : Reading) (n : Numbering) where
   delivers_on positive q steps =
       delivers reading n terminal its_bearer Len12 64 positive begun q its_first (starts reading n).0 (starts reading n).1
       (record { down = refl; up = refl }) (tied reading n) (first_old reading n positive) (leads_there reading n) (told_there reading n) (known_there reading n)
-      (shown_there reading n) way_there steps
+      (shown_there reading n) way_there (reports_there reading n positive) steps
