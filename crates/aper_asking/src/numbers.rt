@@ -12,6 +12,7 @@ use aper_cursor::{Cursor, Extent, Question, Range, Role, bits_for, octets_for, s
 use aper_defs::Reason;
 
 /// An extension bit, where the type is extensible.
+#[inline(always)]
 pub fn ask_extension(cursor: &mut Cursor, extensible: bool) -> Result<bool, Reason>
     ensures { GoesOn (λ p. ask_extension p extensible) cursor.old cursor.new result }
 {
@@ -71,6 +72,7 @@ fn ask_large(cursor: &mut Cursor, span: u64) -> Result<u64, Reason>
 }
 
 /// An INTEGER of a range, in it or past it.
+#[inline(always)]
 pub fn ask_integer(cursor: &mut Cursor, range: &Range, extensible: bool) -> Result<i128, Reason>
     requires order { le_z range.now.low range.now.high ≡ true }
     requires span { above range.now.low range.now.high < 2 ^ 64 }
@@ -84,6 +86,7 @@ pub fn ask_integer(cursor: &mut Cursor, range: &Range, extensible: bool) -> Resu
 }
 
 /// A number in a range.
+#[inline(always)]
 fn ask_inside(cursor: &mut Cursor, range: &Range) -> Result<i128, Reason>
     requires order { le_z range.now.low range.now.high ≡ true }
     requires span { above range.now.low range.now.high < 2 ^ 64 }
@@ -113,6 +116,7 @@ fn ask_signed(cursor: &mut Cursor, range: &Range) -> Result<i128, Reason>
 }
 
 /// How far the end of a range is above its beginning.
+#[inline(always)]
 fn above(range: &Range) -> u64
     requires order { le_z range.now.low range.now.high ≡ true }
     requires span { above range.now.low range.now.high < 2 ^ 64 }
@@ -122,6 +126,7 @@ fn above(range: &Range) -> u64
 }
 
 /// The number that is so far above the beginning of a range.
+#[inline(always)]
 #[tactic(auto, using(crate::proofs::Onward::low_fits))]
 fn from_low(range: &Range, number: u64) -> i128
     requires order { le_z range.now.low range.now.high ≡ true }

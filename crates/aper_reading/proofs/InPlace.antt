@@ -1,5 +1,5 @@
 -- Simple values read in place: steps by the types of one module.
-use Rattle.std.proofs.Common.{◌≡◌, ℕ, suc, ◌+◌, ◌*◌, ◌<◌, ◌≤◌, List, [], ◌∷◌, ◌++◌, length, Option, Some, Result, Ok, Err, refl, sym, ap, subst, ◌∙◌, arith}
+use Rattle.std.proofs.Common.{◌≡◌, ℕ, suc, ◌+◌, ◌*◌, ◌<◌, ◌≤◌, List, [], ◌∷◌, ◌++◌, length, Option, Some, None, Result, Ok, Err, refl, sym, ap, subst, ◌∙◌, arith}
 use Rattle.std.proofs.Math.Nat.{suc-mul, mul-le-mul_right}
 use Rattle.asn1_types.specs.declared.definition.Component.{Component}
 use Rattle.asn1_types.specs.declared.definition.Size.{Size}
@@ -17,6 +17,8 @@ use Rattle.aper_cursor.specs.declared.error.Unanswered.{Unanswered}
 use Rattle.aper_cursor.specs.declared.error.Unanswered.TheVariants.{Wrong, Memory}
 use Rattle.aper_asking.specs.Going.{GoesOn, fault_at}
 use Rattle.aper_elements.specs.aper_types.Types.{parts_of}
+use Rattle.aper_elements.specs.aper_types.declared.form.Form.{Form}
+use Rattle.aper_elements.specs.aper_types.Forms.{form_tree}
 use Rattle.aper_values.specs.declared.value.Value.{Value}
 use Rattle.aper_simple.specs.Reads.{Reads}
 use Rattle.aper_elements.specs.aper_frames.declared.frame.Components.{Components}
@@ -30,6 +32,8 @@ use Rattle.aper_elements.specs.aper_frames.Steps.{Steps, left}
 use Rattle.aper_elements.specs.aper_frames.Weights.{list_weight, members_weight}
 use Rattle.aper_reading.specs.Heavy.{weighed}
 use Rattle.aper_reading.specs.InModule.{StepsIn, IsOfModule, IsAround, among}
+use Rattle.aper_reading.specs.Puts.{Puts}
+use Rattle.aper_reading.specs.Lists.{IsListRefused, StartsList}
 use Rattle.aper_reading.proofs.HeavyLemmas.{is_inside}
 use Rattle.aper_reading.proofs.ListLemmas.{member_put}
 use Rattle.aper_reading.proofs.SequenceSteps.{option_put}
@@ -55,6 +59,10 @@ type_inside m weight id h less = is_inside m id h.most (λ other. omega (arith, 
 pub module_less : (m : Syntax) (more weight : (ℕ → ℕ) → ℕ) → IsOfModule m more → ((w : ℕ → ℕ) → weight w ≤ more w) → IsOfModule m weight
 module_less m more weight h less = record { most = h.most; bounded = λ other. omega (arith, less (weighed m other), h.bounded other) }
 
+-- ---- a value of a tree that is another's
+pub reads_as : (r : Result Value Unanswered) (t u : Tree) (old new : Cursor) → t ≡ u → Reads (λ p. asks p u) old new r → Reads (λ p. asks p t) old new r
+reads_as r t u old new is reads = subst (λ (x : Tree). Reads (λ p. asks p x) old new r) (sym is) reads
+
 -- ---- components
 module _ (of : ℕ → Tree) (p : Path) (K : seen.Value → Prog) (c : Components) (part : Component) (mid new : Cursor) where
   -- one that is read
@@ -66,20 +74,39 @@ module _ (of : ℕ → Tree) (p : Path) (K : seen.Value → Prog) (c : Component
       reads (fields.component part.name ∷ p) (component_after of c p K)
       ∙ ap (λ P. run P new) (option_put (λ J. ask_components p (parts_of of c.left.now) c.there J) c.made.items made v (after_components of c p K) e)
 
--- one that is to be read inside its frame, or refused there
+-- one that is to be read inside its frame
 module _ (of : ℕ → Tree) (c : Components) (part : Component) (old more : List Frame) (around : IsAround part c old more) where
   pub component_begun : components_next of c (path_of old) (next_of of old) (Some part) ≡ left of (turns.Read part.definition) more
   component_begun =
       ap (λ (K : seen.Value → Prog). asks (fields.component part.name ∷ path_of old) (of part.definition.number) K) (sym (around.next of))
       ∙ ap (λ (q : Path). asks q (of part.definition.number) (next_of of more)) (sym around.path)
 
-  pub component_wrong : (error : Unanswered) (first : Prog) (start mid new : Cursor)
-      → run first start ≡ run (components_next of c (path_of old) (next_of of old) (Some part)) mid
-      → Reads (λ p. asks p (of part.definition.number)) mid new (Err error) → StepsIn of first start new more (Err error)
-  component_wrong (Wrong reason) first start mid new e reads =
-      e ∙ reads (fields.component part.name ∷ path_of old) (component_after of c (path_of old) (next_of of old))
-      ∙ ap (λ (q : Path). Err (fault_at new reason q)) (sym around.path)
-  component_wrong Memory first start mid new e reads = tt
+-- one that is refused there
+pub component_wrong : (of : ℕ → Tree) (c : Components) (part : Component) (old more : List Frame)
+    → path_of more ≡ fields.component part.name ∷ path_of old
+    → (error : Unanswered) (form : Form) (before after : List (Option Value)) (first : Prog) (start mid new : Cursor)
+    → run first start ≡ run (components_next of c (path_of old) (next_of of old) (Some part)) mid
+    → of part.definition.number ≡ form_tree of form → Puts Some (λ p. asks p (form_tree of form)) mid new before after (Err error)
+    → StepsIn of first start new more (Err error)
+component_wrong of c part old more path (Wrong reason) form before after first start mid new e is put =
+    e
+    ∙ reads_as (Err (Wrong reason)) (of part.definition.number) (form_tree of form) mid new is put.0
+    (fields.component part.name ∷ path_of old) (component_after of c (path_of old) (next_of of old))
+    ∙ ap (λ (q : Path). Err (fault_at new reason q)) (sym path)
+component_wrong of c part old more path Memory form before after first start mid new e is put = tt
+
+-- ---- lists
+-- one whose count is refused
+pub count_refused : (of : ℕ → Tree) (size : Option Size) (element : TypeId) (error : Unanswered) (old new : Cursor)
+    → StartsList of size element old new (Err error) → IsListRefused (λ p. asks p (sequence_of size (of element.number))) old new None error
+count_refused of size element (Wrong reason) old new h = h
+count_refused of size element Memory old new h = tt
+
+pub count_wrong : (of : ℕ → Tree) (size : Option Size) (element : TypeId) (error : Unanswered) (fs : List Frame) (old new : Cursor)
+    → StartsList of size element old new (Err error)
+    → StepsIn of (asks (path_of fs) (sequence_of size (of element.number)) (next_of of fs)) old new fs (Err error)
+count_wrong of size element (Wrong reason) fs old new h = h (path_of fs) (next_of of fs)
+count_wrong of size element Memory fs old new h = tt
 
 -- ---- members
 module _ (of : ℕ → Tree) (p : Path) (K : seen.Value → Prog) (element : TypeId) where
@@ -107,38 +134,43 @@ module _ (of : ℕ → Tree) (p : Path) (K : seen.Value → Prog) (element : Typ
 pub list_less : (w : ℕ → ℕ) (element : TypeId) (n : ℕ) → n < 65536 → list_weight w n element ≤ list_weight w 65535 element
 list_less w element n most = omega (arith, mul-le-mul_right {m = n} {n = 65535} (2 + w element.number) (omega (arith, most)))
 
-module _ (of : ℕ → Tree) (p : Path) (K : seen.Value → Prog) (m : Members) (k : ℕ) (count : m.left ≡ suc k) where
-  abbrev member_rest : seen.Value → Prog
-  member_rest v = ask_members (ask_member of m p) (suc (length m.made.items)) k
+module _ (of : ℕ → Tree) (m : Members) (k : ℕ) (count : m.left ≡ suc k) where
+  abbrev member_rest : Path → (seen.Value → Prog) → seen.Value → Prog
+  member_rest p K v = ask_members (ask_member of m p) (suc (length m.made.items)) k
       (λ vs. values_before m.made.items (λ vs. K (seen.list vs)) (seen.value v vs))
 
-  member_next : members_left of m p K ≡ asks (fields.member (length m.made.items) ∷ p) (of m.element.number) member_rest
-  member_next =
+  member_next : (p : Path) (K : seen.Value → Prog)
+      → members_left of m p K ≡ asks (fields.member (length m.made.items) ∷ p) (of m.element.number) (member_rest p K)
+  member_next p K =
       ap (λ (n : ℕ). ask_members (ask_member of m p) (length m.made.items) n (values_before m.made.items (λ vs. K (seen.list vs)))) count
 
   -- one that is read
-  pub member_read : (v : Value) (made : List Value) (mid new : Cursor) → Reads (λ p. asks p (of m.element.number)) mid new (Ok v)
+  pub member_read : (p : Path) (K : seen.Value → Prog) (v : Value) (made : List Value) (mid new : Cursor) → Reads (λ p. asks p (of m.element.number)) mid new (Ok v)
       → made ≡ m.made.items ++ v ∷ []
       → run (members_left of m p K) mid
       ≡ run (ask_members (ask_member of m p) (length made) k (values_before made (λ vs. K (seen.list vs)))) new
-  member_read v made mid new reads e =
-      ap (λ P. run P mid) member_next ∙ reads (fields.member (length m.made.items) ∷ p) member_rest
+  member_read p K v made mid new reads e =
+      ap (λ P. run P mid) (member_next p K) ∙ reads (fields.member (length m.made.items) ∷ p) (member_rest p K)
       ∙ ap (λ P. run P new) (member_put (ask_member of m p) k m.made.items made v (λ vs. K (seen.list vs)) e)
 
   -- one that is refused
-  pub member_wrong : (error : Unanswered) (first : Prog) (start mid new : Cursor) (more : List Frame)
-      → path_of more ≡ fields.member (length m.made.items) ∷ p → run first start ≡ run (members_left of m p K) mid
-      → Reads (λ p. asks p (of m.element.number)) mid new (Err error) → StepsIn of first start new more (Err error)
-  member_wrong (Wrong reason) first start mid new more path e reads =
-      e ∙ ap (λ P. run P mid) member_next ∙ reads (fields.member (length m.made.items) ∷ p) member_rest
-      ∙ ap (λ (q : Path). Err (fault_at new reason q)) (sym path)
-  member_wrong Memory first start mid new more path e reads = tt
+  pub member_refused : (first r : Members) (form : Form) (error : Unanswered) (start mid new : Cursor)
+      → ((p : Path) (K : seen.Value → Prog) → run (members_left of first p K) start ≡ run (members_left of m p K) mid)
+      → of m.element.number ≡ form_tree of form
+      → Puts (λ v. v) (λ p. asks p (form_tree of form)) mid new m.made.items r.made.items (Err error)
+      → IsListRefused (members_left of first) start new (Some r) error
+  member_refused first r form (Wrong reason) start mid new same is put = λ p K.
+      same p K ∙ ap (λ P. run P mid) (member_next p K)
+      ∙ reads_as (Err (Wrong reason)) (of m.element.number) (form_tree of form) mid new is put.0
+      (fields.member (length m.made.items) ∷ p) (member_rest p K)
+      ∙ ap (λ (vs : List Value). Err (fault_at new reason (fields.member (length vs) ∷ p))) (sym put.1)
+  member_refused first r form Memory start mid new same is put = tt
 
 -- one that is to be read inside its frame
 pub member_begun : (of : ℕ → Tree) (m : Members) (k : ℕ) → m.left ≡ suc k → (fs : List Frame)
     → members_left of m (path_of fs) (next_of of fs) ≡ left of (turns.Read m.element) (among m fs)
 member_begun of m k count fs =
-    member_next of (path_of fs) (next_of of fs) m k count
+    member_next of m k count (path_of fs) (next_of of fs)
     ∙ ap (λ (n : ℕ). left of (turns.Read m.element) (frames.Member (record m { left = n }) ∷ fs)) (omega (arith, count))
 
 -- how much members weigh, and one less
@@ -146,10 +178,6 @@ pub members_step : (w : ℕ → ℕ) (m : Members) (k : ℕ) → m.left ≡ suc 
     → members_weight w m ≡ 2 + w m.element.number + list_weight w k m.element
 members_step w m k count =
     omega (arith, ap (λ (n : ℕ). n * (2 + w m.element.number)) count, suc-mul k (2 + w m.element.number))
-
--- ---- a value of a tree that is another's
-pub reads_as : (r : Result Value Unanswered) (t u : Tree) (old new : Cursor) → t ≡ u → Reads (λ p. asks p u) old new r → Reads (λ p. asks p t) old new r
-reads_as r t u old new is reads = subst (λ (x : Tree). Reads (λ p. asks p x) old new r) (sym is) reads
 
 -- one that is refused, as a step
 pub read_refused : (e : Unanswered) (of : ℕ → Tree) (t : Tree) (fs : List Frame) (old new : Cursor) → Reads (λ p. asks p t) old new (Err e)

@@ -4,6 +4,7 @@ pub mod FormBounds
 pub mod HeavyLemmas
 pub mod Turns
 pub mod InPlace
+pub mod PutLemmas
 pub mod Front
 pub use Rattle.aper_elements.proofs.asn1_proof_reading as asn1_proof_reading
 pub use Rattle.aper_elements.proofs.asn1_proof_module as asn1_proof_module

@@ -2,14 +2,12 @@
 use Rattle.std.proofs.Common.{◌≡◌, ℕ, suc, List, [], ◌∷◌, ◌++◌, length, sym, ap, ◌∙◌, arith, length-append}
 use Rattle.aper_defs.specs.Trees.{Tree}
 use Rattle.aper_defs.specs.Values as seen
+use Rattle.aper_defs.specs.Fields.{Path}
 use Rattle.aper_defs.specs.Questions.{Prog, ask_members}
 use Rattle.aper_values.specs.declared.value.Value.{Value}
 use Rattle.aper_values.specs.Views.{view, values_view}
 use Rattle.aper_elements.specs.aper_frames.declared.frame.Members.{Members}
-use Rattle.aper_elements.specs.aper_frames.declared.frame.Frame.{Frame}
-use Rattle.aper_elements.specs.aper_frames.declared.frame.Turn.TheVariants as turns
-use Rattle.aper_elements.specs.aper_frames.Frames.{values_before, ask_member, members_left, path_of, next_of}
-use Rattle.aper_elements.specs.aper_frames.Steps.{left}
+use Rattle.aper_elements.specs.aper_frames.Frames.{values_before, ask_member, members_left}
 use Rattle.aper_elements.proofs.aper_frames.Before.{values_more, values_end}
 
 -- a member more
@@ -23,10 +21,9 @@ member_put one n made more v K e =
     ∙ ap (λ (i : ℕ). ask_members one i n (values_before (made ++ v ∷ []) K)) count
     ∙ ap (λ (ms : List Value). ask_members one (length ms) n (values_before ms K)) (sym e)
 
-module _ (of : ℕ → Tree) (m : Members) (fs : List Frame) where
-  pub members_last : (v : Value) → m.left ≡ 0 → view v ≡ seen.list (values_view m.made.items)
-      → members_left of m (path_of fs) (next_of of fs) ≡ left of (turns.Made v) fs
-  members_last v none e =
-      ap (λ (n : ℕ). ask_members (ask_member of m (path_of fs)) (length m.made.items) n
-      (values_before m.made.items (λ vs. next_of of fs (seen.list vs)))) none
-      ∙ values_end m.made.items (λ vs. next_of of fs (seen.list vs)) ∙ ap (next_of of fs) (sym e)
+-- none is left
+pub members_last : (of : ℕ → Tree) (m : Members) (p : Path) (K : seen.Value → Prog) (v : Value)
+    → m.left ≡ 0 → view v ≡ seen.list (values_view m.made.items) → members_left of m p K ≡ K (view v)
+members_last of m p K v none e =
+    ap (λ (n : ℕ). ask_members (ask_member of m p) (length m.made.items) n (values_before m.made.items (λ vs. K (seen.list vs)))) none
+    ∙ values_end m.made.items (λ vs. K (seen.list vs)) ∙ ap K (sym e)

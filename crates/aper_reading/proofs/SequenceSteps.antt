@@ -1,8 +1,8 @@
 -- Steps of a SEQUENCE: its flags and components, and the marks of its additions.
-use Rattle.std.proofs.Common.{◌≡◌, ℕ, List, [], ◌∷◌, ◌++◌, Option, Some, Bool, Result, Err, refl, sym, ap, ◌∙◌}
+use Rattle.std.proofs.Common.{◌≡◌, ℕ, List, [], ◌∷◌, ◌++◌, Option, Some, Bool, false, Result, Err, refl, sym, ap, ◌∙◌}
 use Rattle.asn1_types.specs.declared.definition.Component.{Component}
 use Rattle.aper_defs.specs.declared.reason.Reason.{Reason}
-use Rattle.aper_defs.specs.Trees.{Tree, sequence}
+use Rattle.aper_defs.specs.Trees.{Tree, Parts, part, no_parts, sequence}
 use Rattle.aper_defs.specs.Values as seen
 use Rattle.aper_defs.specs.Fields.{Path}
 use Rattle.aper_defs.specs.Questions.{Prog, ask_extension, ask_flags}
@@ -86,6 +86,11 @@ module _ (e : Bool) (root adds : List Component) (fs : List Frame) (old mid : Cu
             (options_before vs (after_components of c (path_of fs) (next_of of fs)))) (sym made)
 
 -- ---- the additions after the components
+without_marks : (p : Path) (parts : Parts) (K : seen.Options → Prog) → ask_additions p parts [] K ≡ K seen.no_options
+unfolding asks
+without_marks p no_parts K = refl
+without_marks p (part name optional t others) K = refl
+
 module _ (c : Components) (fs : List Frame) (old mid : Cursor) where
   abbrev pub asked_additions : (ℕ → Tree) → Prog
   asked_additions of = options_before c.made.items (after_components of c (path_of fs) (next_of of fs)) seen.no_options
@@ -96,6 +101,16 @@ module _ (c : Components) (fs : List Frame) (old mid : Cursor) where
 
   additions_as : (of : ℕ → Tree) → run (asked_additions of) old ≡ run (ask_marks (path_of fs) c.extended (after_marks of)) old
   additions_as of = ap (λ P. run P old) (options_end c.made.items (after_components of c (path_of fs) (next_of of fs)))
+
+  -- where no extension bit is 1, none is there
+  pub additions_none : (v : Value) (empty : List (Option Value)) → c.extended ≡ false → empty ≡ []
+      → view v ≡ seen.components (options_view c.made.items) (options_view empty)
+      → (of : ℕ → Tree) → run (asked_additions of) old ≡ run (next_of of fs (view v)) old
+  additions_none v empty none is e of =
+      additions_as of ∙ ap (λ b. run (ask_marks (path_of fs) b (after_marks of)) old) none
+      ∙ ap (λ P. run P old) (without_marks (path_of fs) (parts_of of c.additions.now) (λ more. next_of of fs (seen.components (options_view c.made.items) more)))
+      ∙ ap (λ (vs : List (Option Value)). run (next_of of fs (seen.components (options_view c.made.items) (options_view vs))) old) (sym is)
+      ∙ ap (λ (x : seen.Value). run (next_of of fs x) old) (sym e)
 
   pub marks_refused : (error : Unanswered) → GoesOnOrMemory (λ p. ask_marks p c.extended) old mid (Err error)
       → Steps asked_additions old mid fs (Err error)

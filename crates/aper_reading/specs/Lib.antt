@@ -1,6 +1,8 @@
 pub mod Forms
 pub mod Heavy
 pub mod InModule
+pub mod Puts
+pub mod Lists
 pub mod Turns
 pub mod Decoding
 pub use Rattle.aper_elements.specs.asn1_defs as asn1_defs

@@ -12,7 +12,8 @@ ghost use Rattle.aper_elements.specs.aper_frames.Weights.{sequence_weight, compo
 ghost use Rattle.aper_reading.specs.InModule.{IsOfModule, StepsIn, IsAround};
 ghost use Rattle.aper_defs.specs.Values as seen;
 
-use crate::simple::{is_simple, read_form};
+use crate::list::{read_list, refuse, simple_list};
+use crate::simple::{is_simple, put_component};
 use aper_asking::ask_extension;
 use aper_cursor::{Cursor, Unanswered};
 use aper_elements::from_aper_frames::{
@@ -23,7 +24,7 @@ use aper_elements::from_aper_heads::{ask_flags, ask_marks};
 use aper_elements::from_aper_members::rows::named;
 use aper_elements::from_aper_types::form_of;
 use aper_elements::from_asn1_module::Module;
-use aper_values::make::components;
+use aper_values::make;
 use aper_values::value::Value;
 use asn1_types::{Component, Extensible};
 use gnb_types::items::Memory;
@@ -118,16 +119,22 @@ fn read_components<'m>(
     let mut others = components;
     while let Some(component) = others.next()? {
         let form = form_of(m, component.definition);
-        if !is_simple(form) {
-            push_component(frames, component, others)?;
-            return Ok(Turn::Read(component.definition));
-        }
-        match read_form(alloc, cursor, form) {
-            Ok(value) => others.made.push(Some(value))?,
-            Err(error) => {
+        if is_simple(form) {
+            if let Err(error) = put_component(alloc, cursor, form, &mut others.made) {
                 push_component(frames, component, others)?;
                 return Err(error);
             }
+        } else if let Some(list) = simple_list(m, form) {
+            match read_list(alloc, cursor, list) {
+                Ok(value) => others.made.push(Some(value))?,
+                Err(refusal) => {
+                    push_component(frames, component, others)?;
+                    return Err(refuse(frames, refusal));
+                }
+            }
+        } else {
+            push_component(frames, component, others)?;
+            return Ok(Turn::Read(component.definition));
         }
     }
     begin_additions(alloc, cursor, frames, others)
@@ -156,7 +163,10 @@ fn begin_additions<'m>(
     ensures asked { Steps (λ of. options_before components.entry.made.items (after_components of components.entry (path_of frames.old) (next_of of frames.old)) seen.no_options) cursor.old cursor.new frames.new result }
     ensures lighter { Lighter (λ w. components_weight w components.entry + frames_weight w frames.old) frames.new result }
 {
-    let there = ask_marks(alloc, cursor, components.extended)?;
+    if !components.extended {
+        return Ok(Turn::Made(make::components(components.made, Vec::new(alloc))));
+    }
+    let there = ask_marks(alloc, cursor, true)?;
     let additions = Additions {
         left: components.additions,
         there: Flags::new(there),
@@ -194,7 +204,7 @@ fn next_addition<'m>(
 {
     let mut others = additions;
     match others.next()? {
-        Addition::End => Ok(Turn::Made(components(others.root, others.made))),
+        Addition::End => Ok(Turn::Made(make::components(others.root, others.made))),
         Addition::Unnamed => {
             let frame = Frame::Addition(AdditionFrame { name: None, others });
             ask_unknown(alloc, cursor, frames, frame)

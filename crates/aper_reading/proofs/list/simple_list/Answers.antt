@@ -1,0 +1,15 @@
+use Rattle.std.proofs.Common.{sym, subst, ◌∙◌}
+use Rattle.aper_defs.specs.Bounds.{IsBounded}
+use Rattle.aper_elements.specs.aper_types.Types.{tree}
+use Rattle.aper_reading.specs.Forms.{IsFormBounded}
+use Rattle.aper_reading.proofs.FormBounds.{form_bounded}
+use Rattle.aper_reading.proofs.list.simple_list.Goals as goal
+
+pub returns-then-is_simple : goal.returns-then-is_simple
+returns-then-is_simple c = record {
+  is = c.in-SequenceOf.is;
+  size = subst IsFormBounded c.in-SequenceOf.is c.requires.bounded;
+  member = c.form_of-form.ensures.tree;
+  bounded = form_bounded (tree c.args.m.now) c.form_of-form.result (subst IsBounded c.form_of-form.ensures.tree c.form_of-form.ensures.bounded);
+  simple = sym c.is_simple.ensures ∙ c.if-is_simple.true;
+}
