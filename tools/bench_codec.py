@@ -3,11 +3,12 @@
 asn1 on the same octets of the same module, where it is installed.
 
 It runs two tests of tests_aper_values, as 'rt test' in its folder or the gate built them: one decodes eight spellings over and over, the other encodes their values and compares
-the octets. Of Erlang the calls alone are measured; of the tests all, so their start counts, and reading the module.
+the octets. Of Erlang the calls alone are measured; of the tests all, so their start counts, and reading the module. Each is run several times, by turns with the other, and the
+least and the middle of its times are told: where other work takes a processor away for a while, the least says most.
 
 Nothing here is proved, and a measurement is one of this machine at this time: other work on it shows.
 
-Usage: tools/bench_codec.py [--small N] [--large N] [--program FILE]
+Usage: tools/bench_codec.py [--small N] [--large N] [--runs N] [--program FILE]
 """
 
 import argparse
@@ -51,28 +52,42 @@ def erlang(word, count, folder):
     return float(ran.stdout)
 
 
-def row_of(program, word, count, folder, first):
-    """A row of the table, and its seconds. The second size has the ratio of its time to the first one's."""
+def ours(program, word, count, folder):
+    """The seconds of a test for so many values, and the most memory that it held."""
     os.environ["VALUES"] = str(count)
     given = folder / "nothing"
     given.write_text("")
     status, seconds, memory = bench.measure([program, TESTS[word]], given, folder / "taken")
     if status:
         raise bench.Unmeasured(f"{word} of {count} values: the test ended with status {status}")
-    ratio = f"{seconds / first:.2f}" if first else "-"
-    rate = f"{count / seconds:,.0f}" if seconds else "-"
-    theirs = erlang(word, count, folder)
-    compared = "-" if theirs is None else f"{theirs:.3f}"
-    return seconds, f"| {word} | {count} | {seconds:.3f} | {ratio} | {rate} | {memory / bench.MEBIBYTE:.1f} | {compared} |"
+    return seconds, memory
 
 
-def print_table(program, sizes, folder):
-    print(f"| Calls | Values | Seconds | Times the smaller size's (size: {sizes[1] / sizes[0]:.2f}) | Values a second | Peak MiB | Erlang, seconds |")
-    print("|---|---|---|---|---|---|---|", flush=True)
+def shown(times):
+    """The least and the middle of some seconds, where there are any."""
+    known = sorted(it for it in times if it is not None)
+    return f"{known[0]:.3f} | {known[len(known) // 2]:.3f}" if known else "- | -"
+
+
+def row_of(program, word, count, folder, asked):
+    """A row of the table, and its least seconds. The second size has the ratio of its time to the first one's."""
+    runs, first = asked
+    by_turns = [(*ours(program, word, count, folder), erlang(word, count, folder)) for _ in range(runs)]
+    least = min(it[0] for it in by_turns)
+    ratio = f"{least / first:.2f}" if first else "-"
+    rate = f"{count / least:,.0f}" if least else "-"
+    memory = max(it[1] for it in by_turns) / bench.MEBIBYTE
+    return least, f"| {word} | {count} | {shown(it[0] for it in by_turns)} | {ratio} | {rate} | {memory:.1f} | {shown(it[2] for it in by_turns)} |"
+
+
+def print_table(program, sizes, runs, folder):
+    times = f"Times the smaller size's (size: {sizes[1] / sizes[0]:.2f})"
+    print(f"| Calls | Values | Seconds: the least | The middle | {times} | Values a second | Peak MiB | Erlang, seconds: the least | The middle |")
+    print("|---|---|---|---|---|---|---|---|---|", flush=True)
     for word in TESTS:
         first = None
         for size in sizes:
-            first, row = row_of(program, word, size, folder, first)
+            first, row = row_of(program, word, size, folder, (runs, first))
             print(row, flush=True)
 
 
@@ -80,16 +95,19 @@ def main():
     asked = argparse.ArgumentParser(description=__doc__, formatter_class=argparse.RawDescriptionHelpFormatter)
     asked.add_argument("--small", type=int, default=200_000)
     asked.add_argument("--large", type=int, default=800_000)
+    asked.add_argument("--runs", type=int, default=5, help="how often each is run")
     asked.add_argument("--program", default=str(PROGRAM), help="the tests of tests_aper_values")
     given = asked.parse_args()
     if not 8 <= given.small < given.large <= LARGEST or given.small % 8 or given.large % 8:
         asked.error(f"the sizes are two multiples of 8 from 8 to {LARGEST}, the smaller one first")
+    if given.runs < 1:
+        asked.error("each is run at least once")
     if shutil.which(given.program) is None:
         print(f"bench_codec: '{given.program}' is no program that can be run; 'rt test' in crates/tests_aper_values builds the one that is measured", file=sys.stderr)
         return bench.USAGE
     with tempfile.TemporaryDirectory() as folder:
         try:
-            print_table(given.program, (given.small, given.large), pathlib.Path(folder))
+            print_table(given.program, (given.small, given.large), given.runs, pathlib.Path(folder))
         except bench.Unmeasured as why:
             print(f"bench_codec: {why}", file=sys.stderr)
             return 1

@@ -46,6 +46,7 @@ Word-Text ::= PrintableString (SIZE (1..3))\n\
 Options ::= SEQUENCE {a BOOLEAN OPTIONAL, b Octet OPTIONAL}\n\
 Third ::= CHOICE {a BOOLEAN, b BOOLEAN, c Octet}\n\
 Some-Truths ::= SEQUENCE (SIZE (1..2)) OF Options\n\
+Listed ::= SEQUENCE {list SEQUENCE (SIZE (1..3)) OF INTEGER (0..200), flag BOOLEAN, pairs SEQUENCE (SIZE (1..2)) OF Pair OPTIONAL}\n\
 Ordered ::= ProtocolIE-Container {{OrderedRows}}\n\
 OrderedRows PROTOCOL-IES ::= {{ID 1 CRITICALITY reject TYPE BOOLEAN PRESENCE mandatory} | {ID 2 CRITICALITY ignore TYPE Octet PRESENCE optional}, ...}\n\
 Message ::= Protocol-PDU {{Procedures}}\n\
@@ -202,7 +203,7 @@ pub const STRINGS: [Row; 17] = [
 ];
 
 /// Types with types inside: with nothing that may be absent, and with all.
-pub const STRUCTURES: [Row; 15] = [
+pub const STRUCTURES: [Row; 17] = [
     (
         b"Options",
         "00",
@@ -236,6 +237,17 @@ pub const STRUCTURES: [Row; 15] = [
         "F0FF4007",
         "List([Seq { root: [Some(Bool(true)), Some(Int(255))], additions: [] }, Seq { root: [None, \
          Some(Int(7))], additions: [] }])",
+    ),
+    (
+        b"Listed",
+        "20B910",
+        "Seq { root: [Some(List([Int(5), Int(200)])), Some(Bool(true)), None], additions: [] }",
+    ),
+    (
+        b"Listed",
+        "8AB4FF",
+        "Seq { root: [Some(List([Int(85)])), Some(Bool(true)), Some(List([Seq { root: \
+         [Some(Bool(true)), Some(Int(255))], additions: [] }]))], additions: [] }",
     ),
     (
         b"Elements",
@@ -352,7 +364,7 @@ pub const MESSAGES: [Row; 11] = [
 ];
 
 /// A refusal for each reason but the one that takes more than 131,072 octets, and for each kind of step.
-pub const REFUSED: [Refusal; 25] = [
+pub const REFUSED: [Refusal; 28] = [
     (b"Truth", "81", 1, Reason::Padding, b"-"),
     (b"Large", "400000", 8, Reason::NotMinimal, b"-"),
     (b"Nothing", "", 0, Reason::Truncated, b"-"),
@@ -408,4 +420,7 @@ pub const REFUSED: [Refusal; 25] = [
     (b"Groups", "9E000181010291A4", 25, Reason::Padding, b"c.e"),
     (b"Third", "C0", 0, Reason::Index, b"-"),
     (b"Some-Truths", "F0FF6007", 18, Reason::Padding, b"[1].b"),
+    (b"Listed", "60", 1, Reason::Length, b"list"),
+    (b"Listed", "20B920", 11, Reason::Range, b"list.[1]"),
+    (b"Listed", "20B91C", 20, Reason::Padding, b"-"),
 ];
