@@ -86,9 +86,13 @@ def check_up(folder):
 
 
 CODEC_ROWS = [
-    r"\| Calls \| Values \| Seconds .*\| Values a second \| Peak MiB \| Erlang, seconds \|",
-    r"\|(---\|){7}",
-    *[rf"\| {word} \| {size} \| {NUMBER} \| ({NUMBER}|-) \| ([0-9,]+|-) \| {NUMBER} \| ({NUMBER}|-) \|" for word in ("decode", "encode") for size in (8, 32)],
+    r"\| Calls \| Values \| Seconds: the least \| The middle \| .*\| Values a second \| Peak MiB \| Erlang, seconds: the least \| The middle \|",
+    r"\|(---\|){9}",
+    *[
+        rf"\| {word} \| {size} \| {NUMBER} \| {NUMBER} \| ({NUMBER}|-) \| ([0-9,]+|-) \| {NUMBER} \| ({NUMBER}|-) \| ({NUMBER}|-) \|"
+        for word in ("decode", "encode")
+        for size in (8, 32)
+    ],
 ]
 
 
@@ -96,10 +100,12 @@ def check_codec(folder):
     program = folder / "codec"
     program.write_text('#!/bin/sh\n[ "$1" = codec::reads_values ] || [ "$1" = codec::writes_values ] && [ "$VALUES" -ne 40 ]\n')
     program.chmod(0o755)
-    ran = stories.run_tool("bench_codec", "--small", "8", "--large", "32", "--program", str(program))
+    ran = stories.run_tool("bench_codec", "--small", "8", "--large", "32", "--runs", "2", "--program", str(program))
     assert ran.returncode == 0, ran.stderr
     for line, awaited in zip(ran.stdout.splitlines(), CODEC_ROWS, strict=True):
         assert re.fullmatch(awaited, line), f"{line!r} isn't {awaited!r}"
+    ran = stories.run_tool("bench_codec", "--runs", "0", "--program", str(program))
+    assert (ran.returncode, ran.stdout) == (2, "") and ran.stderr.endswith("error: each is run at least once\n"), ran.stderr
     ran = stories.run_tool("bench_codec", "--small", "8", "--large", "40", "--program", str(program))
     assert (ran.returncode, ran.stderr) == (1, "bench_codec: decode of 40 values: the test ended with status 1\n"), ran.stderr
 
