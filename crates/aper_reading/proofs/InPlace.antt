@@ -84,16 +84,17 @@ module _ (of : ℕ → Tree) (c : Components) (part : Component) (old more : Lis
 -- one that is refused there
 pub component_wrong : (of : ℕ → Tree) (c : Components) (part : Component) (old more : List Frame)
     → path_of more ≡ fields.component part.name ∷ path_of old
-    → (error : Unanswered) (form : Form) (before after : List (Option Value)) (first : Prog) (start mid new : Cursor)
+    → (error : Unanswered) (form : Form) (keeps : Value → Option Value → Type 0) (before after : List (Option Value)) (first : Prog)
+    (start mid new : Cursor)
     → run first start ≡ run (components_next of c (path_of old) (next_of of old) (Some part)) mid
-    → of part.definition.number ≡ form_tree of form → Puts Some (λ p. asks p (form_tree of form)) mid new before after (Err error)
+    → of part.definition.number ≡ form_tree of form → Puts keeps (λ p. asks p (form_tree of form)) mid new before after (Err error)
     → StepsIn of first start new more (Err error)
-component_wrong of c part old more path (Wrong reason) form before after first start mid new e is put =
+component_wrong of c part old more path (Wrong reason) form keeps before after first start mid new e is put =
     e
     ∙ reads_as (Err (Wrong reason)) (of part.definition.number) (form_tree of form) mid new is put.0
     (fields.component part.name ∷ path_of old) (component_after of c (path_of old) (next_of of old))
     ∙ ap (λ (q : Path). Err (fault_at new reason q)) (sym path)
-component_wrong of c part old more path Memory form before after first start mid new e is put = tt
+component_wrong of c part old more path Memory form keeps before after first start mid new e is put = tt
 
 -- ---- lists
 -- one whose count is refused
@@ -145,7 +146,8 @@ module _ (of : ℕ → Tree) (m : Members) (k : ℕ) (count : m.left ≡ suc k) 
       ap (λ (n : ℕ). ask_members (ask_member of m p) (length m.made.items) n (values_before m.made.items (λ vs. K (seen.list vs)))) count
 
   -- one that is read
-  pub member_read : (p : Path) (K : seen.Value → Prog) (v : Value) (made : List Value) (mid new : Cursor) → Reads (λ p. asks p (of m.element.number)) mid new (Ok v)
+  pub member_read : (p : Path) (K : seen.Value → Prog) (v : Value) (made : List Value) (mid new : Cursor)
+      → Reads (λ p. asks p (of m.element.number)) mid new (Ok v)
       → made ≡ m.made.items ++ v ∷ []
       → run (members_left of m p K) mid
       ≡ run (ask_members (ask_member of m p) (length made) k (values_before made (λ vs. K (seen.list vs)))) new
@@ -154,17 +156,17 @@ module _ (of : ℕ → Tree) (m : Members) (k : ℕ) (count : m.left ≡ suc k) 
       ∙ ap (λ P. run P new) (member_put (ask_member of m p) k m.made.items made v (λ vs. K (seen.list vs)) e)
 
   -- one that is refused
-  pub member_refused : (first r : Members) (form : Form) (error : Unanswered) (start mid new : Cursor)
+  pub member_refused : (first r : Members) (form : Form) (keeps : Value → Value → Type 0) (error : Unanswered) (start mid new : Cursor)
       → ((p : Path) (K : seen.Value → Prog) → run (members_left of first p K) start ≡ run (members_left of m p K) mid)
       → of m.element.number ≡ form_tree of form
-      → Puts (λ v. v) (λ p. asks p (form_tree of form)) mid new m.made.items r.made.items (Err error)
+      → Puts keeps (λ p. asks p (form_tree of form)) mid new m.made.items r.made.items (Err error)
       → IsListRefused (members_left of first) start new (Some r) error
-  member_refused first r form (Wrong reason) start mid new same is put = λ p K.
+  member_refused first r form keeps (Wrong reason) start mid new same is put = λ p K.
       same p K ∙ ap (λ P. run P mid) (member_next p K)
       ∙ reads_as (Err (Wrong reason)) (of m.element.number) (form_tree of form) mid new is put.0
       (fields.member (length m.made.items) ∷ p) (member_rest p K)
       ∙ ap (λ (vs : List Value). Err (fault_at new reason (fields.member (length vs) ∷ p))) (sym put.1)
-  member_refused first r form Memory start mid new same is put = tt
+  member_refused first r form keeps Memory start mid new same is put = tt
 
 -- one that is to be read inside its frame
 pub member_begun : (of : ℕ → Tree) (m : Members) (k : ℕ) → m.left ≡ suc k → (fs : List Frame)

@@ -18,16 +18,17 @@ use Rattle.aper_reading.specs.Puts.{Puts, PutsRead}
 use Rattle.aper_reading.proofs.InPlace.{reads_as}
 
 -- what was read and then put was put as it was read
-pub puts : {A : Type 0} (held : Value → A) (question : Path → (seen.Value → Prog) → Prog) (old new : Cursor) (before after : List A)
+pub puts : {A : Type 0} (keeps : Value → A → Type 0) (question : Path → (seen.Value → Prog) → Prog) (old new : Cursor) (before after : List A)
     (read : Result Value Unanswered) (result : Result (Unit {0}) Unanswered)
-    → Reads question old new read → PutsRead held read before after result → Puts held question old new before after result
-puts held question old new before after (Ok value) (Ok done) reads put = record { value = value; read = reads; put = put }
-puts held question old new before after (Ok value) (Err (Wrong reason)) reads put = absurd put
-puts held question old new before after (Ok value) (Err Memory) reads put = tt
-puts held question old new before after (Err error) (Ok done) reads put = absurd put
-puts held question old new before after (Err error) (Err (Wrong reason)) reads put =
+    → Reads question old new read → PutsRead keeps read before after result → Puts keeps question old new before after result
+puts keeps question old new before after (Ok value) (Ok done) reads put =
+    record { value = value; kept = put.kept; read = reads; kept_as = put.kept_as; put = put.put }
+puts keeps question old new before after (Ok value) (Err (Wrong reason)) reads put = absurd put
+puts keeps question old new before after (Ok value) (Err Memory) reads put = tt
+puts keeps question old new before after (Err error) (Ok done) reads put = absurd put
+puts keeps question old new before after (Err error) (Err (Wrong reason)) reads put =
     (subst (λ e. Reads question old new (Err e)) (sym put.0) reads, put.1)
-puts held question old new before after (Err error) (Err Memory) reads put = tt
+puts keeps question old new before after (Err error) (Err Memory) reads put = tt
 
 -- an INTEGER of a form is read by the ends of its range
 pub integer_reads : (of : ℕ → Tree) (form : Form) (low high l h : ℤ) (extensible : Bool) (old new : Cursor) (r : Result Value Unanswered)

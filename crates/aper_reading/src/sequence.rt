@@ -13,7 +13,7 @@ ghost use Rattle.aper_reading.specs.InModule.{IsOfModule, StepsIn, IsAround};
 ghost use Rattle.aper_defs.specs.Values as seen;
 
 use crate::list::{read_list, refuse, simple_list};
-use crate::simple::{is_simple, put_component};
+use crate::simple::{is_simple, put_part};
 use aper_asking::ask_extension;
 use aper_cursor::{Cursor, Unanswered};
 use aper_elements::from_aper_frames::{
@@ -120,7 +120,7 @@ fn read_components<'m>(
     while let Some(component) = others.next()? {
         let form = form_of(m, component.definition);
         if is_simple(form) {
-            if let Err(error) = put_component(alloc, cursor, form, &mut others.made) {
+            if let Err(error) = put_part(alloc, cursor, form, &mut others.made) {
                 push_component(frames, component, others)?;
                 return Err(error);
             }

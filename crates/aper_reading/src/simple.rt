@@ -1,6 +1,6 @@
 //! Values that hold no others, read in place.
 
-ghost use Rattle.std.specs.Prelude.{ℕ, ◌≡◌, true, Some};
+ghost use Rattle.std.specs.Prelude.{ℕ, ◌≡◌, true};
 ghost use Rattle.aper_defs.specs.Asking.{asks};
 ghost use Rattle.aper_defs.specs.Trees.{Tree};
 ghost use Rattle.aper_elements.specs.aper_types.Forms.{form_tree};
@@ -14,7 +14,7 @@ use aper_simple::{
     read_bit_string, read_boolean, read_enumerated, read_integer, read_octet_string,
     read_printable_string,
 };
-use aper_values::value::{OptValues, Value, Values};
+use aper_values::value::Value;
 use std::alloc::Global;
 
 /// Whether no value of a type of this form holds others.
@@ -62,53 +62,19 @@ pub fn read_form(alloc: Global, cursor: &mut Cursor, form: Form) -> Result<Value
     }
 }
 
-/// Puts the value of a component of this form after those before it. Each form has a call of its own, so that its value is put as it is
-/// made: a `Value` that may be of any form is stored and loaded in other pieces, and waiting for these costs more than the reading.
+/// Puts the value of a part of this form after those before it, as what a component or a member is kept as. Each form has a call of its
+/// own, so that its value is put as it is made: a `Value` that may be of any form is stored and loaded in other pieces, and waiting for
+/// these costs more than the reading.
 #[inline(always)]
-pub fn put_component(
+pub fn put_part<P: From<Value> + Drop>(
     alloc: Global,
     cursor: &mut Cursor,
     form: Form,
-    made: &mut OptValues,
+    made: &mut Vec<P>,
 ) -> Result<(), Unanswered>
     requires bounded { IsFormBounded form }
     requires simple { is_simple form ≡ true }
-    ensures { (of : ℕ → Tree) → Puts Some (λ p. asks p (form_tree of form.entry)) cursor.old cursor.new made.old.items made.new.items result }
-{
-    match form {
-        Form::Boolean => put_present(made, read_boolean(cursor)),
-        Form::Integer {
-            low,
-            high,
-            extensible,
-        } => put_present(made, read_integer(cursor, &Range { low, high }, extensible)),
-        Form::Enumerated { names, extensible } => {
-            put_present(made, read_enumerated(cursor, names, extensible))
-        }
-        Form::BitString(size) => put_present(made, read_bit_string(alloc, cursor, size)),
-        Form::OctetString(size) => put_present(made, read_octet_string(alloc, cursor, size)),
-        Form::PrintableString(size) => {
-            put_present(made, read_printable_string(alloc, cursor, size))
-        }
-        Form::Sequence(_) => unreachable!(),
-        Form::Choice(_) => unreachable!(),
-        Form::SequenceOf { .. } => unreachable!(),
-        Form::Container(_) => unreachable!(),
-        Form::Pdu(_) => unreachable!(),
-    }
-}
-
-/// Puts a member of this form after those before it, as `put_component` does.
-#[inline(always)]
-pub fn put_member(
-    alloc: Global,
-    cursor: &mut Cursor,
-    form: Form,
-    made: &mut Values,
-) -> Result<(), Unanswered>
-    requires bounded { IsFormBounded form }
-    requires simple { is_simple form ≡ true }
-    ensures { (of : ℕ → Tree) → Puts (λ v. v) (λ p. asks p (form_tree of form.entry)) cursor.old cursor.new made.old.items made.new.items result }
+    ensures { (of : ℕ → Tree) → Puts P.from_gives (λ p. asks p (form_tree of form.entry)) cursor.old cursor.new made.old.items made.new.items result }
 {
     match form {
         Form::Boolean => put(made, read_boolean(cursor)),
@@ -131,20 +97,14 @@ pub fn put_member(
     }
 }
 
-/// Puts a value that was read after the components before it.
+/// Puts a value that was read after those before it.
 #[inline(always)]
-fn put_present(made: &mut OptValues, read: Result<Value, Unanswered>) -> Result<(), Unanswered>
-    ensures { PutsRead Some read made.old.items made.new.items result }
+fn put<P: From<Value> + Drop>(
+    made: &mut Vec<P>,
+    read: Result<Value, Unanswered>,
+) -> Result<(), Unanswered>
+    ensures { PutsRead P.from_gives read made.old.items made.new.items result }
 {
-    made.push(Some(read?))?;
-    Ok(())
-}
-
-/// Puts a value that was read after the members before it.
-#[inline(always)]
-fn put(made: &mut Values, read: Result<Value, Unanswered>) -> Result<(), Unanswered>
-    ensures { PutsRead (λ v. v) read made.old.items made.new.items result }
-{
-    made.push(read?)?;
+    made.push(P::from(read?))?;
     Ok(())
 }

@@ -1,4 +1,4 @@
-use Rattle.std.proofs.Common.{◌≡◌, Ok, suc, ◌-◌, ap, ◌∙◌, arith}
+use Rattle.std.proofs.Common.{◌≡◌, Ok, suc, ◌-◌, [], ◌∷◌, ◌++◌, ap, ◌∙◌, arith}
 use Rattle.aper_defs.specs.Reading.{run}
 use Rattle.aper_elements.specs.aper_types.Forms.{form_tree}
 use Rattle.aper_reading.proofs.ListLemmas.{members_last}
@@ -14,10 +14,10 @@ loop-others-preserved c =
       same = λ of p K is.
           let put = c.in_default.ensures {u = tt} of in
           l.invariant.same of p K is
-          ∙ member_read of m (m.left - 1) count p K put.value c.put_member.new.made.items l.cursor c.put_member.new.cursor
-          (reads_as (Ok put.value) (of m.element.number) (form_tree of c.args.form) l.cursor c.put_member.new.cursor
+          ∙ member_read of m (m.left - 1) count p K put.value c.put_part.new.made.items l.cursor c.put_part.new.cursor
+          (reads_as (Ok put.value) (of m.element.number) (form_tree of c.args.form) l.cursor c.put_part.new.cursor
           (ap (λ t. of t.number) l.invariant.element ∙ is) put.read)
-          put.put;
+          (put.put ∙ ap (λ v. m.made.items ++ v ∷ []) put.kept_as);
       element = l.invariant.element;
     }
 
@@ -26,8 +26,8 @@ returns-in-Err c = λ of is.
     let l = c.loop-others in
     let m = l.others in
     let count : m.left ≡ suc (m.left - 1) = omega arith in
-    member_refused of m (m.left - 1) count c.args.members (record { element = m.element; left = m.left - 1; made = c.put_member.new.made })
-    c.args.form c.in-Err.error c.args.cursor.now l.cursor c.put_member.new.cursor (λ p K. l.invariant.same of p K is)
+    member_refused of m (m.left - 1) count c.args.members (record { element = m.element; left = m.left - 1; made = c.put_part.new.made })
+    c.args.form (λ x y. y ≡ x) c.in-Err.error c.args.cursor.now l.cursor c.put_part.new.cursor (λ p K. l.invariant.same of p K is)
     (ap (λ t. of t.number) l.invariant.element ∙ is) (c.in-Err.ensures of)
 
 pub returns : goal.returns

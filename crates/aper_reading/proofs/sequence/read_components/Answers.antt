@@ -1,4 +1,4 @@
-use Rattle.std.proofs.Common.{Ok, ◌∷◌, ◌+◌, sym, ap, subst, ◌∙◌, arith}
+use Rattle.std.proofs.Common.{◌≡◌, Ok, Some, [], ◌∷◌, ◌++◌, ◌+◌, sym, ap, subst, ◌∙◌, arith}
 use Rattle.std.specs.Prelude.{option_copied}
 use Rattle.aper_defs.specs.Values as seen
 use Rattle.aper_defs.specs.Fields as fields
@@ -50,8 +50,8 @@ returns-clause-lighter c =
     (λ w. omega (arith, (c.in_ok-component.ensures {u = tt}).lighter w, l.invariant.lighter w, ap (frames_weight w) l.invariant.frames))
     c.begin_additions.ensures.lighter
 
-pub put_component-requires-clause-bounded : goal.put_component-requires-clause-bounded
-put_component-requires-clause-bounded c =
+pub put_part-requires-clause-bounded : goal.put_part-requires-clause-bounded
+put_part-requires-clause-bounded c =
     form_bounded (tree c.args.m.now) c.form_of-form.result (subst IsBounded c.form_of-form.ensures.tree c.form_of-form.ensures.bounded)
 
 pub simple_list-requires-clause-bounded : goal.simple_list-requires-clause-bounded
@@ -59,23 +59,23 @@ simple_list-requires-clause-bounded c =
     form_bounded (tree c.args.m.now) c.form_of-form.result (subst IsBounded c.form_of-form.ensures.tree c.form_of-form.ensures.bounded)
 
 -- what is left is asked as the next component, where one is there
-pub loop-others-preserved-in_default-put_component : goal.loop-others-preserved-in_default-put_component
-loop-others-preserved-in_default-put_component c =
+pub loop-others-preserved-in_default-put_part : goal.loop-others-preserved-in_default-put_part
+loop-others-preserved-in_default-put_part c =
     let l = c.loop-others in
     let of = tree c.args.m.now in
     let fs = c.args.frames.now in
     let n = c.next.new.self in
     let part = c.in-Some.component.now in
-    let put = c.in_default-put_component.ensures {u = tt} of in
+    let put = c.in_default-put_part.ensures {u = tt} of in
     record {
       same = l.invariant.same
           ∙ ap (λ P. run P l.cursor)
           ((c.in_ok-component.ensures {u = tt}).asked of (path_of fs) (next_of of fs)
           ∙ ap (λ x. components_next of n (path_of fs) (next_of of fs) (option_copied x)) c.in-Some.is)
-          ∙ component_read of (path_of fs) (next_of of fs) n part l.cursor c.put_component.new.cursor put.value c.put_component.new.made.items
-          (reads_as (Ok put.value) (of part.definition.number) (form_tree of c.form_of-form.result) l.cursor c.put_component.new.cursor
+          ∙ component_read of (path_of fs) (next_of of fs) n part l.cursor c.put_part.new.cursor put.value c.put_part.new.made.items
+          (reads_as (Ok put.value) (of part.definition.number) (form_tree of c.form_of-form.result) l.cursor c.put_part.new.cursor
           c.form_of-form.ensures.tree put.read)
-          put.put;
+          (put.put ∙ ap (λ v. n.made.items ++ v ∷ []) put.kept_as);
       frames = l.invariant.frames;
       lighter = λ w. omega (arith, (c.in_ok-component.ensures {u = tt}).lighter w, l.invariant.lighter w);
     }
@@ -112,8 +112,8 @@ returns-in-Err-clause-asked c =
     let part = c.in-Some.component.now in
     component_wrong of n part fs more
     ((c.in_ok-push_component.ensures {u = tt}).path ∙ ap (λ gs. fields.component part.name ∷ path_of gs) l.invariant.frames)
-    c.in-Err.error c.form_of-form.result n.made.items c.put_component.new.made.items (components_left of c.args.components (path_of fs) (next_of of fs))
-    c.args.cursor.now l.cursor c.put_component.new.cursor
+    c.in-Err.error c.form_of-form.result (λ x o. o ≡ Some x) n.made.items c.put_part.new.made.items
+    (components_left of c.args.components (path_of fs) (next_of of fs)) c.args.cursor.now l.cursor c.put_part.new.cursor
     (l.invariant.same
     ∙ ap (λ P. run P l.cursor)
     ((c.in_ok-component.ensures {u = tt}).asked of (path_of fs) (next_of of fs)
