@@ -1,9 +1,9 @@
 -- Internal: lists that are read at once, and where they are refused.
-use Rattle.std.specs.Prelude.{◌≡◌, ℕ, true, List, ◌∷◌, length, Option, Some, None, Result, Ok, Err}
+use Rattle.std.specs.Prelude.{◌≡◌, ℕ, true, List, ◌∷◌, length, Option, Some, None, Result, Ok, Err, Bool, false}
 use Rattle.asn1_types.specs.declared.definition.Size.{Size}
 use Rattle.asn1_types.specs.declared.definition.TypeId.{TypeId}
 use Rattle.aper_defs.specs.Bounds.{IsSizeBounded}
-use Rattle.aper_defs.specs.Trees.{Tree, sequence_of}
+use Rattle.aper_defs.specs.Trees.{Tree, boolean, integer, enumerated, bit_string, octet_string, printable_string, sequence_of}
 use Rattle.aper_defs.specs.Values as seen
 use Rattle.aper_defs.specs.Fields.{Path}
 use Rattle.aper_defs.specs.Fields as fields
@@ -24,6 +24,20 @@ use Rattle.aper_elements.specs.aper_frames.Frames.{members_left, path_of}
 use Rattle.aper_reading.specs.declared.list.SimpleList.{SimpleList}
 use Rattle.aper_reading.specs.declared.list.ListRefusal.{ListRefusal}
 use Rattle.aper_reading.specs.Forms.{IsFormBounded, is_simple}
+
+-- types of which no value holds others, and of lists of such values
+abbrev pub is_simple_tree : Tree → Bool
+is_simple_tree boolean = true
+is_simple_tree (integer low high extensible) = true
+is_simple_tree (enumerated names extensible) = true
+is_simple_tree (bit_string size) = true
+is_simple_tree (octet_string size) = true
+is_simple_tree (printable_string size) = true
+is_simple_tree t = false
+
+abbrev pub is_simple_list : Tree → Bool
+is_simple_list (sequence_of size t) = is_simple_tree t
+is_simple_list t = false
 
 -- Lists of a form: their members are of a form of which no value holds others.
 pub record IsListOf (of : ℕ → Tree) (form : Form) (list : SimpleList) : Type 0 where

@@ -1,6 +1,6 @@
 //! SEQUENCE OF.
 
-ghost use Rattle.std.specs.Prelude.{ℕ, ◌≡◌, ◌+◌, ◌<◌, true, length, IfOk, IfSome, OnOk};
+ghost use Rattle.std.specs.Prelude.{ℕ, ◌≡◌, ◌+◌, ◌<◌, true, false, length, IfOk, MatchOption, OnOk};
 ghost use Rattle.aper_defs.specs.Bounds.{IsSizeBounded};
 ghost use Rattle.aper_defs.specs.Asking.{asks};
 ghost use Rattle.aper_defs.specs.Trees.{Tree, sequence_of};
@@ -11,7 +11,7 @@ ghost use Rattle.aper_elements.specs.aper_types.Forms.{form_tree, IsFormInside};
 ghost use Rattle.aper_elements.specs.aper_frames.Weights.{list_weight, members_weight, frames_weight, Lighter};
 ghost use Rattle.aper_reading.specs.Forms.{IsFormBounded, is_simple};
 ghost use Rattle.aper_reading.specs.InModule.{IsOfModule, StepsIn, among};
-ghost use Rattle.aper_reading.specs.Lists.{StartsList, ReadsList, IsListOf, IsRefused};
+ghost use Rattle.aper_reading.specs.Lists.{StartsList, ReadsList, is_simple_list, IsListOf, IsRefused};
 
 use crate::simple::{is_simple, put_part};
 use aper_asking::ask_count;
@@ -49,7 +49,7 @@ pub struct ListRefusal {
 pub fn simple_list<'m>(m: &'m Module, form: Form<'m>) -> Option<SimpleList<'m>>
     requires bounded { IsFormBounded form }
     requires inside { IsFormInside (length m.now.nodes) form }
-    ensures { IfSome result (IsListOf (tree m.now) form.entry) }
+    ensures { MatchOption result (is_simple_list (form_tree (tree m.now) form.entry) ≡ false) (IsListOf (tree m.now) form.entry) }
 {
     match form {
         Form::SequenceOf { size, element } => {
