@@ -1,13 +1,13 @@
 #!/usr/bin/env python3
 """Measures `decode` and `encode` on lines of the profile's messages, at two sizes: processor time and its ratio between the sizes, lines a second, peak memory, and how many
-times as fast as another reading of the specification the program is, where one is here (it is measured on fewer lines).
+times as fast as another reading of the specification the program is, where one is here, on the same lines.
 
 The lines are the F1AP messages of the examples over and over, as octets, and as the JSON that the program makes of them. An input has 16 MiB at most, so many lines are given in
-several calls; their times are added, and the peak is that of the greatest.
+several calls; their times are added, and the peak is that of the greatest. The program is run several times, and the least of its times is told; the other reading once.
 
 Nothing here is proved, and a measurement is one of this machine at this time: other work on it shows.
 
-Usage: tools/bench_values.py [--small N] [--large N] [--program COMMAND] [--other COMMAND]
+Usage: tools/bench_values.py [--small N] [--large N] [--runs N] [--program COMMAND] [--other COMMAND]
 """
 
 import argparse
@@ -25,7 +25,6 @@ import random_values
 TYPE = "F1AP-PDU"
 HEADER = "module builtin\n"
 LARGEST_INPUT = 16_777_216
-OTHER_LINES = 500
 
 
 def inputs(lines):
@@ -66,36 +65,46 @@ def repeated(lines, count):
     return list(itertools.islice(itertools.cycle(lines), count))
 
 
-def row_of(word, lines, first, rates, commands, folder):
+def least(runs, command, word, lines, folder):
+    """The least seconds of so many runs, the most memory, and what they print."""
+    by_turns = [run(command, word, lines, folder) for _ in range(runs)]
+    return min(it[0] for it in by_turns), max(it[1] for it in by_turns), by_turns[0][2]
+
+
+def compared(other, word, lines, printed, folder):
+    """The seconds of the other reading for these lines, where one is here; it prints the same."""
+    if not other:
+        return None
+    seconds, _, text = run(other, word, lines, folder)
+    if text != printed:
+        raise bench.Unmeasured(f"{word}: the other reading prints something else")
+    return seconds
+
+
+def row_of(word, lines, first, asked, folder):
     """A row of the table, and its seconds. The second size has the ratio of its time to the first one's."""
-    program, other = commands
-    seconds, peak, printed = run(program, word, lines, folder)
-    if word not in rates and other:
-        few = lines[:OTHER_LINES]
-        theirs, _, text = run(other, word, few, folder)
-        if text != printed[: len(few)]:
-            raise bench.Unmeasured(f"{word}: the other reading prints something else")
-        rates[word] = len(few) / theirs
-    rate = len(lines) / seconds if seconds else 0.0
+    (program, other), runs = asked
+    seconds, peak, printed = least(runs, program, word, lines, folder)
+    theirs = compared(other, word, lines, printed, folder)
+    rate = f"{len(lines) / seconds:,.0f}" if seconds else "-"
     ratio = f"{seconds / first:.2f}" if first else "-"
-    faster = f"{rate / rates[word]:.0f}" if word in rates else "-"
-    return seconds, f"| {word} | {len(lines)} | {seconds:.3f} | {ratio} | {rate:,.0f} | {peak / bench.MEBIBYTE:.1f} | {faster} |"
+    faster = f"{theirs:.3f} | {theirs / seconds:.0f}" if theirs and seconds else "- | -"
+    return seconds, f"| {word} | {len(lines)} | {seconds:.3f} | {ratio} | {rate} | {peak / bench.MEBIBYTE:.1f} | {faster} |"
 
 
-def print_table(commands, sizes, folder):
-    program, _ = commands
+def print_table(asked, sizes, folder):
+    (program, _), _ = asked
     messages = sorted({it for it in random_values.messages() if is_message(program, it, folder)})
     if not messages:
         raise bench.Unmeasured(f"the examples have no message that decodes as {TYPE}")
     octets = [it.hex().upper() for it in messages]
     _, _, shown = run(program, "decode", octets, folder)
-    print(f"| Word | Lines | Seconds | Times the smaller size's (size: {sizes[1] / sizes[0]:.2f}) | Lines a second | Peak MiB | Times as fast as the other reading |")
-    print("|---|---|---|---|---|---|---|", flush=True)
-    rates = {}
+    print(f"| Word | Lines | Seconds | Times the smaller size's (size: {sizes[1] / sizes[0]:.2f}) | Lines a second | Peak MiB | The other reading, seconds | Times as fast |")
+    print("|---|---|---|---|---|---|---|---|", flush=True)
     for word, lines in (("decode", octets), ("encode", shown)):
         first = None
         for size in sizes:
-            first, row = row_of(word, repeated(lines, size), first, rates, commands, folder)
+            first, row = row_of(word, repeated(lines, size), first, asked, folder)
             print(row, flush=True)
 
 
@@ -103,18 +112,21 @@ def main():
     asked = argparse.ArgumentParser(description=__doc__, formatter_class=argparse.RawDescriptionHelpFormatter)
     asked.add_argument("--small", type=int, default=25_000)
     asked.add_argument("--large", type=int, default=100_000)
+    asked.add_argument("--runs", type=int, default=5, help="how often the program is run")
     asked.add_argument("--program", default=str(bench.PROGRAM), help="the command that is measured")
     asked.add_argument("--other", default=f"{sys.executable} {other_reading.OTHER}" if other_reading.OTHER.exists() else "", help="the other reading; '' for none")
     given = asked.parse_args()
     if not 1 <= given.small < given.large:
         asked.error("the sizes are two numbers from 1 on, the smaller one first")
+    if given.runs < 1:
+        asked.error("the program is run at least once")
     program = shlex.split(given.program)
     if not program or shutil.which(program[0]) is None:
         print(f"bench_values: '{given.program}' is no program that can be run; ./gnb builds the one that is measured", file=sys.stderr)
         return bench.USAGE
     with tempfile.TemporaryDirectory() as folder:
         try:
-            print_table((program, shlex.split(given.other)), (given.small, given.large), pathlib.Path(folder))
+            print_table(((program, shlex.split(given.other)), given.runs), (given.small, given.large), pathlib.Path(folder))
         except bench.Unmeasured as why:
             print(f"bench_values: {why}", file=sys.stderr)
             return 1
