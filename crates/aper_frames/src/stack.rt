@@ -7,6 +7,9 @@ use gnb_types::items::Memory;
 use std::alloc::Global;
 use std::marker::Model;
 
+/// Room for so many is made with the first one: a message of the profile has about as many inside one another.
+const FRAMES_AT_FIRST: usize = 8;
+
 /// The values inside which another one is being read. Contracts see them from the innermost one on.
 #[derive(Drop)]
 pub struct Stack<'m> {
@@ -40,6 +43,9 @@ impl<'m> Stack<'m> {
     pub fn push(&mut self, frame: Frame<'m>) -> Result<(), Memory>
         ensures { OnOk result (self.new ≡ frame.entry ∷ self.old) }
     {
+        if self.frames.is_empty() {
+            self.frames.reserve(FRAMES_AT_FIRST)?;
+        }
         self.frames.push(frame)?;
         Ok(())
     }
