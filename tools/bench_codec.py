@@ -4,7 +4,7 @@ asn1 on the same octets of the same module, where it is installed.
 
 It runs two tests of tests_aper_values, as 'rt test' in its folder or the gate built them: one decodes eight spellings over and over, the other encodes their values and compares
 the octets. Of Erlang the calls alone are measured; of the tests all, so their start counts, and reading the module. Each is run several times, by turns with the other, and the
-least and the middle of its times are told: where other work takes a processor away for a while, the least says most.
+least and the middle of its times are printed: where other work takes a processor away for a while, the least says most.
 
 Nothing here is proved, and a measurement is one of this machine at this time: other work on it shows.
 

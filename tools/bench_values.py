@@ -3,7 +3,7 @@
 times as fast as another reading of the specification the program is, where one is here, on the same lines.
 
 The lines are the F1AP messages of the examples over and over, as octets, and as the JSON that the program makes of them. An input has 16 MiB at most, so many lines are given in
-several calls; their times are added, and the peak is that of the greatest. The program is run several times, and the least of its times is told; the other reading once.
+several calls; their times are added, and the peak is that of the greatest. The program is run several times, and the least of its times is printed; the other reading once.
 
 Nothing here is proved, and a measurement is one of this machine at this time: other work on it shows.
 
