@@ -1,5 +1,5 @@
 -- A table of conditions: at most one reason is the first, and tests find it.
-use Rattle.std.proofs.Common.{◌≡◌, ◌⊎◌, ◌↔◌, inl, inr, Bool, true, false, List, [], ◌∷◌, Option, Some, None, Result, Ok, Err, IfOk, IfErr, refl, sym, ap, ◌∙◌, true≢false}
+use Rattle.std.proofs.Common.{◌≡◌, ◌⊎◌, inl, inr, Bool, true, false, List, [], ◌∷◌, Some, None, Result, Ok, Err, IfOk, IfErr, refl, sym, ap, ◌∙◌, true≢false}
 use Rattle.gnb_types.specs.Refusals.{Condition, IsFirst, NoneHolds, first_reason, AreTests}
 
 module _ {E : Type 0} where

@@ -54,7 +54,7 @@ fn byte(high: u8, low: u8) -> Option<u8>
 pub fn hex_text(alloc: Global, bytes: &[u8]) -> Result<Octets, Memory>
     ensures { IfOk result (λ text. text ≡ hex_of bytes.now) }
 {
-    let mut text = Octets::new(alloc);
+    let mut text = Octets::with_capacity(alloc, bytes.len().saturating_mul(2))?;
     for byte in bytes {
         text.push(digit(*byte / 16))?;
         text.push(digit(*byte % 16))?;
@@ -68,7 +68,7 @@ fn bytes_of(alloc: Global, text: &[u8]) -> Result<Octets, HexError>
     if text.len() % 2 != 0 {
         return Err(HexError::NotHex);
     }
-    let mut bytes = Octets::new(alloc);
+    let mut bytes = Octets::with_capacity(alloc, text.len() / 2)?;
     for i in 0..text.len() / 2 {
         let Some(byte) = byte(text[2 * i], text[2 * i + 1]) else {
             return Err(HexError::NotHex);

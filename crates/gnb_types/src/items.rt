@@ -46,6 +46,14 @@ impl<T> Items<T> {
         }
     }
 
+    /// No items, with room for so many.
+    pub fn with_capacity(alloc: Global, capacity: usize) -> Result<Items<T>, Memory>
+        ensures { IfOk result (λ items. items ≡ []) }
+    {
+        let items = Vec::with_capacity(alloc, capacity)?;
+        Ok(Items { items })
+    }
+
     /// The items of a vector, without a copy.
     pub fn from_vec(items: Vec<T>) -> Items<T>
         ensures { result ≡ items.items }

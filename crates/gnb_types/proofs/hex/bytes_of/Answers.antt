@@ -6,7 +6,7 @@ pub returns-then-text-ne0 : goal.returns-then-text-ne0
 returns-then-text-ne0 c = hex_odd c.args.text.now (omega arith)
 
 pub loop-i-init : goal.loop-i-init
-loop-i-init c = hex_none c.args.text.now _ c.new-bytes.ensures
+loop-i-init c = hex_none c.args.text.now _ c.in_ok-bytes.ensures
 
 pub loop-i-preserved : goal.loop-i-preserved
 loop-i-preserved c =
