@@ -1,59 +1,66 @@
 //! Texts and numbers.
 
-ghost use Rattle.std.specs.Prelude.{◌≡◌, IfOk, string_bytes};
+ghost use Rattle.std.specs.Prelude.{◌≡◌, OnOk, IfOk, MatchResult, is_err, IsTrue};
+ghost use Rattle.serde.specs.Event.{Logs, field_key};
+ghost use Rattle.serde.specs.declared.name.Case.TheVariants.{AsIs};
 ghost use Rattle.gnb_types.specs.Hex.{hex_of};
 ghost use Rattle.serde_json.specs.Data.{string};
-ghost use Rattle.serde_json.specs.View.{view as json};
 ghost use Rattle.aper_values.specs.Views.{view};
 ghost use Rattle.json_shown_defs.specs.Printed.{integer_shown, bits_text, raw_shown};
+ghost use Rattle.json_sent.specs.Sent.{SendsWhole};
 
 use aper_values::value::Value;
 use gnb_types::hex::hex_text;
 use gnb_types::octets::{Memory, Octets};
-use serde_json::{Number, Value as Json};
+use serde::Serializer;
 use std::alloc::Global;
+use std::str::from_utf8;
 
 /// A text. Names of modules and the characters of a PrintableString are ASCII; octets that aren't UTF-8 are no text.
-fn text_of(text: Octets) -> Result<String, Memory>
-    ensures { IfOk result (λ s. string_bytes s ≡ text) }
+pub fn send_text<S: Serializer>(text: &[u8], out: &mut S) -> Result<(), S::Error>
+    ensures { OnOk result (SendsWhole (string text.now) (S.written out.old) (S.written out.new)) }
 {
-    match String::from_utf8(text.into_vec()) {
-        Ok(text) => Ok(text),
-        Err(_) => Err(Memory),
+    match from_utf8(text) {
+        Ok(text) => out.str(text),
+        Err(_) => Err(out.custom("no text")),
     }
 }
 
-/// The text of a name.
-pub fn name_of(alloc: Global, name: &[u8]) -> Result<String, Memory>
-    ensures { IfOk result (λ s. string_bytes s ≡ name.now) }
+/// The name of a member.
+pub fn send_key<S: Serializer>(name: &[u8], out: &mut S) -> Result<(), S::Error>
+    ensures { OnOk result
+        (Logs (S.written out.old) (S.written out.new) (field_key name.now AsIs)) }
 {
-    text_of(Octets::from_slice(alloc, name)?)
+    match from_utf8(name) {
+        Ok(name) => out.key(name),
+        Err(_) => Err(out.custom("no name")),
+    }
 }
 
-fn text_shown(text: Octets) -> Result<Json, Memory>
-    ensures { IfOk result (λ d. json d ≡ string text) }
+/// A text that was made, where there was memory for it.
+fn send_made<S: Serializer>(text: Result<Octets, Memory>, out: &mut S) -> Result<(), S::Error>
+    ensures { MatchResult text
+        (λ s. OnOk result (SendsWhole (string s) (S.written out.old) (S.written out.new)))
+        (λ _. IsTrue (is_err result)) }
 {
-    Ok(Json::String(text_of(text)?))
-}
-
-/// A name.
-pub fn name_text(alloc: Global, name: &[u8]) -> Result<Json, Memory>
-    ensures { IfOk result (λ d. json d ≡ string name.now) }
-{
-    text_shown(Octets::from_slice(alloc, name)?)
+    match text {
+        Ok(text) => send_text(text.as_slice(), out),
+        Err(Memory) => Err(out.custom("out of memory")),
+    }
 }
 
 /// Octets, as hexadecimal digits in upper case.
-pub fn octets_shown(alloc: Global, octets: &[u8]) -> Result<Json, Memory>
-    ensures { IfOk result (λ d. json d ≡ string (hex_of octets.now)) }
+pub fn send_octets<S: Serializer>(alloc: Global, octets: &[u8], out: &mut S) -> Result<(), S::Error>
+    ensures { OnOk result
+        (SendsWhole (string (hex_of octets.now)) (S.written out.old) (S.written out.new)) }
 {
-    text_shown(hex_text(alloc, octets)?)
+    send_made(hex_text(alloc, octets), out)
 }
 
 fn bits_text(alloc: Global, bits: &[bool]) -> Result<Octets, Memory>
     ensures { IfOk result (λ text. text ≡ bits_text bits.now) }
 {
-    let mut text = Octets::new(alloc);
+    let mut text = Octets::with_capacity(alloc, bits.len())?;
     for bit in bits {
         text.push(if *bit { b'1' } else { b'0' })?;
     }
@@ -61,28 +68,33 @@ fn bits_text(alloc: Global, bits: &[bool]) -> Result<Octets, Memory>
 }
 
 /// Bits, as a text of 0 and 1.
-pub fn bits_shown(alloc: Global, bits: &[bool]) -> Result<Json, Memory>
-    ensures { IfOk result (λ d. json d ≡ string (bits_text bits.now)) }
+pub fn send_bits<S: Serializer>(alloc: Global, bits: &[bool], out: &mut S) -> Result<(), S::Error>
+    ensures { OnOk result
+        (SendsWhole (string (bits_text bits.now)) (S.written out.old) (S.written out.new)) }
 {
-    text_shown(bits_text(alloc, bits)?)
+    send_made(bits_text(alloc, bits), out)
 }
 
 /// A number. Those of a module's types have 64 bits; others are no number of JSON here.
-pub fn integer_shown(number: i128) -> Result<Json, Memory>
-    ensures { IfOk result (λ d. json d ≡ integer_shown number) }
+pub fn send_integer<S: Serializer>(number: i128, out: &mut S) -> Result<(), S::Error>
+    ensures { OnOk result
+        (SendsWhole (integer_shown number) (S.written out.old) (S.written out.new)) }
 {
-    match Number::from_i128(number) {
-        Some(number) => Ok(Json::Number(number)),
-        None => Err(Memory),
+    if let Ok(number) = u64::try_from(number) {
+        return out.u64(number);
+    }
+    match i64::try_from(number) {
+        Ok(number) => out.i64(number),
+        Err(_) => Err(out.custom("no number of 64 bits")),
     }
 }
 
 /// Octets of what isn't known.
-pub fn raw_shown(alloc: Global, value: &Value) -> Result<Json, Memory>
-    ensures { IfOk result (λ d. json d ≡ raw_shown (view value.now)) }
+pub fn send_raw<S: Serializer>(alloc: Global, value: &Value, out: &mut S) -> Result<(), S::Error>
+    ensures { OnOk result (SendsWhole (raw_shown (view value.now)) (S.written out.old) (S.written out.new)) }
 {
     match value {
-        Value::Raw(octets) => octets_shown(alloc, octets.as_slice()),
-        _ => Ok(Json::Null),
+        Value::Raw(octets) => send_octets(alloc, octets.as_slice(), out),
+        _ => out.unit(),
     }
 }

@@ -1,3 +1,4 @@
 mod Turns
+mod Sent
 mod Loops
 mod Choices

@@ -1,132 +1,115 @@
 -- A turn of each loop over what a value holds, and its end.
-use Rattle.std.proofs.Common.{◌≡◌, ℕ, zero, suc, ◌+◌, ◌<◌, ◌≤◌, List, [], ◌∷◌, ◌++◌, length, drop, get_or, Bool, Option, Some, None, is_some, refl, sym, ap, ◌∙◌, arith}
+use Rattle.std.proofs.Common.{◌≡◌, ℕ, zero, suc, ◌+◌, ◌<◌, ◌≤◌, min, List, [], ◌∷◌, length, drop, get_or, Option, Some, None, refl, sym, ap, subst, ◌∙◌, arith}
 use Rattle.std.proofs.lemmas.List.{drop_all}
-use Rattle.serde_json.specs.Data.{Data, Items, Members, put}
-use Rattle.serde_json.specs.declared.value.Value as trees
-use Rattle.serde_json.specs.View.{view as json, items_view}
-use Rattle.asn1_types.specs.declared.definition.TypeId.{TypeId}
+use Rattle.serde.specs.Event.{Log, Logs, seq_ends, map_ends, field_key}
+use Rattle.serde.specs.declared.name.Case.TheVariants.{AsIs}
+use Rattle.serde_json.specs.Data.{Items, Members}
 use Rattle.asn1_types.specs.declared.definition.Component.{Component}
 use Rattle.asn1_assignments.specs.declared.assignment.IeRow.{IeRow}
 use Rattle.aper_values.specs.declared.value.Value.{Value}
 use Rattle.aper_values.specs.declared.value.Element.{Element}
 use Rattle.aper_values.specs.Views.{view, values_view, options_view, ies_view}
-use Rattle.aper_members.specs.Rows.{part_type, row_type}
+use Rattle.aper_members.specs.Rows.{part_type}
 use Rattle.aper_members.proofs.Turns.{item_at}
 use Rattle.json_defs.specs.Named.{Named}
 use Rattle.json_defs.specs.Members.{id_key}
-use Rattle.json_shown_defs.specs.Printed.{shown_as, items_shown, elements_shown, components_shown, added_shown, row_shown, body_shown}
+use Rattle.json_shown_defs.specs.Printed.{shown_as, items_shown, elements_shown, added_shown, row_shown, body_shown}
+use Rattle.json_sent.specs.Sent.{SendsWhole, SendsWholeItems, SendsWholeMembers}
 use Rattle.json_types.specs.json_type_defs.Types.{parts_with, rows_with}
-use Rattle.json_pieces.specs.Bodies.{contents_as}
-use Rattle.json_printing.specs.Inside.{inside_shown}
-use Rattle.json_printing.proofs.Turns.{items_then, items_end, items_more, row_is, added_one, added_step, added_end, component_absent, component_present}
+use Rattle.json_order.specs.Listed.{listed}
+use Rattle.json_printing.specs.Inside.{added_one}
+use Rattle.json_printing.proofs.Sent.{item_sent, member_sent}
+use Rattle.json_printing.proofs.Turns.{added_step, added_end, listed_end}
 
 -- ---- members of a SEQUENCE OF
 module _ (t : Named) (vs : List Value) where
-  abbrev rest : ℕ → Items
-  rest i = items_shown (λ v. shown_as t v) (values_view (drop i vs))
+  abbrev of_list : List Value → Items
+  of_list ws = items_shown (λ v. shown_as t v) (values_view ws)
 
-  pub list_turn : (i : ℕ) (v : Value) (xs ys : List trees.Value) (x : trees.Value) (whole : Items) → i < length vs → v ≡ get_or vs i v
-      → json x ≡ shown_as t (view v) → ys ≡ xs ++ x ∷ [] → items_then (items_view xs) (rest i) ≡ whole
-      → items_then (items_view ys) (rest (i + 1)) ≡ whole
-  list_turn i v xs ys x whole lt is told pushed before =
-      ap (λ (zs : List trees.Value). items_then (items_view zs) (rest (i + 1))) pushed
-      ∙ items_more xs x (shown_as t (view v)) (rest (i + 1)) told
-      ∙ ap (λ (ws : List Value). items_then (items_view xs) (items_shown (λ w. shown_as t w) (values_view ws))) (sym (item_at vs i v lt is))
-      ∙ before
+  pub list_turn : (i : ℕ) (v : Value) (old mid end : Log) → i < length vs → v ≡ get_or vs i v → SendsWhole (shown_as t (view v)) old mid
+      → SendsWholeItems (items_shown (λ w. shown_as t w) (values_view (drop (i + 1) vs))) mid end
+      → SendsWholeItems (items_shown (λ w. shown_as t w) (values_view (drop i vs))) old end
+  list_turn i v old mid end lt is sent more =
+      subst (λ (ws : List Value). SendsWholeItems (of_list ws) old end) (sym (item_at vs i v lt is))
+      (item_sent (shown_as t (view v)) (of_list (drop (i + 1) vs)) old mid end sent more)
 
-  pub list_done : (i : ℕ) (xs : List trees.Value) (whole : Items) → length vs ≤ i → items_then (items_view xs) (rest i) ≡ whole
-      → items_view xs ≡ whole
-  list_done i xs whole most before =
-      sym (items_end (items_view xs))
-      ∙ ap (λ (ws : List Value). items_then (items_view xs) (items_shown (λ w. shown_as t w) (values_view ws))) (sym (drop_all i vs most))
-      ∙ before
+  pub list_done : (i : ℕ) (old end : Log) → length vs ≤ i → Logs old end seq_ends
+      → SendsWholeItems (items_shown (λ w. shown_as t w) (values_view (drop i vs))) old end
+  list_done i old end most ends =
+      subst (λ (ws : List Value). SendsWholeItems (of_list ws) old end) (sym (drop_all i vs most)) (ends, tt)
 
 -- ---- information elements
 module _ (of : ℕ → Named) (rows : List IeRow) (es : List (Element Value)) where
-  abbrev left : ℕ → Items
-  left i = elements_shown (λ id v. row_shown (rows_with of rows) id v) (ies_view (drop i es))
+  abbrev of_elements : List (Element Value) → Items
+  of_elements fs = elements_shown (λ id v. row_shown (rows_with of rows) id v) (ies_view fs)
 
-  element_is : (e : Element Value) (d : Data) (known : Bool) (id : Option TypeId) → id ≡ row_type e.id rows → known ≡ is_some id
-      → d ≡ inside_shown of id (view e.body)
-      → body_shown id_key e.id e.criticality (contents_as known d)
-      ≡ body_shown id_key e.id e.criticality (row_shown (rows_with of rows) e.id (view e.body))
-  element_is e d known id found k told =
-      let all : contents_as known d ≡ row_shown (rows_with of rows) e.id (view e.body) =
-      ap (λ (b : Bool). contents_as b d) k
-      ∙ ap (contents_as (is_some id)) told
-      ∙ ap (λ (o : Option TypeId). contents_as (is_some o) (inside_shown of o (view e.body))) found
-      ∙ sym (row_is of rows e.id (view e.body)) in
-      ap (λ (ms : Members). body_shown id_key e.id e.criticality ms) all
+  pub element_turn : (i : ℕ) (e : Element Value) (old mid end : Log) → i < length es → e ≡ get_or es i e
+      → SendsWhole (body_shown id_key e.id e.criticality (row_shown (rows_with of rows) e.id (view e.body))) old mid
+      → SendsWholeItems (elements_shown (λ id v. row_shown (rows_with of rows) id v) (ies_view (drop (i + 1) es))) mid end
+      → SendsWholeItems (elements_shown (λ id v. row_shown (rows_with of rows) id v) (ies_view (drop i es))) old end
+  element_turn i e old mid end lt is sent more =
+      subst (λ (fs : List (Element Value)). SendsWholeItems (of_elements fs) old end) (sym (item_at es i e lt is))
+      (item_sent (body_shown id_key e.id e.criticality (row_shown (rows_with of rows) e.id (view e.body))) (of_elements (drop (i + 1) es)) old mid end
+      sent more)
 
-  pub element_turn : (i : ℕ) (e : Element Value) (xs ys : List trees.Value) (x : trees.Value) (d : Data) (known : Bool) (id : Option TypeId)
-      (whole : Items) → i < length es → e ≡ get_or es i e → id ≡ row_type e.id rows → known ≡ is_some id
-      → d ≡ inside_shown of id (view e.body) → json x ≡ body_shown id_key e.id e.criticality (contents_as known d)
-      → ys ≡ xs ++ x ∷ [] → items_then (items_view xs) (left i) ≡ whole → items_then (items_view ys) (left (i + 1)) ≡ whole
-  element_turn i e xs ys x d known id whole lt is found k inside told pushed before =
-      ap (λ (zs : List trees.Value). items_then (items_view zs) (left (i + 1))) pushed
-      ∙ items_more xs x (body_shown id_key e.id e.criticality (row_shown (rows_with of rows) e.id (view e.body))) (left (i + 1))
-      (told ∙ element_is e d known id found k inside)
-      ∙ ap (λ (fs : List (Element Value)). items_then (items_view xs) (elements_shown (λ n v. row_shown (rows_with of rows) n v) (ies_view fs)))
-      (sym (item_at es i e lt is))
-      ∙ before
-
-  pub elements_done : (i : ℕ) (xs : List trees.Value) (whole : Items) → length es ≤ i → items_then (items_view xs) (left i) ≡ whole
-      → items_view xs ≡ whole
-  elements_done i xs whole most before =
-      sym (items_end (items_view xs))
-      ∙ ap (λ (fs : List (Element Value)). items_then (items_view xs) (elements_shown (λ n v. row_shown (rows_with of rows) n v) (ies_view fs)))
-      (sym (drop_all i es most))
-      ∙ before
+  pub elements_done : (i : ℕ) (old end : Log) → length es ≤ i → Logs old end seq_ends
+      → SendsWholeItems (elements_shown (λ id v. row_shown (rows_with of rows) id v) (ies_view (drop i es))) old end
+  elements_done i old end most ends =
+      subst (λ (fs : List (Element Value)). SendsWholeItems (of_elements fs) old end) (sym (drop_all i es most)) (ends, tt)
 
 -- ---- additions and components
 module _ (of : ℕ → Named) (ps : List Component) (vs : List (Option Value)) where
-  abbrev more : ℕ → Items
-  more i = added_shown (parts_with of (drop i ps)) (options_view (drop i vs))
-
-  pub addition_turn : (i : ℕ) (o : Option Value) (xs ys : List trees.Value) (x : trees.Value) (whole : Items) → i < length vs
-      → o ≡ get_or vs i o → json x ≡ added_one of (part_type i ps) o → ys ≡ xs ++ x ∷ []
-      → items_then (items_view xs) (more i) ≡ whole → items_then (items_view ys) (more (i + 1)) ≡ whole
-  addition_turn i o xs ys x whole lt is told pushed before =
-      ap (λ (zs : List trees.Value). items_then (items_view zs) (more (i + 1))) pushed
-      ∙ items_more xs x (added_one of (part_type i ps) o) (more (i + 1)) told
-      ∙ ap (items_then (items_view xs)) (sym (added_step of ps i o (drop (i + 1) vs)))
-      ∙ ap (λ (ws : List (Option Value)). items_then (items_view xs) (added_shown (parts_with of (drop i ps)) (options_view ws)))
+  pub addition_turn : (i : ℕ) (o : Option Value) (old mid end : Log) → i < length vs → o ≡ get_or vs i o
+      → SendsWhole (added_one of (part_type i ps) o) old mid
+      → SendsWholeItems (added_shown (parts_with of (drop (i + 1) ps)) (options_view (drop (i + 1) vs))) mid end
+      → SendsWholeItems (added_shown (parts_with of (drop i ps)) (options_view (drop i vs))) old end
+  addition_turn i o old mid end lt is sent more =
+      subst (λ (ws : List (Option Value)). SendsWholeItems (added_shown (parts_with of (drop i ps)) (options_view ws)) old end)
       (sym (item_at vs i o lt is))
-      ∙ before
+      (subst (λ (ds : Items). SendsWholeItems ds old end) (sym (added_step of ps i o (drop (i + 1) vs)))
+      (item_sent (added_one of (part_type i ps) o) (added_shown (parts_with of (drop (i + 1) ps)) (options_view (drop (i + 1) vs))) old mid end
+      sent more))
 
-  pub additions_done : (i : ℕ) (xs : List trees.Value) (whole : Items) → length vs ≤ i → items_then (items_view xs) (more i) ≡ whole
-      → items_view xs ≡ whole
-  additions_done i xs whole most before =
-      sym (items_end (items_view xs)) ∙ ap (items_then (items_view xs)) (sym (added_end of ps i vs most)) ∙ before
+  pub additions_done : (i : ℕ) (old end : Log) → length vs ≤ i → Logs old end seq_ends
+      → SendsWholeItems (added_shown (parts_with of (drop i ps)) (options_view (drop i vs))) old end
+  additions_done i old end most ends =
+      subst (λ (ds : Items). SendsWholeItems ds old end) (sym (added_end of ps i vs most)) (ends, tt)
 
   abbrev part_of : ℕ → Members
-  part_of i = components_shown (parts_with of (drop i ps)) (options_view (drop i vs))
+  part_of i = listed (parts_with of (drop i ps)) (options_view (drop i vs))
 
   split : (qs : List Component) (j : ℕ) → j < length qs → (q : Component) × (drop j qs ≡ q ∷ drop (suc j) qs)
   split [] j lt = absurd (omega arith)
   split (q ∷ qs) zero lt = (q, refl)
   split (q ∷ qs) (suc j) lt = split qs j (omega arith)
 
-  one_more : (j i : ℕ) → i ≡ j + 1 → suc j ≡ i
-  one_more j i e = omega (arith, e)
+  next_to : (i : ℕ) → suc i ≡ i + 1
+  next_to i = omega arith
 
-  pub absent_turn : (j i : ℕ) → i ≡ j + 1 → j < length ps → j < length vs → None ≡ get_or vs j None → part_of i ≡ part_of j
-  absent_turn j i e small lt is =
-      let q : Component = (split ps j small).0 in
-      let parts : drop j ps ≡ q ∷ drop i ps = (split ps j small).1 ∙ ap (λ (n : ℕ). q ∷ drop n ps) (one_more j i e) in
-      let values : drop j vs ≡ None ∷ drop i vs =
-      item_at vs j None lt is ∙ ap (λ (n : ℕ). (let o : Option Value = None in o) ∷ drop n vs) (sym e) in
-      sym (ap (λ (qs : List Component). components_shown (parts_with of qs) (options_view (drop j vs))) parts
-      ∙ ap (λ (ws : List (Option Value)). components_shown (parts_with of (q ∷ drop i ps)) (options_view ws)) values
-      ∙ component_absent of q (drop i ps) (drop i vs))
+  pub absent_turn : (i : ℕ) (old end : Log) → i < length ps → i < length vs → None ≡ get_or vs i None
+      → SendsWholeMembers (listed (parts_with of (drop (i + 1) ps)) (options_view (drop (i + 1) vs))) old end
+      → SendsWholeMembers (listed (parts_with of (drop i ps)) (options_view (drop i vs))) old end
+  absent_turn i old end small lt is more =
+      let q : Component = (split ps i small).0 in
+      let parts : drop i ps ≡ q ∷ drop (i + 1) ps = (split ps i small).1 ∙ ap (λ (n : ℕ). q ∷ drop n ps) (next_to i) in
+      let same : part_of i ≡ part_of (i + 1) =
+      ap (λ (qs : List Component). listed (parts_with of qs) (options_view (drop i vs))) parts
+      ∙ ap (λ (ws : List (Option Value)). listed (parts_with of (q ∷ drop (i + 1) ps)) (options_view ws)) (item_at vs i None lt is) in
+      subst (λ (ms : Members). SendsWholeMembers ms old end) (sym same) more
 
-  pub present_turn : (j i : ℕ) (q : Component) (v : Value) → i ≡ j + 1 → j < length ps → q ≡ get_or ps j q → j < length vs
-      → Some v ≡ get_or vs j (Some v) → put q.name (shown_as (of q.definition.number) (view v)) (part_of i) ≡ part_of j
-  present_turn j i q v e small part lt is =
-      let parts : drop j ps ≡ q ∷ drop i ps =
-      item_at ps j q small part ∙ ap (λ (n : ℕ). q ∷ drop n ps) (sym e) in
-      let values : drop j vs ≡ Some v ∷ drop i vs =
-      item_at vs j (Some v) lt is ∙ ap (λ (n : ℕ). Some v ∷ drop n vs) (sym e) in
-      sym (ap (λ (qs : List Component). components_shown (parts_with of qs) (options_view (drop j vs))) parts
-      ∙ ap (λ (ws : List (Option Value)). components_shown (parts_with of (q ∷ drop i ps)) (options_view ws)) values
-      ∙ component_present of q (drop i ps) v (drop i vs))
+  pub present_turn : (i : ℕ) (q : Component) (v : Value) (old after mid end : Log) → i < length ps → q ≡ get_or ps i q → i < length vs
+      → Some v ≡ get_or vs i (Some v) → Logs old after (field_key q.name AsIs)
+      → SendsWhole (shown_as (of q.definition.number) (view v)) after mid
+      → SendsWholeMembers (listed (parts_with of (drop (i + 1) ps)) (options_view (drop (i + 1) vs))) mid end
+      → SendsWholeMembers (listed (parts_with of (drop i ps)) (options_view (drop i vs))) old end
+  present_turn i q v old after mid end small part lt is named sent more =
+      let same : part_of i ≡ listed (parts_with of (q ∷ drop (i + 1) ps)) (options_view (Some v ∷ drop (i + 1) vs)) =
+      ap (λ (qs : List Component). listed (parts_with of qs) (options_view (drop i vs))) (item_at ps i q small part)
+      ∙ ap (λ (ws : List (Option Value)). listed (parts_with of (q ∷ drop (i + 1) ps)) (options_view ws)) (item_at vs i (Some v) lt is) in
+      subst (λ (ms : Members). SendsWholeMembers ms old end) (sym same)
+      (member_sent q.name (shown_as (of q.definition.number) (view v)) (part_of (i + 1)) old after mid end named sent more)
+
+  pub components_done : (i : ℕ) (old end : Log) → min (length ps) (length vs) ≤ i → Logs old end map_ends
+      → SendsWholeMembers (listed (parts_with of (drop i ps)) (options_view (drop i vs))) old end
+  components_done i old end most ends =
+      subst (λ (ms : Members). SendsWholeMembers ms old end) (sym (listed_end of ps vs i most)) (ends, tt)

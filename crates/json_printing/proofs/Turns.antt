@@ -1,41 +1,28 @@
--- Lists of values and what they are printed as, item by item.
-use Rattle.std.proofs.Common.{◌≡◌, ℕ, zero, suc, ◌+◌, ◌-◌, ◌<◌, ◌≤◌, ◌==◌, List, [], ◌∷◌, ◌++◌, length, drop, get_or, min, Bool, true, false, Option, Some, None, is_some, cond, refl, sym, ap, ◌∙◌, arith}
+-- What values are printed as, by rows, names and parts.
+use Rattle.std.proofs.Common.{◌≡◌, ℕ, zero, suc, ◌+◌, ◌-◌, ◌<◌, ◌≤◌, ◌==◌, List, [], ◌∷◌, length, drop, get_or, min, Bool, true, false, Option, Some, None, is_some, cond, refl, sym, ap, ◌∙◌, arith}
 use Rattle.std.proofs.lemmas.List.{drop_all}
 use Rattle.std.specs.Prelude.{nat_lt}
-use Rattle.serde_json.specs.Data.{Data, null, Items, no_items, item, no_members, put, array, object}
-use Rattle.serde_json.specs.declared.value.Value as trees
-use Rattle.serde_json.specs.View.{view as json, items_view}
+use Rattle.serde_json.specs.Data.{no_items, item, no_members, array}
 use Rattle.asn1_types.specs.declared.definition.Size.{Size}
 use Rattle.asn1_types.specs.declared.definition.TypeId.{TypeId}
 use Rattle.asn1_types.specs.declared.definition.Component.{Component}
+use Rattle.asn1_types.specs.declared.definition.Extensible.{Extensible}
 use Rattle.asn1_assignments.specs.declared.assignment.IeRow.{IeRow}
 use Rattle.asn1_assignments.specs.declared.assignment.ProcedureRow.{ProcedureRow}
 use Rattle.aper_defs.specs.Values as seen
 use Rattle.aper_values.specs.declared.value.Value.{Value}
 use Rattle.aper_values.specs.Views.{view, options_view}
 use Rattle.aper_members.specs.Rows.{part_type, row_type, outcome_type, message_type}
-use Rattle.json_defs.specs.Named.{Named, NamedParts, NamedRows, NamedProcedures, sequence, sequence_of, container, pdu}
-use Rattle.json_defs.specs.Members.{dots, code_key, outcomes}
-use Rattle.json_shown_defs.specs.Printed.{name_at, one_member, past_shown, shown_as, items_shown, elements_shown, components_shown, added_shown, row_shown, contents_shown, outcome_shown, body_shown}
+use Rattle.json_defs.specs.Named.{Named, NamedRows, NamedProcedures, sequence_of, container, pdu}
+use Rattle.json_defs.specs.Members.{code_key, outcomes}
+use Rattle.json_shown_defs.specs.Printed.{name_at, one_member, past_shown, shown_as, items_shown, elements_shown, added_shown, row_shown, contents_shown, outcome_shown, body_shown}
 use Rattle.json_types.specs.json_type_defs.Types.{parts_with, rows_with, outcome_with, procedures_with}
 use Rattle.json_proof_values.proofs.Holding.{apart, by_cases}
 use Rattle.json_proof_values.proofs.Words.{same, is_same}
+use Rattle.json_types.specs.Forms.{sequence_named}
+use Rattle.json_order.specs.Listed.{listed, AreComponents}
 use Rattle.json_pieces.specs.Bodies.{contents_as}
-use Rattle.json_printing.specs.Inside.{inside_shown}
-
--- items before others
-abbrev pub items_then : Items → Items → Items
-items_then no_items ds = ds
-items_then (item e es) ds = item e (items_then es ds)
-
-pub items_end : (ds : Items) → items_then ds no_items ≡ ds
-items_end no_items = refl
-items_end (item d ds) = ap (item d) (items_end ds)
-
-pub items_more : (xs : List trees.Value) (x : trees.Value) (d : Data) (ds : Items) → json x ≡ d
-    → items_then (items_view (xs ++ x ∷ [])) ds ≡ items_then (items_view xs) (item d ds)
-items_more [] x d ds h = ap (λ e. item e ds) h
-items_more (y ∷ xs) x d ds h = ap (item (json y)) (items_more xs x d ds h)
+use Rattle.json_printing.specs.Inside.{inside_shown, added_one, place_shown, sequence_shown}
 
 -- ---- what rows give
 module _ (of : ℕ → Named) where
@@ -81,13 +68,9 @@ module _ (of : ℕ → Named) where
       (λ _. message_is r index v) (λ _. body_is rows index code v)
 
   -- ---- additions
-  abbrev pub added_one : Option TypeId → Option Value → Data
-  added_one id None = null
-  added_one id (Some v) = inside_shown of id (view v)
-
   added_turn : (ps : List Component) (i : ℕ) (o : Option Value) (vs : List (Option Value))
       → added_shown (parts_with of (drop i ps)) (options_view (o ∷ vs))
-      ≡ item (added_one (part_type i ps) o) (added_shown (parts_with of (drop (suc i) ps)) (options_view vs))
+      ≡ item (added_one of (part_type i ps) o) (added_shown (parts_with of (drop (suc i) ps)) (options_view vs))
   unfolding added_shown
   added_turn [] zero None vs = refl
   added_turn [] zero (Some v) vs = refl
@@ -99,10 +82,10 @@ module _ (of : ℕ → Named) where
 
   pub added_step : (ps : List Component) (i : ℕ) (o : Option Value) (vs : List (Option Value))
       → added_shown (parts_with of (drop i ps)) (options_view (o ∷ vs))
-      ≡ item (added_one (part_type i ps) o) (added_shown (parts_with of (drop (i + 1) ps)) (options_view vs))
+      ≡ item (added_one of (part_type i ps) o) (added_shown (parts_with of (drop (i + 1) ps)) (options_view vs))
   added_step ps i o vs =
       added_turn ps i o vs
-      ∙ ap (λ (n : ℕ). item (added_one (part_type i ps) o) (added_shown (parts_with of (drop n ps)) (options_view vs)))
+      ∙ ap (λ (n : ℕ). item (added_one of (part_type i ps) o) (added_shown (parts_with of (drop n ps)) (options_view vs)))
       (let e : suc i ≡ i + 1 = omega arith in e)
 
   added_none : (ps : List Component) → added_shown (parts_with of ps) seen.no_options ≡ no_items
@@ -116,40 +99,32 @@ module _ (of : ℕ → Named) where
       ap (λ (ws : List (Option Value)). added_shown (parts_with of (drop i ps)) (options_view ws)) (drop_all i vs h) ∙ added_none (drop i ps)
 
   -- ---- components
-  components_none : (ps : List Component) → components_shown (parts_with of ps) seen.no_options ≡ no_members
-  unfolding components_shown
-  components_none [] = refl
-  components_none (p ∷ ps) = refl
+  pub places_shown : (ps : List Component) (vs : List (Option Value)) → AreComponents of ps vs (place_shown of ps vs)
+  places_shown [] vs i q v small part lt is = absurd (omega (arith, small))
+  places_shown (p ∷ ps) [] i q v small part lt is = absurd (omega (arith, lt))
+  places_shown (p ∷ ps) (w ∷ vs) zero q v small part lt is =
+      ap (λ (o : Option Value). added_one of (Some p.definition) o) (sym is)
+      ∙ ap (λ (y : Component). shown_as (of y.definition.number) (view v)) (sym part)
+  places_shown (p ∷ ps) (w ∷ vs) (suc i) q v small part lt is = places_shown ps vs i q v (omega (arith, small)) part (omega (arith, lt)) is
 
-  no_parts_left : (vs : seen.Options) → components_shown (parts_with of []) vs ≡ no_members
-  unfolding components_shown
-  no_parts_left vs = refl
+  -- as they come
+  listed_none : (ps : List Component) → listed (parts_with of ps) seen.no_options ≡ no_members
+  listed_none [] = refl
+  listed_none (p ∷ ps) = refl
 
-  pub components_end : (ps : List Component) (vs : List (Option Value)) (i : ℕ) → i ≡ min (length ps) (length vs)
-      → no_members ≡ components_shown (parts_with of (drop i ps)) (options_view (drop i vs))
-  components_end ps vs i h =
+  pub listed_end : (ps : List Component) (vs : List (Option Value)) (i : ℕ) → min (length ps) (length vs) ≤ i
+      → listed (parts_with of (drop i ps)) (options_view (drop i vs)) ≡ no_members
+  listed_end ps vs i h =
       by_less (length ps) (length vs) i h
-      (λ (most : length ps ≤ i). sym (ap (λ (qs : List Component). components_shown (parts_with of qs) (options_view (drop i vs))) (drop_all i ps most)
-      ∙ no_parts_left (options_view (drop i vs))))
-      (λ (most : length vs ≤ i). sym (ap (λ (ws : List (Option Value)). components_shown (parts_with of (drop i ps)) (options_view ws)) (drop_all i vs most)
-      ∙ components_none (drop i ps)))
+      (λ (most : length ps ≤ i). ap (λ (qs : List Component). listed (parts_with of qs) (options_view (drop i vs))) (drop_all i ps most))
+      (λ (most : length vs ≤ i). ap (λ (ws : List (Option Value)). listed (parts_with of (drop i ps)) (options_view ws)) (drop_all i vs most)
+      ∙ listed_none (drop i ps))
     where
-      by_less : (a b i : ℕ) {X : Type 0} → i ≡ min a b → (a ≤ i → X) → (b ≤ i → X) → X
+      by_less : (a b i : ℕ) {X : Type 0} → min a b ≤ i → (a ≤ i → X) → (b ≤ i → X) → X
       by_less zero b i e f g = f (omega arith)
       by_less (suc a) zero i e f g = g (omega arith)
       by_less (suc a) (suc b) zero e f g = absurd (omega (arith, e))
       by_less (suc a) (suc b) (suc i) e f g = by_less a b i (omega (arith, e)) (λ h. f (omega (arith, h))) (λ h. g (omega (arith, h)))
-
-  pub component_absent : (p : Component) (ps : List Component) (vs : List (Option Value))
-      → components_shown (parts_with of (p ∷ ps)) (options_view (None ∷ vs)) ≡ components_shown (parts_with of ps) (options_view vs)
-  unfolding components_shown
-  component_absent p ps vs = refl
-
-  pub component_present : (p : Component) (ps : List Component) (v : Value) (vs : List (Option Value))
-      → components_shown (parts_with of (p ∷ ps)) (options_view (Some v ∷ vs))
-      ≡ put p.name (shown_as (of p.definition.number) (view v)) (components_shown (parts_with of ps) (options_view vs))
-  unfolding components_shown
-  component_present p ps v vs = refl
 
 -- ---- what each kind of value is printed as
 pub list_is : (size : Option Size) (t : Named) (vs : seen.Values) → shown_as (sequence_of size t) (seen.list vs) ≡ array (items_shown (λ v. shown_as t v) vs)
@@ -169,18 +144,10 @@ message_printed rows index code criticality v h =
     sym (ap (λ (b : Bool). cond b (one_member (name_at outcomes index) (body_shown code_key code criticality (contents_shown rows index code v)))
     (past_shown (index - 3) v)) h)
 
--- a SEQUENCE without additions, and one with some
-pub plain_is : (e : Bool) (root additions : NamedParts) (vs more : seen.Options) → seen.has_options more ≡ false
-    → object (components_shown root vs) ≡ shown_as (sequence e root additions) (seen.components vs more)
+pub sequence_is : (of : ℕ → Named) (members : Extensible Component) (root more : seen.Options)
+    → sequence_shown of members root more ≡ shown_as (sequence_named of members) (seen.components root more)
 unfolding shown_as
-plain_is e root additions vs more h =
-    sym (ap (λ (b : Bool). object (cond b (put dots (array (added_shown additions more)) (components_shown root vs)) (components_shown root vs))) h)
-
-pub extended_is : (e : Bool) (root additions : NamedParts) (vs more : seen.Options) → seen.has_options more ≡ true
-    → object (put dots (array (added_shown additions more)) (components_shown root vs)) ≡ shown_as (sequence e root additions) (seen.components vs more)
-unfolding shown_as
-extended_is e root additions vs more h =
-    sym (ap (λ (b : Bool). object (cond b (put dots (array (added_shown additions more)) (components_shown root vs)) (components_shown root vs))) h)
+sequence_is of members root more = refl
 
 pub none_more : (vs : List (Option Value)) → length vs ≡ 0 → seen.has_options (options_view vs) ≡ false
 none_more [] h = refl

@@ -1,6 +1,7 @@
-//! The JSON that values of a module's types are printed as, as a tree.
+//! The JSON that values of a module's types are printed as, as it is sent to a `Serializer`.
 #![tactic(auto)]
 
+mod shown;
 mod values;
 
-pub use values::value_shown;
+pub use shown::Shown;

@@ -1,241 +1,366 @@
 //! Values of types with types inside.
 
-ghost use Rattle.std.specs.Prelude.{◌≡◌, ◌<◌, length, IfOk};
-ghost use Rattle.serde_json.specs.Data.{object, array};
-ghost use Rattle.serde_json.specs.View.{view as json, items_view, members_view};
-ghost use Rattle.asn1_types.specs.Members.{additions_of};
+ghost use Rattle.std.specs.Prelude.{◌≡◌, ◌<◌, length, Option, OnOk};
+ghost use Rattle.serde_json.specs.Data.{array};
+ghost use Rattle.asn1_types.specs.declared.definition.Size.{Size};
 ghost use Rattle.asn1_module.specs.asn1_defs.Links.{AreBelow, OptionBelow, PartsBelow, IesBelow, ProceduresBelow};
 ghost use Rattle.aper_values.specs.Views.{view, options_view};
 ghost use Rattle.json_defs.specs.Named.{container, pdu, sequence_of};
-ghost use Rattle.json_defs.specs.Members.{outcomes};
-ghost use Rattle.json_shown_defs.specs.Printed.{shown_as, components_shown, added_shown, name_at};
+ghost use Rattle.json_defs.specs.Members.{id_key, outcomes};
+ghost use Rattle.json_shown_defs.specs.Printed.{shown_as, added_shown, row_shown, body_shown, one_member, name_at};
+ghost use Rattle.json_sent.specs.Sent.{SendsWhole};
 ghost use Rattle.json_types.specs.json_type_defs.Types.{named, parts_with, rows_with, procedures_with};
 ghost use Rattle.json_types.specs.Forms.{sequence_named, choice_named};
-ghost use Rattle.json_printing.specs.Inside.{inside_shown};
+ghost use Rattle.json_order.specs.Listed.{listed};
+ghost use Rattle.json_printing.specs.Inside.{inside_shown, Lists, BeginsObject};
 
 use aper_members::rows::{message_type, named, part_type, row_type};
-use aper_values::value::Value;
+use aper_values::value::{Element, Value};
 use asn1_assignments::{IeRow, ProcedureRow};
 use asn1_module::Module;
-use asn1_types::{Component, Extensible, Size, TypeId};
-use gnb_types::octets::Memory;
-use json_pieces::objects::{
-    Members, body_shown, element_shown, one_member, past_shown, put_member,
-};
+use asn1_types::{Component, Extensible, TypeId};
+use json_order::{Member, count_in_order, members_by_name};
+use json_pieces::objects::{begin_body, send_past};
 use json_pieces::simple::{
-    bit_string_shown, boolean_shown, enumerated_shown, octet_string_shown, printable_string_shown,
-    whole_number_shown,
+    send_bit_string, send_boolean, send_enumerated, send_octet_string, send_printable_string,
+    send_whole_number,
 };
-use json_pieces::texts::raw_shown;
+use json_pieces::texts::{send_key, send_raw};
 use json_types::{NamedForm, form_of};
-use serde_json::Value as Json;
+use serde::Serializer;
 use std::alloc::Global;
 
 /// A value of a type. Of what is no value of it this is any JSON that the definitions give.
-#[cycle(show)]
-pub fn value_shown(alloc: Global, m: &Module, id: TypeId, value: &Value) -> Result<Json, Memory>
+#[cycle(send)]
+pub fn send_value<S: Serializer>(
+    alloc: Global,
+    m: &Module,
+    id: TypeId,
+    value: &Value,
+    out: &mut S,
+) -> Result<(), S::Error>
     requires { id.number < length m.now.nodes }
-    ensures { IfOk result (λ d. json d ≡ shown_as (named m.now id.number) (view value.now)) }
+    ensures { OnOk result (SendsWhole (shown_as (named m.now id.number) (view value.now))
+        (S.written out.old) (S.written out.new)) }
 {
     match form_of(m, id) {
-        NamedForm::Boolean => Ok(boolean_shown(value)),
-        NamedForm::Integer { .. } => Ok(whole_number_shown(value)?),
-        NamedForm::Enumerated(names) => Ok(enumerated_shown(alloc, names, value)?),
-        NamedForm::BitString(_) => Ok(bit_string_shown(alloc, value)?),
-        NamedForm::OctetString(_) => Ok(octet_string_shown(alloc, value)?),
-        NamedForm::PrintableString(_) => Ok(printable_string_shown(alloc, value)?),
-        NamedForm::Sequence(members) => Ok(sequence_shown(alloc, m, members, value)?),
-        NamedForm::Choice(members) => Ok(choice_shown(alloc, m, members, value)?),
-        NamedForm::SequenceOf { size, element } => Ok(list_shown(alloc, m, size, element, value)?),
-        NamedForm::Container(rows) => Ok(container_shown(alloc, m, rows, value)?),
-        NamedForm::Pdu(rows) => Ok(message_shown(alloc, m, rows, value)?),
+        NamedForm::Boolean => send_boolean(value, out),
+        NamedForm::Integer { .. } => send_whole_number(value, out),
+        NamedForm::Enumerated(names) => send_enumerated(names, value, out),
+        NamedForm::BitString(_) => send_bit_string(alloc, value, out),
+        NamedForm::OctetString(_) => send_octet_string(alloc, value, out),
+        NamedForm::PrintableString(_) => send_printable_string(value, out),
+        NamedForm::Sequence(members) => send_sequence(alloc, m, members, value, out),
+        NamedForm::Choice(members) => send_choice(alloc, m, members, value, out),
+        NamedForm::SequenceOf { element, .. } => send_list(alloc, m, element, value, out),
+        NamedForm::Container(rows) => send_container(alloc, m, rows, value, out),
+        NamedForm::Pdu(rows) => send_message(alloc, m, rows, value, out),
     }
 }
 
 /// A value whose type a row or a name gives, or octets of what none has.
-#[cycle(show)]
-fn inside_shown(
+#[cycle(send)]
+fn send_inside<S: Serializer>(
     alloc: Global,
     m: &Module,
     id: Option<TypeId>,
     value: &Value,
-) -> Result<Json, Memory>
+    out: &mut S,
+) -> Result<(), S::Error>
     requires { OptionBelow (length m.now.nodes) id }
-    ensures { IfOk result (λ d. json d ≡ inside_shown (named m.now) id (view value.now)) }
+    ensures { OnOk result (SendsWhole (inside_shown (named m.now) id (view value.now))
+        (S.written out.old) (S.written out.new)) }
 {
     match id {
-        Some(id) => Ok(value_shown(alloc, m, id, value)?),
-        None => Ok(raw_shown(alloc, value)?),
+        Some(id) => send_value(alloc, m, id, value, out),
+        None => send_raw(alloc, value, out),
     }
 }
 
-/// The components that are there, put from the last one on.
-#[cycle(show)]
-fn components_shown(
+/// The components that are there, in the order in which they come.
+#[cycle(send)]
+fn send_components<S: Serializer>(
     alloc: Global,
     m: &Module,
     parts: &[Component],
     values: &[Option<Value>],
-) -> Result<Members, Memory>
+    out: &mut S,
+) -> Result<(), S::Error>
     requires { AreBelow (length m.now.nodes) parts.now }
-    ensures { IfOk result (λ members. members_view members.entries
-        ≡ components_shown (parts_with (named m.now) parts.now) (options_view values.now)) }
+    ensures { OnOk result (Lists (listed (parts_with (named m.now) parts.now) (options_view values.now))
+        (S.written out.old) (S.written out.new)) }
 {
-    let mut shown = Members::new(alloc);
-    let mut i = parts.len().min(values.len());
-    while i > 0 {
-        i -= 1;
+    for i in 0..parts.len().min(values.len()) {
         let Some(value) = &values[i] else {
             continue;
         };
-        let d = value_shown(alloc, m, parts[i].definition, value)?;
-        put_member(alloc, &mut shown, parts[i].name.as_slice(), d)?;
+        send_key(parts[i].name.as_slice(), out)?;
+        send_value(alloc, m, parts[i].definition, value, out)?;
     }
-    Ok(shown)
+    Ok(())
 }
 
 /// The list of additions: null for one that isn't there, and octets for one that has no name.
-#[cycle(show)]
-fn additions_shown(
+#[cycle(send)]
+fn send_additions<S: Serializer>(
     alloc: Global,
     m: &Module,
     parts: &[Component],
     values: &[Option<Value>],
-) -> Result<Vec<Json>, Memory>
+    out: &mut S,
+) -> Result<(), S::Error>
     requires { AreBelow (length m.now.nodes) parts.now }
-    ensures { IfOk result (λ items. items_view items.items
-        ≡ added_shown (parts_with (named m.now) parts.now) (options_view values.now)) }
+    ensures { OnOk result (SendsWhole
+        (array (added_shown (parts_with (named m.now) parts.now) (options_view values.now)))
+        (S.written out.old) (S.written out.new)) }
 {
-    let mut shown = Vec::new(alloc);
+    out.begin_seq(Some(values.len()))?;
     for (i, value) in values.iter().enumerate() {
         let Some(value) = value else {
-            shown.push(Json::Null)?;
+            out.unit()?;
             continue;
         };
-        shown.push(inside_shown(alloc, m, part_type(parts, i), value)?)?;
+        send_inside(alloc, m, part_type(parts, i), value, out)?;
     }
-    Ok(shown)
+    out.end_seq()
 }
 
-#[cycle(show)]
+/// The object of a SEQUENCE whose components aren't in the order of their names.
+#[cycle(send)]
 #[tactic(auto, unfolding(json_shown_defs::specs::Printed::shown_as))]
-fn sequence_shown(
+fn send_by_name<S: Serializer>(
     alloc: Global,
     m: &Module,
     members: &Extensible<Component>,
     value: &Value,
-) -> Result<Json, Memory>
+    out: &mut S,
+) -> Result<(), S::Error>
     requires { PartsBelow (length m.now.nodes) members.now }
-    ensures { IfOk result
-        (λ d. json d ≡ shown_as (sequence_named (named m.now) members.now) (view value.now)) }
+    ensures { OnOk result
+        (SendsWhole (shown_as (sequence_named (named m.now) members.now) (view value.now))
+        (S.written out.old) (S.written out.new)) }
 {
     let Value::Seq { root, additions } = value else {
-        return Ok(Json::Null);
+        return out.unit();
     };
-    let mut shown = components_shown(alloc, m, members.root.as_slice(), root)?;
-    if additions.is_empty() {
-        return Ok(Json::Object(shown));
+    let parts = members.root.as_slice();
+    let Ok(shown) = members_by_name(alloc, parts, root, !additions.is_empty()) else {
+        return Err(out.custom("out of memory"));
+    };
+    out.begin_map(Some(shown.len()))?;
+    for (name, member) in shown.iter() {
+        send_key(name, out)?;
+        let Member::Component(i) = *member else {
+            send_additions(alloc, m, named(&members.additions), additions, out)?;
+            continue;
+        };
+        let Some(value) = &root[i] else {
+            out.unit()?;
+            continue;
+        };
+        send_inside(alloc, m, part_type(parts, i), value, out)?;
     }
-    let added = additions_shown(alloc, m, named(&members.additions), additions)?;
-    put_member(alloc, &mut shown, b"...", Json::Array(added))?;
-    Ok(Json::Object(shown))
+    out.end_map()
 }
 
-#[cycle(show)]
+/// The object of a SEQUENCE with so many members, begun, and its additions where there are some.
+#[cycle(send)]
+fn begin_object<S: Serializer>(
+    alloc: Global,
+    m: &Module,
+    added: &[Component],
+    additions: &[Option<Value>],
+    count: usize,
+    out: &mut S,
+) -> Result<(), S::Error>
+    requires { AreBelow (length m.now.nodes) added.now }
+    ensures { OnOk result (BeginsObject (options_view additions.now)
+        (added_shown (parts_with (named m.now) added.now) (options_view additions.now)) count
+        (S.written out.old) (S.written out.new)) }
+{
+    out.begin_map(Some(count))?;
+    if additions.is_empty() {
+        return Ok(());
+    }
+    out.key("...")?;
+    send_additions(alloc, m, added, additions, out)
+}
+
+#[cycle(send)]
 #[tactic(auto, unfolding(json_shown_defs::specs::Printed::shown_as))]
-fn choice_shown(
+fn send_sequence<S: Serializer>(
     alloc: Global,
     m: &Module,
     members: &Extensible<Component>,
     value: &Value,
-) -> Result<Json, Memory>
+    out: &mut S,
+) -> Result<(), S::Error>
     requires { PartsBelow (length m.now.nodes) members.now }
-    ensures { IfOk result
-        (λ d. json d ≡ shown_as (choice_named (named m.now) members.now) (view value.now)) }
+    ensures { OnOk result
+        (SendsWhole (shown_as (sequence_named (named m.now) members.now) (view value.now))
+        (S.written out.old) (S.written out.new)) }
+{
+    let Value::Seq { root, additions } = value else {
+        return out.unit();
+    };
+    let parts = members.root.as_slice();
+    let has_additions = !additions.is_empty();
+    let Some(count) = count_in_order(parts, root, has_additions) else {
+        return send_by_name(alloc, m, members, value, out);
+    };
+    begin_object(alloc, m, named(&members.additions), additions, count, out)?;
+    send_components(alloc, m, parts, root, out)?;
+    out.end_map()
+}
+
+/// An object with one member.
+#[cycle(send)]
+fn send_one<S: Serializer>(
+    alloc: Global,
+    m: &Module,
+    part: &Component,
+    value: &Value,
+    out: &mut S,
+) -> Result<(), S::Error>
+    requires { part.now.definition.number < length m.now.nodes }
+    ensures { OnOk result (SendsWhole (one_member part.now.name
+        (shown_as (named m.now part.now.definition.number) (view value.now)))
+        (S.written out.old) (S.written out.new)) }
+{
+    out.begin_map(Some(1))?;
+    send_key(part.name.as_slice(), out)?;
+    send_value(alloc, m, part.definition, value, out)?;
+    out.end_map()
+}
+
+#[cycle(send)]
+#[tactic(auto, unfolding(json_shown_defs::specs::Printed::shown_as))]
+fn send_choice<S: Serializer>(
+    alloc: Global,
+    m: &Module,
+    members: &Extensible<Component>,
+    value: &Value,
+    out: &mut S,
+) -> Result<(), S::Error>
+    requires { PartsBelow (length m.now.nodes) members.now }
+    ensures { OnOk result
+        (SendsWhole (shown_as (choice_named (named m.now) members.now) (view value.now))
+        (S.written out.old) (S.written out.new)) }
 {
     let Value::Choice(index, body) = value else {
-        return Ok(Json::Null);
+        return out.unit();
     };
     let index = *index as usize;
     let root = members.root.as_slice();
     if index < root.len() {
-        let d = value_shown(alloc, m, root[index].definition, body)?;
-        return Ok(one_member(alloc, root[index].name.as_slice(), d)?);
+        return send_one(alloc, m, &root[index], body, out);
     }
     let additions = named(&members.additions);
     let index = index - root.len();
     if index < additions.len() {
-        let d = value_shown(alloc, m, additions[index].definition, body)?;
-        return Ok(one_member(alloc, additions[index].name.as_slice(), d)?);
+        return send_one(alloc, m, &additions[index], body, out);
     }
-    Ok(past_shown(alloc, (index - additions.len()) as u64, body)?)
+    send_past(alloc, (index - additions.len()) as u64, body, out)
 }
 
-#[cycle(show)]
+#[cycle(send)]
 #[tactic(auto, unfolding(json_shown_defs::specs::Printed::shown_as))]
-fn list_shown(
+fn send_list<S: Serializer>(
     alloc: Global,
     m: &Module,
-    size: Option<Size>,
     element: TypeId,
     value: &Value,
-) -> Result<Json, Memory>
+    out: &mut S,
+) -> Result<(), S::Error>
     requires { element.number < length m.now.nodes }
-    ensures { IfOk result
-        (λ d. json d ≡ shown_as (sequence_of size (named m.now element.number)) (view value.now)) }
+    ensures { (size : Option Size) → OnOk result (SendsWhole
+        (shown_as (sequence_of size (named m.now element.number)) (view value.now))
+        (S.written out.old) (S.written out.new)) }
 {
     let Value::List(members) = value else {
-        return Ok(Json::Null);
+        return out.unit();
     };
-    let mut shown = Vec::new(alloc);
+    out.begin_seq(Some(members.len()))?;
     for member in members {
-        shown.push(value_shown(alloc, m, element, member)?)?;
+        send_value(alloc, m, element, member, out)?;
     }
-    Ok(Json::Array(shown))
+    out.end_seq()
 }
 
-#[cycle(show)]
-#[tactic(auto, unfolding(json_shown_defs::specs::Printed::shown_as))]
-fn container_shown(alloc: Global, m: &Module, rows: &[IeRow], value: &Value) -> Result<Json, Memory>
+/// An information element.
+#[cycle(send)]
+fn send_element<S: Serializer>(
+    alloc: Global,
+    m: &Module,
+    rows: &[IeRow],
+    ie: &Element<Value>,
+    out: &mut S,
+) -> Result<(), S::Error>
     requires { IesBelow (length m.now.nodes) rows.now }
-    ensures { IfOk result
-        (λ d. json d ≡ shown_as (container (rows_with (named m.now) rows.now)) (view value.now)) }
+    ensures { OnOk result (SendsWhole (body_shown id_key ie.now.id ie.now.criticality
+        (row_shown (rows_with (named m.now) rows.now) ie.now.id (view ie.now.body)))
+        (S.written out.old) (S.written out.new)) }
+{
+    let definition = row_type(ie.id, rows);
+    begin_body(
+        "id",
+        u64::from(ie.id),
+        ie.criticality,
+        definition.is_some(),
+        out,
+    )?;
+    send_inside(alloc, m, definition, &ie.body, out)?;
+    out.end_map()
+}
+
+#[cycle(send)]
+#[tactic(auto, unfolding(json_shown_defs::specs::Printed::shown_as))]
+fn send_container<S: Serializer>(
+    alloc: Global,
+    m: &Module,
+    rows: &[IeRow],
+    value: &Value,
+    out: &mut S,
+) -> Result<(), S::Error>
+    requires { IesBelow (length m.now.nodes) rows.now }
+    ensures { OnOk result
+        (SendsWhole (shown_as (container (rows_with (named m.now) rows.now)) (view value.now))
+        (S.written out.old) (S.written out.new)) }
 {
     let Value::Ies(ies) = value else {
-        return Ok(Json::Null);
+        return out.unit();
     };
-    let mut shown = Vec::new(alloc);
+    out.begin_seq(Some(ies.len()))?;
     for ie in ies {
-        let definition = row_type(ie.id, rows);
-        let contents = inside_shown(alloc, m, definition, &ie.body)?;
-        let is_known = definition.is_some();
-        shown.push(element_shown(alloc, ie.id, ie.criticality, is_known, contents)?)?;
+        send_element(alloc, m, rows, ie, out)?;
     }
-    Ok(Json::Array(shown))
+    out.end_seq()
 }
 
-fn outcome_name(outcome: u32) -> &'static [u8]
+fn outcome_name(outcome: u32) -> &'static str
     ensures { name_at outcomes outcome ≡ result.now }
 {
     match outcome {
-        0 => b"initiatingMessage",
-        1 => b"successfulOutcome",
-        2 => b"unsuccessfulOutcome",
-        _ => b"",
+        0 => "initiatingMessage",
+        1 => "successfulOutcome",
+        2 => "unsuccessfulOutcome",
+        _ => "",
     }
 }
 
-#[cycle(show)]
+#[cycle(send)]
 #[tactic(auto, unfolding(json_shown_defs::specs::Printed::shown_as))]
-fn message_shown(
+fn send_message<S: Serializer>(
     alloc: Global,
     m: &Module,
     rows: &[ProcedureRow],
     value: &Value,
-) -> Result<Json, Memory>
+    out: &mut S,
+) -> Result<(), S::Error>
     requires { ProceduresBelow (length m.now.nodes) rows.now }
-    ensures { IfOk result
-        (λ d. json d ≡ shown_as (pdu (procedures_with (named m.now) rows.now)) (view value.now)) }
+    ensures { OnOk result
+        (SendsWhole (shown_as (pdu (procedures_with (named m.now) rows.now)) (view value.now))
+        (S.written out.old) (S.written out.new)) }
 {
     let Value::Pdu {
         outcome,
@@ -244,14 +369,22 @@ fn message_shown(
         body,
     } = value
     else {
-        return Ok(Json::Null);
+        return out.unit();
     };
     if *outcome >= 3 {
-        return Ok(past_shown(alloc, u64::from(*outcome - 3), body)?);
+        return send_past(alloc, u64::from(*outcome - 3), body, out);
     }
     let definition = message_type(*outcome, *code, rows);
-    let contents = inside_shown(alloc, m, definition, body)?;
-    let is_known = definition.is_some();
-    let message = body_shown(alloc, *code, *criticality, is_known, contents)?;
-    Ok(one_member(alloc, outcome_name(*outcome), message)?)
+    out.begin_map(Some(1))?;
+    out.key(outcome_name(*outcome))?;
+    begin_body(
+        "procedureCode",
+        u64::from(*code),
+        *criticality,
+        definition.is_some(),
+        out,
+    )?;
+    send_inside(alloc, m, definition, body, out)?;
+    out.end_map()?;
+    out.end_map()
 }

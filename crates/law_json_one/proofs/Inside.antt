@@ -15,7 +15,7 @@ use Rattle.json_proof_choices.proofs.Bodies.{HasKnown}
 use Rattle.json_shown_defs.specs.Order.{IsOrdered, AreOrdered, AreMembersOrdered}
 use Rattle.json_shown_defs.specs.Alike.{Alike, AreItemsAlike, AreMembersAlike}
 use Rattle.json_shown_defs.specs.Printed.{natural_shown, raw_shown, one_member, name_at, past_shown, items_shown, criticality_shown, body_shown, known_shown, unknown_shown, elements_shown, shown_as, part_shown, row_shown, contents_shown, outcome_shown}
-use Rattle.law_json_trees.proofs.Ordered.{raw_ordered, printed_ordered}
+use Rattle.json_proof_order.proofs.Ordered.{raw_ordered, printed_ordered}
 use Rattle.law_json_one.proofs.Members.{AreBoth, alike_by_keys, member_ordered}
 use Rattle.law_json_one.proofs.Trees.{IsOne, natural_alike, raw_alike, named_at, past_alike}
 

@@ -1,5 +1,5 @@
 -- What the steps from a text to a value give together.
-use Rattle.std.proofs.Common.{◌≡◌, ℕ, List, [], ◌++◌, map, Some, Result, Ok, Err, Vec, Global, sym, ap, subst, ◌∙◌, append-nil}
+use Rattle.std.proofs.Common.{◌≡◌, ℕ, List, [], map, Some, Result, Ok, Err, Vec, Global, ap, subst, ◌∙◌, append-nil}
 use Rattle.std.specs.Prelude.{IfOk, reverse}
 use Rattle.std.proofs.lemmas.List.{reverse-reverse}
 use Rattle.serde_json.specs.Data.{Data}

@@ -1,5 +1,5 @@
 -- Texts of JSON, as octets: which value of a type they show, or what is wrong with them.
-use Rattle.std.specs.Prelude.{◌≡◌, ◌≤◌, [], List, ℕ, Some, Result, Ok, Err}
+use Rattle.std.specs.Prelude.{◌≡◌, ◌≤◌, [], List, ℕ, Some, Result, Err}
 use Rattle.std.specs.Str.{IsUtf8}
 use Rattle.serde_json.specs.Data.{Data, depth}
 use Rattle.serde_json.specs.Read.{max_depth, read as read_text}
@@ -13,7 +13,7 @@ use Rattle.json_defs.specs.Named.{Named}
 use Rattle.json_defs.specs.Json.{Json}
 use Rattle.json_defs.specs.Demands.{demands, first_fault}
 use Rattle.values_json.specs.declared.error.JsonError.{JsonError}
-use Rattle.values_json.specs.declared.error.JsonError.TheVariants.{NotJson, Shape, Range, Memory}
+use Rattle.values_json.specs.declared.error.JsonError.TheVariants.{NotJson, Shape, Range}
 
 -- UTF-8 that `serde_json` reads as this tree
 abbrev pub IsJson : List ℕ → Data → Type 0

@@ -16,7 +16,7 @@ use aper_values::value::Value;
 use asn1_module::{Module, TypeId};
 pub use error::JsonError;
 use gnb_types::octets::{Memory, Octets};
-use json_printing::value_shown;
+use json_printing::Shown;
 use json_reading::value_in;
 use std::alloc::Global;
 
@@ -51,7 +51,8 @@ pub fn json_of_value(alloc: Global, m: &Module, id: TypeId, value: &Value) -> Re
     ensures again { IfOk result
         (λ text. IsReadAgain text (shown_as (named m.now id.number) (view value.now))) }
 {
-    let d = value_shown(alloc, m, id, value)?;
-    let text = d.to_string(alloc)?;
-    Ok(Octets::from_vec(text.into_bytes()))
+    match serde_json::to_string(alloc, &Shown::new(alloc, m, id, value)) {
+        Ok(text) => Ok(Octets::from_vec(text.into_bytes())),
+        Err(_) => Err(Memory),
+    }
 }

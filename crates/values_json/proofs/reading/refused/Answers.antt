@@ -1,4 +1,4 @@
-use Rattle.std.proofs.Common.{◌≡◌, List, ap, ◌∙◌}
+use Rattle.std.proofs.Common.{List, ap, ◌∙◌}
 use Rattle.aper.specs.aper_frames.declared.path.Step.{Step}
 use Rattle.aper.specs.aper_frames.Paths.{path_view}
 use Rattle.aper.specs.PathText.{path_text}
