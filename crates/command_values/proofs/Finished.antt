@@ -38,7 +38,8 @@ reads_end a b Done h = AllRead h (λ (e : 0 ≡ 6). omega arith)
 reads_end a b (Stopped stop) h = AllRead h (not_six stop)
 reads_end a b (Common (ReadFault taken)) h = ReadStopped h (inl refl)
 reads_end a b (Common TooLong) h = AllRead h (λ (e : 11 ≡ 6). omega arith)
-reads_end a b (Common WriteFault) h = AllRead h (λ (e : 7 ≡ 6). omega arith)
+reads_end a b (Common WriteFault) (inl h) = AllRead h (λ (e : 7 ≡ 6). omega arith)
+reads_end a b (Common WriteFault) (inr h) = ReadStopped h (inr (inl refl))
 reads_end a b (Common Memory) h = AllRead h (λ (e : 9 ≡ 6). omega arith)
 
 -- the last line was not written
@@ -47,7 +48,8 @@ reads_cut a b Done h = AllRead h (λ (e : 7 ≡ 6). omega arith)
 reads_cut a b (Stopped stop) h = AllRead h (λ (e : 7 ≡ 6). omega arith)
 reads_cut a b (Common (ReadFault taken)) h = ReadStopped h (inr (inl refl))
 reads_cut a b (Common TooLong) h = AllRead h (λ (e : 7 ≡ 6). omega arith)
-reads_cut a b (Common WriteFault) h = AllRead h (λ (e : 7 ≡ 6). omega arith)
+reads_cut a b (Common WriteFault) (inl h) = AllRead h (λ (e : 7 ≡ 6). omega arith)
+reads_cut a b (Common WriteFault) (inr h) = ReadStopped h (inr (inl refl))
 reads_cut a b (Common Memory) h = AllRead h (λ (e : 7 ≡ 6). omega arith)
 
 reads_out : (a b : SourceAt) (end : ValuesEnd) → ReadsUntil a b end → ReadsTo a b 9
@@ -55,7 +57,8 @@ reads_out a b Done h = AllRead h (λ (e : 9 ≡ 6). omega arith)
 reads_out a b (Stopped stop) h = AllRead h (λ (e : 9 ≡ 6). omega arith)
 reads_out a b (Common (ReadFault taken)) h = ReadStopped h (inr (inr refl))
 reads_out a b (Common TooLong) h = AllRead h (λ (e : 9 ≡ 6). omega arith)
-reads_out a b (Common WriteFault) h = AllRead h (λ (e : 9 ≡ 6). omega arith)
+reads_out a b (Common WriteFault) (inl h) = AllRead h (λ (e : 9 ≡ 6). omega arith)
+reads_out a b (Common WriteFault) (inr h) = ReadStopped h (inr (inr refl))
 reads_out a b (Common Memory) h = AllRead h (λ (e : 9 ≡ 6). omega arith)
 
 -- ---- the status of the writes, and what was written

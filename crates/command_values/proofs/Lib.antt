@@ -1,4 +1,5 @@
 pub mod Answered
+mod Waiting
 pub mod Written
 pub mod Turned
 pub mod Finished

@@ -35,9 +35,8 @@ use Rattle.command_check.specs.Check.{IsModuleOf}
 use Rattle.command_defs.specs.declared.CommonEnd.TheVariants.{Memory}
 use Rattle.command_defs.specs.Ends.{end_of_input}
 use Rattle.command_defs.specs.Outside.{OutsideAt, outside}
-use Rattle.command_defs.specs.Output.{PrintsFront}
 use Rattle.command_output.specs.Writes.{WritesAll}
-use Rattle.command_output.proofs.Written.{none_failed, none_then_last, all_none, all_more, front_none, front_more, front_all}
+use Rattle.command_output.proofs.Written.{none_failed, all_none, all_more, front_none, front_all}
 use Rattle.script_words.specs.declared.reason.TextReason.{TextReason}
 use Rattle.command_values.specs.declared.way.Way.{Way}
 use Rattle.command_values.specs.declared.end.Stop.TheVariants.{NoType, Value}
@@ -47,7 +46,7 @@ use Rattle.command_values.specs.declared.lines.Task.{Task}
 use Rattle.command_values.specs.Answers.{IsAnswered, IsWrong, AreAnswered}
 use Rattle.command_values.specs.Values.{Job, HasValues, Part, Given, Passes, ValuesEndMeets}
 use Rattle.command_values.specs.inside.Stops.{RunsTo, PrintsTo, ReadsUntil, WritesUntil, end_of_stop}
-use Rattle.command_values.specs.inside.Turns.{RunAt, outside_of, TaskAnswers, Writes, WriteStops, Refused, Faulty, NoRoom, TakesLine, TakesEnd, TurnStops, Unread, Unanswered, TurnMeets, HasGiven, Begins, Continues, ContinuesModule, ContinuesGiven}
+use Rattle.command_values.specs.inside.Turns.{RunAt, outside_of, TaskAnswers, Writes, WriteStops, Refused, NoRoom, TakesLine, TakesEnd, TurnStops, Unread, Unanswered, TurnMeets, HasGiven, Begins, Continues, ContinuesModule, ContinuesGiven}
 
 -- the lines that were handed out give the module, and then lines whose answers were written
 pub record SoFar (job : Job) (task : Task) (first : OutsideAt) (now : RunAt) : Type 0 where
@@ -276,19 +275,6 @@ module _ {job : Job} {task : Task} {first : OutsideAt} {old : RunAt} (new : RunA
       subst (λ (x : ValuesEnd). RunsTo job first (outside_of new) x) (sym e)
       (subst (λ (sink : SinkAt). RunsTo job first (outside new.source sink) (Common Memory)) (sym same)
       (at_line (Common Memory) tt (front_all s.writes.prints) (no_read_then s.stands.reads (record { faults = m.faults; failed = m.failed })) s.writes.none))
-  write_stops end (Faulty text is e cut) =
-      let stands = stands_more s new line m in
-      subst (λ (x : ValuesEnd). RunsTo job first (outside_of new) x) (sym e)
-      (record {
-        split = split_of new.reading (s.taken ++ m.taken) (s.front ++ (s.lines ++ line.text ∷ []));
-        texts = s.texts ++ text ∷ [];
-        input = takes_of stands;
-        values = inl (values_more s new line m text is);
-        ends = tt;
-        prints = subst (λ (t : List ℕ). PrintsFront first.sink new.sink t) (sym (joined-more s.texts text)) (front_more s.writes.prints cut.prints);
-        reads = stands.reads;
-        writes = none_then_last s.writes.none cut.last;
-      })
 
 at_sink : {job : Job} {first : OutsideAt} (old new : RunAt) (end : ValuesEnd) → new.sink ≡ old.sink
     → RunsTo job first (outside new.source old.sink) end → RunsTo job first (outside_of new) end
@@ -300,9 +286,6 @@ at_sink {job = job} {first = first} old new end same r =
 -- what the lines so far are, wherever the module was given
 abbrev pub SoFarFrom : Task → RunAt → RunAt → Type 0
 SoFarFrom task start now = (job : Job) (first : OutsideAt) → Begins job task first start → SoFar job task first now
-
-pub from_begin : (task : Task) (now : RunAt) → SoFarFrom task now now
-from_begin task now job first b = begins job task first now b
 
 pub turns_at : (task : Task) (start old new : RunAt) (found : Bool) → found ≡ true → SoFarFrom task start old
     → TurnMeets task old new (Ok found) → SoFarFrom task start new

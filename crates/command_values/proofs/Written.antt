@@ -1,13 +1,13 @@
 -- One turn: what the calls in it give together.
-use Rattle.std.proofs.Common.{◌≡◌, ℕ, List, Bool, Option, Some, Result, Ok, Err, refl, sym, ap, ◌∙◌, subst}
+use Rattle.std.proofs.Common.{◌≡◌, ℕ, List, Bool, ◌++◌, Option, Some, None, option_map, Result, Ok, Err, refl, sym, ap, ◌∙◌, subst, append_assoc}
 use Rattle.gnb_base.specs.declared.lines.Line.{Line}
 use Rattle.gnb_base.specs.Outside.{SinkAt}
 use Rattle.gnb_base.specs.Reading.{NextMeets}
 use Rattle.input_defs.specs.declared.InputEnd.{InputEnd}
 use Rattle.input_lines.specs.ReadsLine.{StopsReading}
-use Rattle.command_defs.specs.declared.CommonEnd.TheVariants.{WriteFault}
 use Rattle.command_defs.specs.Ends.{end_of_input}
-use Rattle.command_output.specs.Writes.{WritesFront}
+use Rattle.std.specs.Io.KnownBytes.{Appends}
+use Rattle.command_output.specs.Writes.{WritesAll}
 use Rattle.command_values.specs.declared.answer.Wrong.{Wrong}
 use Rattle.command_values.specs.declared.answer.Unanswered.{Unanswered}
 use Rattle.command_values.specs.declared.answer.Unanswered.TheVariants as unanswered
@@ -16,7 +16,16 @@ use Rattle.command_values.specs.declared.end.ValuesEnd.{ValuesEnd}
 use Rattle.command_values.specs.declared.end.ValuesEnd.TheVariants.{Stopped, Common}
 use Rattle.command_values.specs.declared.lines.Task.{Task}
 use Rattle.command_values.specs.inside.Answered.{AnswerMeets}
-use Rattle.command_values.specs.inside.Turns.{RunAt, with_feed, TaskAnswers, WriteStops, Refused, Faulty, TurnMeets, Unread, Unanswered as NotAnswered}
+use Rattle.command_values.specs.inside.Turns.{RunAt, with_feed, once_written, TaskAnswers, WriteMeets, WriteStops, Refused, TurnMeets, Unread, Unanswered as NotAnswered}
+
+appends_after : (held : Option (List ℕ)) (old text : List ℕ)
+    → Appends (option_map (λ (bs : List ℕ). bs ++ old) held) (option_map (λ (bs : List ℕ). bs ++ (old ++ text)) held) text
+appends_after None old text = tt
+appends_after (Some bs) old text = sym (append_assoc bs old text)
+
+-- a text that waits after another one
+pub waits : (sink : SinkAt) (old text : List ℕ) → WritesAll (once_written sink old) (once_written sink (old ++ text)) text
+waits sink old text = record { prints = record { appends = appends_after sink.held old text }; none = record { faults = refl; failed = λ h. h } }
 
 module _ (task : Task) (line : Line) (bytes : List ℕ) (same : bytes ≡ line.text) where
   pub refused_line : (sink : SinkAt) (u : Unanswered) (wrong : Wrong) → u ≡ unanswered.Wrong wrong
@@ -26,10 +35,14 @@ module _ (task : Task) (line : Line) (bytes : List ℕ) (same : bytes ≡ line.t
       subst (λ (b : List ℕ). AnswerMeets task.way task.module.now task.id.number b (Err u)) same h in
       Refused wrong (subst (λ (x : Unanswered). AnswerMeets task.way task.module.now task.id.number line.text (Err x)) e of_text) refl refl
 
-  pub faulty_line : (a b : SinkAt) (text fed out : List ℕ) → AnswerMeets task.way task.module.now task.id.number bytes (Ok text)
-      → fed ≡ with_feed text → out ≡ fed → WritesFront a b out → WriteStops task a b line (Common WriteFault)
-  faulty_line a b text fed out h e f w =
-      Faulty text (subst (λ (bs : List ℕ). TaskAnswers task bs text) same h) refl (subst (λ (t : List ℕ). WritesFront a b t) (f ∙ e) w)
+  pub answered_line : (sink : SinkAt) (old new text fed : List ℕ) → AnswerMeets task.way task.module.now task.id.number bytes (Ok text)
+      → fed ≡ with_feed text → new ≡ old ++ fed → WriteMeets task (once_written sink old) (once_written sink new) line (Ok tt)
+  answered_line sink old new text fed h e f = record {
+    text = text;
+    answers = subst (λ (bs : List ℕ). TaskAnswers task bs text) same h;
+    all = subst (λ (w : List ℕ). WritesAll (once_written sink old) (once_written sink w) (with_feed text))
+        (sym (f ∙ ap (λ (t : List ℕ). old ++ t) e)) (waits sink old (with_feed text));
+  }
 
 turn_result : (task : Task) (old new : RunAt) (end : ValuesEnd) (result : Result Bool ValuesEnd) → result ≡ Err end
     → TurnMeets task old new (Err end) → TurnMeets task old new result

@@ -1,8 +1,10 @@
-//! Lines are answered one by one: each answer is written before the next line is read.
+//! Lines are answered one by one: each answer is written before the source is read again.
 
-ghost use Rattle.std.specs.Prelude.{◌≡◌, ◌<◌, length, IfOk};
+ghost use Rattle.std.specs.Prelude.{◌<◌, ◌≡◌, length, IfOk, OnOk, OnErr};
+ghost use Rattle.gnb_base.specs.Outside.{SinkAt};
+ghost use Rattle.command_output.specs.Writes.{WritesFront};
 ghost use Rattle.command_values.specs.inside.Answered.{AnswerMeets};
-ghost use Rattle.command_values.specs.inside.Turns.{run_at, with_feed, WriteMeets, TurnMeets, Continues};
+ghost use Rattle.command_values.specs.inside.Turns.{run_at, with_feed, once_written, WriteMeets, TurnMeets, Waits, Finishing, Continues};
 
 use crate::answer::{Unanswered, answer};
 use crate::end::{Stop, ValuesEnd};
@@ -11,7 +13,7 @@ use asn1_module::{Module, TypeId};
 use command_defs::CommonEnd;
 use command_output::write_all;
 use gnb_base::lines::{Line, LineReader};
-use gnb_base::outside::{Sink, Source};
+use gnb_base::outside::{Failed, Sink, Source};
 use gnb_types::octets::{Memory, Octets};
 use input_lines::next_line;
 use std::alloc::Global;
@@ -24,6 +26,9 @@ pub struct Task<'m> {
     pub id: TypeId,
 }
 
+/// So many octets of answers wait at most, with the last one whole.
+const WAITING_LIMIT: usize = 65_536;
+
 /// A text with an LF after it.
 fn fed(text: Octets) -> Result<Octets, Memory>
     ensures { IfOk result (λ line. line ≡ with_feed text) }
@@ -33,15 +38,16 @@ fn fed(text: Octets) -> Result<Octets, Memory>
     Ok(text)
 }
 
-/// Answers a line, and writes the answer.
-fn write_answer<K: Sink>(
+/// Answers a line; the answer waits after those before it.
+fn put_answer(
     alloc: Global,
     task: Task<'_>,
     line: &Line,
-    output: &mut K,
+    waiting: &mut Octets,
 ) -> Result<(), ValuesEnd>
     requires { task.id.number < length task.module.now.nodes }
-    ensures { WriteMeets task.entry (K.at output.old) (K.at output.new) line.now result }
+    ensures { (sink : SinkAt) → WriteMeets task.entry (once_written sink waiting.old)
+        (once_written sink waiting.new) line.now result }
 {
     let text = match answer(alloc, task.way, task.module, task.id, line.text.as_slice()) {
         Ok(text) => text,
@@ -56,32 +62,63 @@ fn write_answer<K: Sink>(
     let Ok(text) = fed(text) else {
         return Err(ValuesEnd::Common(CommonEnd::Memory));
     };
-    match write_all(output, text.as_slice()) {
+    match waiting.append(text.as_slice()) {
         Ok(()) => Ok(()),
-        Err(_) => Err(ValuesEnd::Common(CommonEnd::WriteFault)),
+        Err(Memory) => Err(ValuesEnd::Common(CommonEnd::Memory)),
     }
 }
 
 /// Takes the next line and answers it; whether there was one.
-fn answer_line<S: Source, K: Sink>(
+fn answer_line<S: Source>(
     alloc: Global,
     task: Task<'_>,
     reader: &mut LineReader,
     input: &mut S,
-    output: &mut K,
+    waiting: &mut Octets,
 ) -> Result<bool, ValuesEnd>
     requires { task.id.number < length task.module.now.nodes }
-    ensures { TurnMeets task.entry (run_at reader.old (S.at input.old) (K.at output.old))
-        (run_at reader.new (S.at input.new) (K.at output.new)) result }
+    ensures { (sink : SinkAt) → TurnMeets task.entry
+        (run_at reader.old (S.at input.old) (once_written sink waiting.old))
+        (run_at reader.new (S.at input.new) (once_written sink waiting.new)) result }
 {
     let Some(line) = next_line(reader, input)? else {
         return Ok(false);
     };
-    write_answer(alloc, task, &line, output)?;
+    put_answer(alloc, task, &line, waiting)?;
     Ok(true)
 }
 
-/// Answers each line up to the end of the input. What is written then is left to the caller.
+/// Writes the answers that wait, unless the next line is kept whole. After an error what waits is unspecified.
+fn write_before_read<K: Sink>(
+    alloc: Global,
+    reader: &LineReader,
+    output: &mut K,
+    waiting: &mut Octets,
+) -> Result<(), Failed>
+    ensures ok { OnOk result
+        (Waits reader.now.kept (K.at output.old) (K.at output.new) (waiting.old, waiting.new)) }
+    ensures front { OnErr result (WritesFront (K.at output.old) (K.at output.new) waiting.old) }
+{
+    if reader.keeps_line() && waiting.len() < WAITING_LIMIT {
+        return Ok(());
+    }
+    write_all(output, waiting.as_slice())?;
+    *waiting = Octets::new(alloc);
+    Ok(())
+}
+
+/// Writes the answers that wait at an end; how it ended after that.
+fn finish_answers<K: Sink>(output: &mut K, waiting: &Octets, end: ValuesEnd) -> ValuesEnd
+    ensures { Finishing (K.at output.old) (K.at output.new) waiting.now end result }
+{
+    match write_all(output, waiting.as_slice()) {
+        Ok(()) => end,
+        Err(_) => ValuesEnd::Common(CommonEnd::WriteFault),
+    }
+}
+
+/// Answers each line up to the end of the input. Answers wait while further whole lines are kept, and are written before the source
+/// is read again. What is written at the end is left to the caller.
 pub fn answer_lines<S: Source, K: Sink>(
     alloc: Global,
     task: Task<'_>,
@@ -93,11 +130,16 @@ pub fn answer_lines<S: Source, K: Sink>(
     ensures { Continues task.entry (run_at reader.old (S.at input.old) (K.at output.old))
         (run_at reader.new (S.at input.new) (K.at output.new)) result }
 {
+    let mut waiting = Octets::new(alloc);
     loop {
-        match answer_line(alloc, task, reader, input, output) {
+        match write_before_read(alloc, reader, output, &mut waiting) {
+            Ok(()) => {}
+            Err(_) => return ValuesEnd::Common(CommonEnd::WriteFault),
+        }
+        match answer_line(alloc, task, reader, input, &mut waiting) {
             Ok(true) => {}
-            Ok(false) => return ValuesEnd::Done,
-            Err(end) => return end,
+            Ok(false) => return finish_answers(output, &waiting, ValuesEnd::Done),
+            Err(end) => return finish_answers(output, &waiting, end),
         }
     }
 }

@@ -1,9 +1,10 @@
 -- Bytes without LF, and the front of a piece that a read filled.
-use Rattle.std.proofs.Common.{◌≡◌, ◌≢◌, ◌==◌, ℕ, ◌+◌, ◌-◌, ◌<◌, ◌≤◌, Bool, true, false, if◌then◌else◌, List, [], ◌∷◌, ◌++◌, length, get_or, take, Option, Result, Ok, Err, refl, sym, ap, ◌∙◌, subst, arith, eqb-true}
+use Rattle.std.proofs.Common.{◌≡◌, ◌≢◌, ◌==◌, ℕ, zero, suc, ◌+◌, ◌-◌, ◌<◌, ◌≤◌, Bool, true, false, if◌then◌else◌, List, [], ◌∷◌, ◌++◌, length, get_or, take, Option, Some, None, MatchOption, Result, Ok, Err, refl, sym, ap, ◌∙◌, subst, arith, eqb-true, eq-eqb}
 use Rattle.std.proofs.lemmas.List.{take_more, take_all, take-append-le}
 use Rattle.std.specs.Io.{ReadsAtMost}
 use Rattle.std.specs.Io.KnownBytes.{ReadConsumes, Consumes}
-use Rattle.gnb_base.specs.Lines.{line_feed, HasNoLf, past_line}
+use Rattle.memchr.specs.Find.{Nowhere, Passes, IsFirst, is_byte}
+use Rattle.gnb_base.specs.Lines.{line_feed, HasNoLf, IsFirstLf, past_line}
 use Rattle.gnb_base.specs.Pieces.{FillsFront}
 use Rattle.gnb_base.specs.Reading.{piece_size}
 
@@ -15,11 +16,43 @@ pub HasNoLf-front : (xs ys : List ℕ) → HasNoLf (xs ++ ys) → HasNoLf xs
 HasNoLf-front [] ys h = tt
 HasNoLf-front (x ∷ xs) ys h = (h.0, HasNoLf-front xs ys h.1)
 
+pub HasNoLf-back : (xs ys : List ℕ) → HasNoLf (xs ++ ys) → HasNoLf ys
+HasNoLf-back [] ys h = h
+HasNoLf-back (x ∷ xs) ys h = HasNoLf-back xs ys h.1
+
+HasNoLf-at : (xs : List ℕ) (i : ℕ) → i < length xs → HasNoLf xs → get_or xs i 0 ≢ line_feed
+HasNoLf-at [] i inside h = absurd (omega (arith, inside))
+HasNoLf-at (x ∷ xs) zero inside h = h.0
+HasNoLf-at (x ∷ xs) (suc i) inside h = HasNoLf-at xs i (omega (arith, inside)) h.1
+
+pub first_lf_is_one : (xs ys : List ℕ) (i : ℕ) → IsFirstLf ys i → HasNoLf (xs ++ ys) → ⊥
+first_lf_is_one xs ys i lf h = HasNoLf-at ys i lf.in_range (HasNoLf-back xs ys h) lf.here
+
 pub HasNoLf-more : (xs : List ℕ) (i : ℕ) → i < length xs → HasNoLf (take i xs) → get_or xs i 0 ≢ line_feed → HasNoLf (take (i + 1) xs)
 HasNoLf-more xs i h before here = subst HasNoLf (sym (take_more xs i 0 h)) (HasNoLf-append (take i xs) (get_or xs i 0 ∷ []) before (here, tt))
 
 pub HasNoLf-all : (xs : List ℕ) (i : ℕ) → length xs ≤ i → HasNoLf (take i xs) → HasNoLf xs
 HasNoLf-all xs i h before = subst HasNoLf (take_all i xs h) before
+
+-- where no place up to n holds an LF
+no_lf_up_to : (xs : List ℕ) (n : ℕ) → n ≤ length xs → Nowhere (Passes (is_byte line_feed) xs) 0 n → HasNoLf (take n xs)
+no_lf_up_to xs zero h none = tt
+no_lf_up_to xs (suc n) h none =
+    let next : n + 1 ≡ suc n = omega arith in
+    subst (λ (m : ℕ). HasNoLf (take m xs)) next
+    (HasNoLf-more xs n (omega arith) (no_lf_up_to xs n (omega arith) (λ k low high. none k low (omega arith)))
+    (λ lf. none n (omega arith) (omega arith) (eq-eqb (get_or xs n 0) line_feed lf)))
+
+-- the first byte that is an LF, as `memchr` finds it
+pub first_lf : (xs : List ℕ) (r : Option ℕ) → IsFirst (Passes (is_byte line_feed) xs) 0 (length xs) r
+    → MatchOption r (HasNoLf xs) (λ i. IsFirstLf xs i)
+first_lf xs None none = HasNoLf-all xs (length xs) (omega arith) (no_lf_up_to xs (length xs) (omega arith) none)
+first_lf xs (Some i) found =
+    record {
+      in_range = found.0.high;
+      before = no_lf_up_to xs i (omega (arith, found.0.high)) found.0.before;
+      here = eqb-true (get_or xs i 0) line_feed found.1;
+    }
 
 pub fills_front : {E : Type 0} (left0 left1 : Option (List ℕ)) (wanted : ℕ) (r : Result ℕ E) (front rest : List ℕ)
     → ReadConsumes left0 left1 r front → ReadsAtMost r front → length front ≡ wanted → FillsFront left0 left1 wanted r (front ++ rest)

@@ -1,5 +1,5 @@
 -- What a line reader's steps do, at each of their exits.
-use Rattle.std.proofs.Common.{◌≡◌, ◌≢◌, ℕ, ◌+◌, ◌-◌, ◌<◌, ◌≤◌, Bool, true, false, List, [], ◌∷◌, ◌++◌, length, get_or, take, drop, Option, Some, None, Result, Ok, Err, refl, sym, ap, ◌∙◌, subst, arith, append_assoc, append-nil, nat_lt, ltb-true, ltb-false}
+use Rattle.std.proofs.Common.{◌≡◌, ◌≢◌, ℕ, ◌+◌, ◌-◌, ◌<◌, ◌≤◌, Bool, true, false, List, [], ◌∷◌, ◌++◌, length, get_or, take, drop, Option, Some, None, is_some, MatchOption, MatchBool, Result, Ok, Err, refl, sym, ap, ◌∙◌, subst, arith, append_assoc, append-nil, nat_lt, ltb-true, ltb-false}
 use Rattle.std.proofs.lemmas.List.{length-append, length-take, length-drop, drop-drop, drop-take, drop_more, take-append-drop}
 use Rattle.std.specs.Io.KnownBytes.{Consumes, IsAtEnd, Keeps}
 use Rattle.gnb_base.specs.declared.lines.LineReader.TheInside.{Inside}
@@ -12,7 +12,7 @@ use Rattle.gnb_base.specs.Outside.{SourceAt, one_more, Rose}
 use Rattle.gnb_base.specs.Lines.{line_feed, HasNoLf, IsFirstLf, past_line}
 use Rattle.gnb_base.specs.Reading.{Reading, CountsReadFault, FailsLast, input_limit, piece_size}
 use Rattle.gnb_base.specs.LineReader.{reading_of, PhaseFits, IsSound, TakesOff, TakesRest, Reads, ReadsMore}
-use Rattle.gnb_base.proofs.LineLemmas.{HasNoLf-append, few_after}
+use Rattle.gnb_base.proofs.LineLemmas.{HasNoLf-append, first_lf_is_one, few_after}
 
 -- what wasn't looked at of the last piece
 abbrev pub rest_of : Inside → List ℕ
@@ -114,6 +114,18 @@ kept_without_lf r old piece is sound same rest =
 pub same_first : (r : Inside) (piece : List ℕ) (i : ℕ) → piece ≡ r.piece.items → IsFirstLf (take (r.stop - r.start) (drop r.start piece)) i
     → IsFirstLf (rest_of r) i
 same_first r piece i same lf = subst (λ (p : List ℕ). IsFirstLf (take (r.stop - r.start) (drop r.start p)) i) same lf
+
+-- whether a line is kept, by what was found in the rest of the piece
+pub line_kept : (r : Inside) (old : Reading) (piece : List ℕ) (found : Option ℕ) (b : Bool) → b ≡ is_some found → reading_of r ≡ old
+    → IsSound r → piece ≡ r.piece.items
+    → MatchOption found (HasNoLf (take (r.stop - r.start) (drop r.start piece))) (IsFirstLf (take (r.stop - r.start) (drop r.start piece)))
+    → MatchBool b (HasNoLf old.kept → ⊥) (HasNoLf old.kept)
+line_kept r old piece None b e is sound same none =
+    subst (λ (x : Bool). MatchBool x (HasNoLf old.kept → ⊥) (HasNoLf old.kept)) (sym e) (kept_without_lf r old piece is sound same none)
+line_kept r old piece (Some i) b e is sound same first =
+    subst (λ (x : Bool). MatchBool x (HasNoLf old.kept → ⊥) (HasNoLf old.kept)) (sym e)
+    (λ none. first_lf_is_one r.begun.items (rest_of r) i (same_first r piece i same first)
+    (subst (λ (o : Reading). HasNoLf o.kept) (sym is) none))
 
 pub phase_is : (r : Inside) (old : Reading) → reading_of r ≡ old → old.phase ≡ Going → r.phase ≡ Going
 phase_is r old is going = ap (λ (o : Reading). o.phase) is ∙ going

@@ -1,6 +1,6 @@
 //! Lines of an input that comes in pieces.
 
-ghost use Rattle.std.specs.Prelude.{◌≡◌, ◌<◌, ◌≤◌, ◌+◌, ℕ, List, length, MatchOption, IfOk, is_err};
+ghost use Rattle.std.specs.Prelude.{◌≡◌, ◌<◌, ◌≤◌, ◌+◌, ℕ, List, length, MatchOption, MatchBool, IfOk, is_err};
 ghost use Rattle.gnb_base.specs.Handing.{Call, Run, Progress, texts, lines_handed_out};
 ghost use Rattle.gnb_base.specs.Lines.{lines_of, AreLines, HasNoLf, IsFirstLf};
 ghost use Rattle.gnb_base.specs.Pieces.{FillsFront};
@@ -9,6 +9,7 @@ ghost use Rattle.gnb_base.specs.Reading.{Reading, fresh, NextMeets, input_limit,
 
 use crate::outside::{Failed, Source};
 use gnb_types::octets::{Memory, Octets};
+use memchr::memchr;
 use std::alloc::Global;
 use std::marker::Model;
 use std::mem;
@@ -101,6 +102,13 @@ impl LineReader {
         ensures { result ≡ self.now.taken }
     {
         self.taken
+    }
+
+    /// Whether a whole line is kept, which the next call hands out without a read.
+    pub fn keeps_line(&self) -> bool
+        ensures { MatchBool result (HasNoLf self.now.kept → ⊥) (HasNoLf self.now.kept) }
+    {
+        line_end(&self.piece[self.start..self.stop]).is_some()
     }
 
     /// The next line, or `None` at the end of the input where no byte is kept.
@@ -238,12 +246,7 @@ pub fn lines_handed_out_are_the_lines()
 fn line_end(bytes: &[u8]) -> Option<usize>
     ensures { MatchOption result (HasNoLf bytes.now) (λ i. IsFirstLf bytes.now i) }
 {
-    for (i, byte) in bytes.iter().enumerate() {
-        if *byte == LINE_FEED {
-            return Some(i);
-        }
-    }
-    None
+    memchr(LINE_FEED, bytes)
 }
 
 /// How many bytes the next read asks for. The byte after the limit is asked for alone.

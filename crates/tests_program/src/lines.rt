@@ -33,3 +33,21 @@ fn a_read_fault(rt: HostRuntime) -> Result<(), Memory> {
     assert!(rt; has_a_fault(&mut reader, &mut source));
     Ok(())
 }
+
+fn hands_out_what_it_keeps(reader: &mut LineReader, source: &mut MemorySource) -> bool {
+    !reader.keeps_line()
+        && is_first(&next_line(reader, source))
+        && reader.keeps_line()
+        && next_line(reader, source).is_ok()
+        && !reader.keeps_line()
+}
+
+/// A whole line that is kept is known before it is handed out; what is left of a line is none.
+#[test]
+fn a_line_that_is_kept(rt: HostRuntime) -> Result<(), Memory> {
+    let input = Vec::from_slice(rt.alloc(), b"one\ntwo\nthr")?;
+    let mut source = MemorySource::new(input, 16, Vec::new(rt.alloc()));
+    let mut reader = LineReader::new(rt.alloc())?;
+    assert!(rt; hands_out_what_it_keeps(&mut reader, &mut source));
+    Ok(())
+}

@@ -1,5 +1,5 @@
 -- Internal: what was done before the last line is written, and the writing of that line.
-use Rattle.std.specs.Prelude.{◌≡◌, List, [], ◌∷◌, ℕ}
+use Rattle.std.specs.Prelude.{◌≡◌, ◌⊎◌, List, [], ◌∷◌, ℕ}
 use Rattle.gnb_base.specs.Outside.{SourceAt, SinkAt}
 use Rattle.input_defs.specs.Faults.{NoReadFailed, LastReadFailed}
 use Rattle.input_defs.specs.Split.{InputSplit, rest_of, joined, TakesInput}
@@ -25,6 +25,7 @@ PrintsTo before after text end = Prints before after text
 
 abbrev pub ReadsUntil : SourceAt → SourceAt → ValuesEnd → Type 0
 ReadsUntil before after (Common (ReadFault taken)) = LastReadFailed before after
+ReadsUntil before after (Common WriteFault) = NoReadFailed before after ⊎ LastReadFailed before after
 ReadsUntil before after end = NoReadFailed before after
 
 abbrev pub WritesUntil : SinkAt → SinkAt → ValuesEnd → Type 0

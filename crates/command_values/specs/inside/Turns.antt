@@ -1,7 +1,7 @@
 -- Internal: what reading, answering and writing one line does, and what the lines from a moment on come to.
-use Rattle.std.specs.Prelude.{◌≡◌, ◌++◌, ◌∷◌, [], ℕ, List, Bool, true, false, Some, None, Result, Ok, Err}
+use Rattle.std.specs.Prelude.{◌≡◌, ◌++◌, ◌∷◌, [], ℕ, List, Bool, true, false, Some, None, Result, Ok, Err, option_map}
 use Rattle.gnb_base.specs.declared.lines.Line.{Line}
-use Rattle.gnb_base.specs.Lines.{line_feed}
+use Rattle.gnb_base.specs.Lines.{line_feed, HasNoLf}
 use Rattle.gnb_base.specs.Outside.{SourceAt, SinkAt}
 use Rattle.gnb_base.specs.Reading.{Reading, NextMeets}
 use Rattle.input_defs.specs.declared.InputEnd.{InputEnd}
@@ -40,6 +40,10 @@ outside_of r = outside r.source r.sink
 abbrev pub with_feed : List ℕ → List ℕ
 with_feed text = text ++ line_feed ∷ []
 
+-- what a sink is once a text that waits is written
+abbrev pub once_written : SinkAt → List ℕ → SinkAt
+once_written sink waiting = record sink { held = option_map (λ (bytes : List ℕ). bytes ++ waiting) sink.held }
+
 -- ---- a line
 
 abbrev pub TaskAnswers : Task → List ℕ → List ℕ → Type 0
@@ -54,11 +58,9 @@ pub record Writes (task : Task) (before after : SinkAt) (line : List ℕ) : Type
   pub answers : TaskAnswers task line text
   pub all : WritesAll before after (with_feed text)
 
--- it is refused; or a write failed after a front of the answer; or memory ran out before
+-- it is refused; or memory ran out before
 pub data WriteStops (task : Task) (before after : SinkAt) (line : Line) (end : ValuesEnd) : Type 0 where
   Refused : (wrong : Wrong) → TaskRefuses task line.text wrong → end ≡ Stopped (Value line.number wrong) → after ≡ before
-      → WriteStops task before after line end
-  Faulty : (text : List ℕ) → TaskAnswers task line.text text → end ≡ Common WriteFault → WritesFront before after (with_feed text)
       → WriteStops task before after line end
   NoRoom : end ≡ Common Memory → after ≡ before → WriteStops task before after line end
 
@@ -87,6 +89,18 @@ abbrev pub TurnMeets : Task → RunAt → RunAt → Result Bool ValuesEnd → Ty
 TurnMeets task old new (Ok true) = TakesLine task old new
 TurnMeets task old new (Ok false) = TakesEnd old new
 TurnMeets task old new (Err end) = TurnStops task old new end
+
+-- ---- the answers that wait
+
+-- Before a line is taken they are written, and none waits then; or a whole line is kept, so that no read comes before the next answer.
+pub data Waits (kept : List ℕ) (before after : SinkAt) (waiting : List ℕ × List ℕ) : Type 0 where
+  Keeping : (HasNoLf kept → ⊥) → after ≡ before → waiting.1 ≡ waiting.0 → Waits kept before after waiting
+  Written : WritesAll before after waiting.0 → waiting.1 ≡ [] → Waits kept before after waiting
+
+-- they are written at an end, or a front of them where a write fails
+pub data Finishing (before after : SinkAt) (waiting : List ℕ) (end result : ValuesEnd) : Type 0 where
+  Whole : WritesAll before after waiting → result ≡ end → Finishing before after waiting end result
+  Cut : WritesFront before after waiting → result ≡ Common WriteFault → Finishing before after waiting end result
 
 -- ---- from the module on
 
