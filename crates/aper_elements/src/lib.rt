@@ -1,12 +1,10 @@
-//! A CHOICE, a ProtocolIE-Container and a Protocol-PDU of aligned PER, as they are begun and gone on with (ITU-T X.691).
+//! A CHOICE and a Protocol-PDU of aligned PER, as they are begun (ITU-T X.691).
 #![tactic(auto)]
 
 mod choice;
-mod container;
 mod message;
 
 pub use choice::begin_choice;
-pub use container::{after_element, begin_container};
 pub use message::begin_message;
 
 /// Of `asn1_module`, for crates above.
@@ -19,16 +17,11 @@ pub mod from_aper_types {
     pub use aper_members::from_aper_types::{Form, form_of};
 }
 
-/// Of `aper_heads`, for crates above.
-pub mod from_aper_heads {
-    pub use aper_frames::from_aper_heads::{ask_flags, ask_marks};
-}
-
 /// Of `aper_frames`, for crates above.
 pub mod from_aper_frames {
     pub use aper_frames::{
-        Addition, AdditionFrame, Additions, ComponentFrame, Components, Flags, Frame, Members,
-        Stack, Step, Turn, ask_inside, ask_unknown, path_of,
+        Addition, AdditionFrame, Additions, ComponentFrame, Components, ElementFrame, Elements,
+        Flags, Frame, Members, Stack, Step, Turn, ask_inside, ask_unknown, path_of,
     };
 }
 

@@ -14,6 +14,7 @@ use asn1_types::TypeId;
 use std::alloc::Global;
 
 /// Begins an open type inside a value, around a value of a type.
+#[inline(always)]
 pub fn ask_inside<'m>(
     cursor: &mut Cursor,
     frames: &mut Stack<'m>,
@@ -54,6 +55,7 @@ pub fn ask_unknown<'m>(
 }
 
 /// An open type inside a value, around a value of this type, or of contents that aren't known.
+#[inline(always)]
 pub fn ask_contents<'m>(
     alloc: Global,
     cursor: &mut Cursor,

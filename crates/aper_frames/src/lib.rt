@@ -25,8 +25,5 @@ pub mod from_aper_asking {
 
 /// Of `aper_heads`, for crates above.
 pub mod from_aper_heads {
-    pub use aper_heads::{
-        MessageHead, ask_element_count, ask_element_head, ask_flags, ask_marks, ask_message_head,
-        rows_left,
-    };
+    pub use aper_heads::{MessageHead, ask_message_head};
 }

@@ -29,9 +29,9 @@ use Rattle.aper_elements.specs.aper_frames.declared.frame.Turn.{Turn}
 use Rattle.aper_elements.specs.aper_frames.declared.frame.Turn.TheVariants as turns
 use Rattle.aper_elements.specs.aper_frames.Frames.{options_before, values_before, after_components, component_after, components_next, ask_member, members_left, path_of, next_of}
 use Rattle.aper_elements.specs.aper_frames.Steps.{Steps, left}
-use Rattle.aper_elements.specs.aper_frames.Weights.{list_weight, members_weight}
+use Rattle.aper_elements.specs.aper_frames.Weights.{list_weight, members_weight, Lighter}
 use Rattle.aper_reading.specs.Heavy.{weighed}
-use Rattle.aper_reading.specs.InModule.{StepsIn, IsOfModule, IsAround, among}
+use Rattle.aper_reading.specs.InModule.{StepsIn, LighterIn, IsOfModule, IsAround, among}
 use Rattle.aper_reading.specs.Puts.{Puts}
 use Rattle.aper_reading.specs.Lists.{IsListRefused, StartsList}
 use Rattle.aper_reading.proofs.HeavyLemmas.{is_inside}
@@ -58,6 +58,16 @@ type_inside m weight id h less = is_inside m id h.most (λ other. omega (arith, 
 
 pub module_less : (m : Syntax) (more weight : (ℕ → ℕ) → ℕ) → IsOfModule m more → ((w : ℕ → ℕ) → weight w ≤ more w) → IsOfModule m weight
 module_less m more weight h less = record { most = h.most; bounded = λ other. omega (arith, less (weighed m other), h.bounded other) }
+
+-- ---- steps that leave less to be read leave less of the module's types
+pub lighter_in : (m : Syntax) (weight : (ℕ → ℕ) → ℕ) (fs : List Frame) (r : Result Turn Unanswered) → Lighter weight fs r → LighterIn m weight fs r
+lighter_in m weight fs (Ok turn) h = λ other. h (weighed m other)
+lighter_in m weight fs (Err e) h = tt
+
+pub lighter_than_in : (m : Syntax) (some more : (ℕ → ℕ) → ℕ) (fs : List Frame) (r : Result Turn Unanswered)
+    → ((other : ℕ) → some (weighed m other) ≤ more (weighed m other)) → LighterIn m some fs r → LighterIn m more fs r
+lighter_than_in m some more fs (Ok turn) less h = λ other. omega (arith, less other, h other)
+lighter_than_in m some more fs (Err e) less h = tt
 
 -- ---- a value of a tree that is another's
 pub reads_as : (r : Result Value Unanswered) (t u : Tree) (old new : Cursor) → t ≡ u → Reads (λ p. asks p u) old new r → Reads (λ p. asks p t) old new r

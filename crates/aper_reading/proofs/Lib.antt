@@ -1,5 +1,6 @@
 pub mod ListLemmas
 pub mod SequenceSteps
+pub mod ContainerSteps
 pub mod FormBounds
 pub mod HeavyLemmas
 pub mod Turns

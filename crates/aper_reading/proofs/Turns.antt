@@ -32,11 +32,12 @@ use Rattle.aper_reading.proofs.HeavyLemmas.{weighed_inside, form_weighed, is_ins
 -- after the beginning of a value
 module _ (m : Syntax) (id : TypeId) (form : Form) (is : tree m id.number ≡ form_tree (tree m) form) where
   pub begun_lighter : (turn : Turn) (before fs : List Frame) → id.number < length m.nodes → IsFormInside (length m.nodes) form
-      → ((w : ℕ → ℕ) → turn_weight w turn + frames_weight w fs < form_weight w form + frames_weight w before) → (other : ℕ)
+      → ((other : ℕ) → turn_weight (weighed m other) turn + frames_weight (weighed m other) fs
+      < form_weight (weighed m other) form + frames_weight (weighed m other) before) → (other : ℕ)
       → turn_weight (weighed m other) turn + frames_weight (weighed m other) fs
       < turn_weight (weighed m other) (turns.Read id) + frames_weight (weighed m other) before
   begun_lighter turn before fs within inside lighter other =
-      omega (arith, lighter (weighed m other), form_weighed m other id.number form within is inside)
+      omega (arith, lighter other, form_weighed m other id.number form within is inside)
 
 -- what a form of a type of a module holds is of the module
 pub form_of_module : (m : Syntax) (id : ℕ) (form : Form) → id < length m.nodes → tree m id ≡ form_tree (tree m) form

@@ -1,5 +1,5 @@
 -- Internal: steps by the types of one module, of which simple values are read in place.
-use Rattle.std.specs.Prelude.{◌≡◌, ℕ, ◌+◌, ◌-◌, ◌≤◌, List, ◌∷◌, Result, Ok, Err}
+use Rattle.std.specs.Prelude.{◌≡◌, ℕ, ◌+◌, ◌-◌, ◌<◌, ◌≤◌, List, ◌∷◌, Result, Ok, Err}
 use Rattle.asn1_assignments.specs.declared.assignment.Syntax.{Syntax}
 use Rattle.asn1_types.specs.declared.definition.Component.{Component}
 use Rattle.aper_defs.specs.Trees.{Tree}
@@ -17,7 +17,7 @@ use Rattle.aper_elements.specs.aper_frames.declared.frame.Frame.TheVariants as f
 use Rattle.aper_elements.specs.aper_frames.declared.frame.Turn.{Turn}
 use Rattle.aper_elements.specs.aper_frames.Frames.{component_after, path_of, next_of}
 use Rattle.aper_elements.specs.aper_frames.Steps.{left}
-use Rattle.aper_elements.specs.aper_frames.Weights.{components_weight, frames_weight}
+use Rattle.aper_elements.specs.aper_frames.Weights.{components_weight, turn_weight, frames_weight}
 use Rattle.aper_reading.specs.Heavy.{weighed}
 
 -- `Steps` by these types alone.
@@ -30,6 +30,11 @@ StepsIn of all old new fs (Err Memory) = Unit {0}
 pub record IsOfModule (m : Syntax) (weight : (ℕ → ℕ) → ℕ) : Type 0 where
   pub most : ℕ
   pub bounded : (other : ℕ) → weight (weighed m other) ≤ most
+
+-- Less is left than this, whatever types outside the module weigh: a type of the module weighs what its form does.
+abbrev pub LighterIn : Syntax → ((ℕ → ℕ) → ℕ) → List Frame → Result Turn Unanswered → Type 0
+LighterIn m weight fs (Ok turn) = (other : ℕ) → turn_weight (weighed m other) turn + frames_weight (weighed m other) fs < weight (weighed m other)
+LighterIn m weight fs (Err e) = Unit {0}
 
 -- A member is read, and the others after it.
 abbrev pub among : Members → List Frame → List Frame

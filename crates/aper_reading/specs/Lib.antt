@@ -3,6 +3,7 @@ pub mod Heavy
 pub mod InModule
 pub mod Puts
 pub mod Lists
+pub mod Elements
 pub mod Turns
 pub mod Decoding
 pub use Rattle.aper_elements.specs.asn1_defs as asn1_defs

@@ -5,10 +5,11 @@ ghost use Rattle.aper_defs.specs.Asking.{asks};
 ghost use Rattle.aper_elements.specs.aper_types.Forms.{form_tree};
 ghost use Rattle.aper_elements.specs.aper_types.Types.{tree};
 ghost use Rattle.aper_elements.specs.aper_frames.Frames.{path_of, next_of};
-ghost use Rattle.aper_elements.specs.aper_frames.Weights.{frames_weight, Lighter};
+ghost use Rattle.aper_elements.specs.aper_frames.Weights.{frames_weight};
 ghost use Rattle.aper_reading.specs.Forms.{IsFormBounded, form_weight};
-ghost use Rattle.aper_reading.specs.InModule.{IsOfModule, StepsIn};
+ghost use Rattle.aper_reading.specs.InModule.{IsOfModule, StepsIn, LighterIn};
 
+use crate::container::begin_container;
 use crate::list::begin_list;
 use crate::sequence::begin_sequence;
 use crate::simple::{is_simple, read_form};
@@ -16,7 +17,7 @@ use aper_cursor::{Cursor, Unanswered};
 use aper_elements::from_aper_frames::{Stack, Turn};
 use aper_elements::from_aper_types::Form;
 use aper_elements::from_asn1_module::Module;
-use aper_elements::{begin_choice, begin_container, begin_message};
+use aper_elements::{begin_choice, begin_message};
 use std::alloc::Global;
 
 /// Begins a value of a type of this form: it is made at once, or one inside it is to be read.
@@ -31,7 +32,7 @@ pub fn begin<'m>(
     requires inside { IsOfModule m.now (λ w. form_weight w form) }
     ensures asked { StepsIn (tree m.now) (asks (path_of frames.old) (form_tree (tree m.now) form.entry) (next_of (tree m.now) frames.old))
         cursor.old cursor.new frames.new result }
-    ensures lighter { Lighter (λ w. form_weight w form.entry + frames_weight w frames.old) frames.new result }
+    ensures lighter { LighterIn m.now (λ w. form_weight w form.entry + frames_weight w frames.old) frames.new result }
 {
     if is_simple(form) {
         return Ok(Turn::Made(read_form(alloc, cursor, form)?));
@@ -46,7 +47,7 @@ pub fn begin<'m>(
         Form::Sequence(members) => begin_sequence(alloc, m, cursor, frames, members),
         Form::Choice(members) => begin_choice(alloc, cursor, frames, members),
         Form::SequenceOf { size, element } => begin_list(alloc, m, cursor, frames, size, element),
-        Form::Container(rows) => begin_container(alloc, cursor, frames, rows),
+        Form::Container(rows) => begin_container(alloc, m, cursor, frames, rows),
         Form::Pdu(rows) => begin_message(alloc, cursor, frames, rows),
     }
 }

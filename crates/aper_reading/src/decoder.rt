@@ -129,6 +129,7 @@ fn read_value<'m>(
 }
 
 /// Begins the value that is to be read, or goes on after the one that has been made.
+#[inline(always)]
 fn take_turn<'m>(
     alloc: Global,
     m: &'m Module,

@@ -3,15 +3,15 @@
 ghost use Rattle.std.specs.Prelude.{◌+◌};
 ghost use Rattle.aper_values.specs.Views.{view};
 ghost use Rattle.aper_elements.specs.aper_frames.Frames.{path_of, next_of, after};
-ghost use Rattle.aper_elements.specs.aper_frames.Weights.{frame_weight, frames_weight, Lighter};
+ghost use Rattle.aper_elements.specs.aper_frames.Weights.{frame_weight, frames_weight};
 ghost use Rattle.aper_elements.specs.aper_types.Types.{tree};
-ghost use Rattle.aper_reading.specs.InModule.{IsOfModule, StepsIn};
+ghost use Rattle.aper_reading.specs.InModule.{IsOfModule, StepsIn, LighterIn};
 
+use crate::container::after_element;
 use crate::list::after_member;
 use crate::sequence::{after_addition, after_component};
 use aper_asking::ask_closing;
 use aper_cursor::{Cursor, Unanswered};
-use aper_elements::after_element;
 use aper_elements::from_aper_frames::{Frame, Stack, Turn};
 use aper_elements::from_asn1_module::Module;
 use aper_values::make::{chosen, message};
@@ -30,14 +30,14 @@ pub fn go_on<'m>(
     requires { IsOfModule m.now (λ w. frame_weight w frame) }
     ensures asked { StepsIn (tree m.now) (after (tree m.now) frame.entry (path_of frames.old) (next_of (tree m.now) frames.old) (view value))
         cursor.old cursor.new frames.new result }
-    ensures lighter { Lighter (λ w. frame_weight w frame.entry + frames_weight w frames.old) frames.new result }
+    ensures lighter { LighterIn m.now (λ w. frame_weight w frame.entry + frames_weight w frames.old) frames.new result }
 {
     match frame {
         Frame::Component(frame) => after_component(alloc, m, cursor, frames, frame.others, value),
         Frame::Addition(frame) => after_addition(alloc, cursor, frames, frame.others, value),
         Frame::Alternative(frame) => Ok(Turn::Made(chosen(alloc, frame.index, value)?)),
         Frame::Member(members) => after_member(alloc, m, cursor, frames, members, value),
-        Frame::Element(frame) => after_element(alloc, cursor, frames, frame, value),
+        Frame::Element(frame) => after_element(alloc, m, cursor, frames, frame, value),
         Frame::Body(frame) => Ok(Turn::Made(message(
             alloc,
             frame.outcome,

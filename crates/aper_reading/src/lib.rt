@@ -2,6 +2,7 @@
 #![tactic(auto)]
 
 mod begin;
+mod container;
 mod decoder;
 mod error;
 mod goes_on;

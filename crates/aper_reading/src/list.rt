@@ -13,7 +13,7 @@ ghost use Rattle.aper_reading.specs.Forms.{IsFormBounded, is_simple};
 ghost use Rattle.aper_reading.specs.InModule.{IsOfModule, StepsIn, among};
 ghost use Rattle.aper_reading.specs.Lists.{StartsList, ReadsList, is_simple_list, IsListOf, IsRefused};
 
-use crate::simple::{is_simple, put_part};
+use crate::simple::{Itself, is_simple, put_part};
 use aper_asking::ask_count;
 use aper_cursor::{Cursor, Unanswered};
 use aper_elements::from_aper_frames::{Frame, Members, Stack, Turn};
@@ -136,7 +136,7 @@ fn read_all(
     let mut others = members;
     while others.left > 0 {
         others.left -= 1;
-        if let Err(error) = put_part(alloc, cursor, form, &mut others.made) {
+        if let Err(error) = put_part(alloc, cursor, form, &Itself, &mut others.made) {
             return Err(ListRefusal {
                 member: Some(others),
                 error,

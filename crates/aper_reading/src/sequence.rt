@@ -9,21 +9,22 @@ ghost use Rattle.aper_values.specs.Views.{view};
 ghost use Rattle.aper_elements.specs.aper_frames.Frames.{components_left, component_after, additions_left, addition_after, path_of, next_of, after_components, options_before};
 ghost use Rattle.aper_elements.specs.aper_frames.Steps.{Steps};
 ghost use Rattle.aper_elements.specs.aper_frames.Weights.{sequence_weight, components_weight, additions_weight, frames_weight, Lighter};
-ghost use Rattle.aper_reading.specs.InModule.{IsOfModule, StepsIn, IsAround};
+ghost use Rattle.aper_reading.specs.InModule.{IsOfModule, StepsIn, LighterIn, IsAround};
 ghost use Rattle.aper_defs.specs.Values as seen;
 
+use crate::container::{go_inside, read_container};
 use crate::list::{read_list, refuse, simple_list};
-use crate::simple::{is_simple, put_part};
+use crate::simple::{Itself, is_simple, put_part};
 use aper_asking::ask_extension;
 use aper_cursor::{Cursor, Unanswered};
 use aper_elements::from_aper_frames::{
     Addition, AdditionFrame, Additions, ComponentFrame, Components, Flags, Frame, Stack, Turn,
     ask_inside, ask_unknown,
 };
-use aper_elements::from_aper_heads::{ask_flags, ask_marks};
 use aper_elements::from_aper_members::rows::named;
-use aper_elements::from_aper_types::form_of;
+use aper_elements::from_aper_types::{Form, form_of};
 use aper_elements::from_asn1_module::Module;
+use aper_heads::{ask_flags, ask_marks};
 use aper_values::make;
 use aper_values::value::Value;
 use asn1_types::{Component, Extensible};
@@ -41,7 +42,7 @@ pub fn begin_sequence<'m>(
     requires { IsOfModule m.now (λ w. sequence_weight w members.now.root (additions_of members.now.additions)) }
     ensures asked { StepsIn (tree m.now) (asks (path_of frames.old) (sequence_tree (tree m.now) members.now) (next_of (tree m.now) frames.old))
         cursor.old cursor.new frames.new result }
-    ensures lighter { Lighter (λ w. sequence_weight w members.now.root (additions_of members.now.additions) + frames_weight w frames.old) frames.new result }
+    ensures lighter { LighterIn m.now (λ w. sequence_weight w members.now.root (additions_of members.now.additions) + frames_weight w frames.old) frames.new result }
 {
     let extensible = members.additions.is_some();
     let additions = named(&members.additions);
@@ -69,7 +70,7 @@ fn begin_components<'m>(
     requires { IsOfModule m.now (λ w. sequence_weight w root.now additions.now) }
     ensures asked { StepsIn (tree m.now) (asks (path_of frames.old) (sequence extensible (parts_of (tree m.now) root.now) (parts_of (tree m.now) additions.now))
         (next_of (tree m.now) frames.old)) cursor.old cursor.new frames.new result }
-    ensures lighter { Lighter (λ w. sequence_weight w root.now additions.now + frames_weight w frames.old) frames.new result }
+    ensures lighter { LighterIn m.now (λ w. sequence_weight w root.now additions.now + frames_weight w frames.old) frames.new result }
 {
     let extended = ask_extension(cursor, extensible)?;
     let there = ask_flags(alloc, cursor, root)?;
@@ -96,7 +97,7 @@ pub fn after_component<'m>(
     requires { IsOfModule m.now (λ w. components_weight w components) }
     ensures asked { StepsIn (tree m.now) (component_after (tree m.now) components.entry (path_of frames.old) (next_of (tree m.now) frames.old) (view value))
         cursor.old cursor.new frames.new result }
-    ensures lighter { Lighter (λ w. components_weight w components.entry + frames_weight w frames.old) frames.new result }
+    ensures lighter { LighterIn m.now (λ w. components_weight w components.entry + frames_weight w frames.old) frames.new result }
 {
     let mut components = components;
     components.made.push(Some(value))?;
@@ -114,13 +115,13 @@ fn read_components<'m>(
     requires { IsOfModule m.now (λ w. components_weight w components) }
     ensures asked { StepsIn (tree m.now) (components_left (tree m.now) components.entry (path_of frames.old) (next_of (tree m.now) frames.old))
         cursor.old cursor.new frames.new result }
-    ensures lighter { Lighter (λ w. components_weight w components.entry + frames_weight w frames.old) frames.new result }
+    ensures lighter { LighterIn m.now (λ w. components_weight w components.entry + frames_weight w frames.old) frames.new result }
 {
     let mut others = components;
     while let Some(component) = others.next()? {
         let form = form_of(m, component.definition);
         if is_simple(form) {
-            if let Err(error) = put_part(alloc, cursor, form, &mut others.made) {
+            if let Err(error) = put_part(alloc, cursor, form, &Itself, &mut others.made) {
                 push_component(frames, component, others)?;
                 return Err(error);
             }
@@ -130,6 +131,14 @@ fn read_components<'m>(
                 Err(refusal) => {
                     push_component(frames, component, others)?;
                     return Err(refuse(frames, refusal));
+                }
+            }
+        } else if let Form::Container(rows) = form {
+            match read_container(alloc, m, cursor, rows) {
+                Ok(value) => others.made.push(Some(value))?,
+                Err(halt) => {
+                    push_component(frames, component, others)?;
+                    return go_inside(cursor, frames, halt);
                 }
             }
         } else {

@@ -5,6 +5,7 @@ ghost use Rattle.aper_defs.specs.Asking.{asks};
 ghost use Rattle.aper_defs.specs.Trees.{Tree};
 ghost use Rattle.aper_elements.specs.aper_types.Forms.{form_tree};
 ghost use Rattle.aper_simple.specs.Reads.{Reads};
+ghost use Rattle.aper_values.specs.declared.value.Value.{Value};
 ghost use Rattle.aper_reading.specs.Forms.{IsFormBounded, is_simple};
 ghost use Rattle.aper_reading.specs.Puts.{Puts, PutsRead};
 
@@ -62,33 +63,61 @@ pub fn read_form(alloc: Global, cursor: &mut Cursor, form: Form) -> Result<Value
     }
 }
 
-/// Puts the value of a part of this form after those before it, as what a component or a member is kept as. Each form has a call of its
-/// own, so that its value is put as it is made: a `Value` that may be of any form is stored and loaded in other pieces, and waiting for
-/// these costs more than the reading.
+/// How a value that was read is kept among those before it.
+pub trait Keep<P> {
+    /// Holds of this, a value, and what it is kept as.
+    ghost keeps: { Self → Value → P → Type 0 };
+
+    /// What the value is kept as.
+    fn keep(&self, value: Value) -> P
+        ensures { keeps self.now value result };
+}
+
+/// As a member, or a component that is there.
+#[derive(Clone, Copy)]
+pub struct Itself;
+
+impl<P: From<Value>> Keep<P> for Itself {
+    ghost keeps = { λ itself value kept. P.from_gives value kept };
+
+    #[inline(always)]
+    fn keep(&self, value: Value) -> P {
+        P::from(value)
+    }
+}
+
+/// Puts the value of a part of this form after those before it, as it is kept there. Each form has a call of its own, so that its value
+/// is put as it is made: a `Value` that may be of any form is stored and loaded in other pieces, and waiting for these costs more than
+/// the reading.
 #[inline(always)]
-pub fn put_part<P: From<Value> + Drop>(
+pub fn put_part<P: Drop, K: Keep<P>>(
     alloc: Global,
     cursor: &mut Cursor,
     form: Form,
+    how: &K,
     made: &mut Vec<P>,
 ) -> Result<(), Unanswered>
     requires bounded { IsFormBounded form }
     requires simple { is_simple form ≡ true }
-    ensures { (of : ℕ → Tree) → Puts P.from_gives (λ p. asks p (form_tree of form.entry)) cursor.old cursor.new made.old.items made.new.items result }
+    ensures { (of : ℕ → Tree) → Puts (K.keeps how.now) (λ p. asks p (form_tree of form.entry)) cursor.old cursor.new made.old.items made.new.items result }
 {
     match form {
-        Form::Boolean => put(made, read_boolean(cursor)),
+        Form::Boolean => put(made, how, read_boolean(cursor)),
         Form::Integer {
             low,
             high,
             extensible,
-        } => put(made, read_integer(cursor, &Range { low, high }, extensible)),
+        } => put(
+            made,
+            how,
+            read_integer(cursor, &Range { low, high }, extensible),
+        ),
         Form::Enumerated { names, extensible } => {
-            put(made, read_enumerated(cursor, names, extensible))
+            put(made, how, read_enumerated(cursor, names, extensible))
         }
-        Form::BitString(size) => put(made, read_bit_string(alloc, cursor, size)),
-        Form::OctetString(size) => put(made, read_octet_string(alloc, cursor, size)),
-        Form::PrintableString(size) => put(made, read_printable_string(alloc, cursor, size)),
+        Form::BitString(size) => put(made, how, read_bit_string(alloc, cursor, size)),
+        Form::OctetString(size) => put(made, how, read_octet_string(alloc, cursor, size)),
+        Form::PrintableString(size) => put(made, how, read_printable_string(alloc, cursor, size)),
         Form::Sequence(_) => unreachable!(),
         Form::Choice(_) => unreachable!(),
         Form::SequenceOf { .. } => unreachable!(),
@@ -99,12 +128,13 @@ pub fn put_part<P: From<Value> + Drop>(
 
 /// Puts a value that was read after those before it.
 #[inline(always)]
-fn put<P: From<Value> + Drop>(
+fn put<P: Drop, K: Keep<P>>(
     made: &mut Vec<P>,
+    how: &K,
     read: Result<Value, Unanswered>,
 ) -> Result<(), Unanswered>
-    ensures { PutsRead P.from_gives read made.old.items made.new.items result }
+    ensures { PutsRead (K.keeps how.now) read made.old.items made.new.items result }
 {
-    made.push(P::from(read?))?;
+    made.push(how.keep(read?))?;
     Ok(())
 }

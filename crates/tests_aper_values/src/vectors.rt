@@ -25,6 +25,9 @@ Elements ::= ProtocolIE-Container {{Rows}}\n\
 Rows PROTOCOL-IES ::= {{ID 1 CRITICALITY reject TYPE BOOLEAN PRESENCE mandatory}, ...}\n\
 Wide ::= ProtocolIE-Container {{WideRows}}\n\
 WideRows PROTOCOL-IES ::= {{ID 1 CRITICALITY reject TYPE INTEGER (0..65535) PRESENCE mandatory}, ...}\n\
+Coloured ::= ProtocolIE-Container {{ColouredRows}}\n\
+ColouredRows PROTOCOL-IES ::= {{ID 1 CRITICALITY reject TYPE Three PRESENCE mandatory}, ...}\n\
+Holder ::= SEQUENCE {flag BOOLEAN, elements Coloured}\n\
 Named ::= SEQUENCE {a BOOLEAN, ..., b BOOLEAN}\n\
 Unnamed ::= SEQUENCE {a BOOLEAN, ...}\n\
 Groups ::= SEQUENCE {a INTEGER (250..253), b BOOLEAN, c CHOICE {d BOOLEAN, ..., e BOOLEAN}, i OCTET STRING OPTIONAL, j PrintableString OPTIONAL, ...}\n\
@@ -203,7 +206,7 @@ pub const STRINGS: [Row; 17] = [
 ];
 
 /// Types with types inside: with nothing that may be absent, and with all.
-pub const STRUCTURES: [Row; 17] = [
+pub const STRUCTURES: [Row; 18] = [
     (
         b"Options",
         "00",
@@ -260,6 +263,12 @@ pub const STRUCTURES: [Row; 17] = [
         "00020001000180FFFF8001AA",
         "Ies([Element { id: 1, criticality: 0, body: Bool(true) }, Element { id: 65535, \
          criticality: 2, body: Raw(Items { items: [170] }) }])",
+    ),
+    (
+        b"Holder",
+        "8000010001000140",
+        "Seq { root: [Some(Bool(true)), Some(Ies([Element { id: 1, criticality: 0, body: Enum(1) }]))], \
+         additions: [] }",
     ),
     (
         b"Message",
@@ -364,13 +373,39 @@ pub const MESSAGES: [Row; 11] = [
 ];
 
 /// A refusal for each reason but the one that takes more than 131,072 octets, and for each kind of step.
-pub const REFUSED: [Refusal; 28] = [
+pub const REFUSED: [Refusal; 36] = [
     (b"Truth", "81", 1, Reason::Padding, b"-"),
     (b"Large", "400000", 8, Reason::NotMinimal, b"-"),
     (b"Nothing", "", 0, Reason::Truncated, b"-"),
     (b"Elements", "0000", 0, Reason::Required, b"-"),
     (b"Elements", "0001000100028000", 56, Reason::Tail, b"#1"),
     (b"Wide", "00010001000180", 48, Reason::Overrun, b"#1"),
+    (b"Elements", "000100010000", 40, Reason::Length, b"-"),
+    (b"Elements", "00010001000181", 49, Reason::Padding, b"#1"),
+    (b"Coloured", "000100010001C0", 48, Reason::Index, b"#1"),
+    (b"Holder", "800000", 8, Reason::Required, b"elements"),
+    (b"Holder", "80000100010000", 48, Reason::Length, b"elements"),
+    (
+        b"Holder",
+        "80000100010001C0",
+        56,
+        Reason::Index,
+        b"elements.#1",
+    ),
+    (
+        b"Ordered",
+        "0002000100018000024001",
+        88,
+        Reason::Truncated,
+        b"#2",
+    ),
+    (
+        b"Ordered",
+        "00020001000180FFFF8003AA",
+        88,
+        Reason::Truncated,
+        b"#65535",
+    ),
     (b"Named", "C0400181", 25, Reason::Padding, b"b"),
     (b"Truth", "8000", 8, Reason::Tail, b"-"),
     (b"Packed", "FF80", 1, Reason::Range, b"b"),

@@ -27,6 +27,9 @@ begin_sequence-requires c = subst (λ f. IsOfModule c.args.m.now (λ w. form_wei
 pub begin_list-requires-clause-inside : goal.begin_list-requires-clause-inside
 begin_list-requires-clause-inside c = subst (λ f. IsOfModule c.args.m.now (λ w. form_weight w f)) c.in-SequenceOf.is c.requires.inside
 
+pub begin_container-requires : goal.begin_container-requires
+begin_container-requires c = subst (λ f. IsOfModule c.args.m.now (λ w. form_weight w f)) c.in-Container.is c.requires.inside
+
 pub returns-in-Sequence-clause-asked : goal.returns-in-Sequence-clause-asked
 returns-in-Sequence-clause-asked c =
     let fs = c.args.frames.now in
@@ -54,10 +57,8 @@ pub returns-in-Container-clause-asked : goal.returns-in-Container-clause-asked
 returns-in-Container-clause-asked c =
     let fs = c.args.frames.now in
     let of = tree c.args.m.now in
-    steps_in c.begin_container.result of (λ types. asks (path_of fs) (form_tree types (forms.Container c.in-Container.rows)) (next_of types fs))
-    (asks (path_of fs) (form_tree of c.args.form) (next_of of fs)) c.args.cursor.now c.args.cursor.now c.begin_container.new.cursor
-    c.begin_container.new.frames (ap (λ f. run (asks (path_of fs) (form_tree of f) (next_of of fs)) c.args.cursor.now) c.in-Container.is)
-    c.begin_container.ensures.asked
+    subst (λ f. StepsIn of (asks (path_of fs) (form_tree of f) (next_of of fs)) c.args.cursor.now c.begin_container.new.cursor
+    c.begin_container.new.frames c.begin_container.result) (sym c.in-Container.is) c.begin_container.ensures.asked
 
 pub returns-in-Pdu-clause-asked : goal.returns-in-Pdu-clause-asked
 returns-in-Pdu-clause-asked c =

@@ -3,7 +3,7 @@ use Rattle.std.proofs.lemmas.Result.{err_from_is_err_and}
 use Rattle.aper_defs.specs.Reading.{run}
 use Rattle.aper_elements.specs.aper_types.Types.{tree}
 use Rattle.aper_values.specs.Views.{view}
-use Rattle.aper_elements.specs.aper_frames.Frames.{addition_after, element_after, path_of, next_of, after}
+use Rattle.aper_elements.specs.aper_frames.Frames.{addition_after, path_of, next_of, after}
 use Rattle.aper_elements.specs.aper_frames.Weights.{frame_weight}
 use Rattle.aper_reading.specs.InModule.{IsOfModule, StepsIn}
 use Rattle.aper_reading.proofs.InPlace.{steps_in}
@@ -14,6 +14,9 @@ after_component-requires c = subst (λ f. IsOfModule c.args.m.now (λ w. frame_w
 
 pub after_member-requires : goal.after_member-requires
 after_member-requires c = subst (λ f. IsOfModule c.args.m.now (λ w. frame_weight w f)) c.in-Member.is c.requires
+
+pub after_element-requires : goal.after_element-requires
+after_element-requires c = subst (λ f. IsOfModule c.args.m.now (λ w. frame_weight w f)) c.in-Element.is c.requires
 
 pub returns-in-Component-clause-asked : goal.returns-in-Component-clause-asked
 returns-in-Component-clause-asked c =
@@ -43,12 +46,8 @@ pub returns-in-Element-clause-asked : goal.returns-in-Element-clause-asked
 returns-in-Element-clause-asked c =
     let fs = c.args.frames.now in
     let of = tree c.args.m.now in
-    let f = c.in-Element.frame in
-    steps_in c.after_element.result of (λ of. element_after of f.others f.head.id f.head.criticality (path_of fs) (next_of of fs) (view c.args.value))
-    (after of c.args.frame (path_of fs) (next_of of fs) (view c.args.value))
-    c.args.cursor.now c.args.cursor.now c.after_element.new.cursor c.after_element.new.frames
-    (ap (λ f. run (after of f (path_of fs) (next_of of fs) (view c.args.value)) c.args.cursor.now) c.in-Element.is)
-    c.after_element.ensures.asked
+    subst (λ f. StepsIn of (after of f (path_of fs) (next_of of fs) (view c.args.value)) c.args.cursor.now c.after_element.new.cursor
+    c.after_element.new.frames c.after_element.result) (sym c.in-Element.is) c.after_element.ensures.asked
 
 pub returns-in_err-ask_closing-in-Open-clause-asked : goal.returns-in_err-ask_closing-in-Open-clause-asked
 returns-in_err-ask_closing-in-Open-clause-asked c =

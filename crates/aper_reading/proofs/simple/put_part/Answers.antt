@@ -10,7 +10,7 @@ returns-in-Integer g c = λ of.
     let i = c.in-Integer in
     let low : cast_signed w128 (cast_unsigned w128 i.low) ≡ i.low = search rules in
     let high : cast_signed w128 (cast_unsigned w128 i.high) ≡ i.high = search rules in
-    puts g.P.From.from_gives (λ p. asks p (form_tree of c.args.form)) c.args.cursor.now c.read_integer.new.cursor c.args.made.now.items
+    puts (g.K.Keep.keeps c.args.how.now) (λ p. asks p (form_tree of c.args.form)) c.args.cursor.now c.read_integer.new.cursor c.args.made.now.items
     c.put-in-Integer.new.made.items c.read_integer.result c.put-in-Integer.result
     (integer_reads of c.args.form i.low i.high _ _ i.extensible c.args.cursor.now c.read_integer.new.cursor c.read_integer.result i.is low high
     c.read_integer.ensures)
