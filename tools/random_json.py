@@ -2,7 +2,7 @@
 """Encodes random values of random types by the word `encode`, spoilt JSON texts too, and decodes spoilt spellings by `decode`; and compares what the program prints with
 what another reading of the same specification prints.
 
-Each call has a module of its own with a type T. Of the calls a third gives JSON of values as it may be written (members in any order, digits in either case, white
+Each call has a module of its own with a type T. Of the calls a third gives JSON of values as it may be written (half of it as values are printed, else members in any order, digits in either case, white
 space, names escaped), a third JSON in which something was changed, and a third octets: those that the other reading spells of such values, with bits changed or
 cut off. The other reading is a program that takes the word, a type and an input, as ours does. Without one this is said, and the check passes.
 
@@ -230,7 +230,9 @@ class Maker:
         return value
 
     def written(self, value):
-        """JSON as it may be written."""
+        """JSON as it may be written, half of it as values are printed, which is read in another way."""
+        if self.often(0.5):
+            return json.dumps(value, ensure_ascii=False, separators=(",", ":"), sort_keys=True)
         text = json.dumps(self.shuffled(value), ensure_ascii=self.often(0.5), separators=self.chance.choice([(",", ":"), (", ", ": "), (" ,\t", " :\r")]))
         if self.often(0.1):
             text = re.sub(r'"([a-z])', lambda found: f'"\\u{ord(found[1]):04x}', text, count=1)

@@ -1,20 +1,20 @@
--- The object of an information element or of a message, begun by what stands before its contents.
-use Rattle.std.proofs.Common.{◌≡◌, ◌<◌, ◌^◌, ℕ, Bool, true, false, Some, sym, subst}
-use Rattle.serde.specs.Event.{Log, Logs, map_begins, field_key, text, unsigned}
-use Rattle.serde.specs.declared.name.Case.TheVariants.{AsIs}
+-- The object of an information element or of a message: its beginning, and its whole by what stands before its contents.
+use Rattle.std.proofs.Common.{◌≡◌, ℕ, List, [], ◌∷◌, ◌++◌, Bool, true, false, decimal, refl, append_assoc}
+use Rattle.json.specs.Token as json
+use Rattle.json.specs.Token.{Token}
+use Rattle.serde_json.specs.Data.{Data}
 use Rattle.json_defs.specs.Members.{Text, criticality_key, criticalities}
-use Rattle.json_shown_defs.specs.Printed.{name_at}
-use Rattle.json_pieces.specs.Bodies.{contents_key, BeginsBody}
+use Rattle.json_shown_defs.specs.Printed.{name_at, body_shown}
+use Rattle.json_tokens.specs.Written.{tokens_of}
+use Rattle.json_pieces.specs.Bodies.{contents_key, contents_as, body_begins}
 
-pub body_begun : (key name last : Text) (n criticality : ℕ) (known : Bool) (a b c d e f g : Log) → Logs a b (map_begins (Some 3))
-    → Logs b c (field_key criticality_key AsIs) → Logs c d (text name) → Logs d e (field_key key AsIs) → Logs e f (unsigned n)
-    → Logs f g (field_key last AsIs) → name_at criticalities criticality ≡ name → last ≡ contents_key known → n < 2 ^ 64
-    → BeginsBody key n criticality known a g
-body_begun key name last n criticality true a b c d e f g begins first named second number third is_name is_last fits contents mid end sent ends =
-    let named' = subst (λ s. Logs c d (text s)) (sym is_name) named in
-    let third' = subst (λ s. Logs f g (field_key s AsIs)) is_last third in
-    ((b, begins, (c, d, first, named', (e, f, second, number, (g, mid, third', sent.0, ends)))), (tt, (fits, (sent.1, tt))))
-body_begun key name last n criticality false a b c d e f g begins first named second number third is_name is_last fits contents mid end sent ends =
-    let named' = subst (λ s. Logs c d (text s)) (sym is_name) named in
-    let third' = subst (λ s. Logs f g (field_key s AsIs)) is_last third in
-    ((b, begins, (c, d, first, named', (e, f, second, number, (g, mid, third', sent.0, ends)))), (tt, (fits, (sent.1, tt))))
+pub body_begun : (key : Text) (n criticality : ℕ) (known : Bool) (a b c d e f g : List Token) → b ≡ a ++ json.begin_object ∷ []
+    → c ≡ b ++ json.key criticality_key ∷ [] → d ≡ c ++ json.string (name_at criticalities criticality) ∷ [] → e ≡ d ++ json.key key ∷ []
+    → f ≡ e ++ json.number (decimal n) ∷ [] → g ≡ f ++ json.key (contents_key known) ∷ [] → g ≡ a ++ body_begins key n criticality known
+body_begun key n criticality known a b c d e f g begun first named second number third =
+    rw (third, number, second, named, first, begun) (simp append_assoc)
+
+pub body_tokens : (key : Text) (n criticality : ℕ) (known : Bool) (d : Data)
+    → tokens_of (body_shown key n criticality (contents_as known d)) ≡ body_begins key n criticality known ++ (tokens_of d ++ json.end_object ∷ [])
+body_tokens key n criticality true d = refl
+body_tokens key n criticality false d = refl

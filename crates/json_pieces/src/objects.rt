@@ -1,68 +1,77 @@
 //! Objects.
 
-ghost use Rattle.std.specs.Prelude.{◌≡◌, OnOk};
+ghost use Rattle.std.specs.Prelude.{[], ◌∷◌, OnOk};
+ghost use Rattle.json.specs.Token.{key, string};
 ghost use Rattle.aper_values.specs.Views.{view};
 ghost use Rattle.json_defs.specs.Members.{criticalities};
 ghost use Rattle.json_shown_defs.specs.Printed.{past_shown, name_at};
-ghost use Rattle.json_sent.specs.Sent.{SendsWhole};
-ghost use Rattle.json_pieces.specs.Bodies.{contents_key, BeginsBody};
+ghost use Rattle.json_tokens.specs.Written.{Adds, WritesWhole};
+ghost use Rattle.json_pieces.specs.Bodies.{contents_key, body_begins};
 
-use crate::texts::send_raw;
+use crate::error::PrintError;
+use crate::texts::write_raw;
 use aper_values::value::Value;
-use serde::Serializer;
+use json::Writer;
 use std::alloc::Global;
 
 /// What comes so far past the last that has a name.
-pub fn send_past<S: Serializer>(
+pub fn write_past(
     alloc: Global,
     past: u64,
     value: &Value,
-    out: &mut S,
-) -> Result<(), S::Error>
-    ensures { OnOk result
-        (SendsWhole (past_shown past (view value.now)) (S.written out.old) (S.written out.new)) }
+    out: &mut Writer,
+) -> Result<(), PrintError>
+    ensures { OnOk result (WritesWhole (past_shown past (view value.now)) out.old out.new) }
 {
-    out.begin_map(Some(1))?;
+    out.begin_object()?;
     out.key("...")?;
-    out.begin_seq(Some(2))?;
+    out.begin_array()?;
     out.u64(past)?;
-    send_raw(alloc, value, out)?;
-    out.end_seq()?;
-    out.end_map()
+    write_raw(alloc, value, out)?;
+    out.end_array()?;
+    out.end_object()?;
+    Ok(())
 }
 
-fn criticality_name(criticality: u8) -> &'static str
-    ensures { name_at criticalities criticality ≡ result.now }
+/// A criticality by its name. The texts that are known when this is compiled cost least.
+fn write_criticality(criticality: u8, out: &mut Writer) -> Result<(), PrintError>
+    ensures { OnOk result (Adds (string (name_at criticalities criticality) ∷ []) out.old out.new) }
 {
     match criticality {
-        0 => "reject",
-        1 => "ignore",
-        2 => "notify",
-        _ => "",
+        0 => out.string("reject")?,
+        1 => out.string("ignore")?,
+        2 => out.string("notify")?,
+        _ => out.string("")?,
     }
+    Ok(())
 }
 
-fn contents_name(is_known: bool) -> &'static str
-    ensures { result.now ≡ contents_key is_known }
+fn write_contents_key(is_known: bool, out: &mut Writer) -> Result<(), PrintError>
+    ensures { OnOk result (Adds (key (contents_key is_known) ∷ []) out.old out.new) }
 {
-    if is_known { "value" } else { "raw" }
+    if is_known {
+        out.key("value")?;
+    } else {
+        out.key("raw")?;
+    }
+    Ok(())
 }
 
 /// The members of an information element, or of the body of a message, up to its contents: what has a number is known by this key.
-pub fn begin_body<S: Serializer>(
+#[inline(always)]
+pub fn begin_body(
     key: &str,
     number: u64,
     criticality: u8,
     is_known: bool,
-    out: &mut S,
-) -> Result<(), S::Error>
-    ensures { OnOk result
-        (BeginsBody key.now number criticality is_known (S.written out.old) (S.written out.new)) }
+    out: &mut Writer,
+) -> Result<(), PrintError>
+    ensures { OnOk result (Adds (body_begins key.now number criticality is_known) out.old out.new) }
 {
-    out.begin_map(Some(3))?;
+    out.begin_object()?;
     out.key("criticality")?;
-    out.str(criticality_name(criticality))?;
+    write_criticality(criticality, out)?;
     out.key(key)?;
     out.u64(number)?;
-    out.key(contents_name(is_known))
+    write_contents_key(is_known, out)
 }

@@ -1,4 +1,4 @@
 mod Turns
-mod Sent
+mod Written
 mod Loops
 mod Choices

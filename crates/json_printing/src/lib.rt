@@ -1,7 +1,6 @@
-//! The JSON that values of a module's types are printed as, as it is sent to a `Serializer`.
+//! The JSON that values of a module's types are printed as, written to a `json::Writer`.
 #![tactic(auto)]
 
-mod shown;
 mod values;
 
-pub use shown::Shown;
+pub use values::write_value;

@@ -12,7 +12,7 @@ use Rattle.json_proof_values.proofs.Holding.{apart, by_cases, first_true, second
 use Rattle.json_proof_values.proofs.Words.{texts_same}
 use Rattle.json_shown_defs.specs.Order.{IsBefore, IsOrdered, AreMembersOrdered}
 use Rattle.json_shown_defs.specs.Alike.{Alike, AreMembersAlike}
-use Rattle.law_json_shown.proofs.Words.{some_place}
+use Rattle.json_proof_shown.proofs.Words.{some_place}
 
 abbrev pub AreBoth : Option Data → Option Data → Type 0
 AreBoth None None = Unit {0}

@@ -12,8 +12,8 @@ use Rattle.json_shown_defs.specs.Names.{AreKeys}
 use Rattle.json_shown_defs.specs.Order.{AreOrdered, AreMembersOrdered}
 use Rattle.json_shown_defs.specs.Alike.{Alike, AreItemsAlike}
 use Rattle.json_shown_defs.specs.Printed.{raws_shown, with_additions, shown_as, components_shown, added_shown}
-use Rattle.law_json_shown.proofs.Words.{other_here, others_differ, all_among_more, among_first, each_among}
-use Rattle.law_json_shown.proofs.Sequences.{Agree, agree_itself, agree_without, agree_put, other_key, among_put, components_among}
+use Rattle.json_proof_shown.proofs.Words.{other_here, others_differ, all_among_more, among_first, each_among}
+use Rattle.json_proof_shown.proofs.Sequences.{Agree, agree_itself, agree_without, agree_put, other_key, among_put, components_among}
 use Rattle.json_proof_order.proofs.Ordered.{components_ordered, added_ordered, additions_ordered}
 use Rattle.law_json_one.proofs.Members.{AreBoth, AtEach, both_are, alike_by_keys, member_ordered}
 use Rattle.law_json_one.proofs.Trees.{IsOne, raw_alike}

@@ -13,7 +13,7 @@ use Rattle.json_proof_values.proofs.Words.{is_less, is_not_less, at_most, same, 
 use Rattle.json_shown_defs.specs.Order.{IsOrdered}
 use Rattle.json_shown_defs.specs.Alike.{Alike}
 use Rattle.json_shown_defs.specs.Printed.{integer_shown, natural_shown, bit_digit, bits_text, raw_shown, one_member, name_at, name_shown, shown_as}
-use Rattle.law_json_shown.proofs.Words.{integer_is, octets_read}
+use Rattle.json_proof_shown.proofs.Words.{integer_is, octets_read}
 
 abbrev pub IsOne : Named → Type 0
 IsOne t = (d : Data) (v : Value) → Shows t d v → IsOrdered d → Alike d (shown_as t v)

@@ -1,24 +1,13 @@
 -- What octets are decoded to is encoded again as these octets.
-use Rattle.std.proofs.Common.{◌≡◌, ℕ, ◌+◌, ◌*◌, ◌<◌, ◌⊎◌, List, [], ◌∷◌, All, Some, refl, arith}
+use Rattle.std.proofs.Common.{◌≡◌, ℕ, ◌+◌, ◌*◌, ◌<◌, List, [], ◌∷◌, All, Some, refl, arith}
 use Rattle.std.proofs.lemmas.List.Elements.{All-nil, All-cons}
 use Rattle.gnb_types.specs.Hex.{hex_of, read_hex, IsDigitOf, IsHexOf}
 use Rattle.gnb_types.proofs.HexLemmas.{read_is_hex}
 use Rattle.asn1_module.specs.asn1_assignments.declared.assignment.Syntax.{Syntax}
 use Rattle.asn1_module.specs.asn1_defs.Modules.{IsModule}
-use Rattle.aper_defs.specs.Values.{Value}
-use Rattle.aper_defs.specs.Membership.{Has}
-use Rattle.aper_types.specs.Types.{tree}
-use Rattle.law_json_modules.proofs.Law.{shown, readable}
-use Rattle.json_shown_defs.specs.Printed.{shown_as}
-use Rattle.json_type_defs.specs.Types.{named}
-use Rattle.command_values.specs.values_json.Texts.{IsReadAgain, IsTextOf}
+use Rattle.values_json.proofs.Again.{text_again}
 use Rattle.command_values.specs.declared.way.Way.TheVariants.{Encode, Decode}
 use Rattle.command_values.specs.Answers.{IsAnswered}
-
--- A printed text that is read as its tree again shows the value that was printed.
-pub text_again : (m : Syntax) (id : ℕ) (v : Value) (text : List ℕ) → IsModule m → Has [] (tree m id) v
-    → IsReadAgain text (shown_as (named m id) v) → IsTextOf (named m id) text v
-text_again m id v text is h again = (shown_as (named m id) v, again.again (readable m id v is), shown m id v is h)
 
 octets_small : (text octets : List ℕ) → IsHexOf text octets → All (λ o. o < 256) octets
 octets_small [] [] h = All-nil (λ o. o < 256)

@@ -2,6 +2,8 @@
 #![tactic(auto)]
 
 #[cfg(test)]
+mod guessed;
+#[cfg(test)]
 mod octets;
 #[cfg(test)]
 mod printed;

@@ -2,7 +2,7 @@
 
 ghost use Rattle.std.specs.Prelude.{◌<◌, ◌^◌, length};
 
-use crate::vectors::{Row, SHOWN, TYPES};
+use crate::vectors::{EXTENDED, Row, SHOWN, TYPES};
 use asn1_module::{Module, TypeId, read_module};
 use gnb_types::hex::hex_bytes;
 use std::alloc::Global;
@@ -40,8 +40,8 @@ fn is_printed(alloc: Global, m: &Module, row: Row) -> bool {
 #[test]
 fn printed(rt: HostRuntime) -> Result<(), Fail> {
     let (module, _) = read_module(rt.alloc(), TYPES)?;
-    for row in SHOWN {
-        assert!(rt; is_printed(rt.alloc(), &module, row));
+    for row in SHOWN.iter().chain(&EXTENDED) {
+        assert!(rt; is_printed(rt.alloc(), &module, *row));
     }
     Ok(())
 }

@@ -25,7 +25,7 @@ Procedures ELEMENTARY-PROCEDURE ::= {{INITIATING MESSAGE Request SUCCESSFUL OUTC
 END\n";
 
 /// Values of each form of type.
-pub const SHOWN: [Row; 44] = [
+pub const SHOWN: [Row; 32] = [
     (b"Truth", b"80", b"true"),
     (b"Truth", b"00", b"false"),
     (b"Number", b"00", b"-5"),
@@ -38,8 +38,6 @@ pub const SHOWN: [Row; 44] = [
     (b"Colour", b"00", b"\"red\""),
     (b"Colour", b"40", b"\"green\""),
     (b"Colour", b"80", b"\"blue\""),
-    (b"Colour", b"81", b"{\"unknown\":0}"),
-    (b"Colour", b"BF", b"{\"unknown\":62}"),
     (b"Bits", b"0080", b"\"1\""),
     (b"Bits", b"0660", b"\"0110\""),
     (
@@ -63,27 +61,7 @@ pub const SHOWN: [Row; 44] = [
         b"{\"a\":true,\"b\":0,\"zz\":\"blue\"}",
     ),
     (b"Open", b"20", b"{\"b\":true}"),
-    (
-        b"Open",
-        b"E01001A0",
-        b"{\"...\":[5],\"a\":false,\"b\":true}",
-    ),
-    (
-        b"Open",
-        b"A098018001AB",
-        b"{\"...\":[null,true,\"AB\"],\"b\":true}",
-    ),
-    (
-        b"Open",
-        b"80C4020102",
-        b"{\"...\":[null,null,null,\"0102\"],\"b\":false}",
-    ),
-    (b"Open", b"807001000100", b"{\"...\":[0,false],\"b\":false}"),
     (b"Either", b"20", b"{\"x\":true}"),
-    (b"Either", b"6100", b"{\"y\":{\"unknown\":3}}"),
-    (b"Either", b"800180", b"{\"z\":\"10\"}"),
-    (b"Either", b"8101AB", b"{\"...\":[0,\"AB\"]}"),
-    (b"Either", b"BF02ABCD", b"{\"...\":[62,\"ABCD\"]}"),
     (b"List", b"8000", b"[]"),
     (
         b"List",
@@ -120,6 +98,32 @@ pub const SHOWN: [Row; 44] = [
         b"000800020102",
         b"{\"initiatingMessage\":{\"criticality\":\"reject\",\"procedureCode\":8,\"raw\":\"0102\"}}",
     ),
+];
+
+/// Values with what has no name, or comes after the extension marker of a type.
+pub const EXTENDED: [Row; 12] = [
+    (b"Colour", b"81", b"{\"unknown\":0}"),
+    (b"Colour", b"BF", b"{\"unknown\":62}"),
+    (
+        b"Open",
+        b"E01001A0",
+        b"{\"...\":[5],\"a\":false,\"b\":true}",
+    ),
+    (
+        b"Open",
+        b"A098018001AB",
+        b"{\"...\":[null,true,\"AB\"],\"b\":true}",
+    ),
+    (
+        b"Open",
+        b"80C4020102",
+        b"{\"...\":[null,null,null,\"0102\"],\"b\":false}",
+    ),
+    (b"Open", b"807001000100", b"{\"...\":[0,false],\"b\":false}"),
+    (b"Either", b"6100", b"{\"y\":{\"unknown\":3}}"),
+    (b"Either", b"800180", b"{\"z\":\"10\"}"),
+    (b"Either", b"8101AB", b"{\"...\":[0,\"AB\"]}"),
+    (b"Either", b"BF02ABCD", b"{\"...\":[62,\"ABCD\"]}"),
     (b"Message", b"800100", b"{\"...\":[0,\"00\"]}"),
     (b"Message", b"BF01FF", b"{\"...\":[63,\"FF\"]}"),
 ];

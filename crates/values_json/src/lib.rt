@@ -1,9 +1,10 @@
 //! Values of a module's types as JSON (RFC 8259): a value from its JSON text or why there is none, and the one text of a value.
 #![tactic(auto)]
 
-ghost use Rattle.std.specs.Prelude.{◌≡◌, ◌<◌, length, IfOk};
+ghost use Rattle.std.specs.Prelude.{◌≡◌, ◌<◌, length, IfOk, IfSome};
 ghost use Rattle.serde_json.specs.Written.{compact_text};
 ghost use Rattle.aper_values.specs.Views.{view};
+ghost use Rattle.json_defs.specs.Members.{same_text};
 ghost use Rattle.json_shown_defs.specs.Printed.{shown_as};
 ghost use Rattle.json_printing.specs.json_type_defs.Types.{named};
 ghost use Rattle.values_json.specs.Texts.{IsNoJson, IsReadAgain, IsTextOf, HasFault, OnNotJson, OnFault};
@@ -12,11 +13,14 @@ mod error;
 mod reading;
 
 use crate::reading::{answered, tree_of};
+use aper::is_value;
 use aper_values::value::Value;
 use asn1_module::{Module, TypeId};
 pub use error::JsonError;
 use gnb_types::octets::{Memory, Octets};
-use json_printing::Shown;
+use json::Writer;
+use json_guess::likely_value;
+use json_printing::write_value;
 use json_reading::value_in;
 use std::alloc::Global;
 
@@ -25,7 +29,34 @@ pub mod from_aper {
     pub use aper::{DecodeError, Reason, Value, decode, encode, is_value, spelled_length};
 }
 
-/// The value of a type of a module that a JSON text shows.
+fn is_same(text: &[u8], other: &[u8]) -> bool
+    ensures { result ≡ same_text text.now other.now }
+{
+    text == other
+}
+
+/// The value of a type of a module whose printed text this is, where it is found to be one.
+fn printed_value(alloc: Global, m: &Module, id: TypeId, text: &[u8]) -> Option<Value>
+    requires { id.number < length m.now.nodes }
+    ensures { IfSome result (λ v. IsTextOf (named m.now id.number) text.now (view v)) }
+{
+    // A module that was read has types within the profile's bounds alone, of which the laws of JSON speak.
+    let _ = m.name();
+    let value = likely_value(alloc, m, id, text)?;
+    if !is_value(m, id, &value) {
+        return None;
+    }
+    let Ok(printed) = json_of_value(alloc, m, id, &value) else {
+        return None;
+    };
+    if is_same(printed.as_slice(), text) {
+        Some(value)
+    } else {
+        None
+    }
+}
+
+/// The value of a type of a module that a JSON text shows. A text as values are printed is read at once, and any other as a tree.
 pub fn value_from_json(
     alloc: Global,
     m: &Module,
@@ -37,11 +68,17 @@ pub fn value_from_json(
     ensures not_json { OnNotJson result (IsNoJson text.now) }
     ensures fault { OnFault result (HasFault (named m.now id.number) text.now) }
 {
+    if let Some(value) = printed_value(alloc, m, id, text) {
+        return Ok(value);
+    }
     let d = tree_of(alloc, text)?;
     let asked = value_in(alloc, m, id, &d);
     drop(d);
     answered(alloc, asked)
 }
+
+/// The room that a text is begun with. Texts of most messages are shorter.
+const ROOM: usize = 512;
 
 /// The compact text of the JSON that a value of a type of a module is printed as.
 pub fn json_of_value(alloc: Global, m: &Module, id: TypeId, value: &Value) -> Result<Octets, Memory>
@@ -51,8 +88,9 @@ pub fn json_of_value(alloc: Global, m: &Module, id: TypeId, value: &Value) -> Re
     ensures again { IfOk result
         (λ text. IsReadAgain text (shown_as (named m.now id.number) (view value.now))) }
 {
-    match serde_json::to_string(alloc, &Shown::new(alloc, m, id, value)) {
-        Ok(text) => Ok(Octets::from_vec(text.into_bytes())),
+    let mut out = Writer::new(Vec::with_capacity(alloc, ROOM)?);
+    match write_value(alloc, m, id, value, &mut out) {
+        Ok(()) => Ok(Octets::from_vec(out.into_inner())),
         Err(_) => Err(Memory),
     }
 }

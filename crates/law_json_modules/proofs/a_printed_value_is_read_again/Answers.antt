@@ -1,4 +1,4 @@
-use Rattle.law_json_modules.proofs.Law.{shown, again}
+use Rattle.json_proof_again.proofs.Law.{shown, again}
 use Rattle.law_json_modules.proofs.a_printed_value_is_read_again.Goals as goal
 
 pub returns-clause-is : goal.returns-clause-is

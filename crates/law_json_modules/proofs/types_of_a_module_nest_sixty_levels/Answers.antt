@@ -1,5 +1,5 @@
-use Rattle.law_json_modules.proofs.Nesting.{low}
-use Rattle.law_json_modules.proofs.Law.{shallow, readable}
+use Rattle.json_proof_again.proofs.Nesting.{low}
+use Rattle.json_proof_again.proofs.Law.{shallow, readable}
 use Rattle.law_json_modules.proofs.types_of_a_module_nest_sixty_levels.Goals as goal
 
 pub returns-clause-levels : goal.returns-clause-levels

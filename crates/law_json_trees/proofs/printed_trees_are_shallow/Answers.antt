@@ -1,4 +1,4 @@
-use Rattle.law_json_trees.proofs.Depth.{printed_depth, never_too_deep}
+use Rattle.json_proof_again.proofs.Depth.{printed_depth, never_too_deep}
 use Rattle.law_json_trees.proofs.printed_trees_are_shallow.Goals as goal
 
 pub returns-clause-depth : goal.returns-clause-depth

@@ -1,0 +1,5 @@
+pub mod Depth
+pub mod Words
+pub mod Apart
+pub mod Nesting
+pub mod Law

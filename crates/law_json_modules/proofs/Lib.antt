@@ -1,4 +1,0 @@
-pub mod Words
-pub mod Apart
-pub mod Nesting
-pub mod Law
