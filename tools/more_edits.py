@@ -102,9 +102,11 @@ def functions_in(folder, path):
         found = FUNCTION.match(line)
         if found:
             indent = found[1]
-            begin = next((k for k in range(at, len(lines)) if lines[k] == indent + "{" or k == at and line.endswith("{")), None)
-            end = next((k for k in range(at, len(lines)) if lines[k] == indent + "}"), None)
-            if begin is not None and end is not None and begin < end:
+            begin = next((k for k in range(at, len(lines)) if lines[k].startswith(indent + "{") or k == at and line.endswith("{")), None)
+            if begin is None or lines[begin] == indent + "{}":
+                continue
+            end = next((k for k in range(begin, len(lines)) if lines[k] == indent + "}"), None)
+            if end is not None:
                 yield Function(f"{owner or module_of(path)}{found[2]}", found[2], begin, end, lines[begin + 1 : end])
 
 
